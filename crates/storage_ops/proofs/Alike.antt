@@ -1,5 +1,5 @@
 -- Nodes are changed, but for where they lie, what they are and where they are kept.
-use Rattle.storage_ops.proofs.Prelude.{◌≡◌, ℕ, ◌<◌, ◌≤◌, Bool, true, false, cond, eqb, ◌&&◌, List, [], ◌∷◌, map, replicate, Option, Some, None, is_some, refl, sym, ap, subst, ◌∙◌, count_by, Mode, Who, AccountMaps, Changes, count_of, entry_of, look, access_of, Node, entries_on, has_directory, node_in, pool_of, taken_on, volume_in, entries_mapped, Present, sdw_at, VtocEntry, Entry, ActiveSegs, uid_in_place, IsInPool, Home, uid_at, is_filed_at, Links, sdws_at, AreHoused, AreCounted, AreTaken, AreInTree, HaveRights, home_of, is_filed, is_there, named_at, pages_in, picture, who_at, directory_map, volume_map, Keeps}
+use Rattle.storage_ops.proofs.Prelude.{◌≡◌, ℕ, Bool, true, false, cond, eqb, List, [], ◌∷◌, map, Option, Some, None, is_some, refl, sym, ap, ◌∙◌, count_by, Mode, Who, AccountMaps, Changes, count_of, access_of, Node, entries_on, has_directory, node_in, pool_of, taken_on, volume_in, entries_mapped, Present, sdw_at, VtocEntry, Entry, ActiveSegs, uid_in_place, Home, uid_at, Links, sdws_at, AreHoused, AreCounted, AreTaken, AreInTree, HaveRights, home_of, is_filed, is_there, pages_in, picture, who_at, directory_map, volume_map, Keeps}
 
 -- two trees have the same nodes, of the same kinds, at the same homes, with the same counts
 pub record AreAlike (a b : AccountMaps) : Type 0 where
@@ -21,9 +21,7 @@ map_cond f false n o = refl
 module _ (f : Node → Node) (uid : (n : Node) → (f n).uid ≡ n.uid) where
   pub node_map : (ns : List Node) (u : ℕ) → node_in (map f ns) u ≡ map_node f (node_in ns u)
   node_map [] u = refl
-  node_map (n ∷ ns) u =
-      ap (λ (x : ℕ). cond (eqb x u) (Some (f n)) (node_in (map f ns) u)) (uid n)
-      ∙ ap (cond (eqb n.uid u) (Some (f n))) (node_map ns u) ∙ map_cond f (eqb n.uid u) n (node_in ns u)
+  node_map (n ∷ ns) u = cc (uid n, node_map ns u, map_cond f (eqb n.uid u) n (node_in ns u))
 
   pub there_map : (ns : List Node) (u : ℕ) → is_there (map f ns) u ≡ is_there ns u
   there_map ns u = ap is_some (node_map ns u) ∙ by (node_in ns u)
@@ -35,18 +33,12 @@ module _ (f : Node → Node) (uid : (n : Node) → (f n).uid ≡ n.uid) where
 module _ (f : Node → Node) (keeps : Keeps f) where
   uids_map : (ns : List Node) → map (λ n. n.uid) (map f ns) ≡ map (λ n. n.uid) ns
   uids_map [] = refl
-  uids_map (n ∷ ns) = ap (λ (x : ℕ). x ∷ map (λ n. n.uid) (map f ns)) (keeps.uid n)
-      ∙ ap (λ (xs : List ℕ). n.uid ∷ xs) (uids_map ns)
+  uids_map (n ∷ ns) = cc (keeps.uid n, uids_map ns)
 
   pub alike_changed : (a b : AccountMaps) → Changes a b (map f a.nodes) → AreAlike a b
   alike_changed a b c = record {
     there = λ u. ap (λ (ns : List Node). is_there ns u) c.nodes ∙ there_map f keeps.uid a.nodes u;
-    homes = λ u. ap (λ (v : ℕ). record { volume = v; entry = entry_of b u })
-        (ap (λ (ns : List Node). volume_in ns u) c.nodes ∙ volume_map f keeps a.nodes u)
-        ∙ ap (λ (e : ℕ). record { volume = volume_in a.nodes u; entry = e })
-        (ap (λ (es : List ℕ). look (map (λ n. n.uid) b.nodes) es u) c.entries
-        ∙ ap (λ (us : List ℕ). look us a.entries u)
-        (ap (λ (ns : List Node). map (λ n. n.uid) ns) c.nodes ∙ uids_map a.nodes));
+    homes = λ u. cc (c.nodes, volume_map f keeps a.nodes u, c.entries, uids_map a.nodes);
     kinds = λ u. ap (λ (ns : List Node). has_directory ns u) c.nodes ∙ directory_map f keeps a.nodes u;
     counts = c.counts;
     entries = λ v. ap (λ (ns : List Node). entries_on ns v) c.nodes ∙ entries_mapped f keeps.volume a.nodes v;
@@ -65,12 +57,10 @@ module _ (a b : AccountMaps) (alike : AreAlike a b) where
   pub counted_alike : (vtocs : List (List (Option VtocEntry))) → AreCounted a vtocs
       → ((u : ℕ) → pages_in b.nodes u ≡ pages_in a.nodes u) → AreCounted b vtocs
   counted_alike vtocs h pages = record {
-    counts = λ u t. ap (named_at vtocs) (alike.homes u) ∙ h.counts u (sym (alike.there u) ∙ t) ∙ sym (alike.counts u);
-    inside = λ u q t on. subst (λ (n : ℕ). q < n) (sym (pages u))
-        (h.inside u q (sym (alike.there u) ∙ t) (ap (λ (home : Home). is_filed_at vtocs home q) (sym
-        (alike.homes u)) ∙ on));
+    counts = λ u t. cc (alike.homes u, h.counts u (sym (alike.there u) ∙ t), alike.counts u);
+    inside = λ u q t on. rw (pages u) (h.inside u q (sym (alike.there u) ∙ t) (rw (alike.homes u) at on));
     absent = λ u off. alike.counts u ∙ h.absent u (sym (alike.there u) ∙ off);
-    most = λ u. subst (λ (n : ℕ). n ≤ 256) (sym (pages u)) (h.most u);
+    most = λ u. rw (pages u) (h.most u);
     flat = λ u d. pages u ∙ h.flat u (sym (alike.kinds u) ∙ d);
   }
 
@@ -91,13 +81,11 @@ module _ (a b : AccountMaps) (alike : AreAlike a b) where
 
   pub filed_alike : (vtocs : List (List (Option VtocEntry))) (u q : ℕ) → is_filed b vtocs u q ≡ is_filed a vtocs u q
   unfolding is_filed
-  filed_alike vtocs u q = ap (λ (z : Bool). z && is_filed_at vtocs (home_of b u) q) (alike.there u)
-      ∙ ap (λ (home : Home). is_there a.nodes u && is_filed_at vtocs home q) (alike.homes u)
+  filed_alike vtocs u q = cc (alike.there u, alike.homes u)
 
   pub picture_alike : (image : ℕ → Home → ℕ → List ℕ) (u q : ℕ) → picture b image u q ≡ picture a image u q
   unfolding picture
-  picture_alike image u q = ap (λ (z : Bool). cond z (image u (home_of b u) q) (replicate 1024 0)) (alike.there u)
-      ∙ ap (λ (home : Home). cond (is_there a.nodes u) (image u home q) (replicate 1024 0)) (alike.homes u)
+  picture_alike image u q = cc (alike.there u, alike.homes u)
 
 -- ---- what is active, and descriptors
 
@@ -105,16 +93,12 @@ module _ (a b : AccountMaps) (alike : AreAlike a b) where
 was_there : (f : Node → Node) (o : Option Node) (n : Node) → map_node f o ≡ Some n
     → (m : Node) × (o ≡ Some m) × (n ≡ f m)
 was_there f None n e = cc
-was_there f (Some m) n e = (m, refl, some_same n e)
-  where
-    some_same : (n : Node) → ◌≡◌ {A = Option Node} (Some (f m)) (Some n) → n ≡ f m
-    some_same n e = cc
+was_there f (Some m) n e = (m, refl, cc)
 
 module _ (f : Node → Node) (uid : (n : Node) → (f n).uid ≡ n.uid) (a b : AccountMaps)
     (nodes : b.nodes ≡ map f a.nodes) where
   pub before : (u : ℕ) (n : Node) → node_in b.nodes u ≡ Some n → (m : Node) × (node_in a.nodes u ≡ Some m) × (n ≡ f m)
-  before u n e = was_there f (node_in a.nodes u) n
-      (sym (node_map f uid a.nodes u) ∙ ap (λ (ns : List Node). node_in ns u) (sym nodes) ∙ e)
+  before u n e = was_there f (node_in a.nodes u) n (sym (node_map f uid a.nodes u) ∙ (rw nodes at e))
 
   pub active_alike : ((n : Node) → (f n).superior ≡ n.superior) → (ast : ActiveSegs) → AreInTree a.nodes ast
       → ((place u : ℕ) (m : Node) → uid_in_place ast.entries place ≡ Some u → node_in a.nodes u ≡ Some m
@@ -125,8 +109,7 @@ module _ (f : Node → Node) (uid : (n : Node) → (f n).uid ≡ n.uid) (a b : A
     superiors = λ place u n e found. (let was = before u n found in
         h.superiors place u was.0 e was.1 ∙ sym (superior was.0) ∙ ap (λ (x : Node). x.superior) (sym was.2));
     pools = λ place u n e found. (let was = before u n found in
-        subst (λ (pool : ℕ). IsInPool ast.sizes pool place)
-        (sym (pools place u was.0 e was.1) ∙ ap pool_of (sym was.2)) (h.pools place u was.0 e was.1));
+        rw (was.2, pools place u was.0 e was.1) (h.pools place u was.0 e was.1));
   }
 
   pub rights_alike : (entries : List (Option Entry)) (links : Links) (whos : List Who)

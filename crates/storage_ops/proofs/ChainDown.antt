@@ -1,5 +1,5 @@
 -- The chain of a node, and the next segment of it that becomes active.
-use Rattle.storage_ops.proofs.Prelude.{◌≡◌, ◌≢◌, ℕ, zero, suc, ◌-◌, ◌<◌, ◌≤◌, true, eqb, List, [], ◌∷◌, length, Option, Some, None, get_or, set, is_some, refl, sym, ap, subst, ◌∙◌, arith, inl, inr, cases_Bool, cases_eq, get_or-reverse, get_or-set_other, length-map, length-reverse, AccountMaps, chain_of, Mode, Who, Plan, Store, Node, above, has_directory, node_in, pool_of, step_up, IsTree, IsUp, above_once, depth, superior_up, superior_found, Present, sdw_at, Entry, ActiveSegs, superior_of_entry, uid_in_place, uid_in, IsInPool, first_off_chain, hand_past, Home, Plain, plain, is_filed_at, map_at, uid_homed, Link, Next, Activated, Victim, Whole, Control, Links, leads, sdws_at, AreLinked, IsNext, MayActivate, link_at, no_link, superior_of, uids_of, HasOneToGo, IsChainDown, link_of, pool_in, AreInTree, IsStore, Shows, Storage, home_of, is_there, pages_in, pages_of}
+use Rattle.storage_ops.proofs.Prelude.{◌≡◌, ◌≢◌, ℕ, zero, suc, ◌-◌, ◌<◌, ◌≤◌, true, eqb, List, [], ◌∷◌, length, Option, Some, None, get_or, set, is_some, refl, sym, ap, subst, ◌∙◌, arith, inl, inr, cases_Bool, cases_eq, get_or-reverse, get_or-set_other, length-map, length-reverse, AccountMaps, chain_of, Mode, Who, Plan, Store, Node, above, has_directory, node_in, pool_of, step_up, IsTree, IsUp, above_once, depth, superior_up, superior_found, Present, sdw_at, Entry, ActiveSegs, superior_of_entry, uid_in_place, uid_in, IsInPool, first_off_chain, hand_past, Plain, plain, is_filed_at, map_at, uid_homed, Link, Next, Activated, Victim, Whole, Control, Links, leads, sdws_at, AreLinked, IsNext, MayActivate, link_at, no_link, superior_of, uids_of, HasOneToGo, IsChainDown, link_of, pool_in, AreInTree, IsStore, Shows, Storage, home_of, is_there, pages_in, pages_of}
 use Rattle.std.proofs.lemmas.List.{get_or-map}
 use Rattle.tree_model.proofs.TreeLaws.{superior_in}
 use Rattle.active_segs.specs.Active.{entry_at}
@@ -16,9 +16,7 @@ use Rattle.storage_ops.proofs.Tables.{homed_volume}
 some_first : (f : ℕ → List ℕ) (o : Option ℕ) (y : ℕ) (ys : List ℕ) → step_up f o ≡ y ∷ ys → (o ≡ Some y) × (f y ≡ ys)
 some_first f None y ys e = cc
 some_first f (Some s) y ys e =
-    let first : s ≡ y = cc in
-    let rest : f s ≡ ys = cc in
-    (ap (λ (n : ℕ). Some n) first, ap f (sym first) ∙ rest)
+    let first : s ≡ y = cc in (cc, cc)
 
 none_first : (f : ℕ → List ℕ) (o : Option ℕ) → step_up f o ≡ [] → o ≡ None
 none_first f None e = refl
@@ -105,8 +103,7 @@ module _ (now : Plain) (ast : ActiveSegs) (links : Links) (a : AccountMaps) (who
 
   pub link_pool : (i : ℕ) (n : Node) → i < length chain → node_in a.nodes (link_at chain i).uid ≡ Some n
       → (link_at chain i).pool ≡ pool_of n
-  link_pool i n lt found = ap (λ (l : Link). l.pool) (link_is i lt)
-      ∙ ap (λ (u : ℕ). pool_in (node_in a.nodes u)) (sym (chain_uid i lt)) ∙ ap pool_in found
+  link_pool i n lt found = cc (link_is i lt, chain_uid i lt, ap pool_in found)
 
   pub link_there : (i : ℕ) → i < length chain → is_there a.nodes (link_at chain i).uid ≡ true
   link_there i lt = ap (is_there a.nodes) (chain_uid i lt)
@@ -114,26 +111,24 @@ module _ (now : Plain) (ast : ActiveSegs) (links : Links) (a : AccountMaps) (who
 
   pub link_superior : (i : ℕ) (n : Node) → i < length chain → node_in a.nodes (link_at chain i).uid ≡ Some n
       → n.superior ≡ superior_of chain i
-  link_superior zero n lt e = sym (superior_found a.nodes (link_at chain 0).uid n e)
-      ∙ ap (superior_in a.nodes) (chain_uid 0 lt) ∙ chain_first a.nodes t down.uid
-  link_superior (suc i) n lt e = sym (superior_found a.nodes (link_at chain (suc i)).uid n e)
-      ∙ ap (superior_in a.nodes) (chain_uid (suc i) lt)
-      ∙ chain_next a.nodes t down.uid i (omega (arith, lt, same_length))
-      ∙ ap (λ (u : ℕ). Some u) (sym (chain_uid i (omega (arith, lt))))
+  link_superior zero n lt e =
+      cc (superior_found a.nodes (link_at chain 0).uid n e, chain_uid 0 lt, chain_first a.nodes t down.uid)
+  link_superior (suc i) n lt e = cc (
+    superior_found a.nodes (link_at chain (suc i)).uid n e,
+    chain_uid (suc i) lt,
+    chain_next a.nodes t down.uid i (omega (arith, lt, same_length)),
+    chain_uid i (omega (arith, lt)),
+  )
 
   pub link_room : (i : ℕ) → i < length chain
       → (pages_in a.nodes (link_at chain i).uid ≤ words_in (link_at chain i).pool) × ((link_at chain i).pool < 4)
   link_room i lt =
       let found = found_there a.nodes (link_at chain i).uid (link_there i lt) in
       let pages : pages_in a.nodes (link_at chain i).uid ≡ found.0.pages = ap pages_of found.1 in
-      let room = room_of found.0 (subst (λ (n : ℕ). n ≤ 256) pages (h.counted.most (link_at chain i).uid))
+      let room = room_of found.0 (rw pages at (h.counted.most (link_at chain i).uid))
       (λ d. sym pages ∙ h.counted.flat (link_at chain i).uid
       (directory_found a.nodes (link_at chain i).uid found.0 found.1 ∙ d)) in
-      let pool = link_pool i found.0 lt found.1 in (
-        subst (λ (k : ℕ). pages_in a.nodes (link_at chain i).uid ≤ words_in k) (sym pool)
-            (subst (λ (n : ℕ). n ≤ words_in (pool_of found.0)) (sym pages) room.0),
-        subst (λ (k : ℕ). k < 4) (sym pool) room.1,
-      )
+      let pool = link_pool i found.0 lt found.1 in (rw (pool, pages) room.0, rw pool room.1)
 
   pub may_activate : (volumes : ℕ) → length now.vtocs ≤ volumes → HasOneToGo ast chain
       → MayActivate ast now.vtocs volumes chain
@@ -161,8 +156,7 @@ module _ (now : Plain) (ast : ActiveSegs) (links : Links) (a : AccountMaps) (who
       fit i lt p le None e = refl
       fit i lt p le (Some r) e =
           let on : is_filed_at now.vtocs (home_of a (link_at chain i).uid) p ≡ true
-          = ap (λ (x : Home). is_filed_at now.vtocs x p) (sym (link_home i lt))
-          ∙ filed_map now.vtocs (link_at chain i).home p ∙ ap is_some e in
+          = rw (← link_home i lt) (filed_map now.vtocs (link_at chain i).home p ∙ ap is_some e) in
           let within = h.counted.inside (link_at chain i).uid p (link_there i lt) on in
           let room = (link_room i lt).0 in
           absurd (omega (arith, within, room, le))
@@ -185,35 +179,26 @@ module _ (now : Plain) (ast : ActiveSegs) (links : Links) (a : AccountMaps) (who
     })))
     (sizes : next.sizes ≡ ast.sizes) where
   now_at : (q : ℕ) → q ≢ place → entry_at next.entries q ≡ entry_at ast.entries q
-  now_at q ne = ap (λ (es : List (Option Entry)). entry_at es q) entries
-      ∙ get_or-set_other ast.entries place q _ None ne
+  now_at q ne = rw entries (get_or-set_other ast.entries place q _ None ne)
 
   -- of what is active there, once it is known what was or is there
   told : (P : Option Entry → Type 0) (q : ℕ)
       → P (Some (record { uid = (link_at chain i).uid; superior = superior_of chain i })) → P (entry_at ast.entries q)
       → P (entry_at next.entries q)
-  told P q new old = subst (λ (es : List (Option Entry)). P (entry_at es q)) (sym entries)
-      (set_told P ast.entries place q _ None new old)
-
-  own_uid : (u : ℕ) → ◌≡◌ {A = Option ℕ} (Some (link_at chain i).uid) (Some u) → (link_at chain i).uid ≡ u
-  own_uid u e = cc
+  told P q new old = rw entries (set_told P ast.entries place q _ None new old)
 
   active_next : AreInTree a.nodes next
   active_next = record {
     there = λ q u. told (λ o. uid_in o ≡ Some u → is_there a.nodes u ≡ true) q
-        (λ e. ap (is_there a.nodes) (sym (own_uid u e)) ∙ link_there now ast links a whos chain h t down i lt)
+        (λ e. cc (link_there now ast links a whos chain h t down i lt))
         (λ e. h.active.there q u e);
     superiors = λ q u n e found. told (λ o. uid_in o ≡ Some u → superior_of_entry o ≡ n.superior) q
-        (λ same. sym (link_superior now ast links a whos chain h t down i n lt
-        (ap (node_in a.nodes) (own_uid u same) ∙ found)))
+        (λ same. sym (link_superior now ast links a whos chain h t down i n lt (cc)))
         (λ was. h.active.superiors q u n was found) e;
-    pools = λ q u n e found. subst (λ (s : List ℕ). IsInPool s (pool_of n) q) (sym sizes) (elim (cases_eq q place) [
+    pools = λ q u n e found. rw sizes (elim (cases_eq q place) [
       | inr ne ↦ h.active.pools q u n (ap uid_in (sym (now_at q ne)) ∙ e) found
       | inl is ↦ told (λ o. uid_in o ≡ Some u → IsInPool ast.sizes (pool_of n) q) q
-          (λ same. subst (IsInPool ast.sizes (pool_of n)) (sym is)
-          (subst (λ (k : ℕ). IsInPool ast.sizes k place)
-          (link_pool now ast links a whos chain h t down i n lt
-          (ap (node_in a.nodes) (own_uid u same) ∙ found)) in_pool))
+          (λ same. rw is (rw (link_pool now ast links a whos chain h t down i n lt (cc)) at in_pool))
           (λ was. h.active.pools q u n was found) e
     ]);
   }
@@ -224,9 +209,7 @@ module _ (now : Plain) (ast : ActiveSegs) (links : Links) (a : AccountMaps) (who
       → uid_in_place ast.entries q ≡ Some u
   never process number q pages u m d e = elim (cases_eq q place) [
     | inr ne ↦ ap uid_in (sym (now_at q ne)) ∙ e
-    | inl is ↦ (let at = linked.known process number q (ap leads d) in
-        let clash : ◌≡◌ {A = Option ℕ} None (Some at.uid) = ap uid_in (sym free)
-        ∙ ap (uid_in_place ast.entries) (sym is) ∙ at.active in cc)
+    | inl is ↦ (let at = linked.known process number q (ap leads d) in cc (ap uid_in free, at.active))
   ]
 
   store_active : IsStore now next links a whos
@@ -249,16 +232,15 @@ pub store_next : {D : Type 0} (drive : D → List (List ℕ)) (old new : Control
     → AreLinked old.ast.entries old.links → IsStore (plain drive old.pages) old.ast old.links a whos
     → IsStore (plain drive new.pages) new.ast new.links a whos
 store_next {D} drive old new a whos chain (Activated place) next t down linked h =
-    subst (λ (x : Control D). IsStore (plain drive x.pages) x.ast x.links a whos) (sym next.1.effect)
-    (store_active (plain drive old.pages) old.ast old.links a whos chain h t down linked _ place next.0
+    rw next.1.effect (store_active (plain drive old.pages) old.ast old.links a whos chain h t down linked _ place next.0
     next.1.first.within next.1.least.free next.1.least.in_pool refl refl)
 store_next {D} drive old new a whos chain (Victim place) next t down linked h =
     let same = same_entries old.ast (link_at chain next.0).pool
     (first_off_chain old.ast (link_at chain next.0).pool (uids_of chain)) in
-    subst (λ (x : Control D). IsStore (plain drive x.pages) x.ast x.links a whos) (sym next.1.effect)
+    rw next.1.effect
     (store_still (plain drive old.pages) (plain drive old.pages) old.ast _ old.links a whos refl refl same.0 same.1 h)
 store_next {D} drive old new a whos chain Whole next t down linked h =
-    subst (λ (x : Control D). IsStore (plain drive x.pages) x.ast x.links a whos) (sym next.1) h
+    rw next.1 h
 
 shown_ast : {D : Type 0} (drive : D → List (List ℕ)) (p : Plan) (s : Store) (t : Storage D) (ast : ActiveSegs)
     → Shows drive p s t → Shows drive p s (record t { segs = record t.segs { ast = ast } })
@@ -268,8 +250,8 @@ pub shown_next : {D : Type 0} (drive : D → List (List ℕ)) (p : Plan) (s : St
     (chain : List Link) (r : Next) → IsNext t.segs new chain r → Shows drive p s t
     → Shows drive p s (record t { segs = new })
 shown_next {D} drive p s t new chain (Activated place) next h =
-    subst (λ (x : Control D). Shows drive p s (record t { segs = x })) (sym next.1.effect) (shown_ast drive p s t _ h)
+    rw next.1.effect (shown_ast drive p s t _ h)
 shown_next {D} drive p s t new chain (Victim place) next h =
-    subst (λ (x : Control D). Shows drive p s (record t { segs = x })) (sym next.1.effect) (shown_ast drive p s t _ h)
+    rw next.1.effect (shown_ast drive p s t _ h)
 shown_next {D} drive p s t new chain Whole next h =
-    subst (λ (x : Control D). Shows drive p s (record t { segs = x })) (sym next.1) h
+    rw next.1 h

@@ -1,21 +1,19 @@
 -- A store whose nodes are changed, but for where they lie and what they are.
-use Rattle.storage_ops.proofs.Prelude.{◌≡◌, ℕ, ℤ, ◌/◌, ◌%◌, Bool, true, false, cond, eqb, List, map, Option, Some, None, Ok, get_or, refl, sym, ap, subst, ◌∙◌, ◌<◌, arith, inl, inr, cases_Bool, nat_tests, is_positive, unsigned_abs, Mode, Who, Named, Plan, Reply, AccountMaps, Changes, Counts, Row, with_row, getter_of, giver_of, Node, above, node_in, pool_for, pool_of, changed, directory_at, segment_at, takes_effect, after_acl, after_move, moved, nodes_moved, row_with, Store, Present, sdw_at, ActiveSegs, uid_in_place, Plain, plain, words_at, Links, leads, leads_at, sdws_at, HasMoved, HasRowSet, IsCut, IsStore, Shows, Storage, answered, is_filed, pages_in, pages_of, picture, is_stored, found_uid, Keeps, keeps_moved, keeps_one, keeps_rows, moved_else, quota_moved}
+use Rattle.storage_ops.proofs.Prelude.{◌≡◌, ℕ, ℤ, ◌/◌, Bool, true, false, cond, eqb, List, map, Option, Some, None, Ok, refl, sym, ap, subst, ◌∙◌, arith, inl, inr, cases_Bool, nat_tests, is_positive, unsigned_abs, Mode, Who, Named, Plan, Reply, AccountMaps, Changes, Row, with_row, getter_of, giver_of, Node, above, node_in, pool_of, changed, directory_at, segment_at, takes_effect, after_acl, after_move, moved, nodes_moved, row_with, Store, Present, sdw_at, ActiveSegs, uid_in_place, Plain, plain, words_at, Links, leads, leads_at, sdws_at, HasMoved, HasRowSet, IsCut, IsStore, Shows, Storage, answered, pages_in, pages_of, found_uid, Keeps, keeps_moved, keeps_one, keeps_rows, moved_else, quota_moved}
 use Rattle.storage_ops.proofs.Alike.{active_alike, alike_changed, counted_alike, filed_alike, housed_alike, map_node, node_map, picture_alike, rights_alike, taken_alike}
 
 -- ---- a change of all nodes
 
 module _ (f : Node → Node) (keeps : Keeps f) (a b : AccountMaps) (changes : Changes a b (map f a.nodes)) where
   pages_map : ((n : Node) → (f n).pages ≡ n.pages) → (u : ℕ) → pages_in b.nodes u ≡ pages_in a.nodes u
-  pages_map same u = ap (λ (ns : List Node). pages_in ns u) changes.nodes ∙ ap pages_of (node_map f keeps.uid a.nodes u)
-      ∙ here (node_in a.nodes u)
+  pages_map same u = rw (changes.nodes, node_map f keeps.uid a.nodes u) (here (node_in a.nodes u))
     where
       here : (o : Option Node) → pages_of (map_node f o) ≡ pages_of o
       here None = refl
       here (Some n) = same n
 
   pool_map : ((n : Node) → (f n).pages ≡ n.pages) → (n : Node) → pool_of (f n) ≡ pool_of n
-  pool_map same n = ap (λ (z : Bool). cond z 0 (pool_for (f n).pages)) (keeps.kind n)
-      ∙ ap (λ (m : ℕ). cond n.directory 0 (pool_for m)) (same n)
+  pool_map same n = rw (keeps.kind n, same n)
 
   -- where lengths stay, and the rows of what is connected
   pub store_changed : (now : Plain) (ast : ActiveSegs) (links : Links) (whos : List Who)
@@ -32,10 +30,7 @@ module _ (f : Node → Node) (keeps : Keeps f) (a b : AccountMaps) (changes : Ch
         (λ place u m e found. pool_map pages m);
     rights = rights_alike f keeps.uid a b changes.nodes ast.entries links whos h.rights
         (λ process number place n u mode m d e found. (rows process number place n u mode m d e found, pages m));
-    known = record {
-      older = λ process number u e. subst (λ (x : ℕ). u < x) (sym changes.next) (h.known.older process number u e);
-      processes = h.known.processes;
-    };
+    known = rw changes.next h.known;
   })
 
   pub shown_changed : {D : Type 0} (drive : D → List (List ℕ)) (p : Plan) (s : Store) (t : Storage D) → t.accounts ≡ a
@@ -44,18 +39,14 @@ module _ (f : Node → Node) (keeps : Keeps f) (a b : AccountMaps) (changes : Ch
     tree = record {
       nodes = ap (map f) (h.tree.nodes ∙ ap (λ (x : AccountMaps). x.nodes) is) ∙ sym changes.nodes;
       next = h.tree.next ∙ ap (λ (x : AccountMaps). x.next) is ∙ sym changes.next;
-      counts = λ u. changes.counts u ∙ subst (λ (x : AccountMaps). Counts x s.stored) is h.tree.counts u;
+      counts = λ u. changes.counts u ∙ (rw is at h.tree.counts) u;
     };
     known = h.known;
     pages = record {
-      stored = λ u q. subst (λ (x : AccountMaps). is_stored s.stored u q ≡ is_filed x t.segs.pages.volumes.vtocs u q)
-          is (h.pages.stored u q)
-          ∙ sym (filed_alike a b alike t.segs.pages.volumes.vtocs u q);
+      stored = λ u q. cc (h.pages.stored u q, filed_alike a b alike t.segs.pages.volumes.vtocs u q);
       once = h.pages.once;
-      words = λ u o. subst (λ (x : AccountMaps). s.words u o ≡ get_or (picture x (words_at
-          (plain drive t.segs.pages)) u (o / 1024)) (o % 1024) 0) is (h.pages.words u o)
-          ∙ ap (λ (ws : List ℕ). get_or ws (o % 1024) 0) (sym (picture_alike a b alike (words_at
-          (plain drive t.segs.pages)) u (o / 1024)));
+      words = λ u o.
+          cc (h.pages.words u o, picture_alike a b alike (words_at (plain drive t.segs.pages)) u (o / 1024));
     };
     script = h.script;
   })
@@ -86,7 +77,7 @@ pub acl_store : (now : Plain) (ast : ActiveSegs) (links : Links) (a b : AccountM
     → ((n : Node) → segment_at a.nodes path ≡ Ok n → IsCut ast.entries links n.uid) → IsStore now ast links a whos
     → (takes_effect r ≡ true → HasRowSet a b path row) → (takes_effect r ≡ false → b ≡ a) → IsStore now ast links b whos
 acl_store now ast links a b whos path row r cut h done refused = elim (cases_Bool (takes_effect r)) [
-  | inr off ↦ subst (λ (x : AccountMaps). IsStore now ast links x whos) (sym (refused off)) h
+  | inr off ↦ rw (refused off) h
   | inl on ↦
       (let set = done on in
       let u : ℕ = set.node.uid in
@@ -112,12 +103,12 @@ pub acl_shown : {D : Type 0} (drive : D → List (List ℕ)) (p : Plan) (s : Sto
     → (takes_effect r ≡ false → b ≡ t.accounts) → Shows drive p (answered r s (after_acl s path row m))
     (record t { accounts = b })
 acl_shown drive p s t b path row m r h done refused = elim (cases_Bool (takes_effect r)) [
-  | inr off ↦ rw off (subst (λ (x : AccountMaps). Shows drive p s (record t { accounts = x })) (sym (refused off)) h)
+  | inr off ↦ rw (off, refused off) h
   | inl on ↦
       (let set = done on in
       let u : ℕ = set.node.uid in
       rw on (subst (λ (x : Store). Shows drive p x (record t { accounts = b }))
-      (acl_is s path row m set.node (ap (λ (ns : List Node). segment_at ns path) h.tree.nodes ∙ set.found))
+      (acl_is s path row m set.node (rw h.tree.nodes set.found))
       (shown_changed (row_change u (row_with row m)) (keeps_row u
       (row_with row m)) t.accounts b set.effect drive p s t refl h)))
 ]
@@ -130,7 +121,7 @@ pub move_store : (now : Plain) (ast : ActiveSegs) (links : Links) (a b : Account
     → b ≡ a)
     → IsStore now ast links b whos
 move_store now ast links a b whos path amount r h done refused = elim (cases_Bool (takes_effect r)) [
-  | inr off ↦ subst (λ (x : AccountMaps). IsStore now ast links x whos) (sym (refused off)) h
+  | inr off ↦ rw (refused off) h
   | inl on ↦
       (let has = done on in
       let giver : ℕ = giver_of (above a.nodes) has.node.uid (is_positive amount) in
@@ -153,18 +144,13 @@ pub move_shown : {D : Type 0} (drive : D → List (List ℕ)) (p : Plan) (s : St
     → b ≡ t.accounts)
     → Shows drive p (answered r s (after_move s path amount)) (record t { accounts = b })
 move_shown drive p s t b path amount r h done refused = elim (cases_Bool (takes_effect r)) [
-  | inr off ↦ rw off (subst (λ (x : AccountMaps). Shows drive p s (record t { accounts = x })) (sym (refused off)) h)
+  | inr off ↦ rw (off, refused off) h
   | inl on ↦
       (let has = done on in
       let giver : ℕ = giver_of (above t.accounts.nodes) has.node.uid (is_positive amount) in
       let getter : ℕ = getter_of (above t.accounts.nodes) has.node.uid (is_positive amount) in
       rw on (subst (λ (x : Store). Shows drive p x (record t { accounts = b }))
-      (ap (λ (ns : List Node). record s {
-        nodes = map (quota_moved (giver_of (above ns) has.node.uid
-            (is_positive amount)) (getter_of (above ns) has.node.uid (is_positive amount))
-            (unsigned_abs amount)) s.nodes;
-      }) (sym h.tree.nodes)
-      ∙ move_is s path amount has.node (ap (λ (ns : List Node). directory_at ns path) h.tree.nodes ∙ has.found))
+      (rw (← h.tree.nodes) (move_is s path amount has.node (rw h.tree.nodes has.found)))
       (shown_changed (quota_moved giver getter (unsigned_abs amount)) (keeps_moved giver getter
       (unsigned_abs amount)) t.accounts b has.effect drive p s t refl h)))
 ]

@@ -1,5 +1,5 @@
 -- What pages that are cut off leave, exactly.
-use Rattle.storage_ops.proofs.Prelude.{◌≡◌, ◌≢◌, ◌<◌, ◌≤◌, ◌+◌, ◌-◌, ◌/◌, ◌%◌, ℕ, suc, zero, Bool, true, false, ◌&&◌, cond, eqb, List, [], ◌∷◌, ◌++◌, Option, length, get_or, refl, sym, ap, ◌∙◌, arith, inl, inr, ◌↔◌, IsTrue, Result, Ok, Err, list_all, range_with_len, ne_eqb, eqb_tells, AreZero, Reply, Node, AccountMaps, Recounts, count_of, Ptw, Here, Leaving, Null, Out, Entry, IsActive, deactivated, Home, cut, dropped, erased, Plain, plain, words_in, is_away, place_of, word_of, worded, IsInactive, CountsOthers, Paged, cut_by, is_cleared, page_cleared, page_cut, paged, pages_cut, Erases, cut_at, cut_within, pages_from, put_out, Storage, home_of, pages_in, and_parts, zero_word}
+use Rattle.storage_ops.proofs.Prelude.{◌≡◌, ◌≢◌, ◌<◌, ◌≤◌, ◌+◌, ◌-◌, ◌/◌, ◌%◌, ℕ, suc, zero, Bool, true, false, eqb, List, [], ◌∷◌, ◌++◌, Option, length, get_or, refl, sym, ap, ◌∙◌, arith, inl, inr, ◌↔◌, IsTrue, Result, Ok, Err, list_all, range_with_len, ne_eqb, eqb_tells, AreZero, Reply, Node, AccountMaps, Recounts, count_of, Ptw, Here, Leaving, Null, Out, Entry, IsActive, deactivated, Home, cut, dropped, erased, Plain, plain, words_in, is_away, place_of, word_of, worded, IsInactive, CountsOthers, Paged, cut_by, is_cleared, page_cleared, page_cut, paged, pages_cut, Erases, cut_at, pages_from, put_out, Storage, home_of, pages_in, and_parts, zero_word, eq-eqb}
 
 -- ---- one page
 
@@ -12,14 +12,10 @@ cut_away x home uid p (Here f) away = cc
 cut_away x home uid p (Leaving f) away = refl
 
 own_count : (a b : AccountMaps) (uid n : ℕ) → Recounts a b uid n → count_of b uid ≡ n
-own_count a b uid n re = re.counts uid ∙ ap (λ (z : Bool). cond z n (count_of a uid)) (same uid)
-  where
-    same : (k : ℕ) → eqb k k ≡ true
-    same k = elim (eqb_tells k k) [ inl is ↦ is.0 | inr isnt ↦ absurd (isnt.1 refl) ]
+own_count a b uid n re = re.counts uid ∙ rw (eq-eqb uid uid refl)
 
 pub other_counts : (a b : AccountMaps) (uid n : ℕ) → Recounts a b uid n → CountsOthers a b uid
-other_counts a b uid n re s apart =
-    re.counts s ∙ ap (λ (z : Bool). cond z n (count_of a s)) (ne_eqb uid s (λ is. apart (sym is)))
+other_counts a b uid n re s apart = re.counts s ∙ rw (ne_eqb uid s (λ is. apart (sym is)))
 
 -- a page on its way out, or on its record, is dropped
 pub dropped_exactly : {D : Type 0} (drive : D → List (List ℕ)) (t n : Storage D) (uid p : ℕ) (home : Home)
@@ -28,8 +24,7 @@ pub dropped_exactly : {D : Type 0} (drive : D → List (List ℕ)) (t n : Storag
     → n.segs.ast ≡ worded t.segs.ast uid p Null → Recounts t.accounts n.accounts uid (count_of t.accounts uid - 1)
     → paged drive n uid ≡ page_cut (paged drive t uid) (home_of t.accounts uid) uid p (word_of t.segs.ast uid p)
 dropped_exactly drive t n uid p home is away effect word re =
-    let pages = effect
-    ∙ ap (λ (h : Home). dropped (plain drive t.segs.pages) h p (word_of t.segs.ast uid p)) is in
+    let pages = rw is at effect in
     let stored = own_count t.accounts n.accounts uid (count_of t.accounts uid - 1) re in
     (λ i. record { pages = pages i; ast = word i; stored = stored i })
     ∙ cut_away (paged drive t uid) (home_of t.accounts uid) uid p (word_of t.segs.ast uid p) away
@@ -44,9 +39,7 @@ cut_one_more x home uid p (q ∷ ps) = cut_one_more (page_cut x home uid q (word
 
 range_more : (a n : ℕ) → range_with_len a (suc n) ≡ range_with_len a n ++ (a + n) ∷ []
 range_more a zero = ap (λ (k : ℕ). k ∷ []) (let same : a ≡ a + 0 = omega arith in same)
-range_more a (suc n) =
-    ap (λ (ks : List ℕ). a ∷ ks) (range_more (a + 1) n
-    ∙ ap (λ (k : ℕ). range_with_len (a + 1) n ++ k ∷ []) (let same : a + 1 + n ≡ a + suc n = omega arith in same))
+range_more a (suc n) = (let same : a + 1 + n ≡ a + suc n = omega arith in cc (range_more (a + 1) n, same))
 
 -- the pages from one up to the next to come
 pub cut_next : (x y z : Paged) (home : Home) (uid from next : ℕ) → from ≤ next
@@ -56,10 +49,8 @@ cut_next x y z home uid from next le done one =
     let long : next + 1 - from ≡ suc (next - from) = omega (arith, le) in
     let last : from + (next - from) ≡ next = omega (arith, le) in
     let more : pages_from from (next + 1) ≡ pages_from from next ++ next ∷ [] =
-    ap (range_with_len from) long ∙ range_more from (next - from)
-    ∙ ap (λ (k : ℕ). pages_from from next ++ k ∷ []) last in
-    one ∙ ap (λ (v : Paged). page_cut v home uid next (word_of v.ast uid next)) done
-    ∙ sym (cut_one_more x home uid next (pages_from from next)) ∙ ap (pages_cut x home uid) (sym more)
+    cc (long, range_more from (next - from), last) in
+    cc (one, done, cut_one_more x home uid next (pages_from from next), more)
 
 pub none_from : (from : ℕ) → pages_from from from ≡ []
 none_from from = ap (range_with_len from) (let n : from - from ≡ 0 = omega arith in n)
@@ -78,8 +69,7 @@ zeros_from (w ∷ ws) h (suc k) d lt =
 zeros_to : (ws : List ℕ) → AreZero ws → list_all (λ w. eqb w 0) ws ≡ true
 zeros_to [] h = refl
 zeros_to (w ∷ ws) h = elim (eqb_tells w 0) [
-  | inl e ↦ ap (λ (b : Bool). b && list_all (λ v. eqb v 0) ws) e.0
-      ∙ zeros_to ws (λ k d lt. h (suc k) d (omega (arith, lt)))
+  | inl e ↦ cc (e.0, zeros_to ws (λ k d lt. h (suc k) d (omega (arith, lt))))
   | inr n ↦ absurd (n.1 (h zero zero (omega arith)))
 ]
 
@@ -98,8 +88,7 @@ cleared_exactly x at f w is = ap (page_cleared x at) (sym is)
 pub cleared_told : (x : Paged) (next : Plain) (at f : ℕ) (w : Ptw) (r : Bool) → w ≡ Leaving f → next ≡ cut x.pages f at
     → (IsTrue r ↔ AreZero (words_in next f)) → r ≡ is_cleared x at w
 cleared_told x next at f w r is effect told =
-    zeros_told r (words_in next f) told ∙ ap (λ (y : Plain). list_all (λ v. eqb v 0) (words_in y f)) effect
-    ∙ ap (is_cleared x at) (sym is)
+    zeros_told r (words_in next f) told ∙ rw (effect, is)
 
 pub null_cleared : (x : Paged) (at : ℕ) (w : Ptw) → w ≡ Null → (x ≡ page_cleared x at w) × (false ≡ is_cleared x at w)
 null_cleared x at w is = (ap (page_cleared x at) (sym is), ap (is_cleared x at) (sym is))
@@ -107,9 +96,7 @@ null_cleared x at w is = (ap (page_cleared x at) (sym is), ap (is_cleared x at) 
 -- it is dropped where all its words are zeros then
 pub cut_dropped : (x y z : Paged) (home : Home) (uid p at : ℕ) (w v : Ptw) → is_cleared x at w ≡ true
     → y ≡ page_cleared x at w → v ≡ w → z ≡ page_cut y home uid p v → z ≡ cut_by x home uid p at w
-cut_dropped x y z home uid p at w v is done same one =
-    one ∙ ap (λ (u : Ptw). page_cut y home uid p u) same ∙ ap (λ (u : Paged). page_cut u home uid p w) done
-    ∙ sym (rw is refl)
+cut_dropped x y z home uid p at w v is done same one = cc
 
 pub cut_kept : (x y : Paged) (home : Home) (uid p at : ℕ) (w : Ptw) → is_cleared x at w ≡ false
     → y ≡ page_cleared x at w → y ≡ cut_by x home uid p at w
@@ -120,18 +107,14 @@ cut_kept x y home uid p at w is done = done ∙ sym (rw is refl)
 pub cut_evenly : (x z : Paged) (home : Home) (uid size offset : ℕ) → offset % 1024 ≡ 0
     → z ≡ pages_cut x home uid (pages_from (offset / 1024) size) → z ≡ cut_at x home uid size offset
 cut_evenly x z home uid size offset even done =
-    done ∙ ap (λ (n : ℕ). cond (eqb n 0) (pages_cut x home uid (pages_from (offset / 1024) size))
-    (cut_within x home uid size offset)) (sym even)
+    done ∙ rw even
 
 pub cut_oddly : (x y z : Paged) (home : Home) (uid size offset : ℕ) → offset % 1024 ≢ 0
     → y ≡ pages_cut x home uid (pages_from (offset / 1024 + 1) size)
     → z ≡ cut_by y home uid (offset / 1024) (offset % 1024) (word_of y.ast uid (offset / 1024))
     → z ≡ cut_at x home uid size offset
 cut_oddly x y z home uid size offset odd past done =
-    done
-    ∙ ap (λ (v : Paged). cut_by v home uid (offset / 1024) (offset % 1024) (word_of v.ast uid (offset / 1024))) past
-    ∙ ap (λ (b : Bool). cond b (pages_cut x home uid (pages_from (offset / 1024) size))
-    (cut_within x home uid size offset)) (sym (ne_eqb (offset % 1024) 0 odd))
+    cc (ne_eqb (offset % 1024) 0 odd)
 
 -- ---- the node that a path leads to
 

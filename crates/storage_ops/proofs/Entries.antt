@@ -1,5 +1,5 @@
 -- A VTOC entry at a home is changed.
-use Rattle.storage_ops.proofs.Prelude.{◌≡◌, ◌≢◌, ℕ, zero, suc, ◌+◌, Bool, true, cond, List, [], ◌∷◌, set, get_or, Option, Some, None, is_some, refl, sym, ap, subst, ◌∙◌, arith, inl, inr, count_by, cases_eq, get_or-set_other, get_or-set_same, sum_by-cons, entry_at, records_in, with_record, Home, map_at, uid_at, vtoc_in}
+use Rattle.storage_ops.proofs.Prelude.{◌≡◌, ◌≢◌, ℕ, zero, suc, ◌+◌, Bool, true, cond, List, [], ◌∷◌, set, get_or, Option, Some, None, is_some, refl, sym, ap, ◌∙◌, arith, inl, inr, count_by, cases_eq, get_or-set_other, get_or-set_same, sum_by-cons, entry_at, records_in, with_record, Home, map_at, uid_at, vtoc_in}
 use Rattle.vtoc.specs.Vtoc.{Entry, uid_of}
 use Rattle.storage_ops.proofs.Tables.{homed_entry, homed_volume}
 
@@ -11,8 +11,7 @@ abbrev pub entry_there : List (List (Option Entry)) → Home → Option Entry
 entry_there vtocs home = entry_at (vtoc_in vtocs home.volume) home.entry
 
 both_same : (a b : Home) → a.volume ≡ b.volume → a.entry ≡ b.entry → a ≡ b
-both_same a b v e = ap (λ (n : ℕ). record { volume = n; entry = a.entry }) v
-    ∙ ap (λ (n : ℕ). record { volume = b.volume; entry = n }) e
+both_same a b v e = λ i. record { volume = v i; entry = e i }
 
 -- what is told of each entry, once one is changed
 pub entry_told : (vtocs : List (List (Option Entry))) (home : Home) (u : ℕ) (x : Option Entry)
@@ -20,19 +19,17 @@ pub entry_told : (vtocs : List (List (Option Entry))) (home : Home) (u : ℕ) (x
     → (other ≢ home → P (entry_there vtocs other))
     → P (entry_there (entry_put vtocs home x) other)
 entry_told vtocs home u x P other used here there = elim (cases_eq other.volume home.volume) [
-  | inr ne ↦ subst (λ (t : List (Option Entry)). P (entry_at t other.entry))
-      (sym (get_or-set_other vtocs home.volume other.volume (set (vtoc_in vtocs home.volume) home.entry x) [] ne))
+  | inr ne ↦ rw (get_or-set_other vtocs home.volume other.volume (set (vtoc_in vtocs home.volume) home.entry x) [] ne)
       (there (λ same. ne (ap (λ (h : Home). h.volume) same)))
-  | inl v ↦ subst (λ (t : List (Option Entry)). P (entry_at t other.entry))
-      (sym (ap (vtoc_in (entry_put vtocs home x)) v
-      ∙ get_or-set_same vtocs home.volume (set (vtoc_in vtocs home.volume) home.entry x) []
-      (homed_volume vtocs home u used)))
+  | inl v ↦ rw (
+    v,
+    get_or-set_same vtocs home.volume (set (vtoc_in vtocs home.volume) home.entry x) []
+        (homed_volume vtocs home u used),
+  )
       (elim (cases_eq other.entry home.entry) [
-        | inr ne ↦ subst P (sym (get_or-set_other (vtoc_in vtocs home.volume) home.entry other.entry x None ne))
-            (subst (λ (n : ℕ). P (entry_at (vtoc_in vtocs n) other.entry)) v
-            (there (λ same. ne (ap (λ (h : Home). h.entry) same))))
-        | inl e ↦ subst P (sym (ap (entry_at (set (vtoc_in vtocs home.volume) home.entry x)) e
-            ∙ get_or-set_same (vtoc_in vtocs home.volume) home.entry x None (homed_entry vtocs home u used)))
+        | inr ne ↦ rw (get_or-set_other (vtoc_in vtocs home.volume) home.entry other.entry x None ne)
+            (rw v at (there (λ same. ne (ap (λ (h : Home). h.entry) same))))
+        | inl e ↦ rw (e, get_or-set_same (vtoc_in vtocs home.volume) home.entry x None (homed_entry vtocs home u used))
             (here (both_same other home v e))
       ])
 ]

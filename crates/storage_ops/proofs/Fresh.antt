@@ -1,5 +1,5 @@
 -- Volumes of which nothing is in use, and a store of nothing at all.
-use Rattle.storage_ops.proofs.Prelude.{◌≡◌, ◌≢◌, ℕ, zero, suc, ◌+◌, ◌<◌, ◌≤◌, ◌/◌, ◌%◌, Bool, true, false, cond, eqb, ◌&&◌, List, [], ◌∷◌, length, map, Option, Some, None, get_or, is_some, replicate, refl, sym, ap, ◌∙◌, arith, inl, inr, is_none, count_by, nat_le, nat_lt, slice_get, list_all, cases_lt, nat_tests, get_or-replicate, get_or_past, length-replicate, position-Some, sum_by-cons, Who, Plan, is_command, is_from, is_path, is_volume, VolumeLine, is_name, AccountMaps, Gains, count_of, root_alone, entries_on, taken_on, volume_in, Store, at_first, boot, entries_in, sizes_in, root_of, VtocEntry, entry_at, least_free_entry, record_at, records_in, no_records, in_use, ActiveSegs, uid_in_place, uid_in, Home, Plain, plain, AreFiled, flags_in, uid_at, vtoc_in, size, words_at, Links, kst_at, AreAtRest, AreFresh, IsStore, Shows, Storage, is_filed, picture, and_parts, all_same}
+use Rattle.storage_ops.proofs.Prelude.{◌≡◌, ◌≢◌, ℕ, zero, suc, ◌+◌, ◌<◌, ◌≤◌, ◌%◌, Bool, true, false, cond, eqb, ◌&&◌, List, [], ◌∷◌, length, map, Option, Some, None, get_or, is_some, replicate, refl, sym, ap, ◌∙◌, arith, inl, inr, is_none, count_by, nat_le, nat_lt, slice_get, list_all, cases_lt, nat_tests, get_or-replicate, get_or_past, length-replicate, position-Some, sum_by-cons, Who, Plan, is_command, is_from, is_path, is_volume, VolumeLine, is_name, AccountMaps, Gains, root_alone, entries_on, taken_on, Store, at_first, boot, entries_in, sizes_in, root_of, VtocEntry, entry_at, least_free_entry, record_at, records_in, no_records, in_use, ActiveSegs, uid_in_place, uid_in, Home, Plain, AreFiled, flags_in, uid_at, vtoc_in, size, Links, kst_at, AreAtRest, AreFresh, IsStore, Shows, Storage, is_filed, picture, and_parts, all_same, eq-eqb, Entry}
 use Rattle.script.specs.declared.commands.Command.TheVariants as command
 use Rattle.vtoc.specs.Vtoc.{uid_of}
 use Rattle.known_segs.specs.Known.{uid_of as known_uid}
@@ -9,24 +9,18 @@ use Rattle.known_segs.specs.Known.{uid_of as known_uid}
 module _ (now : Plain) (free : (v e : ℕ) → entry_at (vtoc_in now.vtocs v) e ≡ None) (unused : (v r : ℕ)
     → in_use (flags_in now.records v) r ≡ false) where
   pub none_used : (home : Home) (u : ℕ) → uid_at now.vtocs home ≢ Some u
-  none_used home u e = (let clash : ◌≡◌ {A = Option ℕ} None (Some u) = sym (ap uid_of
-      (free home.volume home.entry)) ∙ e in cc)
+  none_used home u e = cc (ap uid_of (free home.volume home.entry))
 
   none_recorded : (v e q r : ℕ) → record_at (vtoc_in now.vtocs v) e q ≢ Some r
   unfolding no_records
   none_recorded v e q r is =
-      let at : record_at (vtoc_in now.vtocs v) e q ≡ None = ap (λ (o : Option VtocEntry). get_or
-      (records_in o) q None) (free v e) ∙ blank q in
-      let clash : ◌≡◌ {A = Option ℕ} None (Some r) = sym at ∙ is in cc
-    where
-      blank : (q : ℕ) → get_or no_records q None ≡ None
-      blank q = all_same 256 q None
+      cc (ap (λ (o : Option VtocEntry). get_or (records_in o) q None) (free v e), all_same {X = Option ℕ} 256 q None)
 
   pub filed_fresh : AreFiled now.records now.vtocs
   filed_fresh = record {
     used = λ v e q r is. absurd (none_recorded v e q r is);
     once = λ v e q g q' r is. absurd (none_recorded v e q r is);
-    named = λ v r is. (let clash : false ≡ true = sym (unused v r) ∙ is in cc);
+    named = λ v r is. cc (unused v r);
   }
 
   pub entry_first : (e : ℕ) → Some e ≡ least_free_entry (vtoc_in now.vtocs 0) → e ≡ 0
@@ -34,7 +28,7 @@ module _ (now : Plain) (free : (v e : ℕ) → entry_at (vtoc_in now.vtocs v) e 
     where
       by : (e : ℕ) → ((k : ℕ) → k < e → is_none (get_or (vtoc_in now.vtocs 0) k None) ≡ false) → e ≡ 0
       by zero before = refl
-      by (suc e) before = (let clash : true ≡ false = sym (ap is_none (free 0 0)) ∙ before 0 (omega arith) in cc)
+      by (suc e) before = cc (ap is_none (free 0 0), before 0 (omega arith))
 
   pub rest_fresh : AreAtRest now
   rest_fresh uid home is = absurd (none_used home uid is.used)
@@ -67,18 +61,19 @@ entries_some (x ∷ vs) h some = (volume_sizes x (and_parts (is_volume x) (list_
 -- ---- nothing at all
 
 pub none_active : (n place u : ℕ) → uid_in_place (replicate n None) place ≢ Some u
-none_active n place u e = (let clash : ◌≡◌ {A = Option ℕ} None (Some u) = sym (ap uid_in (all_same n place None))
-    ∙ e in cc)
+none_active n place u e = cc (ap uid_in (all_same {X = Option Entry} n place None))
 
 pub none_known : (n process number u : ℕ) → known_uid (kst_at (replicate n
     (replicate 256 None)) process) number ≢ Some u
 none_known n process number u e = elim (cases_lt process n) [
-  | inl lt ↦ (let clash : ◌≡◌ {A = Option ℕ} None (Some u) = sym (ap (λ (kst : List (Option ℕ)). known_uid kst number)
-      (get_or-replicate n process (replicate 256 none) [] lt) ∙ all_same 256 number none) ∙ e in cc)
-  | inr past ↦ (let clash : ◌≡◌ {A = Option ℕ} None (Some u) = sym (ap (λ (kst : List (Option ℕ)). known_uid kst number)
-      (get_or_past (replicate n (replicate 256 none)) process [] (let long : length (replicate n
-      (replicate 256 none)) ≡ n = length-replicate n (replicate 256 none) in
-      omega (arith, long, past)))) ∙ e in cc)
+  | inl lt ↦ cc (
+    ap (λ (kst : List (Option ℕ)). known_uid kst number)
+        (get_or-replicate n process (replicate 256 none) [] lt),
+    all_same 256 number none,
+  )
+  | inr past ↦ cc (ap (λ (kst : List (Option ℕ)). known_uid kst number)
+      (get_or_past (replicate n (replicate 256 none)) process []
+      (rw (length-replicate n (replicate 256 none)) past)))
 ]
   where
     none : Option ℕ
@@ -93,16 +88,12 @@ no_pairs [] none = refl
 no_pairs (x ∷ xs) none =
     let first : count_by (λ y. eqb y.0 x.0) (x ∷ xs) ≡ cond {A = ℕ} (eqb x.0 x.0) 1 0 + count_by (λ y. eqb y.0 x.0) xs =
     sum_by-cons (λ (y : ℕ × ℕ). cond (eqb y.0 x.0) 1 0) x xs in
-    let own : cond {A = ℕ} (eqb x.0 x.0) 1 0 ≡ 1 = ap (λ (z : Bool). cond {A = ℕ} z 1 0) (same x.0) in
-    let zero_count = none x.0 in
-    absurd (omega (arith, first, own, zero_count))
-  where
-    same : (n : ℕ) → eqb n n ≡ true
-    same n = grind (arith, nat_tests)
+    let own : cond {A = ℕ} (eqb x.0 x.0) 1 0 ≡ 1 = rw (eq-eqb x.0 x.0 refl) in
+    let zero_count = none x.0 in absurd (omega (arith, first, own, zero_count))
 
 taken_none : (stored : List (ℕ × ℕ)) (v : ℕ) → stored ≡ [] → taken_on [] stored v ≡ 0
 unfolding taken_on
-taken_none stored v is = ap (λ (xs : List (ℕ × ℕ)). count_by (λ x. eqb (volume_in [] x.0) v) xs) is
+taken_none stored v is = rw is
 
 entries_none : (v : ℕ) → entries_on [] v ≡ 0
 unfolding entries_on
@@ -110,17 +101,17 @@ entries_none v = refl
 
 flags_none : (xs : List Bool) → ((r : ℕ) → in_use xs r ≡ false) → count_by (λ flag. flag) xs ≡ 0
 flags_none [] none = refl
-flags_none (true ∷ xs) none = (let clash : true ≡ false = none 0 in cc)
-flags_none (false ∷ xs) none = (let first : count_by (λ flag. flag) (false ∷ xs) ≡ 0 + count_by
-    (λ flag. flag) xs = sum_by-cons (λ (x : Bool). cond x 1 0) false xs in
-    let rest = flags_none xs (λ r. none (suc r)) in omega (arith, first, rest))
+flags_none (true ∷ xs) none = cc (none 0)
+flags_none (false ∷ xs) none =
+    let rest = flags_none xs (λ r. none (suc r)) in
+    sum_by-cons (λ (x : Bool). cond x 1 0) false xs ∙ omega (arith, rest)
 
 places_none : (xs : List (Option VtocEntry)) → ((e : ℕ) → entry_at xs e ≡ None) → count_by is_some xs ≡ 0
 places_none [] none = refl
-places_none (Some x ∷ xs) none = (let clash : ◌≡◌ {A = Option VtocEntry} (Some x) None = none 0 in cc)
-places_none (None ∷ xs) none = (let first : count_by is_some (None ∷ xs) ≡ 0 + count_by is_some xs = sum_by-cons (λ
-    (x : Option VtocEntry). cond (is_some x) 1 0) None xs in
-    let rest = places_none xs (λ e. none (suc e)) in omega (arith, first, rest))
+places_none (Some x ∷ xs) none = cc (none 0)
+places_none (None ∷ xs) none =
+    let rest = places_none xs (λ e. none (suc e)) in
+    sum_by-cons (λ (x : Option VtocEntry). cond (is_some x) 1 0) None xs ∙ omega (arith, rest)
 
 module _ (now : Plain) (free : (v e : ℕ) → entry_at (vtoc_in now.vtocs v) e ≡ None) (unused : (v r : ℕ)
     → in_use (flags_in now.records v) r ≡ false)
@@ -179,17 +170,15 @@ pub shown_nothing : {D : Type 0} (drive : D → List (List ℕ)) (p : Plan) (t :
 unfolding is_filed picture
 shown_nothing drive p t is fresh known whos = record {
   tree = record {
-    nodes = ap (λ (x : AccountMaps). x.nodes) (sym is);
-    next = ap (λ (x : AccountMaps). x.next) (sym is);
-    counts = λ u. ap (λ (x : AccountMaps). count_of x u) is;
+    nodes = rw is;
+    next = rw is;
+    counts = λ u. rw is;
   };
   known = sym known;
   pages = record {
-    stored = λ u q. ap (λ (x : AccountMaps). is_filed x t.segs.pages.volumes.vtocs u q) (sym is);
+    stored = λ u q. rw is;
     once = tt;
-    words = λ u o. sym (all_same 1024 (o % 1024) 0)
-        ∙ ap (λ (x : AccountMaps). get_or (picture x (words_at (plain drive t.segs.pages)) u (o / 1024))
-        (o % 1024) 0) (sym is);
+    words = λ u o. rw is (sym (all_same 1024 (o % 1024) 0));
   };
   script = record { records = fresh.records; entries = fresh.entries; whos = whos };
 }
@@ -197,12 +186,7 @@ shown_nothing drive p t is fresh known whos = record {
 -- the root is the first node
 pub root_gains : (p : Plan) (a : AccountMaps) (entry quota : ℕ) → a ≡ root_alone 0 entry quota
     → Gains nothing a (record (root_of p) { quota = quota }) entry
-root_gains p a entry quota is = record {
-  nodes = ap (λ (x : AccountMaps). x.nodes) is;
-  entries = ap (λ (x : AccountMaps). x.entries) is;
-  next = ap (λ (x : AccountMaps). x.next) is;
-  counts = λ u. ap (λ (x : AccountMaps). count_of x u) is;
-}
+root_gains p a entry quota is = rw is (record { nodes = refl; entries = refl; next = refl; counts = λ u. refl })
 
 pub boot_is : (p : Plan) (quota : ℕ) → quota ≡ p.quota
     → record (blank p) { nodes = record (root_of p) { quota = quota } ∷ []; next = 1 + 1 } ≡ boot p

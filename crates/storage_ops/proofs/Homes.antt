@@ -1,15 +1,14 @@
 -- A node is added, with a home of its own.
-use Rattle.storage_ops.proofs.Prelude.{◌≡◌, ◌≢◌, ◌⊎◌, ℕ, ◌+◌, ◌<◌, ◌≤◌, ◌/◌, ◌%◌, Bool, true, false, cond, eqb, ◌&&◌, List, [], ◌∷◌, map, Option, Some, None, get_or, is_some, is_none, replicate, refl, sym, ap, subst, ◌∙◌, arith, inl, inr, length, count_by, position, cases_eq, cases_lt, ne_eqb, nat_tests, get_or-replicate, get_or_past, sum_by-cons, position-Some, Who, Plan, AccountMaps, Counts, Gains, count_of, entry_of, look, Node, entries_on, has_directory, node_in, taken_on, volume_in, is_stored, Store, taken_new, VtocEntry, entry_at, least_free_entry, record_at, records_in, no_records, ActiveSegs, uid_in_place, Home, Plain, bindings, binding_at, plain, map_at, uid_at, vtoc_in, entries, one_more, size, taken, used, is_binding, is_filed_at, words_at, words_of_page, words_held, Links, IsKept, AreCounted, AreHoused, IsStore, Shows, Storage, home_of, is_filed, is_there, named_at, pages_in, pages_of, picture}
+use Rattle.storage_ops.proofs.Prelude.{◌≡◌, ◌≢◌, ◌⊎◌, ℕ, ◌+◌, ◌≤◌, ◌/◌, Bool, true, false, cond, eqb, List, [], ◌∷◌, Option, Some, None, get_or, is_some, is_none, replicate, refl, sym, ap, ◌∙◌, arith, inl, inr, length, count_by, position, cases_eq, cases_lt, ne_eqb, get_or-replicate, get_or_past, sum_by-cons, position-Some, Who, Plan, AccountMaps, Gains, count_of, Node, entries_on, has_directory, node_in, taken_on, is_stored, Store, taken_new, VtocEntry, entry_at, least_free_entry, record_at, records_in, no_records, ActiveSegs, uid_in_place, Home, Plain, bindings, binding_at, plain, map_at, uid_at, vtoc_in, one_more, size, taken, used, is_binding, is_filed_at, words_at, words_of_page, words_held, Links, IsKept, AreCounted, AreHoused, IsStore, Shows, Storage, home_of, is_filed, is_there, named_at, pages_in, pages_of, picture, eqb_turned, and_false, and_both, eq-eqb}
 use Rattle.vtoc.specs.Vtoc.{uid_of}
 
 pub home_cases : (a b : Home) → (a ≡ b) ⊎ (a ≢ b)
 home_cases a b = elim (cases_eq a.volume b.volume) [
   | inl v ↦ elim (cases_eq a.entry b.entry) [
-    | inl e ↦ inl (ap (λ (n : ℕ). record { volume = n; entry = a.entry }) v
-        ∙ ap (λ (n : ℕ). record { volume = b.volume; entry = n }) e)
-    | inr ne ↦ inr (λ same. ne (ap (λ (h : Home). h.entry) same))
+    | inl e ↦ inl (λ i. record { volume = v i; entry = e i })
+    | inr ne ↦ inr (λ same. ne (λ i. (same i).entry))
   ]
-  | inr ne ↦ inr (λ same. ne (ap (λ (h : Home). h.volume) same))
+  | inr ne ↦ inr (λ same. ne (λ i. (same i).volume))
 ]
 
 -- ---- words of pages that aren't stored
@@ -22,9 +21,7 @@ bound_of bound u q f e = by (binding_at bound f) refl
     by : (o : Option (ℕ × ℕ)) → binding_at bound f ≡ o → is_binding u q o ≡ true → o ≡ Some (u, q)
     by None e t = cc
     by (Some x) e t =
-        let first : x.0 ≡ u = grind (arith, nat_tests) in
-        let second : x.1 ≡ q = grind (arith, nat_tests) in
-        ap (λ (n : ℕ). Some (n, x.1)) first ∙ ap (λ (n : ℕ). Some (u, n)) second
+        let same = and_both x.0 x.1 u q t in λ i. Some (same.0 i, same.1 i)
 
 -- a page that is in no frame and has no record is all zeros
 pub words_none : (now : Plain) (u q : ℕ) (home : Home) → ((f : ℕ) → binding_at (bindings now.core) f ≢ Some (u, q))
@@ -89,35 +86,20 @@ module _ (a b : AccountMaps) (n : Node) (entry : ℕ) (gains : Gains a b n entry
   there_new : (u : ℕ) → u ≢ n.uid → is_there b.nodes u ≡ is_there a.nodes u
   there_new u ne = ap (λ (ns : List Node). is_there ns u) gains.nodes ∙ rw (ne_eqb n.uid u (λ e. ne (sym e))) refl
 
+  own : eqb n.uid n.uid ≡ true
+  own = eq-eqb n.uid n.uid refl
+
   there_own : is_there b.nodes n.uid ≡ true
-  there_own = ap (λ (ns : List Node). is_there ns n.uid) gains.nodes ∙ rw (own n.uid) refl
-    where
-      own : (x : ℕ) → eqb x x ≡ true
-      own x = grind (arith, nat_tests)
+  there_own = ap (λ (ns : List Node). is_there ns n.uid) gains.nodes ∙ rw own refl
 
   node_new : (u : ℕ) → u ≢ n.uid → node_in b.nodes u ≡ node_in a.nodes u
   node_new u ne = ap (λ (ns : List Node). node_in ns u) gains.nodes ∙ rw (ne_eqb n.uid u (λ e. ne (sym e))) refl
 
   home_new : (u : ℕ) → u ≢ n.uid → home_of b u ≡ home_of a u
-  home_new u ne =
-      ap (λ (v : ℕ). record { volume = v; entry = entry_of b u })
-      (ap (λ (ns : List Node). volume_in ns u) gains.nodes ∙ rw (ne_eqb n.uid u (λ e. ne (sym e))) refl)
-      ∙ ap (λ (x : ℕ). record { volume = volume_in a.nodes u; entry = x })
-      (ap (λ (es : List ℕ). look (map (λ x. x.uid) b.nodes) es u) gains.entries
-      ∙ ap (λ (ns : List Node). look (map (λ x. x.uid) ns) (entry ∷ a.entries) u) gains.nodes
-      ∙ rw (ne_eqb n.uid u (λ e. ne (sym e))) refl)
+  home_new u ne = rw (gains.nodes, gains.entries, ne_eqb n.uid u (λ e. ne (sym e))) refl
 
   home_own : home_of b n.uid ≡ record { volume = n.volume; entry = entry }
-  home_own =
-      ap (λ (v : ℕ). record { volume = v; entry = entry_of b n.uid })
-      (ap (λ (ns : List Node). volume_in ns n.uid) gains.nodes ∙ rw (own n.uid) refl)
-      ∙ ap (λ (x : ℕ). record { volume = n.volume; entry = x })
-      (ap (λ (es : List ℕ). look (map (λ x. x.uid) b.nodes) es n.uid) gains.entries
-      ∙ ap (λ (ns : List Node). look (map (λ x. x.uid) ns) (entry ∷ a.entries) n.uid) gains.nodes
-      ∙ rw (own n.uid) refl)
-    where
-      own : (x : ℕ) → eqb x x ≡ true
-      own x = grind (arith, nat_tests)
+  home_own = rw (gains.nodes, gains.entries, own) refl
 
   -- the new home was free, and is used for the node now
   module _ (old new : List (List (Option VtocEntry))) (fresh : node_in a.nodes n.uid ≡ None)
@@ -127,16 +109,12 @@ module _ (a b : AccountMaps) (n : Node) (entry : ℕ) (gains : Gains a b n entry
       (uids : (other : Home) → other ≢ record { volume = n.volume; entry = entry }
       → uid_at new other ≡ uid_at old other)
       (maps : (other : Home) → map_at new other ≡ map_at old other) where
-    own : Home
-    own = record { volume = n.volume; entry = entry }
-
     apart : (u : ℕ) → AreHoused a old → is_there a.nodes u ≡ true
         → home_of a u ≢ record { volume = n.volume; entry = entry }
-    apart u h t same = (let clash : ◌≡◌ {A = Option ℕ} None (Some u) = sym free ∙ ap (uid_at old) (sym same)
-        ∙ h.homes u t in cc)
+    apart u h t same = cc (free, ap (uid_at old) same, h.homes u t)
 
     not_own : (u : ℕ) → is_there a.nodes u ≡ true → u ≢ n.uid
-    not_own u t is = (let clash : true ≡ false = sym t ∙ ap (is_there a.nodes) is ∙ ap is_some fresh in cc)
+    not_own u t is = cc fresh
 
     pub housed_new : AreHoused a old → AreHoused b new
     housed_new h = record {
@@ -146,36 +124,29 @@ module _ (a b : AccountMaps) (n : Node) (entry : ℕ) (gains : Gains a b n entry
             ap (uid_at new) (home_new u ne) ∙ uids (home_of a u) (apart u h was) ∙ h.homes u was)
       ];
       there = λ home u e. elim (home_cases home (record { volume = n.volume; entry = entry })) [
-        | inl is ↦ (let same : n.uid ≡ u = the_uid u (sym taken_home ∙ ap (uid_at new) (sym is) ∙ e) in
-            ap (is_there b.nodes) (sym same) ∙ there_own)
+        | inl is ↦ (let same : n.uid ≡ u = cc (ap (uid_at new) is) in ap (is_there b.nodes) (sym same) ∙ there_own)
         | inr ne ↦ (let was = h.there home u (sym (uids home ne) ∙ e) in there_new u (not_own u was) ∙ was)
       ];
       only = λ home u e. elim (home_cases home (record { volume = n.volume; entry = entry })) [
-        | inl is ↦ (let same : n.uid ≡ u = the_uid u (sym taken_home ∙ ap (uid_at new) (sym is) ∙ e) in
-            is ∙ sym home_own ∙ ap (home_of b) same)
+        | inl is ↦ (let same : n.uid ≡ u = cc (ap (uid_at new) is) in is ∙ sym home_own ∙ ap (home_of b) same)
         | inr ne ↦ (let was = sym (uids home ne) ∙ e in h.only home u was
             ∙ sym (home_new u (not_own u (h.there home u was))))
       ];
     }
-      where
-        the_uid : (u : ℕ) → ◌≡◌ {A = Option ℕ} (Some n.uid) (Some u) → n.uid ≡ u
-        the_uid u e = cc
 
     filed_same : (home : Home) (q : ℕ) → is_filed_at new home q ≡ is_filed_at old home q
-    filed_same home q = filed_map new home q ∙ ap (λ (m : List (Option ℕ)). is_some (get_or m q None)) (maps home)
-        ∙ sym (filed_map old home q)
+    filed_same home q = cc (filed_map new home q, maps home, filed_map old home q)
 
     filed_own : (q : ℕ) → is_filed_at new (home_of b n.uid) q ≡ false
-    filed_own q = ap (λ (h : Home). is_filed_at new h q) home_own
-        ∙ filed_same (record { volume = n.volume; entry = entry }) q
-        ∙ filed_map old (record { volume = n.volume; entry = entry }) q
-        ∙ ap (λ (m : List (Option ℕ)). is_some (get_or m q None)) blank ∙ none_filed q
+    filed_own q = rw home_own (cc (
+      filed_same (record { volume = n.volume; entry = entry }) q,
+      filed_map old (record { volume = n.volume; entry = entry }) q,
+      blank,
+      none_filed q,
+    ))
 
     pages_own : pages_in b.nodes n.uid ≡ n.pages
-    pages_own = ap (λ (ns : List Node). pages_in ns n.uid) gains.nodes ∙ rw (self_eq n.uid) refl
-      where
-        self_eq : (x : ℕ) → eqb x x ≡ true
-        self_eq x = grind (arith, nat_tests)
+    pages_own = rw (gains.nodes, own) refl
 
     pages_new : (u : ℕ) → u ≢ n.uid → pages_in b.nodes u ≡ pages_in a.nodes u
     pages_new u ne = ap pages_of (node_new u ne)
@@ -184,10 +155,7 @@ module _ (a b : AccountMaps) (n : Node) (entry : ℕ) (gains : Gains a b n entry
     kind_new u ne = ap (λ (ns : List Node). has_directory ns u) gains.nodes ∙ rw (ne_eqb n.uid u (λ e. ne (sym e))) refl
 
     kind_own : has_directory b.nodes n.uid ≡ n.directory
-    kind_own = ap (λ (ns : List Node). has_directory ns n.uid) gains.nodes ∙ rw (self_eq n.uid) refl
-      where
-        self_eq : (x : ℕ) → eqb x x ≡ true
-        self_eq x = grind (arith, nat_tests)
+    kind_own = rw (gains.nodes, own) refl
 
     pub counted_new : n.pages ≤ 256 → (n.directory ≡ true → n.pages ≡ 0) → AreCounted a old → AreCounted b new
     counted_new most flat h = record {
@@ -199,19 +167,17 @@ module _ (a b : AccountMaps) (n : Node) (entry : ℕ) (gains : Gains a b n entry
             ∙ h.counts u (sym (there_new u ne) ∙ t) ∙ sym (gains.counts u)
       ];
       inside = λ u q t on. elim (cases_eq u n.uid) [
-        | inl is ↦ (let clash : true ≡ false = sym on ∙ ap (λ (x : ℕ). is_filed_at new (home_of b x) q) is
-            ∙ filed_own q in cc)
-        | inr ne ↦ subst (λ (m : ℕ). q < m) (sym (pages_new u ne))
-            (h.inside u q (sym (there_new u ne) ∙ t) (sym (ap (λ (x : Home). is_filed_at new x q) (home_new u ne)
-            ∙ filed_same (home_of a u) q) ∙ on))
+        | inl is ↦ cc (filed_own q, ap (λ (x : ℕ). is_filed_at new (home_of b x) q) is)
+        | inr ne ↦ rw (pages_new u ne)
+            (h.inside u q (sym (there_new u ne) ∙ t) (cc (home_new u ne, filed_same (home_of a u) q)))
       ];
       absent = λ u off. elim (cases_eq u n.uid) [
-        | inl is ↦ (let clash : true ≡ false = sym there_own ∙ ap (is_there b.nodes) (sym is) ∙ off in cc)
+        | inl is ↦ cc there_own
         | inr ne ↦ gains.counts u ∙ h.absent u (sym (there_new u ne) ∙ off)
       ];
       most = λ u. elim (cases_eq u n.uid) [
-        | inl is ↦ subst (λ (m : ℕ). m ≤ 256) (sym (ap (pages_in b.nodes) is ∙ pages_own)) most
-        | inr ne ↦ subst (λ (m : ℕ). m ≤ 256) (sym (pages_new u ne)) (h.most u)
+        | inl is ↦ rw (is, pages_own) most
+        | inr ne ↦ rw (pages_new u ne) (h.most u)
       ];
       flat = λ u d. elim (cases_eq u n.uid) [
         | inl is ↦ ap (pages_in b.nodes) is ∙ pages_own ∙ flat (sym kind_own ∙ ap (has_directory b.nodes) (sym is) ∙ d)
@@ -222,59 +188,30 @@ module _ (a b : AccountMaps) (n : Node) (entry : ℕ) (gains : Gains a b n entry
     pub filed_new : (u q : ℕ) → is_filed b new u q ≡ is_filed a old u q
     unfolding is_filed
     filed_new u q = elim (cases_eq u n.uid) [
-      | inl is ↦ ap (λ (x : ℕ). is_there b.nodes x && is_filed_at new (home_of b x) q) is
-          ∙ ap (λ (z : Bool). is_there b.nodes n.uid && z) (filed_own q) ∙ and_false (is_there b.nodes n.uid)
-          ∙ sym (ap (λ (x : ℕ). is_there a.nodes x && is_filed_at old (home_of a x) q) is
-          ∙ ap (λ (z : Bool). z && is_filed_at old (home_of a n.uid) q) (ap is_some fresh))
-      | inr ne ↦ ap (λ (z : Bool). z && is_filed_at new (home_of b u) q) (there_new u ne)
-          ∙ ap (λ (z : Bool). is_there a.nodes u && z) (ap (λ (x : Home). is_filed_at new x q) (home_new u ne)
-          ∙ filed_same (home_of a u) q)
+      | inl is ↦ rw (is, filed_own q, and_false (is_there b.nodes n.uid), ap is_some fresh) refl
+      | inr ne ↦ cc (there_new u ne, home_new u ne, filed_same (home_of a u) q)
     ]
-      where
-        and_false : (z : Bool) → (z && false) ≡ false
-        and_false true = refl
-        and_false false = refl
 
     pub picture_new : (image : ℕ → Home → ℕ → List ℕ) → ((q : ℕ)
         → image n.uid (record { volume = n.volume; entry = entry }) q ≡ replicate 1024 0)
         → (u q : ℕ) → picture b image u q ≡ picture a image u q
     unfolding picture
     picture_new image zeros u q = elim (cases_eq u n.uid) [
-      | inl is ↦ ap (λ (x : ℕ). cond (is_there b.nodes x) (image x (home_of b x) q) (replicate 1024 0)) is
-          ∙ ap (λ (ws : List ℕ). cond {A = List ℕ} (is_there b.nodes n.uid) ws (replicate 1024 0)) (ap (λ
-          (h : Home). image n.uid h q) home_own ∙ zeros q)
-          ∙ either (is_there b.nodes n.uid)
-          ∙ sym (ap (λ (x : ℕ). cond (is_there a.nodes x) (image x (home_of a x) q) (replicate 1024 0)) is
-          ∙ ap (λ (z : Bool). cond z (image n.uid (home_of a n.uid) q) (replicate 1024 0)) (ap is_some fresh))
-      | inr ne ↦ ap (λ (z : Bool). cond z (image u (home_of b u) q) (replicate 1024 0)) (there_new u ne)
-          ∙ ap (λ (x : Home). cond (is_there a.nodes u) (image u x q) (replicate 1024 0)) (home_new u ne)
+      | inl is ↦ rw (is, there_own, home_own, zeros q, ap is_some fresh) refl
+      | inr ne ↦ cc (there_new u ne, home_new u ne)
     ]
-      where
-        either : (z : Bool) → cond {A = List ℕ} z (replicate 1024 0) (replicate 1024 0) ≡ replicate 1024 0
-        either true = refl
-        either false = refl
 
 -- one more of the nodes on its volume
 pub entries_more : (n : Node) (ns : List Node) (count : ℕ → ℕ) (v : ℕ) → count v ≡ entries_on ns v
     → one_more count n.volume v ≡ entries_on (n ∷ ns) v
 unfolding one_more entries_on
-entries_more n ns count v is = here (eqb v n.volume) refl
+entries_more n ns count v is =
+    rw (eqb_turned v n.volume) (by (eqb n.volume v) is)
+    ∙ sym (sum_by-cons (λ (x : Node). cond (eqb x.volume v) 1 0) n ns)
   where
-    flip : (z : Bool) → eqb v n.volume ≡ z → eqb n.volume v ≡ z
-    flip true e = (let same : v ≡ n.volume = grind (arith, nat_tests) in grind (arith, nat_tests))
-    flip false e = (let ne : v ≢ n.volume = grind (arith, nat_tests) in ne_eqb n.volume v (λ x. ne (sym x)))
-
-    first : count_by (λ x. eqb x.volume v) (n ∷ ns) ≡ cond {A = ℕ} (eqb n.volume v) 1 0 + count_by
-        (λ x. eqb x.volume v) ns
-    first = sum_by-cons (λ (x : Node). cond (eqb x.volume v) 1 0) n ns
-
-    here : (z : Bool) → eqb v n.volume ≡ z → cond z (count v + 1) (count v) ≡ count_by (λ x. eqb x.volume v) (n ∷ ns)
-    here true e = (let all = first in let one : cond {A = ℕ} (eqb n.volume v) 1 0 ≡ 1 = ap (λ
-        (z : Bool). cond {A = ℕ} z 1 0) (flip true e) in
-        omega (arith, all, one, is))
-    here false e = (let all = first in let none : cond {A = ℕ} (eqb n.volume v) 1 0 ≡ 0 = ap (λ
-        (z : Bool). cond {A = ℕ} z 1 0) (flip false e) in
-        omega (arith, all, none, is))
+    by : (z : Bool) {more all : ℕ} → more ≡ all → cond z (more + 1) more ≡ cond {A = ℕ} z 1 0 + all
+    by true same = omega (arith, same)
+    by false same = omega (arith, same)
 
 -- ---- the whole
 
@@ -310,9 +247,9 @@ module _ (a b : AccountMaps) (n : Node) (entry : ℕ) (old now : Plain) (made : 
           ∙ sym (taken_new n a.nodes stored v (λ q. none_counted stored n.uid q
           (sym (counts n.uid) ∙ made.gains.counts n.uid ∙ h.counted.absent n.uid (ap is_some made.fresh))))
           ∙ ap (λ (ns : List Node). taken_on ns stored v) (sym made.gains.nodes);
-      entries = λ v. ap (λ (f : ℕ → ℕ). f v) made.count ∙ entries_more n a.nodes (used old.vtocs) v (h.taken.entries v)
-          ∙ ap (λ (ns : List Node). entries_on ns v) (sym made.gains.nodes);
-      short = λ v. subst (λ (f : List (List Bool)). size f v < 65536) (sym made.flags) (h.taken.short v);
+      entries = λ v. ap (λ (f : ℕ → ℕ). f v) made.count
+          ∙ rw made.gains.nodes (entries_more n a.nodes (used old.vtocs) v (h.taken.entries v));
+      short = rw made.flags h.taken.short;
     };
     active = record {
       there = λ place u e. (let was = h.active.there place u e in
@@ -337,7 +274,7 @@ module _ (a b : AccountMaps) (n : Node) (entry : ℕ) (old now : Plain) (made : 
   }
     where
       other : (u : ℕ) → is_there a.nodes u ≡ true → u ≢ n.uid
-      other u t is = (let clash : true ≡ false = sym t ∙ ap (is_there a.nodes) is ∙ ap is_some made.fresh in cc)
+      other u t is = cc (ap is_some made.fresh)
 
   -- the flat store has the node too
   pub shown_new : {D : Type 0} (drive : D → List (List ℕ)) (p : Plan) (s : Store) (t u : Storage D)
@@ -350,44 +287,40 @@ module _ (a b : AccountMaps) (n : Node) (entry : ℕ) (old now : Plain) (made : 
       → Shows drive p s t → Shows drive p (record s { nodes = n ∷ s.nodes; next = s.next + 1 }) u
   shown_new drive p s t u is_a is_b is_old is_now links_same ast_is links_is whos words sizes kept inactive h = record {
     tree = record {
-      nodes = ap (λ (ns : List Node). n ∷ ns) (h.tree.nodes ∙ ap (λ (x : AccountMaps). x.nodes) is_a)
-          ∙ sym made.gains.nodes ∙ ap (λ (x : AccountMaps). x.nodes) (sym is_b);
-      next = ap (λ (x : ℕ). x + 1) (h.tree.next ∙ ap (λ (x : AccountMaps). x.next) is_a) ∙ sym made.gains.next
-          ∙ ap (λ (x : AccountMaps). x.next) (sym is_b);
-      counts = subst (λ (x : AccountMaps). Counts x s.stored) (sym is_b)
-          (λ v. made.gains.counts v ∙ subst (λ (x : AccountMaps). Counts x s.stored) is_a h.tree.counts v);
+      nodes = cc (h.tree.nodes, made.gains.nodes);
+      next = cc (h.tree.next, made.gains.next);
+      counts = rw is_b (λ v. made.gains.counts v ∙ (rw is_a at h.tree.counts) v);
     };
-    known = h.known ∙ ap (λ (l : Links). l.known) (sym links_same);
+    known = rw links_same h.known;
     pages = record {
-      stored = λ v q. h.pages.stored v q ∙ ap (λ (x : AccountMaps). is_filed x t.segs.pages.volumes.vtocs v q) is_a
-          ∙ ap (λ (x : Plain). is_filed a x.vtocs v q) is_old
-          ∙ sym (filed_new a b n entry made.gains old.vtocs now.vtocs made.fresh made.home free_home.0
-          free_home.1 made.uids made.maps v q)
-          ∙ ap (λ (x : Plain). is_filed b x.vtocs v q) (sym is_now)
-          ∙ ap (λ (x : AccountMaps). is_filed x u.segs.pages.volumes.vtocs v q) (sym is_b);
+      stored = λ v q. cc (
+        h.pages.stored v q,
+        ap (λ (x : Plain). x.vtocs) is_old,
+        ap (λ (x : Plain). x.vtocs) is_now,
+        filed_new a b n entry made.gains old.vtocs now.vtocs made.fresh made.home free_home.0 free_home.1 made.uids
+            made.maps v q,
+      );
       once = h.pages.once;
-      words = λ v o. h.pages.words v o ∙ ap (λ (ws : List ℕ). get_or ws (o % 1024) 0)
-          (ap (λ (x : AccountMaps). picture x (words_at (plain drive t.segs.pages)) v (o / 1024)) is_a
-          ∙ ap (λ (x : Plain). picture a (words_at x) v (o / 1024)) is_old
-          ∙ ap (λ (w : ℕ → Home → ℕ → List ℕ). picture a w v (o / 1024)) (sym words)
-          ∙ sym (picture_new a b n entry made.gains old.vtocs now.vtocs made.fresh made.home free_home.0
-          free_home.1 made.uids made.maps (words_at now) zeros v (o / 1024))
-          ∙ ap (λ (x : Plain). picture b (words_at x) v (o / 1024)) (sym is_now)
-          ∙ ap (λ (x : AccountMaps). picture x (words_at (plain drive u.segs.pages)) v (o / 1024)) (sym is_b));
+      words = λ v o. cc (
+        h.pages.words v o,
+        words,
+        picture_new a b n entry made.gains old.vtocs now.vtocs made.fresh
+            made.home free_home.0 free_home.1 made.uids made.maps (words_at now) zeros v (o / 1024),
+      );
     };
     script = record {
-      records = λ v. h.script.records v ∙ ap (λ (x : Plain). size x.records v) is_old
-          ∙ ap (λ (f : List (List Bool)). size f v) (sym made.flags)
-          ∙ ap (λ (x : Plain). size x.records v) (sym is_now);
-      entries = λ v. h.script.entries v ∙ ap (λ (x : Plain). entries x.vtocs v) is_old
-          ∙ sym (sizes v) ∙ ap (λ (x : Plain). entries x.vtocs v) (sym is_now);
+      records = λ v. cc (
+        h.script.records v,
+        ap (λ (x : Plain). size x.records v) is_old,
+        made.flags,
+        ap (λ (x : Plain). size x.records v) is_now,
+      );
+      entries = λ v. cc (h.script.entries v, sizes v);
       whos = whos ∙ h.script.whos;
     };
   }
     where
       zeros : (q : ℕ) → words_at now n.uid (record { volume = n.volume; entry = entry }) q ≡ replicate 1024 0
-      zeros q = ap (λ (w : ℕ → Home → ℕ → List ℕ). w n.uid (record { volume = n.volume; entry = entry }) q) words
-          ∙ words_none old n.uid q (record { volume = n.volume; entry = entry })
+      zeros q = rw words (words_none old n.uid q (record { volume = n.volume; entry = entry })
           (unbound_inactive old ast links n.uid q kept inactive)
-          (filed_map old.vtocs (record { volume = n.volume; entry = entry }) q
-          ∙ ap (λ (m : List (Option ℕ)). is_some (get_or m q None)) free_home.1 ∙ none_filed q)
+          (cc (filed_map old.vtocs (record { volume = n.volume; entry = entry }) q, free_home.1, none_filed q)))

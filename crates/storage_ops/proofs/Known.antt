@@ -1,5 +1,5 @@
 -- What the numbers of a process stand for is changed.
-use Rattle.storage_ops.proofs.Prelude.{◌≡◌, ℕ, zero, suc, ◌<◌, List, [], ◌∷◌, Option, Some, None, Ok, set, get_or, refl, sym, ap, subst, ◌∙◌, length-set, set-get_or, Who, Plan, Reply, number_for, uid_of, with_number, without_number, AccountMaps, Node, segment_at, after_initiate, after_terminate, initiated, known_or_full, Store, ActiveSegs, Plain, Links, kst_at, AreKnown, IsStore, Shows, Storage, answered, with_known}
+use Rattle.storage_ops.proofs.Prelude.{◌≡◌, ℕ, zero, suc, ◌<◌, List, [], ◌∷◌, Option, Some, None, Ok, set, get_or, refl, sym, ap, subst, ◌∙◌, length-set, set-get_or, Who, Plan, Reply, number_for, uid_of, with_number, without_number, AccountMaps, Node, segment_at, after_initiate, after_terminate, initiated, known_or_full, Store, ActiveSegs, Plain, Links, kst_at, AreKnown, IsStore, Shows, Storage, answered, with_known, length, cases_eq, get_or-set_other, inl, inr}
 
 -- what holds of all elements holds of them once one is changed to such
 pub set_told : {A : Type 0} (P : A → Type 0) (xs : List A) (i j : ℕ) (x d : A) → P x → P (get_or xs j d)
@@ -9,6 +9,14 @@ set_told P (y ∷ ys) zero zero x d px pg = px
 set_told P (y ∷ ys) zero (suc j) x d px pg = pg
 set_told P (y ∷ ys) (suc i) zero x d px pg = pg
 set_told P (y ∷ ys) (suc i) (suc j) x d px pg = set_told P ys i j x d px pg
+
+-- a table in place of one of the same length
+pub size_set : {X : Type 0} (xs : List (List X)) (v : ℕ) (ys : List X) → length ys ≡ length (get_or xs v []) → (w : ℕ)
+    → length (get_or (set xs v ys) w []) ≡ length (get_or xs w [])
+size_set {X} xs v ys same w = elim (cases_eq w v) [
+  | inr ne ↦ ap length (get_or-set_other xs v w ys [] ne)
+  | inl is ↦ rw is (set_told (λ (zs : List X). length zs ≡ length (get_or xs v [])) xs v v ys [] same refl)
+]
 
 -- each number that is known stands for a uid below this one
 AreUnder : ℕ → List (Option ℕ) → Type 0
@@ -27,7 +35,7 @@ pub under_with : (next : ℕ) (kst : List (Option ℕ)) (uid : ℕ) (r : Option 
 unfolding AreUnder
 under_with next kst uid None lt old = old
 under_with next kst uid (Some n) lt old =
-    under_set next kst n (Some uid) (λ u e. (let same : uid ≡ u = cc in subst (λ (x : ℕ). x < next) same lt)) old
+    under_set next kst n (Some uid) (λ u e. (let same : uid ≡ u = cc in rw (← same) lt)) old
 
 pub known_set : (next : ℕ) (known : List (List (Option ℕ))) (whos : List Who) (k : ℕ) (kst : List (Option ℕ))
     → AreKnown next known whos
@@ -89,8 +97,7 @@ unfolding after_terminate
 terminate_shown drive p s t process number h =
     let new : List (List (Option ℕ)) → List (List (Option ℕ)) = λ known. set known process (without_number
     (kst_at known process) number) in
-    subst (λ (x : Store). Shows drive p x (with_known t (new t.segs.links.known)))
-    (ap (λ (known : List (List (Option ℕ))). record s { known = new known }) (sym h.known))
+    rw h.known
     (known_shown drive p s t (new t.segs.links.known) h)
 
 -- where there is no number, nothing is changed
@@ -106,7 +113,6 @@ pub initiate_answered : {D : Type 0} (drive : D → List (List ℕ)) (p : Plan) 
     → Shows drive p (answered given s (after_initiate s process path))
     (with_known t (set t.segs.links.known process (with_number (kst_at t.segs.links.known process) n.uid r)))
 initiate_answered drive p s t process path n None given h found is told =
-    rw told (subst (λ (known : List (List (Option ℕ))). Shows drive p s (with_known t known))
-    (sym (none_known t.segs.links.known process n.uid)) h)
+    rw told (rw (none_known t.segs.links.known process n.uid) h)
 initiate_answered drive p s t process path n (Some i) given h found is told =
     rw told (initiate_shown drive p s t process path n (Some i) h found is)

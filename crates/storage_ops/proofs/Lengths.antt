@@ -1,5 +1,5 @@
 -- Stored pages from one on, and the length of a segment.
-use Rattle.storage_ops.proofs.Prelude.{◌≡◌, ◌≢◌, ℕ, ◌<◌, ◌≤◌, Bool, true, false, cond, eqb, ◌&&◌, List, Option, Some, None, Ok, is_some, refl, sym, ap, subst, ◌∙◌, arith, inl, inr, nat_le, cases_Bool, cases_eq, cases_lt, ne_eqb, nat_tests, Who, Plan, AccountMaps, Changes, Node, has_directory, node_in, pool_of, with_node, has_segment, changed, segment_at, is_stored, is_stored_from, after_length, length_reply, Store, none_from, stored_from, record_at, ActiveSegs, uid_in_place, Home, Plain, is_filed_at, vtoc_in, Links, IsInactive, AreCounted, IsStore, Shows, Storage, home_of, is_filed, is_there, named_at, pages_in, pages_of, no_directory, length_told, found_uid, Keeps, keeps_length, keeps_one}
+use Rattle.storage_ops.proofs.Prelude.{◌≡◌, ◌≢◌, ℕ, ◌<◌, ◌≤◌, Bool, true, false, cond, eqb, List, Option, Some, None, Ok, is_some, refl, sym, ap, ◌∙◌, arith, inl, inr, nat_le, cases_Bool, cases_eq, cases_lt, ne_eqb, nat_tests, Who, Plan, AccountMaps, Changes, Node, node_in, pool_of, with_node, has_segment, segment_at, is_stored, is_stored_from, after_length, length_reply, Store, none_from, stored_from, record_at, ActiveSegs, uid_in_place, Home, Plain, is_filed_at, vtoc_in, Links, IsInactive, AreCounted, IsStore, Shows, Storage, home_of, is_filed, is_there, pages_in, pages_of, no_directory, length_told, found_uid, Keeps, keeps_length, keeps_one, eq-eqb}
 use Rattle.book.specs.declared.replies.Reply.TheVariants as reply
 use Rattle.vtoc.specs.Vtoc.{Entry}
 use Rattle.storage_ops.proofs.Alike.{active_alike, alike_changed, housed_alike, map_node, node_map, rights_alike, taken_alike}
@@ -10,7 +10,7 @@ use Rattle.storage_ops.proofs.Held.{tree_held}
 pub filed_there : (a : AccountMaps) (vtocs : List (List (Option Entry))) (u q : ℕ) → is_there a.nodes u ≡ true
     → is_filed a vtocs u q ≡ is_filed_at vtocs (home_of a u) q
 unfolding is_filed
-filed_there a vtocs u q t = ap (λ (z : Bool). z && is_filed_at vtocs (home_of a u) q) t
+filed_there a vtocs u q t = rw t
 
 filed_is : (vtocs : List (List (Option Entry))) (home : Home) (q : ℕ)
     → is_some (record_at (vtoc_in vtocs home.volume) home.entry q) ≡ is_filed_at vtocs home q
@@ -21,8 +21,7 @@ module _ (a : AccountMaps) (vtocs : List (List (Option Entry))) (u : ℕ) (home 
     (there : is_there a.nodes u ≡ true) (home_is : home ≡ home_of a u)
     (table_is : table ≡ vtoc_in vtocs home.volume) where
   pub record_told : (q : ℕ) → is_some (record_at table home.entry q) ≡ is_filed a vtocs u q
-  record_told q = ap (λ (t : List (Option Entry)). is_some (record_at t home.entry q)) table_is ∙ filed_is vtocs home q
-      ∙ ap (λ (h : Home). is_filed_at vtocs h q) home_is ∙ sym (filed_there a vtocs u q there)
+  record_told q = cc (table_is, filed_is vtocs home q, home_is, filed_there a vtocs u q there)
 
   pub from_told : (stored : List (ℕ × ℕ)) (from : ℕ) (b : Bool) → ((v q : ℕ)
       → is_stored stored v q ≡ is_filed a vtocs v q)
@@ -54,8 +53,7 @@ module _ (a : AccountMaps) (vtocs : List (List (Option Entry))) (u : ℕ) (home 
     | inl lt ↦ lt
     | inr le ↦
         (let lt = counted.inside u q there (sym (filed_there a vtocs u q there) ∙ on) in
-        let clash : true ≡ false = sym on ∙ sym (record_told a vtocs u home table there home_is table_is q)
-        ∙ none off q le lt in cc)
+        cc (record_told a vtocs u home table there home_is table_is q, none off q le lt))
   ]
 
 -- ---- the length is set
@@ -68,29 +66,25 @@ keeps_change u pages = keeps_one u (λ n. record n { pages = pages }) (keeps_len
 
 -- a change of one node leaves those of other uids
 other_same : (u pages : ℕ) (n : Node) → n.uid ≢ u → length_change u pages n ≡ n
-other_same u pages n ne = ap (λ (z : Bool). cond z (record n { pages = pages }) n) (ne_eqb n.uid u ne)
+other_same u pages n ne = rw (ne_eqb n.uid u ne)
 
 module _ (a b : AccountMaps) (u pages : ℕ) (segment : has_segment a.nodes u ≡ true)
     (changes : Changes a b (with_node a.nodes u (λ n. record n { pages = pages }))) where
   pages_other : (v : ℕ) → v ≢ u → pages_in b.nodes v ≡ pages_in a.nodes v
-  pages_other v ne =
-      ap (λ (ns : List Node). pages_in ns v) changes.nodes ∙ ap pages_of (node_map (length_change u pages)
-      (keeps_change u pages).uid a.nodes v)
-      ∙ by (node_in a.nodes v) refl
+  pages_other v ne = rw (changes.nodes, node_map (length_change u pages) (keeps_change u pages).uid a.nodes v)
+      (by (node_in a.nodes v) refl)
     where
       by : (o : Option Node) → node_in a.nodes v ≡ o → pages_of (map_node (length_change u pages) o) ≡ pages_of o
       by None e = refl
       by (Some n) e = ap (λ (x : Node). x.pages) (other_same u pages n (λ is. ne (sym (found_uid a.nodes v n e) ∙ is)))
 
   pages_here : (n : Node) → node_in a.nodes u ≡ Some n → pages_in b.nodes u ≡ pages
-  pages_here n e =
-      ap (λ (ns : List Node). pages_in ns u) changes.nodes ∙ ap pages_of (node_map (length_change u pages)
-      (keeps_change u pages).uid a.nodes u)
-      ∙ ap (λ (o : Option Node). pages_of (map_node (length_change u pages) o)) e
-      ∙ ap (λ (z : Bool). (cond z (record n { pages = pages }) n).pages) own
-    where
-      own : eqb n.uid u ≡ true
-      own = (let is : n.uid ≡ u = found_uid a.nodes u n e in grind (arith, nat_tests))
+  pages_here n e = rw (
+    changes.nodes,
+    node_map (length_change u pages) (keeps_change u pages).uid a.nodes u,
+    e,
+    eq-eqb n.uid u (found_uid a.nodes u n e),
+  ) refl
 
   -- the segment isn't active, and stores no page from the new length on
   pub length_store : (now : Plain) (ast : ActiveSegs) (links : Links) (whos : List Who) (n : Node)
@@ -101,28 +95,20 @@ module _ (a b : AccountMaps) (u pages : ℕ) (segment : has_segment a.nodes u �
       let alike = alike_changed (length_change u pages) (keeps_change u pages) a b changes in record {
         housed = housed_alike a b alike now.vtocs h.housed;
         counted = record {
-          counts = λ v t. ap (named_at now.vtocs) (alike.homes v) ∙ h.counted.counts v (sym (alike.there v) ∙ t)
-              ∙ sym (alike.counts v);
-          inside = λ v q t on. (let was = ap (λ (home : Home). is_filed_at now.vtocs home q) (sym (alike.homes v))
-              ∙ on in elim (cases_eq v u) [
-                | inl is ↦
-                    (let here : pages_in b.nodes v ≡ pages = ap (pages_in b.nodes) is ∙ pages_here n found in
-                    let lt : q < pages = within q (filed_there a now.vtocs u q (ap (λ (x : ℕ). is_there a.nodes x)
-                    (sym is) ∙ sym (alike.there v) ∙ t)
-                    ∙ ap (λ (x : ℕ). is_filed_at now.vtocs (home_of a x) q) (sym is) ∙ was) in
-                    omega (arith, here, lt))
-                | inr ne ↦ subst (λ (m : ℕ). q < m) (sym (pages_other v ne)) (h.counted.inside v q (sym (alike.there v)
-                    ∙ t) was)
+          counts = λ v t. cc (alike.homes v, h.counted.counts v (sym (alike.there v) ∙ t), alike.counts v);
+          inside = λ v q t on. (let was = rw (alike.homes v) at on in let there = sym (alike.there v) ∙ t in
+              elim (cases_eq v u) [
+                | inl is ↦ rw (is, pages_here n found)
+                    (within q (filed_there a now.vtocs u q (rw is at there) ∙ (rw is at was)))
+                | inr ne ↦ rw (pages_other v ne) (h.counted.inside v q there was)
               ]);
           absent = λ v off. alike.counts v ∙ h.counted.absent v (sym (alike.there v) ∙ off);
           most = λ v. elim (cases_eq v u) [
-            | inl is ↦ (let here : pages_in b.nodes v ≡ pages = ap (pages_in b.nodes) is
-                ∙ pages_here n found in omega (arith, here, most))
-            | inr ne ↦ subst (λ (m : ℕ). m ≤ 256) (sym (pages_other v ne)) (h.counted.most v)
+            | inl is ↦ rw (is, pages_here n found) most
+            | inr ne ↦ rw (pages_other v ne) (h.counted.most v)
           ];
           flat = λ v d. elim (cases_eq v u) [
-            | inl is ↦ (let clash : true ≡ false = sym (sym (alike.kinds v) ∙ d) ∙ ap (has_directory a.nodes) is
-                ∙ no_directory a.nodes u segment in cc)
+            | inl is ↦ cc (alike.kinds v, no_directory a.nodes u segment)
             | inr ne ↦ pages_other v ne ∙ h.counted.flat v (sym (alike.kinds v) ∙ d)
           ];
         };
@@ -133,15 +119,9 @@ module _ (a b : AccountMaps) (u pages : ℕ) (segment : has_segment a.nodes u �
         rights = rights_alike (length_change u pages)
             (keeps_change u pages).uid a b changes.nodes ast.entries links whos
             h.rights
-            (λ process number place k v mode m d e here. (
-              ap (λ (x : Node). x.rows) (unchanged place v m e here),
-              ap
-                  (λ (x : Node). x.pages) (unchanged place v m e here),
-            ));
-        known = record {
-          older = λ process number v e. subst (λ (x : ℕ). v < x) (sym changes.next) (h.known.older process number v e);
-          processes = h.known.processes;
-        };
+            (λ process number place k v mode m d e here. (let same = unchanged place v m e here in
+            (ap (λ (x : Node). x.rows) same, ap (λ (x : Node). x.pages) same)));
+        known = rw changes.next h.known;
       })
     where
       unchanged : (place v : ℕ) (m : Node) → uid_in_place ast.entries place ≡ Some v → node_in a.nodes v ≡ Some m
@@ -155,10 +135,7 @@ module _ (a b : AccountMaps) (u pages : ℕ) (segment : has_segment a.nodes u �
       → Shows drive p (after_length s path pages) (record t { accounts = b })
   unfolding after_length
   length_shown drive p s t path n is found uid h =
-      subst (λ (x : Store). Shows drive p x (record t { accounts = b }))
-      (ap (λ (v : ℕ). record s { nodes = with_node s.nodes v (λ x. record x { pages = pages }) }) (sym uid)
-      ∙ sym (ap (changed s (λ x. record x { pages = pages }))
-      (ap (λ (ns : List Node). segment_at ns path) (h.tree.nodes ∙ ap (λ (x : AccountMaps). x.nodes) is) ∙ found)))
+      rw (h.tree.nodes ∙ ap (λ (x : AccountMaps). x.nodes) is, found, uid, ← is, ← h.tree.nodes)
       (shown_changed (length_change u pages) (keeps_change u pages) a b changes drive p s t is h)
 
 -- the reply to a length, by whether a page past it is stored

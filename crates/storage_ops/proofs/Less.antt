@@ -26,16 +26,12 @@ store_less now ast links new a whos known fewer h = record {
   known = rw known h.known;
 }
 
-shown_less : {D : Type 0} (drive : D → List (List ℕ)) (p : Plan) (s : Store) (t : Storage D) (new : Links)
+-- what is shown has no descriptor
+pub shown_linked : {D : Type 0} (drive : D → List (List ℕ)) (p : Plan) (s : Store) (t : Storage D) (new : Links)
     → new.known ≡ t.segs.links.known
     → Shows drive p s t → Shows drive p s (record t { segs = record t.segs { links = new } })
-shown_less drive p s t new known h = record {
-  tree = h.tree;
-  known = h.known
-      ∙ sym known;
-  pages = h.pages;
-  script = h.script;
-}
+shown_linked drive p s t new known h =
+    record { tree = h.tree; known = h.known ∙ sym known; pages = h.pages; script = h.script }
 
 -- ---- one descriptor is cut
 
@@ -95,7 +91,7 @@ pub shown_all_cut : {D : Type 0} (drive : D → List (List ℕ)) (p : Plan) (s :
     → Shows drive p s t
     → Shows drive p s (record t { segs = record t.segs { links = all_cut t.segs.links place } })
 unfolding all_cut
-shown_all_cut drive p s t place h = shown_less drive p s t (all_cut t.segs.links place) refl h
+shown_all_cut drive p s t place h = shown_linked drive p s t (all_cut t.segs.links place) refl h
 
 -- ---- a segment becomes inactive
 

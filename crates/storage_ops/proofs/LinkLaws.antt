@@ -1,32 +1,24 @@
 -- Descriptors are connected, with the rights of their processes.
-use Rattle.storage_ops.proofs.Prelude.{◌≡◌, ℕ, suc, ◌<◌, List, [], ◌∷◌, length, Option, Some, get_or, set, refl, sym, ap, subst, ◌∙◌, arith, inl, inr, cases_eq, get_or-set_other, Mode, Who, Plan, AccountMaps, access_of, Node, node_in, Store, Sdw, Fault, Present, sdw_at, ActiveSegs, uid_in_place, Plain, Links, sdws_at, linked, reconnected, pair_at, IsRight, IsStore, Shows, Storage, who_at}
+use Rattle.storage_ops.proofs.Prelude.{◌≡◌, ℕ, suc, ◌<◌, List, [], ◌∷◌, length, Some, get_or, set, refl, sym, ap, ◌∙◌, arith, inl, inr, cases_eq, get_or-set_other, Mode, Who, AccountMaps, access_of, Node, node_in, Sdw, Fault, Present, sdw_at, ActiveSegs, uid_in_place, Plain, Links, sdws_at, linked, reconnected, pair_at, IsRight, IsStore, who_at}
 use Rattle.mnames.specs.declared.modes.Mode.TheVariants as mode
 use Rattle.storage_ops.proofs.Known.{set_told}
 
 same_place : (p q m n : ℕ) (x y : Mode) → ◌≡◌ {A = Sdw} (Present p x m) (Present q y n)
     → (p ≡ q) × (x ≡ y) × (m ≡ n)
 same_place p q m n x y e =
-    let first : p ≡ q = cc in
-    let second : x ≡ y = cc in
-    let third : m ≡ n = cc in
-    (first, second, third)
-
-the_uid : (u v : ℕ) → ◌≡◌ {A = Option ℕ} (Some u) (Some v) → u ≡ v
-the_uid u v e = cc
+    (cc, cc, cc)
 
 -- what a descriptor of a store is, once one more is connected: as it was, or the new one
 told_linked : (links : Links) (process number place pages : ℕ) (m : Mode) (P : ℕ → Sdw → Type 0)
     → P process (Present place m pages) → ((q k : ℕ) → P q (sdw_at (sdws_at links.descriptors q) k)) → (q k : ℕ)
     → P q (sdw_at (sdws_at (linked links process number place m pages).descriptors q) k)
 told_linked links process number place pages m P new old q k = elim (cases_eq q process) [
-  | inr ne ↦ subst (λ (words : List Sdw). P q (sdw_at words k))
-      (sym (get_or-set_other links.descriptors process q (set (sdws_at links.descriptors process) number
-      (Present place m pages)) [] ne)) (old q k)
+  | inr ne ↦ rw (get_or-set_other links.descriptors process q (set (sdws_at links.descriptors process) number
+      (Present place m pages)) [] ne) (old q k)
   | inl is ↦ set_told (λ (words : List Sdw). P q (sdw_at words k)) links.descriptors process q
       (set (sdws_at links.descriptors process) number (Present place m pages)) []
       (set_told (λ (w : Sdw). P q w) (sdws_at links.descriptors process) number k (Present place m pages) Fault
-      (subst (λ (x : ℕ). P x (Present place m pages)) (sym is) new)
-      (subst (λ (x : ℕ). P q (sdw_at (sdws_at links.descriptors x) k)) is (old q k))) (old q k)
+      (rw is new) (rw (← is) (old q k))) (old q k)
 ]
 
 module _ (now : Plain) (ast : ActiveSegs) (a : AccountMaps) (whos : List Who) where
@@ -55,8 +47,7 @@ module _ (now : Plain) (ast : ActiveSegs) (a : AccountMaps) (whos : List Who) wh
     where
       own : (x u : ℕ) (n : Node) → place ≡ x → uid_in_place ast.entries x ≡ Some u → node_in a.nodes u ≡ Some n
           → node_in a.nodes uid ≡ Some n
-      own x u n is e found = ap (node_in a.nodes) (the_uid uid u (sym at ∙ ap (uid_in_place ast.entries) is ∙ e))
-          ∙ found
+      own x u n is e found = (let same : uid ≡ u = cc (at, ap (uid_in_place ast.entries) is) in rw same found)
 
   -- one after the other
   pub store_reconnected : (place pages uid : ℕ) → uid_in_place ast.entries place ≡ Some uid
@@ -78,14 +69,3 @@ known_reconnected place pages [] modes links = refl
 known_reconnected place pages (pair ∷ list) [] links = refl
 known_reconnected place pages (pair ∷ list) (m ∷ modes) links =
     known_reconnected place pages list modes (linked links pair.0 pair.1 place m pages)
-
--- what is shown has no descriptor
-pub shown_linked : {D : Type 0} (drive : D → List (List ℕ)) (p : Plan) (s : Store) (t : Storage D) (links : Links)
-    → links.known ≡ t.segs.links.known → Shows drive p s t
-    → Shows drive p s (record t { segs = record t.segs { links = links } })
-shown_linked drive p s t links known h = record {
-  tree = h.tree;
-  known = h.known ∙ sym known;
-  pages = h.pages;
-  script = h.script;
-}

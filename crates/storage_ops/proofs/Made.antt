@@ -1,9 +1,10 @@
 -- What the making of a directory or a segment in a directory is answered, and what it leaves.
-use Rattle.storage_ops.proofs.Prelude.{◌≡◌, ℕ, ◌+◌, ◌<◌, Bool, true, false, cond, List, [], ◌∷◌, ◌++◌, is_none, Option, Some, None, Result, Ok, All, IsSome, set, get_or, is_some, ◌&&◌, length, sym, ap, ◌∙◌, arith, inl, inr, nat_le, cases_eq, cases_lt, nat_tests, get_or-set_other, get_or-set_same, get_or_past, length-set, position-Some, Plan, AddFault, add_fault_of, Node, above, branch_in, entries_on, node_at, after_make, made_at, made_in, made_of, make_in, Row, parts_are, Store, entries_of, least_free_entry, entries, used, vtoc_in}
+use Rattle.storage_ops.proofs.Prelude.{◌≡◌, ℕ, ◌<◌, Bool, true, false, cond, List, [], ◌∷◌, ◌++◌, is_none, Option, Some, None, Result, Ok, All, IsSome, set, get_or, is_some, ◌&&◌, length, sym, ap, ◌∙◌, arith, nat_le, nat_tests, length-set, position-Some, Plan, AddFault, add_fault_of, Node, above, branch_in, entries_on, node_at, after_make, made_in, make_in, Row, parts_are, Store, entries_of, least_free_entry, entries, used, vtoc_in}
 use Rattle.book.specs.declared.replies.Reply.TheVariants as reply
 use Rattle.dir_tree.specs.declared.node.AddFault.TheVariants as add_fault
 use Rattle.dir_tree.specs.Nodes.{unless}
 use Rattle.vtoc.specs.Vtoc.{Entry}
+use Rattle.storage_ops.proofs.Known.{size_set}
 use Rattle.storage_ops.proofs.NamingLaws.{count_full, count_less}
 
 told : (x y z w full : Bool) (n : ℕ)
@@ -25,12 +26,9 @@ pub made_told : (p : Plan) (s : Store) (volume : ℕ) (dir : Bool) (name : List 
     → full ≡ nat_le (entries_of p volume) (entries_on s.nodes volume)
     → cond full reply.NoEntry (reply.Made next) ≡ make_in p s volume dir name d
 made_told p s volume dir name d nodes superior next r full same at below answer ok is =
-    ap (λ (n : ℕ). cond full reply.NoEntry (reply.Made n)) (sym at)
-    ∙ told (is_some (branch_in s.nodes d.uid name)) (dir && nat_le 8 (length (above s.nodes d.uid))) (nat_le 4097
-    (length s.nodes))
-    (nat_le (entries_of p volume) (entries_on s.nodes volume)) full s.next
-    (ok ∙ answer ∙ ap (λ (ns : List Node). unless (add_fault_of ns superior name dir) tt) (sym same)
-    ∙ ap (λ (u : ℕ). unless (add_fault_of s.nodes u name dir) tt) (sym below)) is
+    rw (← at) (told (is_some (branch_in s.nodes d.uid name)) (dir && nat_le 8 (length (above s.nodes d.uid)))
+    (nat_le 4097 (length s.nodes)) (nat_le (entries_of p volume) (entries_on s.nodes volume)) full s.next
+    (cc (ok, answer, same, below)) is)
 
 -- all entries of a volume are used, and not all
 pub all_used : (vtocs : List (List (Option Entry))) (v most count : ℕ)
@@ -54,20 +52,8 @@ some_free vtocs v e most count least is counted =
 pub length_inside : {X : Type 0} (vtocs : List (List X)) (v e w : ℕ) (x : X) (now : List (List X))
     → now ≡ set vtocs v (set (get_or vtocs v []) e x)
     → length (get_or now w []) ≡ length (get_or vtocs w [])
-length_inside {X} vtocs v e w x now is =
-    ap (λ (t : List (List X)). length (get_or t w [])) is
-    ∙ elim (cases_eq w v) [
-      | inr ne ↦ ap length (get_or-set_other vtocs v w (set (get_or vtocs v []) e x) [] ne)
-      | inl same ↦ elim (cases_lt v (length vtocs)) [
-        | inl lt ↦ ap (λ (n : ℕ). length (get_or (set vtocs v (set (get_or vtocs v []) e x)) n [])) same
-            ∙ ap length (get_or-set_same vtocs v (set (get_or vtocs v []) e x) [] lt)
-            ∙ length-set (get_or vtocs v []) e x ∙ ap (λ (n : ℕ). length (get_or vtocs n [])) (sym same)
-        | inr past ↦
-            (let long : length (set vtocs v (set (get_or vtocs v []) e x)) ≡ length vtocs = length-set vtocs v _ in
-            ap length (get_or_past (set vtocs v (set (get_or vtocs v []) e x)) w [] (omega (arith, long, past, same)))
-            ∙ sym (ap length (get_or_past vtocs w [] (omega (arith, past, same)))))
-      ]
-    ]
+length_inside vtocs v e w x now is =
+    rw is (size_set vtocs v (set (get_or vtocs v []) e x) (length-set (get_or vtocs v []) e x) w)
 
 -- ---- by its path
 
@@ -76,5 +62,4 @@ module _ (s : Store) (nodes : List Node) (path names : List (List ℕ)) (name : 
   pub after_make_is : (pages : ℕ) (rows : List Row) (d : Node) → node_at nodes names ≡ Ok d
       → made_in s volume dir pages rows name d ≡ after_make s path volume dir pages rows
   unfolding after_make
-  after_make_is pages rows d found = sym (ap (made_of s volume dir pages rows) (parts_are path names name parts)
-      ∙ ap (made_at s volume dir pages rows name) (ap (λ (ns : List Node). node_at ns names) same ∙ found))
+  after_make_is pages rows d found = rw (parts_are path names name parts, same, found)

@@ -1,6 +1,7 @@
 -- What the calls of a move ask and leave, by what is true of a store.
-use Rattle.storage_ops.proofs.Prelude.{◌≡◌, ℕ, ◌+◌, ◌-◌, ◌<◌, ◌≤◌, Bool, true, false, List, [], ◌∷◌, Option, Some, None, get_or, length, map, set, refl, sym, ap, ◌∙◌, arith, inl, inr, nat_lt, cases_eq, cases_lt, eq-eqb, nat_tests, get_or-set_other, get_or-set_same, get_or_past, length-set, least_free, HasParts, Vols, records_at, used_at, vtoc_at, IsActive, count_of, plain, entries, size, Mover, CanBegin, begun, flags_given, flags_taken, with_taken, Control, IsKept, move_committed, pair_of, is_roomy, IsStore, Storage, home_of, is_there, named_at, room_parts}
+use Rattle.storage_ops.proofs.Prelude.{◌≡◌, ℕ, ◌+◌, ◌-◌, ◌<◌, ◌≤◌, Bool, true, false, List, [], ◌∷◌, Option, Some, None, length, map, set, refl, sym, ◌∙◌, arith, nat_lt, eq-eqb, nat_tests, length-set, least_free, HasParts, Vols, records_at, used_at, vtoc_at, IsActive, count_of, plain, entries, size, Mover, CanBegin, begun, flags_given, flags_taken, with_taken, Control, IsKept, move_committed, pair_of, is_roomy, IsStore, Storage, home_of, is_there, named_at, room_parts}
 use Rattle.seg_mover.specs.Homes.{map_at}
+use Rattle.storage_ops.proofs.Known.{size_set}
 use Rattle.storage_ops.proofs.Paged.{active_there}
 use Rattle.storage_ops.proofs.Tables.{all_drives, homed_volume}
 
@@ -45,21 +46,6 @@ module _ {D : Type 0} (drive : D → List (List ℕ)) (t : Storage D) (u : ℕ)
       lt_of n m e = grind (arith, nat_tests)
 
 -- ---- a move leaves the sizes of the volumes
-
--- a table in place of one of the same length
-size_set : {X : Type 0} (xs : List (List X)) (v : ℕ) (ys : List X) → length ys ≡ length (get_or xs v []) → (w : ℕ)
-    → length (get_or (set xs v ys) w []) ≡ length (get_or xs w [])
-size_set xs v ys same w = elim (cases_eq w v) [
-  | inr ne ↦ ap length (get_or-set_other xs v w ys [] ne)
-  | inl is ↦ elim (cases_lt v (length xs)) [
-    | inl lt ↦ ap (λ (n : ℕ). length (get_or (set xs v ys) n [])) is ∙ ap length (get_or-set_same xs v ys [] lt) ∙ same
-        ∙ ap (λ (n : ℕ). length (get_or xs n [])) (sym is)
-    | inr past ↦
-        (let long : length (set xs v ys) ≡ length xs = length-set xs v ys in
-        ap length (get_or_past (set xs v ys) w [] (omega (arith, long, past, is)))
-        ∙ sym (ap length (get_or_past xs w [] (omega (arith, past, is)))))
-  ]
-]
 
 taken_length : (flags : List Bool) (places : List (Option ℕ)) → length (flags_taken flags places) ≡ length flags
 taken_length flags [] = refl

@@ -47,9 +47,7 @@ count_all (Some u ∷ kst) each = (let first = count_first (Some u) kst in
 -- a segment that isn't known gets a number where fewer than 256 are known
 pub room_told : (kst : List (Option ℕ)) (uid : ℕ) (o : Option ℕ) (b : Bool) → length kst ≡ 256 → o ≡ number_of kst uid
     → is_some o ≡ false → (IsTrue b ↔ (known_count kst < 256)) → b ≡ is_some (number_for kst uid)
-room_told kst uid o b long is none tells =
-    by (least_free kst) refl
-    ∙ ap (λ (x : Option ℕ). is_some (first_of_two x (least_free kst))) (sym (none_is o none) ∙ is)
+room_told kst uid o b long is none tells = cc (by (least_free kst) refl, none_is o none, is)
   where
     none_is : (o : Option ℕ) → is_some o ≡ false → o ≡ None
     none_is None e = refl

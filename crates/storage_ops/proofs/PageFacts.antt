@@ -1,5 +1,5 @@
 -- What is known of a page of an active segment: its home, its page table, and whether the file map names it.
-use Rattle.storage_ops.proofs.Prelude.{◌≡◌, ℕ, zero, suc, ◌+◌, ◌^◌, ◌<◌, ◌≤◌, Bool, true, false, cond, eqb, not, List, [], ◌∷◌, length, Option, Some, None, get_or, is_some, refl, sym, ap, subst, ◌∙◌, arith, inl, inr, count_by, nat_le, cases_Bool, cases_lt, nat_tests, get_or_past, sum_by-cons, Who, AccountMaps, count_of, Node, has_directory, node_in, pool_for, pool_of, has_segment, Ptw, Entry, ActiveSegs, IsActive, table_at, uid_in_place, Plain, is_filed_at, has_record, map_at, Links, place_of, table_of, word_of, IsKept, field_found, IsStore, home_of, is_there, pages_in, pages_of}
+use Rattle.storage_ops.proofs.Prelude.{◌≡◌, ℕ, zero, suc, ◌+◌, ◌^◌, ◌<◌, ◌≤◌, Bool, true, false, cond, eqb, not, List, [], ◌∷◌, length, Option, Some, None, get_or, is_some, refl, sym, ap, ◌∙◌, arith, inl, inr, count_by, nat_le, cases_Bool, cases_lt, nat_tests, get_or_past, sum_by-cons, Who, AccountMaps, count_of, Node, has_directory, node_in, pool_for, pool_of, has_segment, Ptw, Entry, ActiveSegs, IsActive, table_at, uid_in_place, Plain, is_filed_at, has_record, map_at, Links, place_of, table_of, word_of, IsKept, field_found, IsStore, home_of, is_there, pages_in, pages_of}
 use Rattle.active_segs.specs.Active.{IsTree}
 use Rattle.storage_ops.proofs.Homes.{filed_map}
 use Rattle.storage_ops.proofs.Lengths.{filed_there}
@@ -16,16 +16,14 @@ place_told xs uid place tree at = tree.once (place_of xs uid) place uid (active_
 pub table_told : (ast found : ActiveSegs) (uid place : ℕ) (table : List Ptw) → found ≡ ast → IsTree ast.entries
     → uid_in_place found.entries place ≡ Some uid → table ≡ table_at found.tables place → table ≡ table_of ast uid
 table_told ast found uid place table same tree at is =
-    is ∙ ap (λ (x : ActiveSegs). table_at x.tables place) same
-    ∙ ap (table_at ast.tables) (sym (place_told ast.entries uid place tree
-    (ap (λ (x : ActiveSegs). uid_in_place x.entries place) (sym same) ∙ at)))
+    cc (is, same, place_told ast.entries uid place tree (rw same at at))
 
 -- ---- what stands in a list
 
 pub within_some : {X : Type 0} (xs : List (Option X)) (i : ℕ) → is_some (get_or xs i None) ≡ true → i < length xs
 within_some {X} xs i on = elim (cases_lt i (length xs)) [
   | inl lt ↦ lt
-  | inr past ↦ (let clash : false ≡ true = ap is_some (sym (get_or_past xs i None past)) ∙ on in cc)
+  | inr past ↦ cc (ap is_some (get_or_past xs i None past))
 ]
 
 pub count_some : {X : Type 0} (xs : List (Option X)) (i : ℕ) → is_some (get_or xs i None) ≡ true
@@ -105,7 +103,7 @@ module _ (now : Plain) (ast : ActiveSegs) (links : Links) (a : AccountMaps) (who
     ])
 
     pub page_counted : 1 ≤ count_of a uid
-    page_counted = subst (λ (n : ℕ). 1 ≤ n) (h.counted.counts uid there)
+    page_counted = rw (← h.counted.counts uid there)
         (count_some (map_at now.vtocs (home_of a uid)) p (sym (filed_map now.vtocs (home_of a uid) p)
         ∙ filed_word p ∙ on))
 
@@ -121,7 +119,7 @@ module _ (now : Plain) (ast : ActiveSegs) (links : Links) (a : AccountMaps) (who
     word_within =
         let found = found_there a.nodes uid there in
         let pages : pages_in a.nodes uid ≡ found.0.pages = ap pages_of found.1 in
-        let room = room_of found.0 (subst (λ (n : ℕ). n ≤ 256) pages (h.counted.most uid))
+        let room = room_of found.0 (rw pages at (h.counted.most uid))
         (λ d. sym pages ∙ h.counted.flat uid (directory_found a.nodes uid found.0 found.1 ∙ d)) in
         let long : length (table_of ast uid) ≡ 4 ^ (pool_of found.0 + 1) = ap length table_is
         ∙ kept.sized (pool_of found.0) active.0 room.1 (h.active.pools active.0 uid found.0 active.1 found.1) in

@@ -1,5 +1,5 @@
 -- A page has left its frame: it is on its record, or it was all zeros and is stored no more.
-use Rattle.storage_ops.proofs.Prelude.{◌≡◌, ◌≢◌, ℕ, ◌+◌, ◌-◌, ◌<◌, ◌≤◌, ◌/◌, ◌%◌, Bool, true, false, cond, eqb, ◌&&◌, not, List, Option, Some, None, Result, Ok, Err, IfOk, get_or, refl, replicate, sym, ap, subst, ◌∙◌, arith, inl, inr, length, count_by, cases_eq, cases_lt, eq-eqb, ne_eqb, get_or_past, Who, Plan, AccountMaps, Counts, Recounts, count_of, IsOnce, is_stored, without_stored, MayRelease, Store, count_without, is_stored-without, once_without, words_zero, AreZero, VtocEntry, ActiveSegs, IsActive, Home, Left, Released, Kept, Plain, plain, KeepsCounts, taken, taken_after, after_evict, ChangesStored, KeepsWords, is_filed_at, is_kept, words_at, has_record, map_at, uid_at, Links, word_of, table_left, IsKept, IsSettled, page_left, AreHoused, IsStore, Shows, Storage, home_of, is_filed, is_there, named_at, pages_in, picture}
+use Rattle.storage_ops.proofs.Prelude.{◌≡◌, ◌≢◌, ℕ, ◌+◌, ◌-◌, ◌<◌, ◌≤◌, ◌/◌, Bool, true, false, cond, eqb, ◌&&◌, not, List, Option, Some, None, Result, Ok, Err, IfOk, get_or, refl, sym, ap, ◌∙◌, arith, inl, inr, length, count_by, cases_eq, cases_lt, eq-eqb, ne_eqb, get_or_past, Who, Plan, AccountMaps, Counts, Recounts, count_of, IsOnce, is_stored, without_stored, MayRelease, Store, count_without, is_stored-without, once_without, words_zero, AreZero, VtocEntry, ActiveSegs, IsActive, Home, Left, Released, Kept, Plain, plain, KeepsCounts, taken, taken_after, after_evict, ChangesStored, KeepsWords, is_filed_at, is_kept, words_at, has_record, uid_at, Links, word_of, table_left, IsKept, IsSettled, page_left, AreHoused, IsStore, Shows, Storage, home_of, is_filed, is_there, named_at, pages_in, picture}
 use Rattle.storage_ops.proofs.Dropped.{recount_here, recount_homes, recount_other, recount_there, same_entries, same_sizes}
 use Rattle.storage_ops.proofs.Entries.{map_put, put_other, put_uid}
 use Rattle.storage_ops.proofs.PageFacts.{filed_word, page_counted}
@@ -18,30 +18,17 @@ pub filed_changed : (a : AccountMaps) (old now : Plain) (uid p : ℕ) (flag : Bo
 unfolding is_filed
 filed_changed a old now uid p flag housed there change v q = by (is_there a.nodes v) refl
   where
-    the_uid : ◌≡◌ {A = Option ℕ} (Some v) (Some uid) → v ≡ uid
-    the_uid e = cc
-
     apart : is_there a.nodes v ≡ true → v ≢ uid → home_of a v ≢ home_of a uid
-    apart t ne same = ne (the_uid (sym (housed.homes v t) ∙ ap (uid_at old.vtocs) same ∙ housed.homes uid there))
+    apart t ne same = ne (cc (housed.homes v t, housed.homes uid there))
 
     by : (z : Bool) → is_there a.nodes v ≡ z → (z && is_filed_at now.vtocs (home_of a v) q)
         ≡ cond (eqb v uid && eqb q p) flag (z && is_filed_at old.vtocs (home_of a v) q)
-    by false t = (let off : eqb v uid ≡ false = ne_eqb v uid (λ e. (let clash : true ≡ false = sym there
-        ∙ ap (is_there a.nodes) (sym e) ∙ t in cc)) in
-        sym (ap (λ (z : Bool). cond (z && eqb q p) flag false) off))
+    by false t = rw (ne_eqb v uid (λ e. cc there)) refl
     by true t = elim (cases_eq v uid) [
-      | inr ne ↦ change.others (home_of a v) q (λ same page. apart t ne same)
-          ∙ sym (ap (λ (z : Bool). cond (z && eqb q p) flag (is_filed_at old.vtocs (home_of a v) q)) (ne_eqb v uid ne))
+      | inr ne ↦ rw (ne_eqb v uid ne) (change.others (home_of a v) q (λ same page. apart t ne same))
       | inl is ↦ elim (cases_eq q p) [
-        | inr ne ↦ change.others (home_of a v) q (λ same page. ne page)
-            ∙ sym (ap (λ (z : Bool). cond (z && eqb q p) flag (is_filed_at old.vtocs (home_of a v) q))
-            (eq-eqb v uid is)
-            ∙ ap (λ (z : Bool). cond z flag (is_filed_at old.vtocs (home_of a v) q)) (ne_eqb q p ne))
-        | inl same ↦ ap (λ (x : ℕ). is_filed_at now.vtocs (home_of a x) q) is
-            ∙ ap (λ (x : ℕ). is_filed_at now.vtocs (home_of a uid) x) same ∙ change.here
-            ∙ sym (ap (λ (z : Bool). cond (z && eqb q p) flag (is_filed_at old.vtocs (home_of a v) q))
-            (eq-eqb v uid is)
-            ∙ ap (λ (z : Bool). cond z flag (is_filed_at old.vtocs (home_of a v) q)) (eq-eqb q p same))
+        | inr ne ↦ rw (eq-eqb v uid is, ne_eqb q p ne) (change.others (home_of a v) q (λ same page. ne page))
+        | inl same ↦ rw (is, same, eq-eqb uid uid refl, eq-eqb p p refl) change.here
       ]
     ]
 
@@ -50,16 +37,13 @@ pub filed_recounted : (a b : AccountMaps) (uid count : ℕ) → Recounts a b uid
     → (vtocs : List (List (Option VtocEntry))) (u q : ℕ) → is_filed b vtocs u q ≡ is_filed a vtocs u q
 unfolding is_filed
 filed_recounted a b uid count change vtocs u q =
-    ap (λ (z : Bool). z && is_filed_at vtocs (home_of b u) q) (recount_there a b uid count change u)
-    ∙ ap (λ (h : Home). is_there a.nodes u && is_filed_at vtocs h q) (recount_homes a b uid count change u)
+    cc (recount_there a b uid count change u, recount_homes a b uid count change u)
 
 pub picture_recounted : (a b : AccountMaps) (uid count : ℕ) → Recounts a b uid count
     → (image : ℕ → Home → ℕ → List ℕ) (u q : ℕ) → picture b image u q ≡ picture a image u q
 unfolding picture
 picture_recounted a b uid count change image u q =
-    ap (λ (z : Bool). cond z (image u (home_of b u) q) (replicate 1024 0)) (recount_there a b uid count change u)
-    ∙ ap (λ (h : Home). cond (is_there a.nodes u) (image u h q) (replicate 1024 0))
-    (recount_homes a b uid count change u)
+    cc (recount_there a b uid count change u, recount_homes a b uid count change u)
 
 -- the pages without one are as many as the accounts count then
 counts_less : (a b : AccountMaps) (uid p : ℕ) (stored : List (ℕ × ℕ)) → Recounts a b uid (count_of a uid - 1)
@@ -72,14 +56,11 @@ counts_less a b uid p stored change once on counts v =
     elim (cases_eq v uid) [
       | inl is ↦
           (let one : weight (eqb uid v) ≡ 1 = ap weight (eq-eqb uid v (sym is)) in
-          let here : count_of b v ≡ count_of a uid - 1 = ap (count_of b) is
-          ∙ recount_here a b uid (count_of a uid - 1) change in
-          let from : count_of a v ≡ count_of a uid = ap (count_of a) is in
-          omega (arith, sum, was, one, here, from))
+          let here : count_of b v ≡ count_of a v - 1 = rw is (recount_here a b uid (count_of a uid - 1) change) in
+          omega (arith, sum, was, one, here))
       | inr ne ↦
           (let none : weight (eqb uid v) ≡ 0 = ap weight (ne_eqb uid v (λ e. ne (sym e))) in
-          let same = recount_other a b uid (count_of a uid - 1) change v ne in
-          omega (arith, sum, was, none, same))
+          omega (arith, sum, was, none, recount_other a b uid (count_of a uid - 1) change v ne))
     ]
 
 -- ---- the whole
@@ -89,8 +70,7 @@ module _ (old now : Plain) (ast next : ActiveSegs) (links : Links) (a b : Accoun
     (active : IsActive ast.entries uid) (own : home ≡ home_of a uid)
     (on : has_record (word_of ast uid p) ≡ true) (keeps : KeepsCounts old now) where
   was_filed : is_filed_at old.vtocs home p ≡ true
-  was_filed = ap (λ (x : Home). is_filed_at old.vtocs x p) own
-      ∙ filed_word old ast links a whos kept h uid active p ∙ on
+  was_filed = rw own (filed_word old ast links a whos kept h uid active p ∙ on)
 
   was_used : uid_at old.vtocs home ≡ Some uid
   was_used = ap (uid_at old.vtocs) own ∙ (active_home old ast links a whos kept h uid active).used
@@ -104,29 +84,24 @@ module _ (old now : Plain) (ast next : ActiveSegs) (links : Links) (a b : Accoun
       → IfOk r (λ left. taken now.records ≡ taken_after (taken old.records) home.volume left)
       → IsSettled a b uid r → IsStore now next links b whos
   store_left (Err e) record_was effect word stored count settled =
-      subst (λ (x : AccountMaps). IsStore now next links x whos) (sym settled)
-      (store_still old now ast next links a whos (ap (λ (x : Plain). x.vtocs) effect)
+      rw settled (store_still old now ast next links a whos (ap (λ (x : Plain). x.vtocs) effect)
       (ap (λ (x : Plain). x.records) effect) (ap (λ (x : ActiveSegs). x.entries) word)
       (ap (λ (x : ActiveSegs). x.sizes) word) h)
   store_left (Ok Kept) record_was effect word stored count settled =
-      subst (λ (x : AccountMaps). IsStore now next links x whos) (sym settled)
-      (store_still old now ast next links a whos (ap (λ (x : Plain). x.vtocs) effect)
+      rw settled (store_still old now ast next links a whos (ap (λ (x : Plain). x.vtocs) effect)
       (ap (λ (x : Plain). x.records) effect) (ap (λ (x : ActiveSegs). x.entries) word)
       (ap (λ (x : ActiveSegs). x.sizes) word) h)
   store_left (Ok Released) record_was effect word stored count settled =
       let vtocs : now.vtocs ≡ map_put old.vtocs home p None = ap (λ (x : Plain). x.vtocs) effect in
       let there = active_there old ast links a whos kept h uid active in
       let named : named_at now.vtocs home + 1 ≡ named_at old.vtocs home
-      = ap (λ (t : List (List (Option VtocEntry))). named_at t home + 1) vtocs
-      ∙ named_less old.vtocs home uid p was_used was_filed in
+      = rw vtocs (named_less old.vtocs home uid p was_used was_filed) in
       let counted : named_at old.vtocs home ≡ count_of a uid = ap (named_at old.vtocs) own
       ∙ h.counted.counts uid there in
       let sum : named_at now.vtocs home ≡ count_of a uid - 1 = omega (arith, named, counted) in
       store_recounted old now a b uid (count_of a uid - 1) settled there
-      (λ other. ap (λ (t : List (List (Option VtocEntry))). uid_at t other) vtocs
-      ∙ put_uid old.vtocs home uid p None was_used other)
-      (λ other ne. ap (λ (t : List (List (Option VtocEntry))). map_at t other) vtocs
-      ∙ put_other old.vtocs home uid p None was_used other (λ e. ne (e ∙ own)))
+      (λ other. rw vtocs (put_uid old.vtocs home uid p None was_used other))
+      (λ other ne. rw vtocs (put_other old.vtocs home uid p None was_used other (λ e. ne (e ∙ own))))
       h.housed ast next links whos (ap (λ (x : ActiveSegs). x.entries) word) (ap (λ (x : ActiveSegs). x.sizes) word)
       keeps (ap (named_at now.vtocs) (sym own) ∙ sum)
       (λ q filed. still_within q (ap (λ (x : Home). is_filed_at now.vtocs x q) own ∙ filed))
@@ -135,10 +110,9 @@ module _ (old now : Plain) (ast next : ActiveSegs) (links : Links) (a b : Accoun
     where
       still_within : (q : ℕ) → is_filed_at now.vtocs home q ≡ true → q < pages_in a.nodes uid
       still_within q filed = elim (cases_eq q p) [
-        | inl same ↦ (let clash : false ≡ true = sym stored.here
-            ∙ ap (is_filed_at now.vtocs home) (sym same) ∙ filed in cc)
+        | inl same ↦ cc stored.here
         | inr ne ↦ h.counted.inside uid q (active_there old ast links a whos kept h uid active)
-            (ap (λ (x : Home). is_filed_at old.vtocs x q) (sym own) ∙ sym (stored.others home q (λ s e. ne e)) ∙ filed)
+            (cc (stored.others home q (λ s e. ne e)))
       ]
 
 -- one page less is shown
@@ -158,20 +132,23 @@ shown_less drive plan s t u uid p change there on whos links housed stored words
     counts = counts_less t.accounts u.accounts uid p s.stored change h.pages.once (h.pages.stored uid p ∙ on)
         h.tree.counts;
   };
-  known = h.known ∙ ap (λ (l : Links). l.known) (sym links);
+  known = rw links h.known;
   pages = record {
-    stored = λ v q. is_stored-without s.stored uid (λ x. eqb x p) v q
-        ∙ ap (λ (z : Bool). not (eqb v uid && eqb q p) && z) (h.pages.stored v q)
-        ∙ not_or (eqb v uid && eqb q p) (is_filed t.accounts t.segs.pages.volumes.vtocs v q)
-        ∙ sym (filed_changed t.accounts (plain drive t.segs.pages) (plain drive u.segs.pages) uid p false housed there
-        stored v q)
-        ∙ sym (filed_recounted t.accounts u.accounts uid _ change u.segs.pages.volumes.vtocs v q);
+    stored = λ v q. cc (
+      is_stored-without s.stored uid (λ x. eqb x p) v q,
+      h.pages.stored v q,
+      not_or (eqb v uid && eqb q p) (is_filed t.accounts t.segs.pages.volumes.vtocs v q),
+      filed_changed t.accounts (plain drive t.segs.pages) (plain drive u.segs.pages) uid p false housed there
+          stored v q,
+      filed_recounted t.accounts u.accounts uid _ change u.segs.pages.volumes.vtocs v q,
+    );
     once = once_without s.stored uid (λ x. eqb x p) h.pages.once;
-    words = λ v o. h.pages.words v o ∙ ap (λ (ws : List ℕ). get_or ws (o % 1024) 0)
-        (sym (picture_kept (plain drive t.segs.pages) (plain drive u.segs.pages) t.accounts uid (home_of t.accounts uid)
-        housed refl words v (o / 1024))
-        ∙ sym (picture_recounted t.accounts u.accounts uid _ change (words_at (plain drive u.segs.pages)) v
-        (o / 1024)));
+    words = λ v o. cc (
+      h.pages.words v o,
+      picture_kept (plain drive t.segs.pages) (plain drive u.segs.pages) t.accounts
+          uid (home_of t.accounts uid) housed refl words v (o / 1024),
+      picture_recounted t.accounts u.accounts uid _ change (words_at (plain drive u.segs.pages)) v (o / 1024),
+    );
   };
   script = record {
     records = λ v. h.script.records v ∙ sym (same_sizes (plain drive t.segs.pages) (plain drive u.segs.pages) v keeps);
@@ -216,8 +193,7 @@ shown_left drive plan s t u uid home p f (Ok Released) kept store active own on 
     (filed_there t.accounts t.segs.pages.volumes.vtocs uid p there
     ∙ filed_word (plain drive t.segs.pages) t.segs.ast t.segs.links t.accounts t.whos kept store uid active p ∙ on)
     whos links store.housed
-    (subst (λ (x : Home). ChangesStored (plain drive t.segs.pages) (plain drive u.segs.pages) x p false) own stored)
-    (subst (λ (x : Home). KeepsWords (plain drive t.segs.pages) (plain drive u.segs.pages) uid x) own words) keeps h
+    (rw own at stored) (rw own at words) keeps h
 
 -- ---- a page that is given up
 

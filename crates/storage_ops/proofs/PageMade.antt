@@ -1,5 +1,5 @@
 -- A page of a segment is made, with one word in it, and is stored from then on.
-use Rattle.storage_ops.proofs.Prelude.{◌≡◌, ℕ, ◌+◌, ◌<◌, ◌/◌, ◌%◌, Bool, true, false, cond, eqb, ◌&&◌, ◌||◌, List, Option, Some, get_or, refl, replicate, set, sym, ap, subst, ◌∙◌, arith, inl, inr, count_by, cases_eq, eq-eqb, ne_eqb, length-replicate, Who, Plan, AccountMaps, Counts, Recounts, count_of, is_page, is_stored, with_stored, Store, count_with, is_stored-with, once_with, VtocEntry, ActiveSegs, IsActive, Here, Null, Home, Plain, plain, KeepsCounts, one_more, taken, created, next_record, ChangesStored, ChangesWords, is_filed_at, words_at, has_record, map_at, uid_at, Links, word_of, worded, IsKept, page_made, AreHoused, IsStore, Shows, Storage, home_of, is_filed, is_there, named_at, pages_in, picture, eqb_turned}
+use Rattle.storage_ops.proofs.Prelude.{◌≡◌, ℕ, ◌+◌, ◌<◌, ◌/◌, Bool, true, false, cond, eqb, ◌&&◌, ◌||◌, List, Some, refl, replicate, set, sym, ap, ◌∙◌, arith, inl, inr, count_by, cases_eq, eq-eqb, ne_eqb, length-replicate, Who, Plan, AccountMaps, Counts, Recounts, count_of, is_stored, with_stored, Store, count_with, is_stored-with, once_with, ActiveSegs, IsActive, Here, Null, Home, Plain, plain, KeepsCounts, one_more, taken, created, next_record, ChangesStored, ChangesWords, is_filed_at, words_at, has_record, uid_at, Links, word_of, worded, IsKept, page_made, AreHoused, IsStore, Shows, Storage, home_of, is_filed, is_there, named_at, pages_in, picture, eqb_turned}
 use Rattle.storage_ops.proofs.Dropped.{recount_here, recount_other, same_entries, same_sizes}
 use Rattle.storage_ops.proofs.Entries.{map_put, put_other, put_uid}
 use Rattle.storage_ops.proofs.PageFacts.{filed_word}
@@ -20,14 +20,11 @@ counts_more a b uid p stored change off counts v =
     elim (cases_eq v uid) [
       | inl is ↦
           (let one : weight (eqb uid v) ≡ 1 = ap weight (eq-eqb uid v (sym is)) in
-          let here : count_of b v ≡ count_of a uid + 1 = ap (count_of b) is
-          ∙ recount_here a b uid (count_of a uid + 1) change in
-          let from : count_of a v ≡ count_of a uid = ap (count_of a) is in
-          omega (arith, sum, was, one, here, from))
+          let here : count_of b v ≡ count_of a v + 1 = rw is (recount_here a b uid (count_of a uid + 1) change) in
+          omega (arith, sum, was, one, here))
       | inr ne ↦
           (let none : weight (eqb uid v) ≡ 0 = ap weight (ne_eqb uid v (λ e. ne (sym e))) in
-          let same = recount_other a b uid (count_of a uid + 1) change v ne in
-          omega (arith, sum, was, none, same))
+          omega (arith, sum, was, none, recount_other a b uid (count_of a uid + 1) change v ne))
     ]
 
 -- ---- the whole
@@ -41,8 +38,7 @@ module _ (old now : Plain) (ast next : ActiveSegs) (links : Links) (a b : Accoun
     (count : taken now.records ≡ one_more (taken old.records) home.volume)
     (change : Recounts a b uid (count_of a uid + 1)) where
   not_filed : is_filed_at old.vtocs home p ≡ false
-  not_filed = ap (λ (x : Home). is_filed_at old.vtocs x p) own ∙ filed_word old ast links a whos kept h uid active p
-      ∙ ap has_record off
+  not_filed = rw own (filed_word old ast links a whos kept h uid active p ∙ ap has_record off)
 
   was_used : uid_at old.vtocs home ≡ Some uid
   was_used = ap (uid_at old.vtocs) own ∙ (active_home old ast links a whos kept h uid active).used
@@ -53,17 +49,15 @@ module _ (old now : Plain) (ast next : ActiveSegs) (links : Links) (a b : Accoun
       = ap (λ (x : Plain). x.vtocs) effect in
       let there = active_there old ast links a whos kept h uid active in
       let named : named_at now.vtocs home ≡ named_at old.vtocs home + 1
-      = ap (λ (t : List (List (Option VtocEntry))). named_at t home) vtocs
-      ∙ named_more old.vtocs home uid p (next_record old home) was_used not_filed
-      (ap (λ (t : List (List (Option VtocEntry))). is_filed_at t home p) (sym vtocs) ∙ stored.here) in
+      = rw vtocs
+      (named_more old.vtocs home uid p (next_record old home) was_used not_filed (rw vtocs at stored.here)) in
       let counted : named_at old.vtocs home ≡ count_of a uid = ap (named_at old.vtocs) own
       ∙ h.counted.counts uid there in
       let sum : named_at now.vtocs home ≡ count_of a uid + 1 = omega (arith, named, counted) in
       store_recounted old now a b uid (count_of a uid + 1) change there
-      (λ other. ap (λ (t : List (List (Option VtocEntry))). uid_at t other) vtocs
-      ∙ put_uid old.vtocs home uid p (Some (next_record old home)) was_used other)
-      (λ other ne. ap (λ (t : List (List (Option VtocEntry))). map_at t other) vtocs
-      ∙ put_other old.vtocs home uid p (Some (next_record old home)) was_used other (λ e. ne (e ∙ own)))
+      (λ other. rw vtocs (put_uid old.vtocs home uid p (Some (next_record old home)) was_used other))
+      (λ other ne. rw vtocs
+      (put_other old.vtocs home uid p (Some (next_record old home)) was_used other (λ e. ne (e ∙ own))))
       h.housed ast next links whos (ap (λ (x : ActiveSegs). x.entries) word) (ap (λ (x : ActiveSegs). x.sizes) word)
       keeps (ap (named_at now.vtocs) (sym own) ∙ sum)
       (λ q filed. still_within q (ap (λ (x : Home). is_filed_at now.vtocs x q) own ∙ filed))
@@ -72,9 +66,9 @@ module _ (old now : Plain) (ast next : ActiveSegs) (links : Links) (a b : Accoun
     where
       still_within : (q : ℕ) → is_filed_at now.vtocs home q ≡ true → q < pages_in a.nodes uid
       still_within q filed = elim (cases_eq q p) [
-        | inl same ↦ subst (λ (x : ℕ). x < pages_in a.nodes uid) (sym same) lt
+        | inl same ↦ rw same lt
         | inr ne ↦ h.counted.inside uid q (active_there old ast links a whos kept h uid active)
-            (ap (λ (x : Home). is_filed_at old.vtocs x q) (sym own) ∙ sym (stored.others home q (λ s e. ne e)) ∙ filed)
+            (cc (stored.others home q (λ s e. ne e)))
       ]
 
 -- ---- the words
@@ -136,22 +130,24 @@ shown_made drive plan s t u uid p at w kept store active off within change whos 
         next = h.tree.next ∙ sym change.next;
         counts = counts_more t.accounts u.accounts uid p s.stored change (h.pages.stored uid p ∙ unfiled) h.tree.counts;
       };
-      known = h.known ∙ ap (λ (l : Links). l.known) (sym links);
+      known = rw links h.known;
       pages = record {
-        stored = λ v q. is_stored-with s.stored uid p v q
-            ∙ ap (λ (z : Bool). is_page v q (uid, p) || z) (h.pages.stored v q)
-            ∙ or_cond (eqb uid v) (eqb v uid) (eqb p q) (eqb q p) (is_filed t.accounts t.segs.pages.volumes.vtocs v q)
-            (eqb_turned uid v) (eqb_turned p q)
-            ∙ sym (filed_changed t.accounts old (plain drive u.segs.pages) uid p true store.housed there stored v q)
-            ∙ sym (filed_recounted t.accounts u.accounts uid _ change u.segs.pages.volumes.vtocs v q);
+        stored = λ v q. cc (
+          is_stored-with s.stored uid p v q,
+          h.pages.stored v q,
+          eqb_turned uid v,
+          eqb_turned p q,
+          or_cond (eqb v uid && eqb q p) (is_filed t.accounts t.segs.pages.volumes.vtocs v q),
+          filed_changed t.accounts old (plain drive u.segs.pages) uid p true store.housed there stored v q,
+          filed_recounted t.accounts u.accounts uid _ change u.segs.pages.volumes.vtocs v q,
+        );
         once = once_with s.stored uid p h.pages.once;
         words = λ v o. words_told t.accounts (words_at old) (words_at (plain drive u.segs.pages)) uid p at w
             (replicate 1024 0)
             (changed_words old (plain drive u.segs.pages) t.accounts uid p (replicate 1024 0)
             (set (replicate 1024 0) at w) store.housed there zeros words)
             (length-replicate {A = ℕ} 1024 0) within s.words h.pages.words v o
-            ∙ ap (λ (ws : List ℕ). get_or ws (o % 1024) 0)
-            (sym (picture_recounted t.accounts u.accounts uid _ change (words_at (plain drive u.segs.pages)) v
+            ∙ sym (rw (picture_recounted t.accounts u.accounts uid _ change (words_at (plain drive u.segs.pages)) v
             (o / 1024)));
       };
       script = record {
@@ -161,10 +157,6 @@ shown_made drive plan s t u uid p at w kept store active off within change whos 
       };
     })
   where
-    or_cond : (x y z v filed : Bool) → x ≡ y → z ≡ v → ((x && z) || filed) ≡ cond (y && v) true filed
-    or_cond x y z v filed e d = ap (λ (k : Bool). (k && z) || filed) e ∙ ap (λ (k : Bool). (y && k) || filed) d
-        ∙ by (y && v)
-      where
-        by : (k : Bool) → (k || filed) ≡ cond k true filed
-        by true = refl
-        by false = refl
+    or_cond : (k filed : Bool) → (k || filed) ≡ cond k true filed
+    or_cond true filed = refl
+    or_cond false filed = refl

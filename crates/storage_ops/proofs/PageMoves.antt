@@ -1,5 +1,5 @@
 -- A page of a segment is stored, or is stored no more.
-use Rattle.storage_ops.proofs.Prelude.{◌≡◌, ◌≢◌, ℕ, ◌+◌, ◌-◌, ◌<◌, ◌≤◌, Bool, true, false, cond, eqb, List, [], ◌∷◌, length, Option, Some, None, get_or, is_some, refl, sym, ap, subst, ◌∙◌, arith, inl, inr, count_by, cases_eq, eqb-true, ne_eqb, nat_tests, length-set, sum_by-cons, sum_by-set, Who, AccountMaps, Counts, Recounts, count_of, Node, entries_on, has_directory, taken_on, volume_in, VtocEntry, Entry, ActiveSegs, Home, Plain, KeepsCounts, entries, one_less, one_more, taken, is_filed_at, map_at, uid_at, Links, AreCounted, AreHoused, AreInTree, HaveRights, IsStore, home_of, is_there, named_at, pages_in}
+use Rattle.storage_ops.proofs.Prelude.{◌≡◌, ◌≢◌, ℕ, ◌+◌, ◌-◌, ◌<◌, ◌≤◌, Bool, true, false, cond, eqb, List, [], ◌∷◌, length, Option, Some, None, get_or, is_some, refl, sym, ap, ◌∙◌, arith, inl, inr, count_by, cases_eq, eqb-true, ne_eqb, length-set, sum_by-cons, sum_by-set, Who, AccountMaps, Counts, Recounts, count_of, Node, taken_on, volume_in, VtocEntry, ActiveSegs, Home, Plain, KeepsCounts, entries, one_less, one_more, taken, is_filed_at, map_at, uid_at, Links, AreCounted, AreHoused, IsStore, home_of, is_there, named_at, pages_in, eqb_turned, eq-eqb}
 use Rattle.storage_ops.proofs.Dropped.{recount_here, recount_homes, recount_other, recount_there, same_sizes, same_used}
 use Rattle.storage_ops.proofs.Entries.{map_put, put_here}
 use Rattle.storage_ops.proofs.Homes.{filed_map}
@@ -20,8 +20,7 @@ pub record IsOneMore (small large : List (ℕ × ℕ)) (uid : ℕ) : Type 0 wher
 
 pub one_first : (x : ℕ × ℕ) (xs : List (ℕ × ℕ)) (uid : ℕ) → x.0 ≡ uid → IsOneMore xs (x ∷ xs) uid
 one_first x xs uid is = record {
-  each = λ test. sum_by-cons (λ (y : ℕ × ℕ). weight (test y.0)) x xs
-      ∙ ap (λ (n : ℕ). weight (test n) + pages_by test xs) is;
+  each = λ test. cc (sum_by-cons (λ (y : ℕ × ℕ). weight (test y.0)) x xs, is);
 }
 
 -- one of a segment is left out
@@ -44,12 +43,9 @@ one_out (x ∷ xs) uid some = by (eqb x.0 uid) refl (λ rest. one_out xs uid res
           x ∷ out.0,
           record {
             each = λ test. (
-                let here : pages_by test (x ∷ xs) ≡ weight (test x.0) + pages_by test xs
-                = sum_by-cons (λ (y : ℕ × ℕ). weight (test y.0)) x xs in
-                let left : pages_by test (x ∷ out.0) ≡ weight (test x.0) + pages_by test out.0
-                = sum_by-cons (λ (y : ℕ × ℕ). weight (test y.0)) x out.0 in
-                let rest = out.1.each test in
-                omega (arith, here, left, rest));
+                let here = sum_by-cons (λ (y : ℕ × ℕ). weight (test y.0)) x xs in
+                let left = sum_by-cons (λ (y : ℕ × ℕ). weight (test y.0)) x out.0 in
+                let rest = out.1.each test in omega (arith, here, left, rest));
           },
         )
 
@@ -60,9 +56,8 @@ module _ (vtocs : List (List (Option VtocEntry))) (home : Home) (u : ℕ) (used_
   recounted : p < length (map_at vtocs home)
       → named_at (map_put vtocs home p place) home + weight (is_some (get_or (map_at vtocs home) p None))
       ≡ named_at vtocs home + weight (is_some place)
-  recounted lt = ap (λ (m : List (Option ℕ)). count_by is_some m + weight (is_some (get_or (map_at vtocs home) p None)))
-      (put_here vtocs home u p place used_for)
-      ∙ sum_by-set (λ (o : Option ℕ). weight (is_some o)) (map_at vtocs home) p place None lt
+  recounted lt = rw (put_here vtocs home u p place used_for)
+      (sum_by-set (λ (o : Option ℕ). weight (is_some o)) (map_at vtocs home) p place None lt)
 
 -- a page was filed, and is no more
 pub named_less : (vtocs : List (List (Option VtocEntry))) (home : Home) (u p : ℕ) → uid_at vtocs home ≡ Some u
@@ -70,8 +65,7 @@ pub named_less : (vtocs : List (List (Option VtocEntry))) (home : Home) (u p : �
 named_less vtocs home u p used_for on =
     let filed = sym (filed_map vtocs home p) ∙ on in
     let sum = recounted vtocs home u used_for p None (within_some (map_at vtocs home) p filed) in
-    let one : weight (is_some (get_or (map_at vtocs home) p None)) ≡ 1 = ap weight filed in
-    omega (arith, sum, one)
+    omega (arith, sum, ap weight filed)
 
 -- a page wasn't filed, and is now
 pub named_more : (vtocs : List (List (Option VtocEntry))) (home : Home) (u p r : ℕ) → uid_at vtocs home ≡ Some u
@@ -83,22 +77,9 @@ named_more vtocs home u p r used_for off on =
     let long : length (map_at (map_put vtocs home p (Some r)) home) ≡ length (map_at vtocs home)
     = ap length (put_here vtocs home u p (Some r) used_for) ∙ length-set (map_at vtocs home) p (Some r) in
     let sum = recounted vtocs home u used_for p (Some r) (omega (arith, lt, long)) in
-    let none : weight (is_some (get_or (map_at vtocs home) p None)) ≡ 0
-    = ap weight (sym (filed_map vtocs home p) ∙ off) in
-    omega (arith, sum, none)
+    omega (arith, sum, ap weight (sym (filed_map vtocs home p) ∙ off))
 
 -- ---- the records in use, by the accounts before and after
-
-flip : (a b : ℕ) → weight (eqb a b) ≡ weight (eqb b a)
-flip a b = by (eqb a b) refl
-  where
-    by : (z : Bool) → eqb a b ≡ z → weight z ≡ weight (eqb b a)
-    by true e = (let same : a ≡ b = eqb-true a b e in
-        ap weight (sym (ap (λ (x : ℕ). eqb b x) same ∙ own b)))
-      where
-        own : (x : ℕ) → eqb x x ≡ true
-        own x = grind (arith, nat_tests)
-    by false e = (let ne : a ≢ b = grind (arith, nat_tests) in ap weight (sym (ne_eqb b a (λ x. ne (sym x)))))
 
 -- the stored pages that the accounts count on a volume, with one of a segment there and without it
 taken_one : (ns : List Node) (small large : List (ℕ × ℕ)) (uid v : ℕ) → IsOneMore small large uid
@@ -106,13 +87,13 @@ taken_one : (ns : List Node) (small large : List (ℕ × ℕ)) (uid v : ℕ) →
 unfolding taken_on
 taken_one ns small large uid v more = more.each (λ n. eqb (volume_in ns n) v)
 
-more_taken : (count : ℕ → ℕ) (volume v : ℕ) → one_more count volume v ≡ weight (eqb v volume) + count v
+more_taken : (count : ℕ → ℕ) (volume v n : ℕ) → n ≡ weight (eqb v volume) + count v → one_more count volume v ≡ n
 unfolding one_more
-more_taken count volume v = by (eqb v volume)
+more_taken count volume v n = by (eqb v volume)
   where
-    by : (z : Bool) → cond z (count v + 1) (count v) ≡ weight z + count v
-    by true = omega arith
-    by false = omega arith
+    by : (z : Bool) → n ≡ weight z + count v → cond z (count v + 1) (count v) ≡ n
+    by true e = omega (arith, e)
+    by false e = omega (arith, e)
 
 less_taken : (count : ℕ → ℕ) (volume v n : ℕ) → count v ≡ weight (eqb v volume) + n → one_less count volume v ≡ n
 unfolding one_less
@@ -132,33 +113,21 @@ module _ (a b : AccountMaps) (uid : ℕ) (old now : List (List Bool)) where
       let here : count_of b uid ≡ count_of a uid + 1 = recount_here a b uid (count_of a uid + 1) change in
       let all : count_of b uid ≡ pages_by (λ n. eqb n uid) stored = counts uid in
       let out = one_out stored uid (omega (arith, here, all)) in
-      let each : Counts a out.0 = λ u. (
-      let one : pages_by (λ n. eqb n u) stored ≡ weight (eqb uid u) + pages_by (λ n. eqb n u) out.0
-      = out.1.each (λ n. eqb n u) in
-      let told : count_of b u ≡ pages_by (λ n. eqb n u) stored = counts u in
-      before u (pages_by (λ n. eqb n u) out.0) change (told ∙ one)) in
+      let each : Counts a out.0 = λ u. before u (pages_by (λ n. eqb n u) out.0) change
+      (counts u ∙ out.1.each (λ n. eqb n u)) in
       let rest : taken old v ≡ taken_on a.nodes out.0 v = was out.0 v each in
-      let sum : taken_on a.nodes stored v ≡ weight (eqb (volume_in a.nodes uid) v) + taken_on a.nodes out.0 v
-      = taken_one a.nodes out.0 stored uid v out.1 in
-      let same = flip v (volume_in a.nodes uid) in
-      ap (λ (f : ℕ → ℕ). f v) counted ∙ more_taken (taken old) (volume_in a.nodes uid) v
-      ∙ omega (arith, rest, sum, same)
-      ∙ ap (λ (ns : List Node). taken_on ns stored v) (sym change.nodes)
+      let sum = taken_one a.nodes out.0 stored uid v out.1 in
+      ap (λ (f : ℕ → ℕ). f v) counted ∙ rw change.nodes (more_taken (taken old) (volume_in a.nodes uid) v
+      (taken_on a.nodes stored v) (rw (eqb_turned v (volume_in a.nodes uid), rest) sum))
     where
       before : (u n : ℕ) → Recounts a b uid (count_of a uid + 1) → count_of b u ≡ weight (eqb uid u) + n
           → count_of a u ≡ n
       before u n change e = elim (cases_eq u uid) [
         | inl is ↦ (let here = recount_here a b uid (count_of a uid + 1) change in
-            let one : weight (eqb uid u) ≡ 1 = ap (λ (x : ℕ). weight (eqb uid x)) is ∙ ap weight (own uid) in
-            let at : count_of b u ≡ count_of b uid = ap (count_of b) is in
-            let from : count_of a u ≡ count_of a uid = ap (count_of a) is in
-            omega (arith, here, one, at, from, e))
+            let all = rw (is, eq-eqb uid uid refl) at e in rw is (omega (arith, here, all)))
         | inr ne ↦ (let none : weight (eqb uid u) ≡ 0 = ap weight (ne_eqb uid u (λ x. ne (sym x))) in
-            let same = recount_other a b uid (count_of a uid + 1) change u ne in omega (arith, none, same, e))
+            omega (arith, none, recount_other a b uid (count_of a uid + 1) change u ne, e))
       ]
-        where
-          own : (x : ℕ) → eqb x x ≡ true
-          own x = grind (arith, nat_tests)
 
   -- a page less
   pub records_less : Recounts a b uid (count_of a uid - 1) → 1 ≤ count_of a uid
@@ -169,28 +138,18 @@ module _ (a b : AccountMaps) (uid : ℕ) (old now : List (List Bool)) where
       let one = one_first (uid, 0) stored uid refl in
       let each : Counts a ((uid, 0) ∷ stored) = λ u. after u change (counts u) ∙ sym (one.each (λ n. eqb n u)) in
       let large : taken old v ≡ taken_on a.nodes ((uid, 0) ∷ stored) v = was ((uid, 0) ∷ stored) v each in
-      let sum : taken_on a.nodes ((uid, 0) ∷ stored) v
-      ≡ weight (eqb (volume_in a.nodes uid) v) + taken_on a.nodes stored v
-      = taken_one a.nodes stored ((uid, 0) ∷ stored) uid v one in
-      let same = flip v (volume_in a.nodes uid) in
-      ap (λ (f : ℕ → ℕ). f v) counted
-      ∙ less_taken (taken old) (volume_in a.nodes uid) v (taken_on a.nodes stored v) (omega (arith, large, sum, same))
-      ∙ ap (λ (ns : List Node). taken_on ns stored v) (sym change.nodes)
+      ap (λ (f : ℕ → ℕ). f v) counted ∙ rw change.nodes (less_taken (taken old) (volume_in a.nodes uid) v
+      (taken_on a.nodes stored v) (rw (eqb_turned v (volume_in a.nodes uid))
+      (large ∙ taken_one a.nodes stored ((uid, 0) ∷ stored) uid v one)))
     where
       after : (u : ℕ) → Recounts a b uid (count_of a uid - 1) → count_of b u ≡ pages_by (λ n. eqb n u) stored
           → count_of a u ≡ weight (eqb uid u) + pages_by (λ n. eqb n u) stored
       after u change e = elim (cases_eq u uid) [
         | inl is ↦ (let here = recount_here a b uid (count_of a uid - 1) change in
-            let one : weight (eqb uid u) ≡ 1 = ap (λ (x : ℕ). weight (eqb uid x)) is ∙ ap weight (own uid) in
-            let at : count_of b u ≡ count_of b uid = ap (count_of b) is in
-            let from : count_of a u ≡ count_of a uid = ap (count_of a) is in
-            omega (arith, here, one, at, from, e, some))
+            let all = rw is at e in rw (is, eq-eqb uid uid refl) (omega (arith, here, all, some)))
         | inr ne ↦ (let none : weight (eqb uid u) ≡ 0 = ap weight (ne_eqb uid u (λ x. ne (sym x))) in
-            let same = recount_other a b uid (count_of a uid - 1) change u ne in omega (arith, none, same, e))
+            omega (arith, none, recount_other a b uid (count_of a uid - 1) change u ne, e))
       ]
-        where
-          own : (x : ℕ) → eqb x x ≡ true
-          own x = grind (arith, nat_tests)
 
 -- ---- the whole
 
@@ -210,48 +169,44 @@ module _ (old now : Plain) (a b : AccountMaps) (uid count : ℕ) (change : Recou
 
   -- another node has another home
   pub other_home : (u : ℕ) → is_there a.nodes u ≡ true → u ≢ uid → home_of a u ≢ home_of a uid
-  other_home u t ne same = (let both : ◌≡◌ {A = Option ℕ} (Some u) (Some uid) = sym (housed.homes u t)
-      ∙ ap (uid_at old.vtocs) same ∙ housed.homes uid there in ne (the_uid both))
-    where
-      the_uid : ◌≡◌ {A = Option ℕ} (Some u) (Some uid) → u ≡ uid
-      the_uid e = cc
+  other_home u t ne same = ne (cc (housed.homes u t, housed.homes uid there))
 
   filed_other : (u q : ℕ) → is_there a.nodes u ≡ true → u ≢ uid
       → is_filed_at now.vtocs (home_of a u) q ≡ is_filed_at old.vtocs (home_of a u) q
-  filed_other u q t ne = filed_map now.vtocs (home_of a u) q
-      ∙ ap (λ (m : List (Option ℕ)). is_some (get_or m q None)) (maps (home_of a u) (other_home u t ne))
-      ∙ sym (filed_map old.vtocs (home_of a u) q)
+  filed_other u q t ne = cc (
+    filed_map now.vtocs (home_of a u) q,
+    maps (home_of a u) (other_home u t ne),
+    filed_map old.vtocs (home_of a u) q,
+  )
 
   pub counted_recounted : named_at now.vtocs (home_of a uid) ≡ count
       → ((q : ℕ) → is_filed_at now.vtocs (home_of a uid) q ≡ true → q < pages_in a.nodes uid)
       → AreCounted a old.vtocs → AreCounted b now.vtocs
   counted_recounted named inside h = record {
     counts = λ u t. elim (cases_eq u uid) [
-      | inl is ↦ ap (λ (x : ℕ). named_at now.vtocs (home_of b x)) is
-          ∙ ap (named_at now.vtocs) (recount_homes a b uid count change uid) ∙ named
-          ∙ sym (ap (count_of b) is ∙ recount_here a b uid count change)
+      | inl is ↦ rw (is, recount_here a b uid count change)
+          (ap (named_at now.vtocs) (recount_homes a b uid count change uid) ∙ named)
       | inr ne ↦ (let was = sym (recount_there a b uid count change u) ∙ t in
-          ap (named_at now.vtocs) (recount_homes a b uid count change u)
-          ∙ ap (count_by is_some) (maps (home_of a u) (other_home u was ne))
-          ∙ h.counts u was ∙ sym (recount_other a b uid count change u ne))
+          cc (
+            recount_homes a b uid count change u,
+            maps (home_of a u) (other_home u was ne),
+            h.counts u was,
+            recount_other a b uid count change u ne,
+          ))
     ];
     inside = λ u q t on. (
         let was = sym (recount_there a b uid count change u) ∙ t in
-        let filed = ap (λ (home : Home). is_filed_at now.vtocs home q) (sym (recount_homes a b uid count change u))
-        ∙ on in
-        subst (λ (ns : List Node). q < pages_in ns u) (sym change.nodes) (elim (cases_eq u uid) [
-          | inl is ↦ subst (λ (x : ℕ). q < pages_in a.nodes x) (sym is)
-              (inside q (ap (λ (x : ℕ). is_filed_at now.vtocs (home_of a x) q) (sym is) ∙ filed))
+        let filed = rw (recount_homes a b uid count change u) at on in
+        rw change.nodes (elim (cases_eq u uid) [
+          | inl is ↦ rw is (inside q (rw is at filed))
           | inr ne ↦ h.inside u q was (sym (filed_other u q was ne) ∙ filed)
         ]));
     absent = λ u off. elim (cases_eq u uid) [
-      | inl is ↦ (let clash : true ≡ false = sym there ∙ ap (is_there a.nodes) (sym is)
-          ∙ sym (recount_there a b uid count change u) ∙ off in cc)
+      | inl is ↦ cc (there, recount_there a b uid count change u)
       | inr ne ↦ recount_other a b uid count change u ne ∙ h.absent u (sym (recount_there a b uid count change u) ∙ off)
     ];
-    most = λ u. subst (λ (ns : List Node). pages_in ns u ≤ 256) (sym change.nodes) (h.most u);
-    flat = λ u d. ap (λ (ns : List Node). pages_in ns u) change.nodes
-        ∙ h.flat u (ap (λ (ns : List Node). has_directory ns u) (sym change.nodes) ∙ d);
+    most = rw change.nodes h.most;
+    flat = rw change.nodes h.flat;
   }
 
   pub store_recounted : (ast next : ActiveSegs) (links : Links) (whos : List Who)
@@ -265,16 +220,10 @@ module _ (old now : Plain) (a b : AccountMaps) (uid count : ℕ) (change : Recou
     counted = counted_recounted named inside h.counted;
     taken = record {
       records = records;
-      entries = λ v. same_used old now v keeps ∙ h.taken.entries v
-          ∙ ap (λ (ns : List Node). entries_on ns v) (sym change.nodes);
-      short = λ v. subst (λ (n : ℕ). n < 65536) (sym (same_sizes old now v keeps)) (h.taken.short v);
+      entries = λ v. rw change.nodes (same_used old now v keeps ∙ h.taken.entries v);
+      short = λ v. rw (same_sizes old now v keeps) (h.taken.short v);
     };
-    active = subst (λ (ns : List Node). AreInTree ns next) (sym change.nodes)
-        (tree_still a.nodes ast next entries sizes h.active);
-    rights = subst (λ (ns : List Node). HaveRights ns next.entries links whos) (sym change.nodes)
-        (subst (λ (e : List (Option Entry)). HaveRights a.nodes e links whos) (sym entries) h.rights);
-    known = record {
-      older = λ process number u e. subst (λ (n : ℕ). u < n) (sym change.next) (h.known.older process number u e);
-      processes = h.known.processes;
-    };
+    active = rw change.nodes (tree_still a.nodes ast next entries sizes h.active);
+    rights = rw (change.nodes, entries) h.rights;
+    known = rw change.next h.known;
   }

@@ -1,5 +1,5 @@
 -- Whether there is room for a page more of a segment: quota of its account, and a record of its volume.
-use Rattle.storage_ops.proofs.Prelude.{◌≡◌, ◌≢◌, ℕ, suc, ◌+◌, ◌*◌, ◌/◌, ◌%◌, Bool, true, false, cond, eqb, ◌&&◌, List, [], ◌∷◌, All, OnOk, length, Some, Result, Ok, Err, is_err, refl, sym, ap, ◌∙◌, arith, count_by, is_none, ne_eqb, sum_by-cons, Plan, AccountMaps, Counts, Full, charge_answer, Node, account_of, taken_on, with_stored, with_word, after_reference, is_out_of_room, is_used_up, is_volume_full, room_reply, written_by, room_for, Store, known_uid, plain, is_full, size, done_or, page_made, is_spent, IsStore, Shows, ShowsTree, Storage}
+use Rattle.storage_ops.proofs.Prelude.{◌≡◌, ◌≢◌, ℕ, suc, ◌+◌, ◌*◌, ◌/◌, ◌%◌, Bool, true, false, cond, List, [], ◌∷◌, All, OnOk, length, Some, Result, Ok, Err, is_err, refl, ap, ◌∙◌, arith, count_by, ne_eqb, sum_by-cons, Plan, AccountMaps, Counts, Full, charge_answer, Node, account_of, after_reference, is_out_of_room, is_used_up, is_volume_full, room_reply, Store, known_uid, plain, is_full, done_or, page_made, is_spent, IsStore, Shows, ShowsTree, Storage}
 use Rattle.script.specs.declared.commands.RefKind.TheVariants as kind
 use Rattle.book.specs.declared.replies.Reply.TheVariants as reply
 
@@ -16,8 +16,7 @@ pub all_taken : (flags : List Bool) → All (λ flag. flag ≡ true) flags → c
 all_taken [] all = refl
 all_taken (flag ∷ flags) all =
     let first = sum_by-cons (λ (x : Bool). cond {A = ℕ} x 1 0) flag flags in
-    let here : flag ≡ true = all 0 true (omega arith) in
-    let one : cond {A = ℕ} flag 1 0 ≡ 1 = ap (λ (x : Bool). cond {A = ℕ} x 1 0) here in
+    let one : cond {A = ℕ} flag 1 0 ≡ 1 = rw (all 0 true (omega arith)) in
     let rest = all_taken flags (λ k d lt. all (suc k) d (omega (arith, lt))) in
     omega (arith, first, one, rest)
 
@@ -34,18 +33,14 @@ spent_told nodes stored uid r answer = ap is_err answer ∙ by (is_spent nodes s
 pub used_told : (s : Store) (a : AccountMaps) (uid : ℕ) (r : Result (Unit {0}) Full) → ShowsTree s a
     → ((stored : List (ℕ × ℕ)) → Counts a stored → r ≡ charge_answer a.nodes stored uid)
     → is_err r ≡ is_used_up s uid
-used_told s a uid r h answer = spent_told a.nodes s.stored uid r (answer s.stored h.counts)
-    ∙ ap (λ (ns : List Node). is_spent ns s.stored uid) (sym h.nodes)
+used_told s a uid r h answer = cc (spent_told a.nodes s.stored uid r (answer s.stored h.counts), h.nodes)
 
 -- a volume is full exactly where its records are all in use
 pub full_told : {D : Type 0} (drive : D → List (List ℕ)) (p : Plan) (s : Store) (t : Storage D) (v : ℕ)
     → IsStore (plain drive t.segs.pages) t.segs.ast t.segs.links t.accounts t.whos → Shows drive p s t
     → is_full t.segs.pages.volumes.records v ≡ is_volume_full p s v
 full_told drive p s t v store h =
-    ap (λ (n : ℕ). eqb n (size t.segs.pages.volumes.records v))
-    (store.taken.records s.stored v h.tree.counts
-    ∙ ap (λ (ns : List Node). taken_on ns s.stored v) (sym h.tree.nodes))
-    ∙ ap (λ (n : ℕ). eqb (taken_on s.nodes s.stored v) n) (sym (h.script.records v))
+    cc (store.taken.records s.stored v h.tree.counts, h.tree.nodes, h.script.records v)
 
 -- ---- the answers
 
@@ -53,23 +48,17 @@ module _ (p : Plan) (s : Store) (n : Node) where
   -- no record is left, and no volume has room
   pub no_record : (used out : Bool) → is_used_up s n.uid ≡ used → is_out_of_room p s n ≡ out → out ≡ true
       → Err (cond used reply.Quota reply.NoRecord) ≡ done_or (room_reply p s n reply.Done)
-  no_record true out at_used at_out on = sym (ap (λ (z : Bool). done_or (cond z reply.Quota (cond (is_out_of_room p s n)
-      reply.NoRecord reply.Done))) at_used)
-  no_record false out at_used at_out on =
-      sym (ap (λ (z : Bool). done_or (cond z reply.Quota (cond (is_out_of_room p s n) reply.NoRecord reply.Done)))
-      at_used ∙ ap (λ (z : Bool). done_or (cond z reply.NoRecord reply.Done)) (at_out ∙ on))
+  no_record true out at_used at_out on = rw at_used
+  no_record false out at_used at_out on = rw (at_used, at_out, on)
 
   -- no quota is left
   pub no_quota : is_used_up s n.uid ≡ true → Err reply.Quota ≡ done_or (room_reply p s n reply.Done)
-  no_quota at_used = sym (ap (λ (z : Bool). done_or (cond z reply.Quota (cond (is_out_of_room p s n)
-      reply.NoRecord reply.Done))) at_used)
+  no_quota at_used = rw at_used
 
   -- both are
   pub room : is_used_up s n.uid ≡ false → is_volume_full p s n.volume ≡ false
       → Ok tt ≡ done_or (room_reply p s n reply.Done)
-  room at_used at_full =
-      sym (ap (λ (z : Bool). done_or (cond z reply.Quota (cond (is_out_of_room p s n) reply.NoRecord reply.Done)))
-      at_used ∙ ap (λ (z : Bool). done_or (cond (z && is_none (room_for p s n.uid)) reply.NoRecord reply.Done)) at_full)
+  room at_used at_full = rw (at_used, at_full)
 
 -- ---- by process and number
 
@@ -80,12 +69,4 @@ pub written_made : (s : Store) (process number offset w uid : ℕ) → known_uid
 unfolding after_reference
 written_made s process number offset w uid known full =
     let same : 1024 * (offset / 1024) + offset % 1024 ≡ offset = omega arith in
-    ap (λ (o : ℕ). record s {
-      words = with_word s.words uid o w;
-      stored = with_stored s.stored uid (offset / 1024);
-    }) same
-    ∙ ap (λ (z : Bool). record s {
-      words = with_word s.words uid offset w;
-      stored = cond z s.stored (with_stored s.stored uid (offset / 1024));
-    }) (sym (ne_eqb w 0 full))
-    ∙ ap (written_by s offset (kind.Write w)) (sym known)
+    rw (known, same, ne_eqb w 0 full)

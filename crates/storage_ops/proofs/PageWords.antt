@@ -1,5 +1,5 @@
 -- One word of a page in a frame is written.
-use Rattle.storage_ops.proofs.Prelude.{◌≡◌, ◌≢◌, ℕ, ◌+◌, ◌*◌, ◌<◌, ◌/◌, ◌%◌, Bool, true, false, cond, eqb, ◌&&◌, List, [], length, get_or, set, replicate, Some, refl, sym, ap, subst, ◌∙◌, arith, inl, inr, cases_eq, ne_eqb, eq-eqb, nat_tests, get_or-set_other, get_or-set_same, same_Some, get_or-map, Plan, AccountMaps, is_stored, with_stored, with_word, written, Store, with_old, Frame, Free, Started, Bound, bound_page, frame_at, is_bound, Who, ptw_at, ActiveSegs, IsActive, table_at, Home, Plain, binding_at, bindings, number_in, plain, words_in, changed_at, changed_page, words_at, IsTableOf, frame_of, Links, word_of, IsKept, Vols, IsStore, Shows, ShowsTree, Storage, home_of, is_filed, is_there, picture}
+use Rattle.storage_ops.proofs.Prelude.{◌≡◌, ◌≢◌, ℕ, ◌+◌, ◌*◌, ◌<◌, ◌/◌, ◌%◌, Bool, true, false, cond, eqb, ◌&&◌, List, length, get_or, set, replicate, Some, refl, sym, ap, ◌∙◌, arith, inl, inr, cases_eq, ne_eqb, eq-eqb, get_or-set_other, get_or-set_same, same_Some, get_or-map, Plan, AccountMaps, is_stored, with_word, written, Store, with_old, Frame, Free, Started, Bound, bound_page, frame_at, is_bound, Who, ptw_at, ActiveSegs, IsActive, table_at, Home, Plain, binding_at, bindings, number_in, plain, words_in, changed_at, changed_page, words_at, IsTableOf, frame_of, Links, word_of, IsKept, IsStore, Shows, Storage, home_of, is_filed, is_there, picture, and_false}
 use Rattle.page_control.specs.Tied.{uid_in}
 use Rattle.storage_ops.proofs.Paged.{active_tie, picture_there, word_filed, framed_recorded}
 use Rattle.storage_ops.proofs.PagesLess.{words_bound}
@@ -50,28 +50,15 @@ same_page a image next u q e = ap (λ (ws : List ℕ). cond (is_there a.nodes u)
 
 changed_here : (old : ℕ → ℕ → List ℕ) (u p : ℕ) (ws : List ℕ) → changed_at old u p ws u p ≡ ws
 unfolding changed_at
-changed_here old u p ws =
-    let first : eqb u u ≡ true = own u in
-    let second : eqb p p ≡ true = own p in
-    rw (first, second) refl
-  where
-    own : (x : ℕ) → eqb x x ≡ true
-    own x = grind (arith, nat_tests)
+changed_here old u p ws = rw (eq-eqb u u refl, eq-eqb p p refl) refl
 
 changed_uid : (old : ℕ → ℕ → List ℕ) (u p : ℕ) (ws : List ℕ) (v q : ℕ) → v ≢ u → changed_at old u p ws v q ≡ old v q
 unfolding changed_at
-changed_uid old u p ws v q ne = (let off : eqb u v ≡ false = ne_eqb u v (λ e. ne (sym e)) in rw off refl)
+changed_uid old u p ws v q ne = rw (ne_eqb u v (λ e. ne (sym e))) refl
 
 changed_number : (old : ℕ → ℕ → List ℕ) (u p : ℕ) (ws : List ℕ) (v q : ℕ) → q ≢ p → changed_at old u p ws v q ≡ old v q
 unfolding changed_at
-changed_number old u p ws v q ne = by (eqb u v)
-  where
-    off : eqb p q ≡ false
-    off = ne_eqb p q (λ e. ne (sym e))
-
-    by : (z : Bool) → cond (z && eqb p q) ws (old v q) ≡ old v q
-    by true = rw off refl
-    by false = refl
+changed_number old u p ws v q ne = rw (ne_eqb p q (λ e. ne (sym e)), and_false (eqb u v)) refl
 
 -- the words of one page are others, and those of each other page as before
 pub record IsPageChanged (a : AccountMaps) (image next : ℕ → Home → ℕ → List ℕ) (uid p : ℕ)
@@ -103,24 +90,17 @@ module _ (a : AccountMaps) (image next : ℕ → Home → ℕ → List ℕ) (uid
     (long : length words ≡ 1024) (within : at < 1024) where
   -- the word itself, and each other one
   word_here : get_or (picture a next uid p) at 0 ≡ w
-  word_here = ap (λ (ws : List ℕ). get_or ws at 0) change.here
-      ∙ get_or-set_same words at w 0 (omega (arith, long, within))
+  word_here = cc (change.here, get_or-set_same words at w 0 (omega (arith, long, within)))
 
   word_else : (i : ℕ) → i ≢ at → get_or (picture a next uid p) i 0 ≡ get_or (picture a image uid p) i 0
-  word_else i ne = ap (λ (ws : List ℕ). get_or ws i 0) change.here ∙ get_or-set_other words at i w 0 ne
-      ∙ ap (λ (ws : List ℕ). get_or ws i 0) (sym change.before)
+  word_else i ne = cc (change.here, get_or-set_other words at i w 0 ne, change.before)
 
   pub words_told : (old : ℕ → ℕ → ℕ) → ((u o : ℕ) → old u o ≡ get_or (picture a image u (o / 1024)) (o % 1024) 0)
       → (u o : ℕ) → cond (eqb u uid && eqb o (1024 * p + at)) w (old u o)
       ≡ get_or (picture a next u (o / 1024)) (o % 1024) 0
   words_told old shown u o = elim (cases_eq u uid) [
-    | inr ne ↦ (let off : eqb u uid ≡ false = ne_eqb u uid ne in
-        ap (λ (z : Bool). cond (z && eqb o (1024 * p + at)) w (old u o)) off ∙ shown u o
-        ∙ ap (λ (ws : List ℕ). get_or ws (o % 1024) 0) (sym (change.others u (o / 1024) ne)))
-    | inl is ↦ (let on : eqb u uid ≡ true = eq-eqb u uid is in
-        ap (λ (z : Bool). cond (z && eqb o (1024 * p + at)) w (old u o)) on
-        ∙ ap (λ (x : ℕ). cond (eqb o (1024 * p + at)) w (old x o)) is ∙ of_page
-        ∙ ap (λ (x : ℕ). get_or (picture a next x (o / 1024)) (o % 1024) 0) (sym is))
+    | inr ne ↦ (let off : eqb u uid ≡ false = ne_eqb u uid ne in cc (off, shown u o, change.others u (o / 1024) ne))
+    | inl is ↦ (let on : eqb u uid ≡ true = eq-eqb u uid is in cc (on, is, of_page))
   ]
     where
       of_page : cond (eqb o (1024 * p + at)) w (old uid o) ≡ get_or (picture a next uid (o / 1024)) (o % 1024) 0
@@ -128,21 +108,15 @@ module _ (a : AccountMaps) (image next : ℕ → Home → ℕ → List ℕ) (uid
         | inr ne ↦
             (let off : eqb o (1024 * p + at) ≡ false
             = ne_eqb o (1024 * p + at) (λ e. ne (omega (arith, e, within))) in
-            ap (λ (z : Bool). cond z w (old uid o)) off ∙ shown uid o
-            ∙ ap (λ (ws : List ℕ). get_or ws (o % 1024) 0) (sym (change.pages (o / 1024) ne)))
+            cc (off, shown uid o, change.pages (o / 1024) ne))
         | inl page ↦ elim (cases_eq (o % 1024) at) [
           | inr ne ↦
               (let off : eqb o (1024 * p + at) ≡ false
               = ne_eqb o (1024 * p + at) (λ e. ne (omega (arith, e, within))) in
-              ap (λ (z : Bool). cond z w (old uid o)) off ∙ shown uid o
-              ∙ ap (λ (q : ℕ). get_or (picture a image uid q) (o % 1024) 0) page ∙ sym (word_else (o % 1024) ne)
-              ∙ ap (λ (q : ℕ). get_or (picture a next uid q) (o % 1024) 0) (sym page))
+              cc (off, shown uid o, page, word_else (o % 1024) ne))
           | inl place ↦
               (let same : o ≡ 1024 * p + at = omega (arith, page, place) in
-              let on : eqb o (1024 * p + at) ≡ true = eq-eqb o (1024 * p + at) same in
-              ap (λ (z : Bool). cond z w (old uid o)) on ∙ sym word_here
-              ∙ ap (λ (q : ℕ). get_or (picture a next uid q) at 0) (sym page)
-              ∙ ap (λ (i : ℕ). get_or (picture a next uid (o / 1024)) i 0) (sym place))
+              let on : eqb o (1024 * p + at) ≡ true = eq-eqb o (1024 * p + at) same in cc (on, word_here, page, place))
         ]
       ]
 
@@ -155,10 +129,7 @@ word_at drive plan s t uid p at words there held within h =
     let page : (1024 * p + at) / 1024 ≡ p = omega (arith, within) in
     let place : (1024 * p + at) % 1024 ≡ at = omega (arith, within) in
     let image = words_at (plain drive t.segs.pages) in
-    h.pages.words uid (1024 * p + at)
-    ∙ ap (λ (q : ℕ). get_or (picture t.accounts image uid q) ((1024 * p + at) % 1024) 0) page
-    ∙ ap (λ (k : ℕ). get_or (picture t.accounts image uid p) k 0) place
-    ∙ ap (λ (ws : List ℕ). get_or ws at 0) (picture_there t.accounts image uid p there ∙ held)
+    cc (h.pages.words uid (1024 * p + at), page, place, picture_there t.accounts image uid p there)
 
 -- a flat store once word `at` of a page is written
 abbrev pub word_written : Store → ℕ → ℕ → ℕ → ℕ → Store
@@ -168,13 +139,10 @@ word_written s uid page at w = record s { words = with_word s.words uid (1024 * 
 pub written_there : (s : Store) (uid p at w : ℕ) → at < 1024 → is_stored s.stored uid p ≡ true
     → word_written s uid p at w ≡ written s uid (1024 * p + at) w
 written_there s uid p at w within on =
+    let page : (1024 * p + at) / 1024 ≡ p = omega (arith, within) in
     ap (λ (xs : List (ℕ × ℕ)). record s { words = with_word s.words uid (1024 * p + at) w; stored = xs })
-    (sym (ap (λ (q : ℕ). cond (eqb w 0) s.stored (with_stored s.stored uid q)) page
-    ∙ ap (cond (eqb w 0) s.stored) (with_old s.stored uid p on) ∙ either (eqb w 0)))
+    (cc (page, with_old s.stored uid p on, either (eqb w 0)))
   where
-    page : (1024 * p + at) / 1024 ≡ p
-    page = omega (arith, within)
-
     either : (z : Bool) → cond z s.stored s.stored ≡ s.stored
     either true = refl
     either false = refl
@@ -187,23 +155,19 @@ pub shown_put : {D : Type 0} (drive : D → List (List ℕ)) (plan : Plan) (s : 
     → words_at (plain drive t.segs.pages) uid (home_of t.accounts uid) p ≡ words → length words ≡ 1024 → at < 1024
     → Shows drive plan s t → Shows drive plan (word_written s uid p at w) u
 shown_put {D} drive plan s t u uid p at w words accounts whos links volumes there change held long within h = record {
-  tree = subst (λ (a : AccountMaps). ShowsTree (word_written s uid p at w) a) (sym accounts)
-      (record { nodes = h.tree.nodes; next = h.tree.next; counts = h.tree.counts });
-  known = h.known ∙ ap (λ (l : Links). l.known) (sym links);
+  tree = rw accounts (assumption h.tree);
+  known = rw links h.known;
   pages = record {
-    stored = λ v q. h.pages.stored v q ∙ ap (λ (x : Vols D). is_filed t.accounts x.vtocs v q) (sym volumes)
-        ∙ ap (λ (a : AccountMaps). is_filed a u.segs.pages.volumes.vtocs v q) (sym accounts);
+    stored = λ v q. rw (volumes, accounts) (h.pages.stored v q);
     once = h.pages.once;
-    words = λ v o. words_told t.accounts (words_at (plain drive t.segs.pages)) (words_at (plain drive u.segs.pages))
-        uid p at w words (page_changed t.accounts (words_at (plain drive t.segs.pages))
-        (words_at (plain drive u.segs.pages)) uid p words (set words at w) there change held) long within s.words
-        h.pages.words v o
-        ∙ ap (λ (a : AccountMaps). get_or (picture a (words_at (plain drive u.segs.pages)) v (o / 1024)) (o % 1024) 0)
-        (sym accounts);
+    words = λ v o. rw accounts (words_told t.accounts (words_at (plain drive t.segs.pages))
+        (words_at (plain drive u.segs.pages)) uid p at w words (page_changed t.accounts
+        (words_at (plain drive t.segs.pages)) (words_at (plain drive u.segs.pages)) uid p words (set words at w) there
+        change held) long within s.words h.pages.words v o);
   };
   script = record {
-    records = λ v. h.script.records v ∙ ap (λ (x : Vols D). length (get_or x.records v [])) (sym volumes);
-    entries = λ v. h.script.entries v ∙ ap (λ (x : Vols D). length (get_or x.vtocs v [])) (sym volumes);
+    records = λ v. rw volumes (h.script.records v);
+    entries = λ v. rw volumes (h.script.entries v);
     whos = whos ∙ h.script.whos;
   };
 }

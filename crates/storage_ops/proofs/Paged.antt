@@ -1,13 +1,11 @@
 -- An active segment: its home, its page table, and which of its pages are stored.
-use Rattle.storage_ops.proofs.Prelude.{◌≡◌, ◌≢◌, ℕ, zero, suc, ◌/◌, ◌%◌, ◌<◌, ◌≤◌, Bool, true, false, cond, ◌&&◌, ◌↔◌, List, [], eqb, ◌∷◌, get_or, Option, Some, None, replicate, refl, sym, ap, ◌∙◌, arith, inl, inr, position_or_len, cases_Bool, eqb-true, nat_tests, common_steps, same_Some, Who, Plan, AccountMaps, Store, IsBlank, VtocEntry, Entry, ActiveSegs, IsActive, uid_in_place, uid_in, Ptw, Here, Leaving, Null, Out, Home, Plain, binding_at, bindings, plain, frame_of, has_record, IsTied, is_filed_at, words_at, Links, is_for, place_of, table_of, word_of, IsHomeOf, IsKept, IsStore, Shows, Storage, home_of, is_filed, is_there, pages_in, picture, all_same, passed_there}
+use Rattle.storage_ops.proofs.Prelude.{◌≡◌, ◌≢◌, ℕ, zero, suc, ◌/◌, ◌%◌, ◌<◌, ◌≤◌, Bool, true, false, cond, ◌&&◌, ◌↔◌, List, [], eqb, ◌∷◌, Option, Some, None, replicate, refl, sym, ap, ◌∙◌, arith, inl, inr, position_or_len, cases_Bool, eqb-true, common_steps, same_Some, Who, Plan, AccountMaps, Store, IsBlank, VtocEntry, Entry, ActiveSegs, IsActive, uid_in_place, uid_in, Ptw, Here, Leaving, Null, Out, Home, Plain, binding_at, bindings, plain, frame_of, has_record, IsTied, is_filed_at, words_at, Links, is_for, place_of, table_of, word_of, IsHomeOf, IsKept, IsStore, Shows, Storage, home_of, is_filed, is_there, pages_in, picture, all_same, passed_there, eq-eqb}
 use Rattle.storage_ops.proofs.Homes.{filed_map, words_none}
 use Rattle.storage_ops.proofs.Lengths.{filed_there}
 
 not_for : (u : ℕ) (e : Option Entry) → is_for u e ≡ false → uid_in e ≢ Some u
 not_for u None h is = cc
-not_for u (Some e) h is = (let same : e.uid ≡ u = cc in
-    let on : is_for u (Some e) ≡ true = grind (arith, nat_tests) in
-    let clash : true ≡ false = sym on ∙ h in cc)
+not_for u (Some e) h is = (let same : e.uid ≡ u = cc in cc (eq-eqb e.uid u same))
 
 -- an active segment is in the place that is found for it
 found_at : (xs : List (Option Entry)) (u place : ℕ) → uid_in_place xs place ≡ Some u
@@ -63,8 +61,7 @@ pub unfiled_unframed : (now : Plain) (ast : ActiveSegs) (links : Links) (a : Acc
 unfiled_unframed now ast links a whos k h u q off f e =
     let active = k.paged.bound f u q e in
     let named = (active_tie now ast links a whos k h u active).table.named f q e in
-    let clash : true ≡ false = sym (framed_recorded (word_of ast u q) f named)
-    ∙ sym (word_filed now ast links a whos k h u active q) ∙ off in cc
+    cc (framed_recorded (word_of ast u q) f named, word_filed now ast links a whos k h u active q)
 
 -- a page that isn't stored is all zeros
 pub picture_none : (now : Plain) (ast : ActiveSegs) (links : Links) (a : AccountMaps) (whos : List Who)
@@ -84,11 +81,12 @@ pub blank_shown : {D : Type 0} (drive : D → List (List ℕ)) (p : Plan) (s : S
     → IsKept (plain drive t.segs.pages) t.segs.ast t.segs.links
     → IsStore (plain drive t.segs.pages) t.segs.ast t.segs.links t.accounts t.whos
     → Shows drive p s t → IsBlank s
-blank_shown drive p s t k h shown u o off = shown.pages.words u o
-    ∙ ap (λ (ws : List ℕ). get_or ws (o % 1024) 0)
-    (picture_none (plain drive t.segs.pages) t.segs.ast t.segs.links t.accounts t.whos k h u (o / 1024)
-    (sym (shown.pages.stored u (o / 1024)) ∙ off))
-    ∙ all_same 1024 (o % 1024) 0
+blank_shown drive p s t k h shown u o off = cc (
+  shown.pages.words u o,
+  all_same {X = ℕ} 1024 (o % 1024) 0,
+  picture_none (plain drive t.segs.pages) t.segs.ast t.segs.links t.accounts t.whos k h u (o / 1024)
+      (sym (shown.pages.stored u (o / 1024)) ∙ off),
+)
 
 -- ---- what is there, and what isn't
 

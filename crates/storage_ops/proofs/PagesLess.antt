@@ -1,5 +1,5 @@
 -- What is shown once a page is stored no more, and once one is cut.
-use Rattle.storage_ops.proofs.Prelude.{◌≡◌, ℕ, zero, suc, ◌+◌, ◌-◌, ◌*◌, ◌/◌, ◌%◌, ◌<◌, ◌≤◌, Bool, true, false, cond, eqb, not, ◌&&◌, ◌++◌, ◌↔◌, IsTrue, List, [], ◌∷◌, get_or, length, take, Option, Some, None, is_some, All, replicate, set, refl, sym, ap, subst, ◌∙◌, arith, inl, inr, count_by, nat_le, position, position_or_len, cases_Bool, cases_lt, eq-eqb, eqb-true, common_steps, get_or-replicate, get_or_past, length-append, length-replicate, length-take, fails_before_first, same_Some, get_or-map, AreZero, Plan, Who, AccountMaps, Recounts, count_of, has_directory, has_segment, cleared, has_cleared, without_pages, is_stored, is_zero_page, Store, counted_less, get_cut, zero_words_told, is_stored-without, once_without, Core, bound_page, frame_at, is_bound, reads_of, Frame, Bound, Free, Started, VtocEntry, record_at, Home, ActiveSegs, IsActive, table_at, KeepsCounts, entries, one_less, size, taken, cut, dropped, unstored, Vols, ChangesStored, ChangesWords, changed_at, changed_page, is_binding, is_filed_at, words_at, words_held, words_of_page, Plain, binding_at, bindings, number_in, plain, words_in, IsTableOf, frame_of, has_record, is_away, is_out, map_at, uid_at, vtoc_in, Ptw, Here, Leaving, Null, Out, Links, table_of, word_of, worded, IsHomeOf, IsKept, Unstores, is_here, leaves, AreHoused, IsStore, ShowsPages, ShowsTree, Shows, Storage, home_of, is_filed, is_there, named_at, pages_in, picture, all_same, page_is}
+use Rattle.storage_ops.proofs.Prelude.{◌≡◌, ℕ, zero, suc, ◌+◌, ◌-◌, ◌*◌, ◌/◌, ◌%◌, ◌<◌, ◌≤◌, Bool, true, false, cond, eqb, not, ◌&&◌, ◌++◌, ◌↔◌, IsTrue, List, [], ◌∷◌, get_or, length, take, Option, Some, None, is_some, All, replicate, set, refl, sym, ap, subst, ◌∙◌, arith, inl, inr, count_by, nat_le, position, position_or_len, cases_Bool, cases_lt, eq-eqb, eqb-true, common_steps, get_or-replicate, get_or_past, length-append, length-replicate, length-take, fails_before_first, same_Some, get_or-map, AreZero, Plan, Who, AccountMaps, Recounts, count_of, has_directory, has_segment, cleared, has_cleared, without_pages, is_stored, is_zero_page, Store, counted_less, get_cut, zero_words_told, is_stored-without, once_without, Core, bound_page, frame_at, is_bound, reads_of, Frame, Bound, Free, Started, VtocEntry, record_at, Home, ActiveSegs, IsActive, table_at, KeepsCounts, entries, one_less, size, taken, cut, dropped, Vols, ChangesStored, ChangesWords, changed_at, changed_page, is_binding, is_filed_at, words_at, words_held, words_of_page, Plain, binding_at, bindings, number_in, plain, words_in, IsTableOf, frame_of, has_record, is_away, is_out, map_at, vtoc_in, Ptw, Here, Leaving, Null, Out, Links, table_of, word_of, worded, IsHomeOf, IsKept, Unstores, is_here, leaves, AreHoused, IsStore, ShowsPages, ShowsTree, Shows, Storage, home_of, is_filed, is_there, named_at, pages_in, picture, all_same, page_is}
 use Rattle.page_control.specs.Tied.{uid_in}
 use Rattle.storage_ops.proofs.Entries.{one_named}
 use Rattle.storage_ops.proofs.Dropped.{HasDropped, dropped_vtocs, recount_homes, recount_there, same_entries, same_sizes}
@@ -14,10 +14,7 @@ use Rattle.storage_ops.proofs.PageFacts.{segment_of}
 module _ (old now : Plain) (a b : AccountMaps) (u q : ℕ) (d : HasDropped old now a b u q)
     (housed : AreHoused a old.vtocs) where
   no_other : (v : ℕ) → is_there a.nodes v ≡ true → home_of a v ≡ home_of a u → v ≡ u
-  no_other v t homes = the_uid (sym (housed.homes v t) ∙ ap (uid_at old.vtocs) homes ∙ housed.homes u d.there)
-    where
-      the_uid : ◌≡◌ {A = Option ℕ} (Some v) (Some u) → v ≡ u
-      the_uid e = cc
+  no_other v t homes = cc (housed.homes v t, housed.homes u d.there)
 
   filed_else : (v r : ℕ) → (v ≡ u → r ≡ q → ⊥) → is_filed b now.vtocs v r ≡ is_filed a old.vtocs v r
   filed_else v r apart = elim (cases_Bool (is_there a.nodes v)) [
@@ -57,24 +54,17 @@ module _ (old now : Plain) (a b : AccountMaps) (u q : ℕ) (d : HasDropped old n
     where
       stored : (v r : ℕ) (x y : Bool) → eqb v u ≡ x → eqb r q ≡ y
           → (not (x && y) && is_stored s.stored v r) ≡ is_filed b now.vtocs v r
-      stored v r true true e f = sym (ap (λ (n : ℕ). is_filed b now.vtocs n r) (eqb-true v u e)
-          ∙ ap (is_filed b now.vtocs u) (eqb-true r q f) ∙ filed_gone)
-      stored v r true false e f = h.stored v r ∙ sym (filed_else v r (λ same at. (let clash : true ≡ false =
-          sym (eq-eqb r q at) ∙ f in cc)))
-      stored v r false y e f = h.stored v r ∙ sym (filed_else v r (λ same at. (let clash : true ≡ false =
-          sym (eq-eqb v u same) ∙ e in cc)))
+      stored v r true true e f = rw (eqb-true v u e, eqb-true r q f) (sym filed_gone)
+      stored v r true false e f = h.stored v r ∙ sym (filed_else v r (λ same at. cc (eq-eqb r q at)))
+      stored v r false y e f = h.stored v r ∙ sym (filed_else v r (λ same at. cc (eq-eqb v u same)))
 
       words : (v o : ℕ) (x y : Bool) → eqb v u ≡ x → eqb (o / 1024) q ≡ y
           → cond (x && y) 0 (s.words v o) ≡ get_or (picture b (words_at now) v (o / 1024)) (o % 1024) 0
-      words v o true true e f = sym (ap (λ (n : ℕ). get_or (picture b (words_at now) n (o / 1024)) (o % 1024) 0)
-          (eqb-true v u e)
-          ∙ ap (λ (n : ℕ). get_or (picture b (words_at now) u n) (o % 1024) 0) (eqb-true (o / 1024) q f)
-          ∙ ap (λ (ws : List ℕ). get_or ws (o % 1024) 0) words_gone ∙ all_same 1024 (o % 1024) 0)
-      words v o true false e f = h.words v o ∙ ap (λ (ws : List ℕ). get_or ws (o % 1024) 0)
-          (sym (words_else v (o / 1024) (λ same at. (let clash : true ≡ false = sym (eq-eqb (o / 1024) q at)
-          ∙ f in cc))))
-      words v o false y e f = h.words v o ∙ ap (λ (ws : List ℕ). get_or ws (o % 1024) 0)
-          (sym (words_else v (o / 1024) (λ same at. (let clash : true ≡ false = sym (eq-eqb v u same) ∙ e in cc))))
+      words v o true true e f =
+          cc (eqb-true v u e, eqb-true (o / 1024) q f, words_gone, all_same {X = ℕ} 1024 (o % 1024) 0)
+      words v o true false e f =
+          cc (h.words v o, words_else v (o / 1024) (λ same at. cc (eq-eqb (o / 1024) q at)))
+      words v o false y e f = cc (h.words v o, words_else v (o / 1024) (λ same at. cc (eq-eqb v u same)))
 
 pub shown_dropped : {D : Type 0} (drive : D → List (List ℕ)) (p : Plan) (s : Store) (t n : Storage D) (u q : ℕ)
     → HasDropped (plain drive t.segs.pages) (plain drive n.segs.pages) t.accounts n.accounts u q
@@ -132,8 +122,7 @@ words_bound now u q f home e only = by (position (is_binding u q) (bindings now.
     short : f < length (bindings now.core)
     short = elim (cases_lt f (length (bindings now.core))) [
       | inl lt ↦ lt
-      | inr past ↦ (let none : binding_at (bindings now.core) f ≡ None = get_or_past (bindings now.core) f None past in
-          let clash : ◌≡◌ {A = Option (ℕ × ℕ)} None (Some (u, q)) = sym none ∙ e in cc)
+      | inr past ↦ cc (get_or_past (bindings now.core) f None past)
     ]
 
     by : (o : Option ℕ) → position (is_binding u q) (bindings now.core) ≡ o
@@ -144,7 +133,7 @@ words_bound now u q f home e only = by (position (is_binding u q) (bindings now.
     by None is =
         let lt : f < position_or_len (is_binding u q) (bindings now.core) =
         none_passes (is_binding u q) (bindings now.core) f is short in
-        let clash : true ≡ false = sym passes ∙ fails_before_first (is_binding u q) (bindings now.core) f None lt in cc
+        cc (passes, fails_before_first (is_binding u q) (bindings now.core) f None lt)
 
 -- ---- a page is cut
 
@@ -183,19 +172,10 @@ module _ (a : AccountMaps) (vtocs : List (List (Option VtocEntry))) (image next 
           → cond (x && (y && nat_le at (o % 1024))) 0 (s.words v o)
           ≡ get_or (picture a next v (o / 1024)) (o % 1024) 0
       words v o true true e f =
-          ap (cond (nat_le at (o % 1024)) 0) (h.words v o
-          ∙ ap (λ (n : ℕ). get_or (picture a image n (o / 1024)) (o % 1024) 0) (eqb-true v u e)
-          ∙ ap (λ (n : ℕ). get_or (picture a image u n) (o % 1024) 0) (eqb-true (o / 1024) q f)
-          ∙ ap (λ (x : List ℕ). get_or x (o % 1024) 0) has)
-          ∙ sym (get_cut at (o % 1024) (1024 - at) ws)
-          ∙ sym (ap (λ (n : ℕ). get_or (picture a next n (o / 1024)) (o % 1024) 0) (eqb-true v u e)
-          ∙ ap (λ (n : ℕ). get_or (picture a next u n) (o % 1024) 0) (eqb-true (o / 1024) q f)
-          ∙ ap (λ (x : List ℕ). get_or x (o % 1024) 0) next_here)
-      words v o true false e f = h.words v o ∙ ap (λ (x : List ℕ). get_or x (o % 1024) 0)
-          (sym (next_else v (o / 1024) (λ same page. (let clash : true ≡ false = sym (eq-eqb (o / 1024) q page)
-          ∙ f in cc))))
-      words v o false y e f = h.words v o ∙ ap (λ (x : List ℕ). get_or x (o % 1024) 0)
-          (sym (next_else v (o / 1024) (λ same page. (let clash : true ≡ false = sym (eq-eqb v u same) ∙ e in cc))))
+          cc (h.words v o, eqb-true v u e, eqb-true (o / 1024) q f, get_cut at (o % 1024) (1024 - at) ws, next_here)
+      words v o true false e f =
+          cc (h.words v o, next_else v (o / 1024) (λ same page. cc (eq-eqb (o / 1024) q page)))
+      words v o false y e f = cc (h.words v o, next_else v (o / 1024) (λ same page. cc (eq-eqb v u same)))
 
   -- whether the page is all zeros then
   pub cut_told : (s : Store) (r : Bool) → ShowsPages s a vtocs image → is_filed a vtocs u q ≡ true → at ≤ 1024
@@ -214,10 +194,7 @@ module _ (a : AccountMaps) (vtocs : List (List (Option VtocEntry))) (image next 
       word i lt =
           let page : (1024 * q + i) / 1024 ≡ q = omega (arith, lt) in
           let place : (1024 * q + i) % 1024 ≡ i = omega (arith, lt) in
-          (pages_cut s h).words u (1024 * q + i)
-          ∙ ap (λ (n : ℕ). get_or (picture a next u n) ((1024 * q + i) % 1024) 0) page
-          ∙ ap (λ (n : ℕ). get_or (picture a next u q) n 0) place
-          ∙ ap (λ (x : List ℕ). get_or x i 0) next_here
+          cc ((pages_cut s h).words u (1024 * q + i), page, place, next_here)
 
 -- the words of a frame that is cut are zeros where those that it is cut to are
 pub zeros_cut : (frames : List (List ℕ)) (f at n : ℕ)
@@ -226,13 +203,8 @@ pub zeros_cut : (frames : List (List ℕ)) (f at n : ℕ)
 zeros_cut [] f at n = (λ h. all_zeros at n, λ h k d lt. absurd (omega (arith, lt)))
   where
     all_zeros : (at n : ℕ) → AreZero (take at [] ++ replicate n 0)
-    all_zeros zero n k d lt = get_or-replicate n k 0 d (let long = length-replicate {A = ℕ} n 0 in omega (
-      arith,
-      lt,
-      long,
-    ))
-    all_zeros (suc at) n k d lt = get_or-replicate n k 0 d (let long = length-replicate {A = ℕ} n 0 in
-        omega (arith, lt, long))
+    all_zeros zero n k d lt = get_or-replicate n k 0 d (rw (← length-replicate {A = ℕ} n 0) lt)
+    all_zeros (suc at) n k d lt = get_or-replicate n k 0 d (rw (← length-replicate {A = ℕ} n 0) lt)
 zeros_cut (x ∷ frames) zero at n = (λ h. h, λ h. h)
 zeros_cut (x ∷ frames) (suc f) at n = zeros_cut frames f at n
 
@@ -300,10 +272,9 @@ drop_done old now a b u q home w is there filed effect words stored less counts 
   accounts = re;
   there = there;
   filed = filed;
-  vtocs = ap (λ (x : Plain). x.vtocs) effect ∙ dropped_vtocs old home q w
-      ∙ ap (λ (h : Home). (unstored old h q).vtocs) is;
-  words = subst (λ (h : Home). ChangesWords old now u h q (replicate 1024 0)) is words;
-  stored = subst (λ (h : Home). ChangesStored old now h q false) is stored;
+  vtocs = cc (effect, dropped_vtocs old home q w, is);
+  words = rw (← is) words;
+  stored = rw (← is) stored;
   taken = less ∙ ap (λ (h : Home). one_less (taken old.records) h.volume) is;
   counts = counts;
 }
@@ -418,7 +389,7 @@ pub frame_told : (now : Plain) (f at : ℕ) (r : Bool) (next : Plain) → next �
     → (IsTrue r ↔ AreZero (words_in next f)) → IsTrue r ↔ AreZero (take at (words_in now f) ++ replicate (1024 - at) 0)
 frame_told now f at r next is told =
     let both = zeros_cut now.frames f at (1024 - at) in
-    let here = subst (λ (x : Plain). IsTrue r ↔ AreZero (words_in x f)) is told in
+    let here = rw is at told in
     (λ t. both.0 (here.0 t), λ z. here.1 (both.1 z))
 
 -- a word that isn't that of a page on its way out
@@ -449,8 +420,7 @@ unstores_cut t n u accounts ast bound reads links moving whos volumes = record {
   tables = λ place apart. ap (λ (x : ActiveSegs). table_at x.tables place) ast;
   kept = λ q off. ap (λ (x : ActiveSegs). word_of x u q) ast;
   gone = λ q on. cc;
-  bound = λ f. ap (λ (b : List (Option (ℕ × ℕ))). binding_at b f) bound
-      ∙ none_bound u (binding_at (bindings t.segs.pages.core) f);
+  bound = λ f. cc (bound, none_bound u (binding_at (bindings t.segs.pages.core) f));
   reads = reads;
   links = links;
   moving = moving;
@@ -460,5 +430,4 @@ unstores_cut t n u accounts ast bound reads links moving whos volumes = record {
 
 pub page_words : (image next : ℕ → Home → ℕ → List ℕ) (v r u q : ℕ) (ws : List ℕ) → v ≡ u → r ≡ q
     → next ≡ changed_page image v r ws → next ≡ changed_page image u q ws
-page_words image next v r u q ws same at is =
-    is ∙ ap (λ (n : ℕ). changed_page image n r ws) same ∙ ap (λ (n : ℕ). changed_page image u n ws) at
+page_words image next v r u q ws same at is = cc (is, same, at)

@@ -1,5 +1,6 @@
 -- The names that the proofs of this crate take from elsewhere.
 pub use Rattle.std.proofs.Common.{All, Bool, Err, IfOk, IsOk, IsSome, IsTrue, List, None, Ok, OnOk, Option, Result, Some, [], ap, arith, cond, eqb, false, get_or, inl, inr, is_none, is_some, length, map, not, refl, replicate, rules, set, subst, suc, sum, sym, take, true, w32, zero, ℕ, ℤ, ◌%◌, ◌&&◌, ◌*◌, ◌++◌, ◌+◌, ◌-◌, ◌/◌, ◌<◌, ◌^◌, ◌||◌, ◌↔◌, ◌∙◌, ◌∷◌, ◌≡◌, ◌≢◌, ◌≤◌, ◌⊎◌}
+pub use Rattle.std.proofs.Math.Bool.{and-true}
 pub use Rattle.std.proofs.Math.ListN.{get_or-map}
 pub use Rattle.std.proofs.lemmas.Bool.{cases_Bool, cases_eq, cases_lt, eq-eqb, eqb-true, ne_eqb, or_parts}
 pub use Rattle.std.proofs.lemmas.Bool.Decides.{eqb_tells, nat_tests}
@@ -14,9 +15,9 @@ pub use Rattle.std.specs.Int.RustNames.{unsigned_abs}
 pub use Rattle.std.specs.List.{list_all, list_any, position_or_len, range_with_len}
 pub use Rattle.std.specs.Prelude.{IfSome, count_by, nat_le, nat_lt, position, slice_get}
 pub use Rattle.std.specs.Result.{is_err}
-pub use Rattle.laws.proofs.Bools.{and_parts, off_and_on, room_parts}
-pub use Rattle.laws.proofs.Lists.{all_same, get_or_any, within_from}
-pub use Rattle.laws.proofs.Numbers.{eqb_turned, from_first, zero_word}
+pub use Rattle.laws.proofs.Bools.{and_false, and_parts, off_and_on, or_true, room_parts}
+pub use Rattle.laws.proofs.Lists.{all_same, get_or_any, none_put, within_from}
+pub use Rattle.laws.proofs.Numbers.{and_both, eqb_turned, from_first, zero_word}
 pub use Rattle.laws.proofs.Options.{page_is, passed_there, some_number}
 pub use Rattle.laws.proofs.Places.{shown_within}
 pub use Rattle.mword.specs.Words.{AreZero}
@@ -59,7 +60,7 @@ pub use Rattle.flat_model.proofs.NumberLaws.{free_none}
 pub use Rattle.flat_model.proofs.PageLaws.{is_stored-with, is_stored-without, none_from, once_with, once_without, stored_from, with_old, without_first, without_none}
 pub use Rattle.flat_model.proofs.PathRefusals.{branch_refuses, branch_says, node_refuses, segment_refuses, segment_says}
 pub use Rattle.flat_model.proofs.QuotaTotals.{branch_found, only_found}
-pub use Rattle.flat_model.proofs.RemoveLaws.{delete_done, directory_left, node_gone, taken_left, volume_left}
+pub use Rattle.flat_model.proofs.RemoveLaws.{delete_done, directory_left, node_gone, none_counted as counts_none, taken_left, volume_left}
 pub use Rattle.flat_model.proofs.RoomLaws.{first_is, first_none, room_is, room_none}
 pub use Rattle.flat_model.proofs.ScriptLaws.{few_pages}
 pub use Rattle.flat_model.proofs.SharedLaws.{pools_few}

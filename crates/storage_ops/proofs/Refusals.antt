@@ -1,5 +1,5 @@
 -- What refuses a reference, by the tables and by the flat store that they show.
-use Rattle.storage_ops.proofs.Prelude.{◌≡◌, ℕ, ◌*◌, ◌<◌, ◌/◌, Bool, true, false, cond, eqb, not, ◌&&◌, List, [], Option, Some, None, Result, Ok, Err, get_or, is_some, map, refl, sym, ap, subst, ◌∙◌, arith, inl, inr, is_none, nat_le, cases_Bool, nat_tests, get_or-map, Who, Plan, ProcessPlan, nobody, who_of, RefKind, Reference, Reply, uid_of, access_of, Node, has_directory, node_in, has_segment, AccountMaps, HasParts, is_stored, new_word, permits, is_out_of_room, is_used_up, is_volume_full, reply_at, reply_of, reply_to_reference, stores_page, word_reply, Store, plain, IsKept, brings_word, is_of_room, is_outside, only, outside_by, outside_refusal, refusal_in, refused_by, room_by, room_in, room_refusal, target, target_at, has_no_room, is_spent, target_of, unless, want_of_room, room_of, AreCounted, IsStore, Shows, Storage, is_filed, pages_in, pages_of, refusal, who_at}
+use Rattle.storage_ops.proofs.Prelude.{◌≡◌, ℕ, ◌*◌, ◌<◌, ◌/◌, Bool, true, false, cond, eqb, not, ◌&&◌, List, [], Option, Some, None, Result, Ok, Err, get_or, is_some, map, refl, sym, ap, ◌∙◌, arith, inl, inr, nat_le, cases_Bool, nat_tests, get_or-map, Who, Plan, ProcessPlan, nobody, who_of, RefKind, Reference, Reply, uid_of, access_of, Node, has_directory, node_in, has_segment, AccountMaps, HasParts, is_stored, new_word, permits, is_out_of_room, is_used_up, reply_at, reply_of, reply_to_reference, stores_page, word_reply, Store, plain, IsKept, brings_word, is_of_room, is_outside, only, outside_by, outside_refusal, refusal_in, refused_by, room_by, room_in, room_refusal, target, target_at, has_no_room, is_spent, target_of, unless, want_of_room, AreCounted, IsStore, Shows, Storage, is_filed, pages_in, pages_of, refusal, who_at, and_false}
 use Rattle.script.specs.declared.commands.RefKind.TheVariants as kind
 use Rattle.book.specs.declared.replies.Reply.TheVariants as reply
 use Rattle.vtoc.specs.Vtoc.{Entry}
@@ -18,31 +18,7 @@ outside_only reply.Unknown is = (refl, refl, refl)
 outside_only reply.Gone is = (refl, refl, refl)
 outside_only reply.NoAccess is = (refl, refl, refl)
 outside_only reply.Length is = (refl, refl, refl)
-outside_only reply.Quota is = cc
-outside_only reply.NoRecord is = cc
-outside_only reply.Device is = cc
-outside_only (reply.Word w) is = cc
-outside_only reply.Done is = cc
-outside_only (reply.Made u) is = cc
-outside_only (reply.Known n) is = cc
-outside_only reply.NoPath is = cc
-outside_only reply.NotDir is = cc
-outside_only reply.IsDir is = cc
-outside_only reply.IsSeg is = cc
-outside_only reply.Exists is = cc
-outside_only reply.Deep is = cc
-outside_only reply.Room is = cc
-outside_only reply.NoEntry is = cc
-outside_only reply.Full is = cc
-outside_only reply.AclFull is = cc
-outside_only reply.Beyond is = cc
-outside_only reply.NotEmpty is = cc
-outside_only reply.HasQuota is = cc
-outside_only reply.Root is = cc
-outside_only reply.TooLittle is = cc
-outside_only (reply.Over u) is = cc
-outside_only (reply.SegIs u l n) is = cc
-outside_only (reply.DirIs u q n) is = cc
+outside_only _ is = cc
 
 -- a word, or that one is written, is no refusal
 word_none : (old : ℕ) (how : RefKind) → (only is_outside (word_reply old how) ≡ None)
@@ -73,22 +49,12 @@ stores_told : (s : Store) (uid offset : ℕ) (how : RefKind)
     → (is_stored s.stored uid (offset / 1024) ≡ false → s.words uid offset ≡ 0)
     → stores_page s uid offset how ≡ (brings_word how && not (is_stored s.stored uid (offset / 1024)))
 stores_told s uid offset kind.Read blank = refl
-stores_told s uid offset (kind.Write w) blank = by (not (eqb w 0)) (is_stored s.stored uid (offset / 1024))
-  where
-    by : (x y : Bool) → (x && not y) ≡ (x && not y)
-    by x y = refl
-stores_told s uid offset (kind.Add w) blank = by (is_stored s.stored uid (offset / 1024)) refl
-  where
-    off : (x : Bool) → (x && false) ≡ false
-    off true = refl
-    off false = refl
-
-    by : (z : Bool) → is_stored s.stored uid (offset / 1024) ≡ z
-        → (not (eqb (new_word (s.words uid offset) (kind.Add w)) 0) && not z)
-        ≡ (not (eqb (new_word 0 (kind.Add w)) 0) && not z)
-    by true e = off (not (eqb (new_word (s.words uid offset) (kind.Add w)) 0))
-        ∙ sym (off (not (eqb (new_word 0 (kind.Add w)) 0)))
-    by false e = ap (λ (x : ℕ). not (eqb (new_word x (kind.Add w)) 0) && true) (blank e)
+stores_told s uid offset (kind.Write w) blank = refl
+stores_told s uid offset (kind.Add w) blank = elim (cases_Bool (is_stored s.stored uid (offset / 1024))) [
+  | inl on ↦ rw on (and_false (not (eqb (new_word (s.words uid offset) (kind.Add w)) 0))
+      ∙ sym (and_false (not (eqb (new_word 0 (kind.Add w)) 0))))
+  | inr off ↦ rw (blank off) refl
+]
 
 -- ---- by what is shown
 
@@ -105,13 +71,12 @@ is_outside_of (Err e) = is_outside e
 module _ {D : Type 0} (drive : D → List (List ℕ)) (p : Plan) (s : Store) (t : Storage D) (h : Shows drive p s t)
     (k : ℕ) (r : Reference) where
   who_told : who_of p k ≡ who_at t.whos k
-  who_told = sym (ap (λ (ws : List Who). get_or ws k nobody) h.script.whos
-      ∙ get_or-map (λ (x : ProcessPlan). x.who) p.processes k (record { who = nobody; commands = [] }))
+  who_told =
+      cc (h.script.whos, get_or-map (λ (x : ProcessPlan). x.who) p.processes k (record { who = nobody; commands = [] }))
 
   reply_told : reply_to_reference p s k r ≡ reply_for p s r (target t k r)
   unfolding reply_to_reference target
-  reply_told = ap (λ (ks : List (List (Option ℕ))). reply_of p s k r.offset r.kind (uid_of (get_or ks k []) r.number))
-      h.known ∙ by_uid (uid_of (get_or t.segs.links.known k []) r.number)
+  reply_told = rw h.known (by_uid (uid_of (get_or t.segs.links.known k []) r.number))
     where
       by_test : (n : Node) (may past : Bool)
           → cond (not may) reply.NoAccess (cond past reply.Length (reply_for p s r (Ok n)))
@@ -123,16 +88,13 @@ module _ {D : Type 0} (drive : D → List (List ℕ)) (p : Plan) (s : Store) (t 
       by_node : (o : Option Node)
           → reply_at p s k r.offset r.kind o ≡ reply_for p s r (target_at (who_at t.whos k) r o)
       by_node None = refl
-      by_node (Some n) =
-          ap (λ (who : Who). cond (not (permits (access_of who n.rows) r.kind)) reply.NoAccess
-          (cond (nat_le (1024 * n.pages) r.offset) reply.Length (reply_for p s r (Ok n)))) who_told
-          ∙ by_test n (permits (access_of (who_at t.whos k) n.rows) r.kind) (nat_le (1024 * n.pages) r.offset)
+      by_node (Some n) = rw who_told
+          (by_test n (permits (access_of (who_at t.whos k) n.rows) r.kind) (nat_le (1024 * n.pages) r.offset))
 
       by_uid : (o : Option ℕ)
           → reply_of p s k r.offset r.kind o ≡ reply_for p s r (target_of t.accounts.nodes (who_at t.whos k) r o)
       by_uid None = refl
-      by_uid (Some uid) = ap (λ (ns : List Node). reply_at p s k r.offset r.kind (node_in ns uid)) h.tree.nodes
-          ∙ by_node (node_in t.accounts.nodes uid)
+      by_uid (Some uid) = cc (h.tree.nodes, by_node (node_in t.accounts.nodes uid))
 
 outside_target : {D : Type 0} (t : Storage D) (k : ℕ) (r : Reference) → is_outside_of (target t k r) ≡ true
 unfolding target
@@ -159,22 +121,20 @@ outside_target t k r = by_uid (uid_of (get_or t.segs.links.known k []) r.number)
 pub target_unknown : {D : Type 0} (t : Storage D) (k : ℕ) (r : Reference)
     → uid_of (get_or t.segs.links.known k []) r.number ≡ None → target t k r ≡ Err reply.Unknown
 unfolding target
-target_unknown t k r none = ap (target_of t.accounts.nodes (who_at t.whos k) r) none
+target_unknown t k r none = rw none
 
 pub target_gone : {D : Type 0} (t : Storage D) (k : ℕ) (r : Reference) (uid : ℕ)
     → uid_of (get_or t.segs.links.known k []) r.number ≡ Some uid → node_in t.accounts.nodes uid ≡ None
     → target t k r ≡ Err reply.Gone
 unfolding target
-target_gone t k r uid known none = ap (target_of t.accounts.nodes (who_at t.whos k) r) known
-    ∙ ap (target_at (who_at t.whos k) r) none
+target_gone t k r uid known none = rw (known, none)
 
 -- where it is there
 pub target_found : {D : Type 0} (t : Storage D) (k : ℕ) (r : Reference) (uid : ℕ) (n : Node)
     → uid_of (get_or t.segs.links.known k []) r.number ≡ Some uid → node_in t.accounts.nodes uid ≡ Some n
     → target t k r ≡ unless (refusal_in (who_at t.whos k) r n) n
 unfolding target
-target_found t k r uid n known found = ap (target_of t.accounts.nodes (who_at t.whos k) r) known
-    ∙ ap (target_at (who_at t.whos k) r) found
+target_found t k r uid n known found = rw (known, found)
 
 -- the offset is below the end of the segment that a reference goes to
 pub within_told : (who : Who) (r : Reference) (n : Node) → refusal_in who r n ≡ None → r.offset < 1024 * n.pages
@@ -202,9 +162,7 @@ long_segment a vtocs h u offset n found lt = segment_of a.nodes u (ap is_some fo
 pub want_told : {D : Type 0} (t : Storage D) (stored : List (ℕ × ℕ)) (n : Node) (spent out : Bool)
     → is_spent t.accounts.nodes stored n.uid ≡ spent → has_no_room t n ≡ out
     → want_of_room t stored n ≡ cond spent (Some reply.Quota) (cond out (Some reply.NoRecord) None)
-want_told t stored n spent out at_account at_volume =
-    ap (λ (z : Bool). cond z (Some reply.Quota) (cond (has_no_room t n) (Some reply.NoRecord) None)) at_account
-    ∙ ap (λ (z : Bool). cond spent (Some reply.Quota) (cond z (Some reply.NoRecord) None)) at_volume
+want_told t stored n spent out at_account at_volume = rw (at_account, at_volume)
 
 -- ---- by both
 
@@ -229,8 +187,7 @@ module _ {D : Type 0} (drive : D → List (List ℕ)) (p : Plan) (s : Store) (t 
   -- there is no room in the tables exactly where there is none in the flat store
   no_room_shown : (n : Node) → has_no_room t n ≡ is_out_of_room p s n
   no_room_shown n =
-      ap (λ (z : Bool). z && is_none (room_of t n.uid)) (full_told drive p s t n.volume store h)
-      ∙ ap (λ (o : Option ℕ). is_volume_full p s n.volume && is_none o) (room_is_shown drive p s t h store n.uid parts)
+      rw (full_told drive p s t n.volume store h, room_is_shown drive p s t h store n.uid parts) refl
 
   room_shown : (n : Node) → room_in t s.stored r n
       ≡ room_on (stores_page s n.uid r.offset r.kind) (is_used_up s n.uid) (is_out_of_room p s n)
@@ -238,14 +195,11 @@ module _ {D : Type 0} (drive : D → List (List ℕ)) (p : Plan) (s : Store) (t 
       let stores : (brings_word r.kind
       && not (is_filed t.accounts t.segs.pages.volumes.vtocs n.uid (r.offset / 1024)))
       ≡ stores_page s n.uid r.offset r.kind =
-      ap (λ (z : Bool). brings_word r.kind && not z) (sym (h.pages.stored n.uid (r.offset / 1024)))
-      ∙ sym (stores_told s n.uid r.offset r.kind (blank_shown drive p s t kept store h n.uid r.offset)) in
-      ap (λ (z : Bool). room_on z (is_spent t.accounts.nodes s.stored n.uid)
-      (has_no_room t n)) stores
-      ∙ ap (λ (ns : List Node). room_on (stores_page s n.uid r.offset r.kind) (is_spent ns s.stored n.uid)
-      (has_no_room t n)) (sym h.tree.nodes)
-      ∙ ap (room_on (stores_page s n.uid r.offset r.kind) (is_used_up s n.uid))
-      (no_room_shown n)
+      cc (
+        h.pages.stored n.uid (r.offset / 1024),
+        stores_told s n.uid r.offset r.kind (blank_shown drive p s t kept store h n.uid r.offset),
+      ) in
+      rw (stores, no_room_shown n, ← h.tree.nodes) refl
 
   told : (found : Result Node Reply) → is_outside_of found ≡ true
       → (only is_of_room (reply_for p s r found) ≡ room_by t s.stored r found)
@@ -272,11 +226,8 @@ module _ {D : Type 0} (drive : D → List (List ℕ)) (p : Plan) (s : Store) {t 
     (parts : HasParts (map drive t.segs.pages.volumes.drives) t.segs.pages.volumes.records t.segs.pages.volumes.vtocs)
     (k : ℕ) (r : Reference) (found : Result Node Reply) (is : target now k r ≡ found) where
   pub room_found : room_by now s.stored r found ≡ room_refusal p s k r
-  room_found = ap (room_by now s.stored r) (sym is)
-      ∙ subst (λ (x : Storage D). room_by x s.stored r (target x k r) ≡ room_refusal p s k r) same
-      (room_refused drive p s t kept store (shown_held same drive p s h) parts k r)
+  room_found = rw (← is, ← same) (room_refused drive p s t kept store (shown_held same drive p s h) parts k r)
 
   pub reference_found : refused_by now s.stored r found ≡ refusal (reply_to_reference p s k r)
-  reference_found = ap (refused_by now s.stored r) (sym is)
-      ∙ subst (λ (x : Storage D). refused_by x s.stored r (target x k r) ≡ refusal (reply_to_reference p s k r)) same
+  reference_found = rw (← is, ← same)
       (reference_refused drive p s t kept store (shown_held same drive p s h) parts k r)

@@ -1,5 +1,5 @@
 -- A segment has another home, on another volume, with what was filed at its old one.
-use Rattle.storage_ops.proofs.Prelude.{◌≡◌, ◌≢◌, ℕ, ◌+◌, ◌<◌, ◌≤◌, ◌/◌, ◌%◌, Bool, true, false, cond, eqb, ◌&&◌, List, Option, Some, None, get_or, is_some, map, replicate, refl, sym, ap, subst, ◌∙◌, arith, inl, inr, count_by, cases_eq, eq-eqb, ne_eqb, Who, Plan, AccountMaps, Counts, Rehomes, entry_of, Node, entries_on, has_directory, node_in, pool_for, pool_of, taken_on, volume_in, IsTree, Store, volume_found, ActiveSegs, Home, Plain, plain, map_at, uid_at, entries, named_on, size, taken, used, is_filed_at, words_at, Links, AreCounted, AreHoused, AreTaken, IsStore, Shows, Storage, home_of, is_filed, is_there, named_at, pages_in, pages_of, picture}
+use Rattle.storage_ops.proofs.Prelude.{◌≡◌, ◌≢◌, ℕ, ◌+◌, ◌/◌, Bool, true, cond, eqb, List, Option, Some, None, is_some, map, refl, sym, ap, ◌∙◌, arith, inl, inr, count_by, cases_eq, eq-eqb, ne_eqb, Who, Plan, AccountMaps, Counts, Rehomes, entry_of, Node, entries_on, has_directory, node_in, pool_of, taken_on, volume_in, IsTree, Store, volume_found, ActiveSegs, Home, Plain, plain, map_at, uid_at, entries, named_on, size, taken, used, is_filed_at, words_at, Links, AreCounted, AreHoused, AreTaken, IsStore, Shows, Storage, home_of, is_filed, is_there, named_at, pages_in, pages_of, picture, nat_tests, cases_Bool}
 use Rattle.flat_model.specs.Moves.{moved}
 use Rattle.storage_ops.proofs.Alike.{active_alike, map_node, node_map, rights_alike, there_map}
 use Rattle.storage_ops.proofs.Homes.{filed_map, home_cases}
@@ -63,34 +63,24 @@ module _ (old now : Plain) (a b : AccountMaps) (u : ℕ) (home : Home) (d : HasR
 
   home_else : (v : ℕ) → v ≢ u → home_of b v ≡ home_of a v
   home_else v ne =
-      ap (λ (x : ℕ). record { volume = x; entry = entry_of b v })
-      (ap (λ (ns : List Node). volume_in ns v) nodes_are ∙ volume_else u home.volume a.nodes v ne)
-      ∙ ap (λ (x : ℕ). record { volume = volume_in a.nodes v; entry = x })
-      (d.rehomes.entries v
-      ∙ ap (λ (z : Bool). cond z home.entry (entry_of a v)) (ne_eqb u v (λ is. ne (sym is))))
+      cc (nodes_are, volume_else u home.volume a.nodes v ne, d.rehomes.entries v, ne_eqb u v (λ is. ne (sym is)))
 
   own : uid_at old.vtocs (home_of a u) ≡ Some u
   own = housed.homes u d.there
 
-  the_uid : (v w : ℕ) → ◌≡◌ {A = Option ℕ} (Some v) (Some w) → v ≡ w
-  the_uid v w e = cc
-
   -- the home of another node is neither the old one nor the new one
   apart : (v : ℕ) → v ≢ u → is_there a.nodes v ≡ true → home_of a v ≢ home_of a u
-  apart v ne t same = ne (the_uid v u (sym (housed.homes v t) ∙ ap (uid_at old.vtocs) same ∙ own))
+  apart v ne t same = ne (cc (housed.homes v t, own))
 
   beyond : (v : ℕ) → is_there a.nodes v ≡ true → home_of a v ≢ home
-  beyond v t same =
-      (let clash : ◌≡◌ {A = Option ℕ} None (Some v) = sym d.free ∙ ap (uid_at old.vtocs) (sym same)
-      ∙ housed.homes v t in cc)
+  beyond v t same = cc (d.free, ap (uid_at old.vtocs) same, housed.homes v t)
 
   -- a home that is used now
   not_old : (at : Home) (v : ℕ) → uid_at now.vtocs at ≡ Some v → at ≢ home_of a u
-  not_old at v e same =
-      (let clash : ◌≡◌ {A = Option ℕ} None (Some v) = sym d.gone ∙ ap (uid_at now.vtocs) (sym same) ∙ e in cc)
+  not_old at v e same = cc (d.gone, ap (uid_at now.vtocs) same)
 
   uid_here : (at : Home) (v : ℕ) → uid_at now.vtocs at ≡ Some v → at ≡ home → v ≡ u
-  uid_here at v e same = the_uid v u (sym e ∙ ap (uid_at now.vtocs) same ∙ d.here)
+  uid_here at v e same = cc (d.here, ap (uid_at now.vtocs) same)
 
   uid_else : (at : Home) (v : ℕ) → uid_at now.vtocs at ≡ Some v → at ≢ home → uid_at old.vtocs at ≡ Some v
   uid_else at v e ne = sym (d.uids at (not_old at v e) ne) ∙ e
@@ -101,8 +91,7 @@ module _ (old now : Plain) (a b : AccountMaps) (u : ℕ) (home : Home) (d : HasR
   pub rehomed_housed : AreHoused b now.vtocs
   rehomed_housed = record {
     homes = λ v t. elim (cases_eq v u) [
-      | inl is ↦ ap (λ (x : ℕ). uid_at now.vtocs (home_of b x)) is ∙ ap (uid_at now.vtocs) home_here ∙ d.here
-          ∙ ap (λ (x : ℕ). Some x) (sym is)
+      | inl is ↦ rw is (ap (uid_at now.vtocs) home_here ∙ d.here)
       | inr ne ↦ (let was = sym (there_is v) ∙ t in
           ap (uid_at now.vtocs) (home_else v ne) ∙ d.uids (home_of a v) (apart v ne was) (beyond v was)
           ∙ housed.homes v was)
@@ -121,24 +110,22 @@ module _ (old now : Plain) (a b : AccountMaps) (u : ℕ) (home : Home) (d : HasR
 
   filed_else : (v q : ℕ) → v ≢ u → is_there a.nodes v ≡ true
       → is_filed_at now.vtocs (home_of a v) q ≡ is_filed_at old.vtocs (home_of a v) q
-  filed_else v q ne was = filed_map now.vtocs (home_of a v) q
-      ∙ ap (λ (m : List (Option ℕ)). is_some (get_or m q None))
-      (d.maps (home_of a v) (apart v ne was) (beyond v was))
-      ∙ sym (filed_map old.vtocs (home_of a v) q)
+  filed_else v q ne was = cc (
+    filed_map now.vtocs (home_of a v) q,
+    d.maps (home_of a v) (apart v ne was) (beyond v was),
+    filed_map old.vtocs (home_of a v) q,
+  )
 
   filed_at : (v q : ℕ) → is_there a.nodes v ≡ true
       → is_filed_at now.vtocs (home_of b v) q ≡ is_filed_at old.vtocs (home_of a v) q
   filed_at v q was = elim (cases_eq v u) [
-    | inl is ↦ ap (λ (x : ℕ). is_filed_at now.vtocs (home_of b x) q) is
-        ∙ ap (λ (x : Home). is_filed_at now.vtocs x q) home_here ∙ d.filed q
-        ∙ ap (λ (x : ℕ). is_filed_at old.vtocs (home_of a x) q) (sym is)
+    | inl is ↦ rw (is, home_here) (d.filed q)
     | inr ne ↦ ap (λ (x : Home). is_filed_at now.vtocs x q) (home_else v ne) ∙ filed_else v q ne was
   ]
 
   named_is : (v : ℕ) → is_there a.nodes v ≡ true → named_at now.vtocs (home_of b v) ≡ named_at old.vtocs (home_of a v)
   named_is v was = elim (cases_eq v u) [
-    | inl is ↦ ap (λ (x : ℕ). named_at now.vtocs (home_of b x)) is ∙ ap (named_at now.vtocs) home_here ∙ d.named
-        ∙ ap (λ (x : ℕ). named_at old.vtocs (home_of a x)) (sym is)
+    | inl is ↦ rw is (ap (named_at now.vtocs) home_here ∙ d.named)
     | inr ne ↦ ap (named_at now.vtocs) (home_else v ne)
         ∙ ap (count_by is_some) (d.maps (home_of a v) (apart v ne was) (beyond v was))
   ]
@@ -147,9 +134,9 @@ module _ (old now : Plain) (a b : AccountMaps) (u : ℕ) (home : Home) (d : HasR
   rehomed_counted h = record {
     counts = λ v t. (let was = sym (there_is v) ∙ t in named_is v was ∙ h.counts v was ∙ sym (d.rehomes.counts v));
     inside = λ v q t on. (let was = sym (there_is v) ∙ t in
-        subst (λ (n : ℕ). q < n) (sym (pages_are v)) (h.inside v q was (sym (filed_at v q was) ∙ on)));
+        rw (pages_are v) (h.inside v q was (sym (filed_at v q was) ∙ on)));
     absent = λ v off. d.rehomes.counts v ∙ h.absent v (sym (there_is v) ∙ off);
-    most = λ v. subst (λ (n : ℕ). n ≤ 256) (sym (pages_are v)) (h.most v);
+    most = λ v. rw (pages_are v) (h.most v);
     flat = λ v is. pages_are v ∙ h.flat v (sym (kind_is v) ∙ is);
   }
 
@@ -163,31 +150,10 @@ module _ (old now : Plain) (a b : AccountMaps) (u : ℕ) (home : Home) (d : HasR
       counted.counts u d.there ∙ sym (d.rehomes.counts u) ∙ counts u in
       let was : taken old.records v ≡ taken_on a.nodes stored v =
       h.records stored v (λ s. sym (d.rehomes.counts s) ∙ counts s) in
-      by (eqb v (volume_in a.nodes u)) (eqb (volume_in a.nodes u) v) (eqb v home.volume) (eqb home.volume v)
-      (flipped v (volume_in a.nodes u)) (flipped v home.volume) named d.named was
-      (d.taken_moves v) (taken_moved a.nodes u home.volume d.there stored v)
-      ∙ ap (λ (ns : List Node). taken_on ns stored v) (sym nodes_are)
-    where
-      flipped : (x y : ℕ) → eqb x y ≡ eqb y x
-      flipped x y = elim (cases_eq x y) [
-        | inl is ↦ eq-eqb x y is ∙ sym (eq-eqb y x (sym is))
-        | inr ne ↦ ne_eqb x y ne ∙ sym (ne_eqb y x (λ is. ne (sym is)))
-      ]
-
-      by : (p q x y : Bool) → p ≡ q → x ≡ y → {was now less more named moves count : ℕ} → named ≡ count
-          → moves ≡ named → was ≡ less
-          → now + cond {A = ℕ} p named 0 ≡ was + cond {A = ℕ} x moves 0
-          → more + cond {A = ℕ} q count 0 ≡ less + cond {A = ℕ} y count 0 → now ≡ more
-      by true true true true e f k l m g i = omega (arith, k, l, m, g, i)
-      by true true false false e f k l m g i = omega (arith, k, l, m, g, i)
-      by false false true true e f k l m g i = omega (arith, k, l, m, g, i)
-      by false false false false e f k l m g i = omega (arith, k, l, m, g, i)
-      by true false x y e f k l m g i = cc
-      by false true x y e f k l m g i = cc
-      by true true true false e f k l m g i = cc
-      by true true false true e f k l m g i = cc
-      by false false true false e f k l m g i = cc
-      by false false false true e f k l m g i = cc
+      let less = d.taken_moves v in
+      let more = taken_moved a.nodes u home.volume d.there stored v in
+      let moves = d.named in
+      rw nodes_are (grind (arith, nat_tests, named, moves, was, less, more))
 
   entries_are : IsTree a.nodes → AreTaken a old.records old.vtocs → (v : ℕ) → used now.vtocs v ≡ entries_on b.nodes v
   entries_are tree h v =
@@ -195,42 +161,15 @@ module _ (old now : Plain) (a b : AccountMaps) (u : ℕ) (home : Home) (d : HasR
       let at : found.0.volume ≡ volume_in a.nodes u = volume_found a.nodes u found.0 found.1 in
       let moves = entries_moved a.nodes tree u home.volume found.0 found.1 v in
       let was : used old.vtocs v ≡ entries_on a.nodes v = h.entries v in
-      elim (cases_eq v (volume_in a.nodes u)) [
-        | inl from ↦ elim (cases_eq v home.volume) [
-          | inl to ↦
-              (let less : used now.vtocs v + 1 ≡ used old.vtocs v =
-              ap (λ (x : ℕ). used now.vtocs x + 1) from ∙ d.left ∙ ap (used old.vtocs) (sym from) in
-              let more : used now.vtocs v ≡ used old.vtocs v + 1 =
-              ap (used now.vtocs) to ∙ d.gained ∙ ap (λ (x : ℕ). used old.vtocs x + 1) (sym to) in
-              absurd (omega (arith, less, more)))
-          | inr ne ↦
-              (let less : used now.vtocs v + 1 ≡ used old.vtocs v =
-              ap (λ (x : ℕ). used now.vtocs x + 1) from ∙ d.left ∙ ap (used old.vtocs) (sym from) in
-              let on : eqb found.0.volume v ≡ true = eq-eqb found.0.volume v (at ∙ sym from) in
-              let off : eqb home.volume v ≡ false = ne_eqb home.volume v (λ is. ne (sym is)) in
-              let count = rw (on, off) at moves in omega (arith, less, count, was))
-        ]
-        | inr apart ↦
-            (let off : eqb found.0.volume v ≡ false = ne_eqb found.0.volume v (λ is. apart (sym is ∙ at)) in
-            elim (cases_eq v home.volume) [
-              | inl to ↦
-                  (let more : used now.vtocs v ≡ used old.vtocs v + 1 =
-                  ap (used now.vtocs) to ∙ d.gained ∙ ap (λ (x : ℕ). used old.vtocs x + 1) (sym to) in
-                  let on : eqb home.volume v ≡ true = eq-eqb home.volume v (sym to) in
-                  let count = rw (off, on) at moves in omega (arith, more, count, was))
-              | inr ne ↦
-                  (let same : used now.vtocs v ≡ used old.vtocs v = d.beside v apart ne in
-                  let none : eqb home.volume v ≡ false = ne_eqb home.volume v (λ is. ne (sym is)) in
-                  let count = rw (off, none) at moves in omega (arith, same, count, was))
-            ])
-      ]
-      ∙ ap (λ (ns : List Node). entries_on ns v) (sym nodes_are)
+      rw nodes_are (elim (cases_eq v (volume_in a.nodes u)) [
+        | inl from ↦ grind (arith, nat_tests, from, at, moves, was, d.left, d.gained)
+        | inr apart ↦ grind (arith, nat_tests, apart, at, moves, was, d.gained, d.beside v apart)
+      ])
 
   -- ---- the whole
 
   pool_is : (n : Node) → pool_of (on_volume u home.volume n) ≡ pool_of n
-  pool_is n = ap (λ (z : Bool). cond z 0 (pool_for (on_volume u home.volume n).pages)) (kind_on u home.volume n)
-      ∙ ap (λ (m : ℕ). cond n.directory 0 (pool_for m)) (pages_on u home.volume n)
+  pool_is n = cc (kind_on u home.volume n, pages_on u home.volume n)
 
   pub store_rehomed : (ast next : ActiveSegs) (links : Links) (whos : List Who) → IsTree a.nodes
       → next.entries ≡ ast.entries → next.sizes ≡ ast.sizes → IsStore old ast links a whos
@@ -241,7 +180,7 @@ module _ (old now : Plain) (a b : AccountMaps) (u : ℕ) (home : Home) (d : HasR
     taken = record {
       records = records_are h.counted h.taken;
       entries = entries_are tree h.taken;
-      short = λ v. subst (λ (n : ℕ). n < 65536) (sym (d.sizes v)) (h.taken.short v);
+      short = λ v. rw (d.sizes v) (h.taken.short v);
     };
     active = tree_still b.nodes ast next entries_same sizes_same
         (active_alike (on_volume u home.volume) (uid_on u home.volume) a b nodes_are (superior_on u home.volume) ast
@@ -249,42 +188,28 @@ module _ (old now : Plain) (a b : AccountMaps) (u : ℕ) (home : Home) (d : HasR
     rights = rw entries_same
         (rights_alike (on_volume u home.volume) (uid_on u home.volume) a b nodes_are ast.entries links whos h.rights
         (λ process number place pages v mode m w e found. (rows_on u home.volume m, pages_on u home.volume m)));
-    known = record {
-      older = λ process number v e. subst (λ (n : ℕ). v < n) (sym d.rehomes.next) (h.known.older process number v e);
-      processes = h.known.processes;
-    };
+    known = rw d.rehomes.next h.known;
   }
 
   filed_same : (v q : ℕ) → is_filed b now.vtocs v q ≡ is_filed a old.vtocs v q
   unfolding is_filed
-  filed_same v q = ap (λ (z : Bool). z && is_filed_at now.vtocs (home_of b v) q) (there_is v) ∙ by (is_there a.nodes v)
-      (filed_at v q)
-    where
-      by : (z : Bool) → (z ≡ true → is_filed_at now.vtocs (home_of b v) q ≡ is_filed_at old.vtocs (home_of a v) q)
-          → (z && is_filed_at now.vtocs (home_of b v) q) ≡ (z && is_filed_at old.vtocs (home_of a v) q)
-      by true same = same refl
-      by false same = refl
+  filed_same v q = elim (cases_Bool (is_there a.nodes v)) [
+    | inl on ↦ cc (there_is v, filed_at v q on)
+    | inr off ↦ rw (there_is v, off) refl
+  ]
 
   words_are : (v q : ℕ) → is_there a.nodes v ≡ true → words_at now v (home_of b v) q ≡ words_at old v (home_of a v) q
   words_are v q was = elim (cases_eq v u) [
-    | inl is ↦ ap (λ (x : ℕ). words_at now x (home_of b x) q) is
-        ∙ ap (λ (x : Home). words_at now u x q) home_here ∙ d.words q
-        ∙ ap (λ (x : ℕ). words_at old x (home_of a x) q) (sym is)
-    | inr ne ↦ ap (λ (x : Home). words_at now v x q) (home_else v ne)
-        ∙ d.others v (home_of a v) q (apart v ne was) (beyond v was)
+    | inl is ↦ rw (is, home_here) (d.words q)
+    | inr ne ↦ cc (home_else v ne, d.others v (home_of a v) q (apart v ne was) (beyond v was))
   ]
 
   picture_same : (v q : ℕ) → picture b (words_at now) v q ≡ picture a (words_at old) v q
   unfolding picture
-  picture_same v q =
-      ap (λ (z : Bool). cond z (words_at now v (home_of b v) q) (replicate 1024 0)) (there_is v)
-      ∙ by (is_there a.nodes v) (words_are v q)
-    where
-      by : (z : Bool) → (z ≡ true → words_at now v (home_of b v) q ≡ words_at old v (home_of a v) q)
-          → cond z (words_at now v (home_of b v) q) (replicate 1024 0) ≡ cond z (words_at old v (home_of a v) q)
-          (replicate 1024 0)
-      by true same = same refl
-      by false same = refl
+  picture_same v q = elim (cases_Bool (is_there a.nodes v)) [
+    | inl on ↦ cc (there_is v, words_are v q on)
+    | inr off ↦ rw (there_is v, off) refl
+  ]
 
 -- the flat store has the segment on the other volume
 pub shown_rehomed : {D : Type 0} (drive : D → List (List ℕ)) (p : Plan) (s : Store) (t n : Storage D) (u : ℕ)
@@ -304,12 +229,11 @@ shown_rehomed drive p s t n u home d housed links whos h = (
         next = h.tree.next ∙ sym d.rehomes.next;
         counts = λ v. d.rehomes.counts v ∙ h.tree.counts v;
       };
-      known = h.known ∙ ap (λ (l : Links). l.known) (sym links);
+      known = rw links h.known;
       pages = record {
         stored = λ v q. h.pages.stored v q ∙ sym (filed_same old now a b u home d housed v q);
         once = h.pages.once;
-        words = λ v o. h.pages.words v o ∙ ap (λ (ws : List ℕ). get_or ws (o % 1024) 0)
-            (sym (picture_same old now a b u home d housed v (o / 1024)));
+        words = λ v o. cc (h.pages.words v o, picture_same old now a b u home d housed v (o / 1024));
       };
       script = record {
         records = λ v. h.script.records v ∙ sym (d.sizes v);

@@ -1,7 +1,8 @@
 -- A node is taken out, with its home and its pages.
-use Rattle.storage_ops.proofs.Prelude.{◌≡◌, ◌≢◌, ℕ, zero, suc, ◌+◌, ◌-◌, ◌/◌, ◌%◌, ◌<◌, ◌≤◌, Bool, true, false, cond, eqb, not, ◌&&◌, ◌||◌, List, [], ◌∷◌, get_or, length, set, Option, Some, None, is_some, refl, sym, ap, All, subst, ◌∙◌, arith, inl, inr, count_by, nat_le, list_any, cases_Bool, cases_eq, cases_lt, eq-eqb, eqb-true, ne_eqb, nat_tests, get_or-set_other, get_or-set_same, get_or_past, length-set, sum_by-cons, get_or-map, Who, Plan, AccountMaps, Loses, Recounts, count_of, entry_of, Node, entries_on, has_directory, is_inferior, node_in, taken_on, volume_in, without_node, IsTree, without_branch, without_pages, Words, is_stored, without_stored, Store, stored_fused, volume_found, is_stored-without, once_without, without_first, without_none, directory_left, node_gone, taken_left, volume_left, entries_less, Core, frame_at, started_page, Free, Started, Null, ptw_at, leads_to, trailers_of, Entry, ActiveSegs, HasNoInferior, IsAway, IsOneToOne, entry_in_place, superior_in, table_at, uid_in_place, uid_in, Home, entries, named_on, one_less, size, taken, used, is_filed_at, words_at, erased, freed, Plain, file_map_of, flags_of, plain, IsNotStarted, map_at, uid_at, Links, leads_at, place_of, word_of, AreExact, IsInactive, IsNotRead, times, AreCounted, AreHoused, AreInTree, AreTaken, IsCut, IsStore, Shows, Storage, home_of, is_filed, is_there, named_at, pages_in, pages_of, picture, node_without, all_same, get_or_any}
+use Rattle.storage_ops.proofs.Prelude.{◌≡◌, ◌≢◌, ℕ, ◌+◌, ◌-◌, ◌/◌, ◌%◌, Bool, true, false, cond, eqb, not, ◌&&◌, List, [], ◌∷◌, get_or, length, set, Option, Some, None, is_some, refl, sym, ap, All, subst, ◌∙◌, arith, inl, inr, count_by, nat_le, list_any, cases_Bool, cases_eq, eq-eqb, eqb-true, ne_eqb, nat_tests, get_or-set_other, length-set, sum_by-cons, get_or-map, Who, Plan, AccountMaps, Loses, Recounts, count_of, Node, entries_on, is_inferior, node_in, taken_on, volume_in, without_node, IsTree, without_branch, without_pages, Words, is_stored, without_stored, Store, stored_fused, volume_found, is_stored-without, once_without, without_first, without_none, directory_left, node_gone, taken_left, volume_left, entries_less, Core, frame_at, started_page, Free, Null, leads_to, trailers_of, Entry, ActiveSegs, HasNoInferior, IsAway, IsOneToOne, entry_in_place, superior_in, table_at, uid_in_place, uid_in, Home, entries, named_on, one_less, size, taken, used, words_at, erased, freed, Plain, file_map_of, flags_of, plain, IsNotStarted, map_at, uid_at, Links, leads_at, place_of, word_of, AreExact, IsInactive, IsNotRead, times, AreCounted, AreHoused, AreInTree, AreTaken, IsCut, IsStore, Shows, Storage, home_of, is_filed, is_there, named_at, pages_in, pages_of, picture, node_without, all_same, get_or_any, counts_none, from_first, none_put, or_true, and-true}
 use Rattle.storage_ops.proofs.Dropped.{counts_more, recount_here, recount_homes, recount_other, taken_more, with_more}
 use Rattle.storage_ops.proofs.Homes.{filed_map, none_counted}
+use Rattle.storage_ops.proofs.Known.{size_set}
 use Rattle.storage_ops.proofs.Lengths.{filed_there}
 use Rattle.storage_ops.proofs.Made.{length_inside}
 use Rattle.storage_ops.proofs.NodeLaws.{found_there}
@@ -41,31 +42,23 @@ module _ (old now : Plain) (a mid b : AccountMaps) (u : ℕ) (d : HasRemoved old
 
   home_left : (v : ℕ) → v ≢ u → home_of b v ≡ home_of a v
   home_left v ne =
-      ap (λ (x : ℕ). record { volume = x; entry = entry_of b v })
-      (ap (λ (ns : List Node). volume_in ns v) nodes_left ∙ volume_left a.nodes u v ne)
-      ∙ ap (λ (x : ℕ). record { volume = volume_in a.nodes v; entry = x })
-      (d.loses.entries v ne ∙ ap (λ (h : Home). h.entry) (recount_homes a mid u 0 d.counted v))
+      cc (nodes_left, volume_left a.nodes u v ne, d.loses.entries v ne, recount_homes a mid u 0 d.counted v)
 
   own : uid_at old.vtocs (home_of a u) ≡ Some u
   own = housed.homes u d.there
 
   apart : (v : ℕ) → v ≢ u → is_there a.nodes v ≡ true → home_of a v ≢ home_of a u
-  apart v ne t same = ne (the_uid v (sym (housed.homes v t) ∙ ap (uid_at old.vtocs) same ∙ own))
-    where
-      the_uid : (v : ℕ) → ◌≡◌ {A = Option ℕ} (Some v) (Some u) → v ≡ u
-      the_uid v e = cc
+  apart v ne t same = ne (cc (housed.homes v t, own))
 
   other_home : (home : Home) (v : ℕ) → uid_at now.vtocs home ≡ Some v → home ≢ home_of a u
-  other_home home v e same = (let clash : ◌≡◌ {A = Option ℕ} None (Some v) = sym d.free
-      ∙ ap (uid_at now.vtocs) (sym same)
-      ∙ e in cc)
+  other_home home v e same = cc (d.free, ap (uid_at now.vtocs) same)
 
   other_uid : (home : Home) (v : ℕ) → uid_at now.vtocs home ≡ Some v → v ≢ u
   other_uid home v e same = other_home home v e (housed.only home v (sym (d.uids home (other_home home v e)) ∙ e)
       ∙ ap (home_of a) same)
 
   remaining : (v : ℕ) → is_there b.nodes v ≡ true → v ≢ u
-  remaining v t same = (let clash : true ≡ false = sym t ∙ ap (is_there b.nodes) same ∙ there_gone in cc)
+  remaining v t same = cc there_gone
 
   removed_housed : AreHoused b now.vtocs
   removed_housed = record {
@@ -90,29 +83,27 @@ module _ (old now : Plain) (a mid b : AccountMaps) (u : ℕ) (d : HasRemoved old
     counts = λ v t.
         let ne = remaining v t in
         let was = sym (there_left v ne) ∙ t in
-        ap (named_at now.vtocs) (home_left v ne) ∙ ap (count_by is_some) (d.maps (home_of a v) (apart v ne was))
-        ∙ h.counts v was ∙ sym (counts_left v ne);
+        cc (home_left v ne, d.maps (home_of a v) (apart v ne was), h.counts v was, counts_left v ne);
     inside = λ v q t on.
         let ne = remaining v t in
         let was = sym (there_left v ne) ∙ t in
-        subst (λ (n : ℕ). q < n) (sym (pages_left v ne)) (h.inside v q was
-        (filed_map old.vtocs (home_of a v) q
-        ∙ ap (λ (m : List (Option ℕ)). is_some (get_or m q None)) (sym (d.maps (home_of a v) (apart v ne was)))
-        ∙ sym (filed_map now.vtocs (home_of a v) q)
-        ∙ ap (λ (x : Home). is_filed_at now.vtocs x q) (sym (home_left v ne)) ∙ on));
+        rw (pages_left v ne) (h.inside v q was (cc (
+          filed_map old.vtocs (home_of a v) q,
+          d.maps (home_of a v) (apart v ne was),
+          filed_map now.vtocs (home_of a v) q,
+          home_left v ne,
+        )));
     absent = λ v off. elim (cases_eq v u) [
       | inl same ↦ ap (count_of b) same ∙ counts_gone
       | inr ne ↦ counts_left v ne ∙ h.absent v (sym (there_left v ne) ∙ off)
     ];
     most = λ v. elim (cases_eq v u) [
-      | inl same ↦ (let none : pages_in b.nodes v ≡ 0 = ap (pages_in b.nodes) same
-          ∙ no_pages_left in omega (arith, none))
-      | inr ne ↦ subst (λ (n : ℕ). n ≤ 256) (sym (pages_left v ne)) (h.most v)
+      | inl same ↦ omega (arith, ap (pages_in b.nodes) same, no_pages_left)
+      | inr ne ↦ rw (pages_left v ne) (h.most v)
     ];
     flat = λ v is. elim (cases_eq v u) [
       | inl same ↦ ap (pages_in b.nodes) same ∙ no_pages_left
-      | inr ne ↦ pages_left v ne ∙ h.flat v (sym (ap (λ (ns : List Node). has_directory ns v) nodes_left
-          ∙ directory_left a.nodes u v ne) ∙ is)
+      | inr ne ↦ pages_left v ne ∙ h.flat v (cc (nodes_left, directory_left a.nodes u v ne))
     ];
   }
     where
@@ -131,63 +122,24 @@ module _ (old now : Plain) (a mid b : AccountMaps) (u : ℕ) (d : HasRemoved old
         let less = d.taken_less v in
         let named : named_at old.vtocs (home_of a u) ≡ count_of a u = counted.counts u d.there in
         let same : taken_on b.nodes stored v ≡ taken_on a.nodes stored v =
-        ap (λ (ns : List Node). taken_on ns stored v) nodes_left
-        ∙ taken_left a.nodes stored u v (λ page. none_counted stored u page (sym (counts u) ∙ counts_gone)) in
-        by_volume v stored (eqb v (volume_in a.nodes u)) (eqb (volume_in a.nodes u) v) refl refl less named (all ∙ sum)
-        ∙ sym same;
+        rw nodes_left
+        (taken_left a.nodes stored u v (λ page. none_counted stored u page (sym (counts u) ∙ counts_gone))) in
+        grind (arith, nat_tests, less, named, all, sum, same);
     entries = λ v.
         let less : used now.vtocs v ≡ cond (eqb v (volume_in a.nodes u)) (used old.vtocs v - 1) (used old.vtocs v) =
         ap (λ (f : ℕ → ℕ). f v) d.used_less in
         let all : used old.vtocs v ≡ entries_on a.nodes v = h.entries v in
         let rest : entries_on (without_node a.nodes u) v + cond {A = ℕ} (eqb n.volume v) 1 0 ≡ entries_on a.nodes v =
         entries_less a.nodes u n tree found v in
-        by_entry v (eqb v (volume_in a.nodes u)) (eqb n.volume v) refl refl less all rest
-        ∙ ap (λ (ns : List Node). entries_on ns v) (sym nodes_left);
-    short = λ v. subst (λ (x : ℕ). x < 65536) (sym (d.sizes v)) (h.short v);
+        rw nodes_left (grind (arith, nat_tests, less, all, rest, volume_found a.nodes u n found));
+    short = λ v. rw (d.sizes v) (h.short v);
   }
     where
       more : (s : ℕ) → count_of a s ≡ cond {A = ℕ} (eqb u s) (count_of a u) 0 + count_of b s
       more s = elim (cases_eq s u) [
-        | inr ne ↦ (let off : eqb u s ≡ false = ne_eqb u s (λ e. ne (sym e)) in
-            let rest : count_of b s ≡ count_of a s = counts_left s ne in rw off (omega (arith, rest)))
-        | inl same ↦ (let on : eqb u s ≡ true = eq-eqb u s (sym same) in
-            let here : count_of b u ≡ 0 = counts_gone in
-            let at : count_of b s ≡ count_of b u = ap (count_of b) same in
-            let was : count_of a s ≡ count_of a u = ap (count_of a) same in
-            rw on (omega (arith, here, at, was)))
+        | inr ne ↦ rw (ne_eqb u s (λ e. ne (sym e)), counts_left s ne) (omega arith)
+        | inl same ↦ rw (same, eq-eqb u u refl, counts_gone) (omega arith)
       ]
-
-      by_volume : (v : ℕ) (stored : List (ℕ × ℕ)) (z y : Bool) → eqb v (volume_in a.nodes u) ≡ z
-          → eqb (volume_in a.nodes u) v ≡ y
-          → taken now.records v + cond {A = ℕ} z (named_at old.vtocs (home_of a u)) 0 ≡ taken old.records v
-          → named_at old.vtocs (home_of a u) ≡ count_of a u
-          → taken old.records v ≡ cond {A = ℕ} y (count_of a u) 0 + taken_on a.nodes stored v
-          → taken now.records v ≡ taken_on a.nodes stored v
-      by_volume v stored true true e f less named all = omega (arith, less, named, all)
-      by_volume v stored false false e f less named all = omega (arith, less, named, all)
-      by_volume v stored true false e f less named all =
-          (let clash : true ≡ false = sym (eq-eqb (volume_in a.nodes u) v (sym (eqb-true v (volume_in a.nodes u) e)))
-          ∙ f
-          in cc)
-      by_volume v stored false true e f less named all =
-          (let clash : true ≡ false = sym (eq-eqb v (volume_in a.nodes u) (sym (eqb-true (volume_in a.nodes u) v f)))
-          ∙ e
-          in cc)
-
-      at : n.volume ≡ volume_in a.nodes u
-      at = volume_found a.nodes u n found
-
-      by_entry : (v : ℕ) (z y : Bool) → eqb v (volume_in a.nodes u) ≡ z → eqb n.volume v ≡ y
-          → used now.vtocs v ≡ cond z (used old.vtocs v - 1) (used old.vtocs v)
-          → used old.vtocs v ≡ entries_on a.nodes v
-          → entries_on (without_node a.nodes u) v + cond {A = ℕ} y 1 0 ≡ entries_on a.nodes v
-          → used now.vtocs v ≡ entries_on (without_node a.nodes u) v
-      by_entry v true true e f less all rest = omega (arith, less, all, rest)
-      by_entry v false false e f less all rest = omega (arith, less, all, rest)
-      by_entry v true false e f less all rest =
-          (let clash : true ≡ false = sym (eq-eqb n.volume v (at ∙ sym (eqb-true v (volume_in a.nodes u) e))) ∙ f in cc)
-      by_entry v false true e f less all rest =
-          (let clash : true ≡ false = sym (eq-eqb v (volume_in a.nodes u) (sym (eqb-true n.volume v f) ∙ at)) ∙ e in cc)
 
   pub store_removed : (ast : ActiveSegs) (links : Links) (whos : List Who) (n : Node) → IsTree a.nodes
       → node_in a.nodes u ≡ Some n → IsInactive ast.entries u → IsStore old ast links a whos
@@ -208,8 +160,7 @@ module _ (old now : Plain) (a mid b : AccountMaps) (u : ℕ) (d : HasRemoved old
           (sym (found_left v (else place v e)) ∙ at);
     };
     known = record {
-      older = λ process number v e. subst (λ (x : ℕ). v < x) (sym (d.loses.next ∙ d.counted.next))
-          (h.known.older process number v e);
+      older = λ process number v e. rw (d.loses.next ∙ d.counted.next) (h.known.older process number v e);
       processes = h.known.processes;
     };
   }
@@ -222,12 +173,8 @@ count_left : (xs : List (ℕ × ℕ)) (u v : ℕ) → v ≢ u
     → count_by (λ x. eqb x.0 v) (without_stored xs u (λ page. true)) ≡ count_by (λ x. eqb x.0 v) xs
 count_left [] u v ne = ap (count_by (λ x. eqb x.0 v)) (without_none u (λ page. true))
 count_left (x ∷ xs) u v ne = ap (count_by (λ y. eqb y.0 v)) (without_first x xs u (λ page. true) (eqb x.0 u)
-    (always (eqb x.0 u))) ∙ by (count_left xs u v ne) (eqb x.0 u) refl
+    (and-true (eqb x.0 u))) ∙ by (count_left xs u v ne) (eqb x.0 u) refl
   where
-    always : (z : Bool) → (z && true) ≡ z
-    always true = refl
-    always false = refl
-
     by : count_by (λ y. eqb y.0 v) (without_stored xs u (λ page. true)) ≡ count_by (λ y. eqb y.0 v) xs
         → (z : Bool) → eqb x.0 u ≡ z
         → count_by (λ y. eqb y.0 v) (cond z (without_stored xs u (λ page. true)) (x ∷ without_stored xs u (λ page.
@@ -241,22 +188,8 @@ count_left (x ∷ xs) u v ne = ap (count_by (λ y. eqb y.0 v)) (without_first x 
         ∙ sym (sum_by-cons (λ (y : ℕ × ℕ). cond (eqb y.0 v) 1 0) x xs)
 
 count_gone : (xs : List (ℕ × ℕ)) (u : ℕ) → count_by (λ x. eqb x.0 u) (without_stored xs u (λ page. true)) ≡ 0
-count_gone [] u = ap (count_by (λ x. eqb x.0 u)) (without_none u (λ page. true))
-count_gone (x ∷ xs) u = ap (count_by (λ y. eqb y.0 u)) (without_first x xs u (λ page. true) (eqb x.0 u)
-    (always (eqb x.0 u))) ∙ by (count_gone xs u) (eqb x.0 u) refl
-  where
-    always : (z : Bool) → (z && true) ≡ z
-    always true = refl
-    always false = refl
-
-    by : count_by (λ y. eqb y.0 u) (without_stored xs u (λ page. true)) ≡ 0 → (z : Bool) → eqb x.0 u ≡ z
-        → count_by (λ y. eqb y.0 u) (cond z (without_stored xs u (λ page. true)) (x ∷ without_stored xs u (λ page.
-        true)))
-        ≡ 0
-    by ih true e = ih
-    by ih false e = sum_by-cons (λ (y : ℕ × ℕ). cond (eqb y.0 u) 1 0) x (without_stored xs u (λ page. true))
-        ∙ ap (λ (z : Bool). cond {A = ℕ} z 1 0 + count_by (λ y. eqb y.0 u) (without_stored xs u (λ page. true))) e
-        ∙ omega (arith, ih)
+count_gone xs u = counts_none (without_stored xs u (λ page. true)) u
+    (λ page. is_stored-without xs u (λ q. true) u page ∙ rw (eq-eqb u u refl) refl)
 
 pub shown_removed : {D : Type 0} (drive : D → List (List ℕ)) (p : Plan) (s : Store) (t n : Storage D)
     (mid : AccountMaps) (u : ℕ)
@@ -268,12 +201,11 @@ shown_removed {D} drive p s t n mid u d housed links whos h = record {
     nodes = ap (λ (ns : List Node). without_node ns u) h.tree.nodes ∙ sym (nodes_left old now a mid b u d housed);
     next = h.tree.next ∙ sym (d.loses.next ∙ d.counted.next);
     counts = λ v. elim (cases_eq v u) [
-      | inl same ↦ ap (count_of b) same ∙ counts_gone old now a mid b u d housed ∙ sym (count_gone s.stored u)
-          ∙ ap (λ (x : ℕ). count_by (λ y. eqb y.0 x) (without_stored s.stored u (λ page. true))) (sym same)
+      | inl same ↦ rw same (counts_gone old now a mid b u d housed ∙ sym (count_gone s.stored u))
       | inr ne ↦ counts_left old now a mid b u d housed v ne ∙ h.tree.counts v ∙ sym (count_left s.stored u v ne)
     ];
   };
-  known = h.known ∙ ap (λ (l : Links). l.known) (sym links);
+  known = rw links h.known;
   pages = record {
     stored = λ v r. is_stored-without s.stored u (λ page. true) v r ∙ stored v r (eqb v u) refl;
     once = once_without s.stored u (λ page. true) h.pages.once;
@@ -300,45 +232,46 @@ shown_removed {D} drive p s t n mid u d housed links whos h = record {
 
     filed_else : (v r : ℕ) → v ≢ u → is_filed b now.vtocs v r ≡ is_filed a old.vtocs v r
     filed_else v r ne = elim (cases_Bool (is_there a.nodes v)) [
-      | inl on ↦ filed_there b now.vtocs v r (there_left old now a mid b u d housed v ne ∙ on)
-          ∙ ap (λ (x : Home). is_filed_at now.vtocs x r) (home_left old now a mid b u d housed v ne)
-          ∙ filed_map now.vtocs (home_of a v) r
-          ∙ ap (λ (m : List (Option ℕ)). is_some (get_or m r None))
-          (d.maps (home_of a v) (apart old now a mid b u d housed v ne on))
-          ∙ sym (filed_map old.vtocs (home_of a v) r) ∙ sym (filed_there a old.vtocs v r on)
+      | inl on ↦ cc (
+        filed_there b now.vtocs v r (there_left old now a mid b u d housed v ne ∙ on),
+        home_left old now a mid b u d housed v ne,
+        filed_map now.vtocs (home_of a v) r,
+        d.maps (home_of a v) (apart old now a mid b u d housed v ne on),
+        filed_map old.vtocs (home_of a v) r,
+        filed_there a old.vtocs v r on,
+      )
       | inr off ↦ filed_absent b now.vtocs v r (there_left old now a mid b u d housed v ne ∙ off)
           ∙ sym (filed_absent a old.vtocs v r off)
     ]
 
     words_else : (v r : ℕ) → v ≢ u → picture b (words_at now) v r ≡ picture a (words_at old) v r
     words_else v r ne = elim (cases_Bool (is_there a.nodes v)) [
-      | inl on ↦ picture_there b (words_at now) v r (there_left old now a mid b u d housed v ne ∙ on)
-          ∙ ap (λ (x : Home). words_at now v x r) (home_left old now a mid b u d housed v ne)
-          ∙ d.words v (home_of a v) r (apart old now a mid b u d housed v ne on)
-          ∙ sym (picture_there a (words_at old) v r on)
+      | inl on ↦ cc (
+        picture_there b (words_at now) v r (there_left old now a mid b u d housed v ne ∙ on),
+        home_left old now a mid b u d housed v ne,
+        d.words v (home_of a v) r
+            (apart old now a mid b u d housed v ne on),
+        picture_there a (words_at old) v r on,
+      )
       | inr off ↦ picture_absent b (words_at now) v r (there_left old now a mid b u d housed v ne ∙ off)
           ∙ sym (picture_absent a (words_at old) v r off)
     ]
 
     stored : (v r : ℕ) (z : Bool) → eqb v u ≡ z
         → (not (z && true) && is_stored s.stored v r) ≡ is_filed b now.vtocs v r
-    stored v r true e = sym (ap (λ (x : ℕ). is_filed b now.vtocs x r) (eqb-true v u e)
-        ∙ filed_absent b now.vtocs u r (there_gone old now a mid b u d housed))
-    stored v r false e = h.pages.stored v r ∙ sym (filed_else v r (λ same. (let clash : true ≡ false =
-        sym (eq-eqb v u same) ∙ e in cc)))
+    stored v r true e = rw (eqb-true v u e) (sym (filed_absent b now.vtocs u r (there_gone old now a mid b u d housed)))
+    stored v r false e = h.pages.stored v r ∙ sym (filed_else v r (λ same. cc (eq-eqb v u same)))
 
     words : (v o : ℕ) (z : Bool) → eqb v u ≡ z
         → cond (z && nat_le 0 o) 0 (s.words v o) ≡ get_or (picture b (words_at now) v (o / 1024)) (o % 1024) 0
-    words v o true e = ap (λ (y : Bool). cond y 0 (s.words v o)) (first o)
-        ∙ sym (ap (λ (x : ℕ). get_or (picture b (words_at now) x (o / 1024)) (o % 1024) 0) (eqb-true v u e)
-        ∙ ap (λ (ws : List ℕ). get_or ws (o % 1024) 0)
-        (picture_absent b (words_at now) u (o / 1024) (there_gone old now a mid b u d housed))
-        ∙ all_same 1024 (o % 1024) 0)
-      where
-        first : (o : ℕ) → nat_le 0 o ≡ true
-        first o = grind (arith, nat_tests)
-    words v o false e = h.pages.words v o ∙ ap (λ (ws : List ℕ). get_or ws (o % 1024) 0)
-        (sym (words_else v (o / 1024) (λ same. (let clash : true ≡ false = sym (eq-eqb v u same) ∙ e in cc))))
+    words v o true e = cc (
+      from_first o,
+      eqb-true v u e,
+      picture_absent b (words_at now) u (o / 1024)
+          (there_gone old now a mid b u d housed),
+      all_same {X = ℕ} 1024 (o % 1024) 0,
+    )
+    words v o false e = cc (h.pages.words v o, words_else v (o / 1024) (λ same. cc (eq-eqb v u same)))
 
 -- ---- a node without inferior becomes inactive
 
@@ -350,58 +283,39 @@ inferior_any : (ns : List Node) (u v : ℕ) (n : Node) → node_in ns v ≡ Some
 inferior_any [] u v n found e = cc
 inferior_any (m ∷ ns) u v n found e = elim (cases_Bool (eqb m.uid v)) [
   | inl is ↦
-      (let z : Some m ≡ Some n = rw is at found in
-      let same : m ≡ n = cc in
-      first (is_inferior u m) (list_any (is_inferior u) ns) (ap (is_inferior u) same ∙ inferior_is u n e))
-  | inr isnt ↦ second (is_inferior u m) (list_any (is_inferior u) ns) (inferior_any ns u v n (rw isnt at found) e)
+      (let z : Some m ≡ Some n = rw is at found in let same : m ≡ n = cc in
+      rw (ap (is_inferior u) same ∙ inferior_is u n e) refl)
+  | inr isnt ↦ rw (inferior_any ns u v n (rw isnt at found) e) (or_true (is_inferior u m))
 ]
-  where
-    first : (x y : Bool) → x ≡ true → (x || y) ≡ true
-    first true y h = refl
-    first false y h = cc
-
-    second : (x y : Bool) → y ≡ true → (x || y) ≡ true
-    second true y h = refl
-    second false y h = h
 
 pub leaf_place : (a : AccountMaps) (ast : ActiveSegs) (place u : ℕ) → AreInTree a.nodes ast
     → list_any (is_inferior u) a.nodes ≡ false → uid_in_place ast.entries place ≡ Some u
     → HasNoInferior ast.entries place
 leaf_place a ast place u h none at q v is up = by (entry_in_place ast.entries q) refl
   where
-    the_uid : ◌≡◌ {A = Option ℕ} (Some u) (Some v) → u ≡ v
-    the_uid e = cc
-
     by : (o : Option Entry) → entry_in_place ast.entries q ≡ o → ⊥
-    by None e = (let clash : ◌≡◌ {A = Option ℕ} None (Some v) = sym (ap superior_in e) ∙ up in cc)
+    by None e = cc (ap superior_in e)
     by (Some x) e =
         let here : uid_in_place ast.entries q ≡ Some x.uid = ap uid_in e in
         let found = found_there a.nodes x.uid (h.there q x.uid here) in
-        let above : found.0.superior ≡ Some u = sym (h.superiors q x.uid found.0 here found.1) ∙ up
-        ∙ ap (λ (n : ℕ). Some n) (sym (the_uid (sym at ∙ is))) in
-        let clash : true ≡ false = sym (inferior_any a.nodes u x.uid found.0 found.1 above) ∙ none in cc
+        let above : found.0.superior ≡ Some u = cc (h.superiors q x.uid found.0 here found.1) in
+        cc (inferior_any a.nodes u x.uid found.0 found.1 above)
 
 pub place_away : (ast : ActiveSegs) (place u : ℕ) → IsOneToOne ast.entries → uid_in_place ast.entries place ≡ Some u
     → ((q : ℕ) → word_of ast u q ≡ Null) → All IsAway (table_at ast.tables place)
 place_away ast place u once at null k d lt =
     let same : place_of ast.entries u ≡ place = once (place_of ast.entries u) place u
     (active_place ast.entries u (place, at)) at in
-    let word : get_or (table_at ast.tables place) k d ≡ Null = get_or_any (table_at ast.tables place) k d Null lt
-    ∙ sym (ap (λ (n : ℕ). ptw_at (table_at ast.tables n) k) same) ∙ null k in
-    subst IsAway (sym word) tt
+    let word : get_or (table_at ast.tables place) k d ≡ Null =
+    cc (get_or_any (table_at ast.tables place) k d Null lt, same, null k) in subst IsAway (sym word) tt
 
 pub place_idle : (core : Core) (entries : List (Option Entry)) (place u : ℕ) → uid_in_place entries place ≡ Some u
     → ((q : ℕ) → IsNotStarted core u q) → IsNotRead core entries place
 place_idle core entries place u at idle = record {
   none = λ f v q is read.
-      let same : v ≡ u = the_uid v (sym is ∙ at) in
-      let frame : frame_at core f ≡ Started v q =
-      started_is (frame_at core f) v q (sym (get_or-map started_page core.frames f Free) ∙ read) in
-      (idle q).none f (frame ∙ ap (λ (n : ℕ). Started n q) same);
+      (idle q).none f
+      (cc (started_is (frame_at core f) v q (sym (get_or-map started_page core.frames f Free) ∙ read)));
 }
-  where
-    the_uid : (v : ℕ) → ◌≡◌ {A = Option ℕ} (Some v) (Some u) → v ≡ u
-    the_uid v e = cc
 
 no_trailer : (xs : List (ℕ × ℕ)) → ((process number : ℕ) → count_by (leads_to process number) xs ≡ 0) → xs ≡ []
 no_trailer [] none = refl
@@ -431,17 +345,10 @@ pub inactive_now : (entries : List (Option Entry)) (place u : ℕ) → IsOneToOn
     → uid_in_place entries place ≡ Some u → IsInactive (set entries place None) u
 inactive_now entries place u once at = record {
   nowhere = λ q e. elim (cases_eq q place) [
-    | inl same ↦ (let none : uid_in_place (set entries place None) place ≡ None = ap uid_in (here entries place) in
-        let clash : ◌≡◌ {A = Option ℕ} None (Some u) = sym none ∙ ap (uid_in_place (set entries place None)) (sym same)
-        ∙ e in cc)
+    | inl same ↦ cc (none_put entries place)
     | inr apart ↦ apart (once q place u (ap uid_in (sym (get_or-set_other entries place q None None apart)) ∙ e) at)
   ];
 }
-  where
-    here : (xs : List (Option Entry)) (k : ℕ) → get_or (set xs k None) k None ≡ None
-    here [] k = refl
-    here (x ∷ xs) zero = refl
-    here (x ∷ xs) (suc k) = here xs k
 
 -- what is taken out is the same, whether its pages went before or not
 pub branch_same : (s : Store) (u : ℕ)
@@ -452,22 +359,15 @@ branch_same s u =
       words = w;
       stored = without_stored (without_stored s.stored u (λ q. nat_le 0 q)) u (λ page. true);
     })
-    (λ i. λ v. λ o. words (eqb v u) (nat_le 0 (o / 1024)) (nat_le 0 o) (s.words v o) (first o) i)
+    (λ i. λ v. λ o. words (eqb v u) (nat_le 0 (o / 1024)) (nat_le 0 o) (s.words v o) (from_first o) i)
     ∙ ap (λ (xs : List (ℕ × ℕ)). record s {
       nodes = without_node s.nodes u;
       words = λ v o. cond (eqb v u && nat_le 0 o) 0 (s.words v o);
       stored = xs;
     })
     (stored_fused s.stored u (λ q. nat_le 0 q) (λ page. true)
-    ∙ ap (without_stored s.stored u) (λ i. λ q. any (nat_le 0 q) i))
+    ∙ ap (without_stored s.stored u) (λ i. λ q. or_true (nat_le 0 q) i))
   where
-    first : (o : ℕ) → nat_le 0 o ≡ true
-    first o = grind (arith, nat_tests)
-
-    any : (z : Bool) → (z || true) ≡ true
-    any true = refl
-    any false = refl
-
     words : (x y z : Bool) (w : ℕ) → z ≡ true → cond (x && z) 0 (cond (x && y) 0 w) ≡ cond (x && z) 0 w
     words true y z w e = rw e refl
     words false y z w e = refl
@@ -481,19 +381,8 @@ freed_length flags (Some r ∷ places) = freed_length (set flags r false) places
 
 pub erased_sizes : (old now : Plain) (home : Home) (v : ℕ) → now ≡ erased old home
     → size now.records v ≡ size old.records v
-erased_sizes old now home v is = ap (λ (x : Plain). size x.records v) is ∙ elim (cases_eq v home.volume) [
-  | inr ne ↦ ap length (get_or-set_other old.records home.volume v _ [] ne)
-  | inl same ↦ elim (cases_lt home.volume (length old.records)) [
-    | inl lt ↦ ap (λ (n : ℕ). length (get_or (erased old home).records n [])) same
-        ∙ ap length (get_or-set_same old.records home.volume _ [] lt)
-        ∙ freed_length (flags_of old home.volume) (file_map_of old home)
-        ∙ ap (λ (n : ℕ). length (get_or old.records n [])) (sym same)
-    | inr past ↦
-        (let long : length (erased old home).records ≡ length old.records = length-set old.records home.volume _ in
-        ap length (get_or_past (erased old home).records v [] (omega (arith, long, past, same)))
-        ∙ sym (ap length (get_or_past old.records v [] (omega (arith, past, same)))))
-  ]
-]
+erased_sizes old now home v is =
+    rw is (size_set old.records home.volume _ (freed_length (flags_of old home.volume) (file_map_of old home)) v)
 
 pub erased_entries : (old now : Plain) (home : Home) (v : ℕ) → now ≡ erased old home
     → entries now.vtocs v ≡ entries old.vtocs v

@@ -1,6 +1,5 @@
 -- What tree commands leave as it is.
-use Rattle.storage_ops.proofs.Prelude.{get_or-set_other, nat_tests, cases_eq, ne_eqb, ◌≢◌, ◌+◌, ◌*◌, ◌/◌, ◌%◌, ◌≤◌, nat_le, ◌||◌, [], set, arith, inl, inr, ◌≡◌, ℕ, Bool, true, false, cond, eqb, ◌&&◌, List, Option, Some, None, refl, sym, ap, subst, ◌∙◌, AccountMaps, VtocEntry, Core, reads_of, Entry, ActiveSegs, IsOneToOne, deactivated, table_at, uid_in_place, Ptw, Home, erased, Plain, binding_at, bindings, plain, Links, IsInactive, CutsPages, KeepsRest, TakesOut, Unstores, unbound, Storage, with_known, with_vtocs}
-use Rattle.active_segs.specs.Active.{entry_at}
+use Rattle.storage_ops.proofs.Prelude.{get_or-set_other, nat_tests, cases_eq, ne_eqb, ◌≢◌, ◌+◌, ◌*◌, ◌/◌, ◌%◌, ◌≤◌, nat_le, ◌||◌, [], arith, inl, inr, ◌≡◌, ℕ, Bool, true, false, cond, eqb, ◌&&◌, List, Option, Some, None, refl, sym, ap, ◌∙◌, AccountMaps, VtocEntry, reads_of, Entry, IsOneToOne, deactivated, uid_in_place, Ptw, Home, erased, Plain, binding_at, bindings, plain, Links, IsInactive, CutsPages, KeepsRest, TakesOut, Unstores, unbound, Storage, with_known, with_vtocs, from_first}
 use Rattle.storage_ops.proofs.Less.{was_active}
 use Rattle.storage_ops.proofs.Removed.{inactive_now}
 use Rattle.storage_ops.proofs.Unstored.{unstores_both}
@@ -31,18 +30,16 @@ was_bound uid test (Some x) u q e = by (eqb x.0 uid && test x.1) e
 
 pub rest_unstored : {D : Type 0} (old new : Storage D) (u : ℕ) (test : ℕ → Bool) → Unstores old new u test
     → KeepsRest old new
-rest_unstored old new u test x = record {
-  descriptors = ap (λ (l : Links). l.descriptors) x.links;
-  trailers = ap (λ (l : Links). l.trailers) x.links;
-  moving = x.moving;
-  whos = x.whos;
-  drives = x.drives;
-  reads = x.reads;
-  sizes = x.sizes;
-  hands = x.hands;
-  active = λ place v e. ap (λ (xs : List (Option Entry)). uid_in_place xs place) (sym x.places) ∙ e;
-  bound = λ f v q e. was_bound u test (binding_at (bindings old.segs.pages.core) f) v q (sym (x.bound f) ∙ e);
-}
+rest_unstored {D} old new u test x =
+    assumption (ap (λ (l : Links). l.descriptors) x.links, ap (λ (l : Links). l.trailers) x.links, active, bound)
+  where
+    active : (place v : ℕ) → uid_in_place new.segs.ast.entries place ≡ Some v
+        → uid_in_place old.segs.ast.entries place ≡ Some v
+    active place v e = rw x.places at e
+
+    bound : (f v q : ℕ) → binding_at (bindings new.segs.pages.core) f ≡ Some (v, q)
+        → binding_at (bindings old.segs.pages.core) f ≡ Some (v, q)
+    bound f v q e = was_bound u test (binding_at (bindings old.segs.pages.core) f) v q (sym (x.bound f) ∙ e)
 
 -- whatever the tree, the VTOCs, what numbers stand for and the page tables are, where nothing has become active
 rest_left : {D : Type 0} (old new : Storage D) (a : AccountMaps) (vtocs : List (List (Option VtocEntry)))
@@ -54,19 +51,7 @@ rest_left : {D : Type 0} (old new : Storage D) (a : AccountMaps) (vtocs : List (
         ast = record old.segs.ast { entries = entries; tables = tables };
       };
     } → KeepsRest old new
-rest_left {D} old new a vtocs known entries tables active is = subst (λ (x : Storage D). KeepsRest old x) (sym is)
-    (record {
-      descriptors = refl;
-      trailers = refl;
-      moving = refl;
-      whos = refl;
-      drives = refl;
-      reads = refl;
-      sizes = refl;
-      hands = refl;
-      active = active;
-      bound = λ f u q e. e;
-    })
+rest_left {D} old new a vtocs known entries tables active is = rw is (assumption active)
 
 pub rest_none : {D : Type 0} (t : Storage D) → KeepsRest t t
 rest_none t = rest_left t t t.accounts t.segs.pages.volumes.vtocs t.segs.links.known t.segs.ast.entries
@@ -109,9 +94,9 @@ rest_erased drive t n home effect ast links moving whos drives = record {
   whos = whos;
   drives = drives;
   reads = ap (λ (s : Plain). reads_of s.core) effect;
-  sizes = ap (λ (x : ActiveSegs). x.sizes) ast;
-  hands = ap (λ (x : ActiveSegs). x.hands) ast;
-  active = λ place u e. ap (λ (x : ActiveSegs). uid_in_place x.entries place) (sym ast) ∙ e;
+  sizes = rw ast;
+  hands = rw ast;
+  active = λ place u e. rw ast at e;
   bound = λ f u q e. ap (λ (s : Plain). binding_at (bindings s.core) f) (sym effect) ∙ e;
 }
 
@@ -143,30 +128,22 @@ cuts_odd old mid new u words lost odd x y = record {
     within q false e true false f on = cc
     within q false e false c f on = cc
 
-    first : (a b : Bool) → a ≡ true → (a || b) ≡ true
-    first true b e = refl
-    first false b e = cc
-
     past : (q : ℕ) → words ≤ 1024 * q → (nat_le (words / 1024 + 1) q || (lost && eqb q (words / 1024))) ≡ true
-    past q le = first (nat_le (words / 1024 + 1) q) (lost && eqb q (words / 1024))
-        (let at : words / 1024 + 1 ≤ q = omega (arith, le, odd) in grind (arith, nat_tests))
+    past q le =
+        let at : words / 1024 + 1 ≤ q = omega (arith, le, odd) in
+        let on : nat_le (words / 1024 + 1) q ≡ true = grind (arith, nat_tests) in rw on refl
 
 -- ---- what is taken out
 
 was_of : (u : ℕ) (o : Option (ℕ × ℕ)) → unbound u (λ q. nat_le 0 q) o ≡ unbound u (λ q. true) o
-was_of u o = ap (λ (t : ℕ → Bool). unbound u t o) (λ i. λ q. first q i)
-  where
-    first : (q : ℕ) → nat_le 0 q ≡ true
-    first q = grind (arith, nat_tests)
+was_of u o = ap (λ (t : ℕ → Bool). unbound u t o) (λ i. λ q. from_first q i)
 
 pub out_active : {D : Type 0} (old mid new : Storage D) (place u : ℕ) → IsOneToOne old.segs.ast.entries
     → uid_in_place old.segs.ast.entries place ≡ Some u → Unstores old mid u (λ q. nat_le 0 q)
     → new ≡ record mid { segs = record mid.segs { ast = deactivated mid.segs.ast place } } → TakesOut old new u
-out_active {D} old mid new place u once at x is = subst (λ (n : Storage D). TakesOut old n u) (sym is) (record {
-  inactive = subst (λ (e : List (Option Entry)). IsInactive (set e place None) u) (sym x.places)
-      (inactive_now old.segs.ast.entries place u once at);
-  entries = λ p apart. get_or-set_other mid.segs.ast.entries place p None None (other p apart)
-      ∙ ap (λ (e : List (Option Entry)). entry_at e p) x.places;
+out_active {D} old mid new place u once at x is = rw is (record {
+  inactive = rw x.places (inactive_now old.segs.ast.entries place u once at);
+  entries = λ p apart. cc (get_or-set_other mid.segs.ast.entries place p None None (other p apart), x.places);
   tables = λ p apart. get_or-set_other mid.segs.ast.tables place p _ [] (other p apart) ∙ x.tables p apart;
   bound = λ f. x.bound f ∙ was_of u (binding_at (bindings old.segs.pages.core) f);
 })
@@ -194,8 +171,8 @@ out_inactive t u inactive unframed = record {
 pub out_still : {D : Type 0} (old mid new : Storage D) (u : ℕ) → TakesOut old mid u → new.segs.ast ≡ mid.segs.ast
     → new.segs.pages.core ≡ mid.segs.pages.core → TakesOut old new u
 out_still old mid new u x ast core = record {
-  inactive = subst (λ (a : ActiveSegs). IsInactive a.entries u) (sym ast) x.inactive;
-  entries = λ p apart. ap (λ (a : ActiveSegs). entry_at a.entries p) ast ∙ x.entries p apart;
-  tables = λ p apart. ap (λ (a : ActiveSegs). table_at a.tables p) ast ∙ x.tables p apart;
-  bound = λ f. ap (λ (k : Core). binding_at (bindings k) f) core ∙ x.bound f;
+  inactive = rw ast x.inactive;
+  entries = rw ast x.entries;
+  tables = rw ast x.tables;
+  bound = rw core x.bound;
 }

@@ -16,12 +16,9 @@ record IsLeast (test : ℕ → Bool) (n : ℕ) : Type 0 where
 least : (test : ℕ → Bool) (n : ℕ) → IsLeast test n ⊎ ((v : ℕ) → v < n → test v ≡ false)
 least test zero = inr (λ v lt. absurd (omega (arith, lt)))
 least test (suc n) = elim (least test n) [
-  | inl found ↦ (let lt = found.within in inl (record {
-    least = found.least;
-    within = omega (arith, lt);
-    passes = found.passes;
-    first = found.first;
-  }))
+  | inl found ↦
+      (let lt = found.within in
+      inl (record { least = found.least; within = omega (arith, lt); passes = found.passes; first = found.first }))
   | inr none ↦ elim (cases_Bool (test n)) [
     | inl is ↦ inl (record { least = n; within = omega arith; passes = is; first = none })
     | inr isnt ↦ inr (λ v lt. elim (cases_eq v n) [

@@ -1,5 +1,5 @@
 -- A store of which frames, marks or words of page tables alone have changed.
-use Rattle.storage_ops.proofs.Prelude.{◌≡◌, ℕ, ◌<◌, ◌/◌, ◌%◌, Bool, true, false, cond, List, Option, Result, Ok, Err, get_or, replicate, refl, sym, ap, subst, ◌∙◌, inl, inr, Who, Plan, Node, AccountMaps, Store, VtocEntry, Entry, ActiveSegs, Home, Plain, plain, entries, size, taken, used, KeepsWords, words_at, Links, home_of, is_there, table_here, IsHomeFor, Ptw, KeepsTables, AreCounted, AreHoused, AreInTree, HaveRights, IsStore, Shows, Storage, is_filed, picture}
+use Rattle.storage_ops.proofs.Prelude.{◌≡◌, ℕ, ◌/◌, Bool, true, false, cond, List, Result, Ok, Err, replicate, refl, sym, ap, ◌∙◌, inl, inr, Who, Plan, Node, AccountMaps, Store, ActiveSegs, Home, Plain, plain, KeepsWords, words_at, Links, home_of, is_there, table_here, IsHomeFor, Ptw, KeepsTables, AreHoused, AreInTree, IsStore, Shows, Storage, picture}
 
 -- the places and the pools of what is active are as before
 pub tree_still : (nodes : List Node) (ast next : ActiveSegs) → next.entries ≡ ast.entries → next.sizes ≡ ast.sizes
@@ -16,15 +16,11 @@ pub store_still : (old now : Plain) (ast next : ActiveSegs) (links : Links) (a :
     → now.records ≡ old.records → next.entries ≡ ast.entries → next.sizes ≡ ast.sizes
     → IsStore old ast links a whos → IsStore now next links a whos
 store_still old now ast next links a whos vtocs records entries_same sizes h = record {
-  housed = subst (λ (v : List (List (Option VtocEntry))). AreHoused a v) (sym vtocs) h.housed;
-  counted = subst (λ (v : List (List (Option VtocEntry))). AreCounted a v) (sym vtocs) h.counted;
-  taken = record {
-    records = λ stored v counts. ap (λ (f : List (List Bool)). taken f v) records ∙ h.taken.records stored v counts;
-    entries = λ v. ap (λ (t : List (List (Option VtocEntry))). used t v) vtocs ∙ h.taken.entries v;
-    short = λ v. subst (λ (f : List (List Bool)). size f v < 65536) (sym records) (h.taken.short v);
-  };
+  housed = rw vtocs h.housed;
+  counted = rw vtocs h.counted;
+  taken = rw (records, vtocs) h.taken;
   active = tree_still a.nodes ast next entries_same sizes h.active;
-  rights = subst (λ (e : List (Option Entry)). HaveRights a.nodes e links whos) (sym entries_same) h.rights;
+  rights = rw entries_same h.rights;
   known = h.known;
 }
 
@@ -64,20 +60,19 @@ pub shown_kept : {D : Type 0} (drive : D → List (List ℕ)) (p : Plan) (s : St
     → Shows drive p s t → Shows drive p s u
 shown_kept drive p s t u uid home accounts whos links tables housed own kept h = record {
   tree = rw accounts h.tree;
-  known = h.known ∙ ap (λ (l : Links). l.known) (sym links);
+  known = rw links h.known;
   pages = record {
-    stored = λ v q. h.pages.stored v q ∙ ap (λ (x : List (List (Option VtocEntry))). is_filed t.accounts x v q)
-        (sym tables.vtocs)
-        ∙ ap (λ (x : AccountMaps). is_filed x u.segs.pages.volumes.vtocs v q) (sym accounts);
+    stored = λ v q. rw (tables.vtocs, accounts) (h.pages.stored v q);
     once = h.pages.once;
-    words = λ v o. h.pages.words v o ∙ ap (λ (ws : List ℕ). get_or ws (o % 1024) 0)
-        (sym (picture_kept (plain drive t.segs.pages) (plain drive u.segs.pages) t.accounts uid home housed own kept
-        v (o / 1024))
-        ∙ ap (λ (x : AccountMaps). picture x (words_at (plain drive u.segs.pages)) v (o / 1024)) (sym accounts));
+    words = λ v o. cc (
+      h.pages.words v o,
+      picture_kept (plain drive t.segs.pages) (plain drive u.segs.pages) t.accounts
+          uid home housed own kept v (o / 1024),
+    );
   };
   script = record {
-    records = λ v. h.script.records v ∙ ap (λ (f : List (List Bool)). size f v) (sym tables.records);
-    entries = λ v. h.script.entries v ∙ ap (λ (x : List (List (Option VtocEntry))). entries x v) (sym tables.vtocs);
+    records = λ v. rw tables.records (h.script.records v);
+    entries = λ v. rw tables.vtocs (h.script.entries v);
     whos = whos ∙ h.script.whos;
   };
 }

@@ -1,5 +1,5 @@
 -- Tables of tables: what stands at a volume and a place there, once one is changed.
-use Rattle.storage_ops.proofs.Prelude.{◌≤◌, ◌≡◌, ℕ, ◌<◌, List, [], length, map, Option, Some, None, sym, ap, ◌∙◌, arith, inl, inr, cases_lt, get_or_past, length-map, entry_at, HasParts, Vols, Home, uid_at, vtoc_in}
+use Rattle.storage_ops.proofs.Prelude.{◌≤◌, ◌≡◌, ℕ, ◌<◌, List, [], length, map, Option, Some, None, ap, arith, inl, inr, cases_lt, get_or_past, length-map, entry_at, HasParts, Vols, Home, uid_at, vtoc_in}
 use Rattle.vtoc.specs.Vtoc.{Entry, uid_of}
 
 -- a home that is used is on a volume that is there
@@ -7,10 +7,8 @@ pub homed_volume : (vtocs : List (List (Option Entry))) (home : Home) (u : ℕ) 
     → home.volume < length vtocs
 homed_volume vtocs home u e = elim (cases_lt home.volume (length vtocs)) [
   | inl lt ↦ lt
-  | inr past ↦
-      (let none : uid_at vtocs home ≡ None = ap (λ (t : List (Option Entry)). uid_of (entry_at t home.entry))
-      (get_or_past vtocs home.volume [] past) in
-      let clash : ◌≡◌ {A = Option ℕ} None (Some u) = sym none ∙ e in cc)
+  | inr past ↦ cc (ap (λ (t : List (Option Entry)). uid_of (entry_at t home.entry))
+      (get_or_past vtocs home.volume [] past))
 ]
 
 -- and in a place of its table
@@ -18,9 +16,7 @@ pub homed_entry : (vtocs : List (List (Option Entry))) (home : Home) (u : ℕ) �
     → home.entry < length (vtoc_in vtocs home.volume)
 homed_entry vtocs home u e = elim (cases_lt home.entry (length (vtoc_in vtocs home.volume))) [
   | inl lt ↦ lt
-  | inr past ↦
-      (let none : uid_at vtocs home ≡ None = ap uid_of (get_or_past (vtoc_in vtocs home.volume) home.entry None past) in
-      let clash : ◌≡◌ {A = Option ℕ} None (Some u) = sym none ∙ e in cc)
+  | inr past ↦ cc (ap uid_of (get_or_past (vtoc_in vtocs home.volume) home.entry None past))
 ]
 
 -- there are as many VTOCs as drives

@@ -1,5 +1,5 @@
 -- What stays where pages of an active segment are stored no more.
-use Rattle.storage_ops.proofs.Prelude.{◌≡◌, ◌≢◌, ℕ, ◌+◌, ◌/◌, ◌<◌, ◌≤◌, Bool, true, false, cond, eqb, ◌&&◌, ◌||◌, List, [], get_or, length, map, nat_le, nat_lt, set, Option, Some, None, refl, sym, ap, subst, ◌∙◌, arith, inl, inr, cases_eq, cases_lt, eq-eqb, eqb-true, ne_eqb, or_parts, nat_tests, get_or-set_other, get_or-set_same, get_or_past, length-set, get_or-map, Core, bound_page, frame_at, reads_of, started_page, with_frame, Frame, Bound, Free, Started, Ptw, Here, Leaving, Null, Out, ptw_at, Entry, ActiveSegs, IsActive, table_at, uid_in_place, uid_in, dropped, Home, Plain, binding_at, bindings, IsNotStarted, IsTableOf, frame_of, has_record, is_out, place_of, table_of, word_of, worded, entry_of, look, Node, volume_in, between, Storage, home_of, IsTakenPast, Unstores, is_here, unbound, page_is, shown_within, within_from, off_and_on}
+use Rattle.storage_ops.proofs.Prelude.{◌≡◌, ◌≢◌, ℕ, ◌+◌, ◌/◌, ◌<◌, ◌≤◌, Bool, true, false, cond, eqb, ◌&&◌, ◌||◌, List, [], get_or, length, nat_le, nat_lt, set, Option, Some, None, refl, sym, ap, subst, ◌∙◌, arith, inl, inr, cases_eq, cases_lt, eq-eqb, eqb-true, ne_eqb, or_parts, nat_tests, get_or-set_other, get_or-set_same, get_or-map, Core, bound_page, frame_at, reads_of, started_page, with_frame, Frame, Bound, Free, Started, Ptw, Here, Leaving, Null, Out, ptw_at, Entry, ActiveSegs, IsActive, table_at, uid_in_place, uid_in, dropped, Home, Plain, binding_at, bindings, IsNotStarted, IsTableOf, frame_of, has_record, is_out, place_of, table_of, word_of, worded, between, Storage, home_of, IsTakenPast, Unstores, is_here, unbound, page_is, shown_within, within_from, off_and_on, and_false, and-true, ◌∷◌, suc, zero}
 use Rattle.storage_ops.proofs.Known.{set_told}
 use Rattle.storage_ops.proofs.Paged.{active_place}
 
@@ -34,21 +34,16 @@ module _ (ast : ActiveSegs) (u q : ℕ) (w : Ptw) where
 -- ---- what frames are bound to
 
 freed_here : (frames : List Frame) (f : ℕ) → get_or (set frames f Free) f Free ≡ Free
-freed_here frames f = elim (cases_lt f (length frames)) [
-  | inl lt ↦ get_or-set_same frames f Free Free lt
-  | inr past ↦ get_or_past (set frames f Free) f Free (let long : length (set frames f Free) ≡ length frames =
-      length-set frames f Free in omega (arith, long, past))
-]
+freed_here [] f = refl
+freed_here (x ∷ frames) zero = refl
+freed_here (x ∷ frames) (suc f) = freed_here frames f
 
 freed_at : (core : Core) (f g : ℕ) → binding_at (bindings (with_frame core f Free)) g
     ≡ cond (eqb g f) None (binding_at (bindings core) g)
 freed_at core f g = get_or-map bound_page (set core.frames f Free) g Free ∙ elim (cases_eq g f) [
-  | inl same ↦ ap (λ (n : ℕ). bound_page (get_or (set core.frames f Free) n Free)) same
-      ∙ ap bound_page (freed_here core.frames f)
-      ∙ ap (λ (z : Bool). cond z None (binding_at (bindings core) g)) (sym (eq-eqb g f same))
-  | inr apart ↦ ap bound_page (get_or-set_other core.frames f g Free Free apart)
-      ∙ sym (get_or-map bound_page core.frames g Free)
-      ∙ ap (λ (z : Bool). cond z None (binding_at (bindings core) g)) (sym (ne_eqb g f apart))
+  | inl same ↦ rw (eq-eqb g f same, same, freed_here core.frames f) refl
+  | inr apart ↦ rw (ne_eqb g f apart, get_or-set_other core.frames f g Free Free apart)
+      (sym (get_or-map bound_page core.frames g Free))
 ]
 
 -- a binding that isn't that of a page stays
@@ -57,8 +52,7 @@ binding_stays u q None apart = refl
 binding_stays u q (Some x) apart = by (eqb x.0 u) (eqb x.1 q) refl refl
   where
     by : (y z : Bool) → eqb x.0 u ≡ y → eqb x.1 q ≡ z → cond {A = Option (ℕ × ℕ)} (y && z) None (Some x) ≡ Some x
-    by true true e f = absurd (apart (ap (λ (n : ℕ). Some (n, x.1)) (eqb-true x.0 u e)
-        ∙ ap (λ (n : ℕ). Some (u, n)) (eqb-true x.1 q f)))
+    by true true e f = absurd (apart (λ i. Some (eqb-true x.0 u e i, eqb-true x.1 q f i)))
     by true false e f = refl
     by false z e f = refl
 
@@ -69,35 +63,27 @@ module _ (core : Core) (u q : ℕ) (table : List Ptw) (t : IsTableOf (bindings c
   -- no frame is bound to a page whose word names none
   pub bound_none : frame_of (ptw_at table q) ≡ None → (g : ℕ)
       → binding_at (bindings core) g ≡ unbound u (λ r. eqb r q) (binding_at (bindings core) g)
-  bound_none none g = sym (binding_stays u q (binding_at (bindings core) g) (λ is.
-      (let clash : ◌≡◌ {A = Option ℕ} None (Some g) = sym none ∙ t.named g q is in cc)))
+  bound_none none g = sym (binding_stays u q (binding_at (bindings core) g) (λ is. cc (none, t.named g q is)))
 
   -- the one frame that is bound to a page is free now
   pub bound_free : (f : ℕ) → frame_of (ptw_at table q) ≡ Some f → (g : ℕ)
       → binding_at (bindings (with_frame core f Free)) g ≡ unbound u (λ r. eqb r q) (binding_at (bindings core) g)
   bound_free f at g = freed_at core f g ∙ elim (cases_eq g f) [
-    | inl same ↦ ap (λ (z : Bool). cond z None (binding_at (bindings core) g)) (eq-eqb g f same)
-        ∙ sym (ap (unbound u (λ r. eqb r q)) (ap (binding_at (bindings core)) same ∙ t.back f q at)
-        ∙ binding_goes u q)
-    | inr apart ↦ ap (λ (z : Bool). cond z None (binding_at (bindings core) g)) (ne_eqb g f apart)
-        ∙ sym (binding_stays u q (binding_at (bindings core) g) (λ is. apart
-        (the_frame g (sym (t.named g q is) ∙ at))))
+    | inl same ↦ rw (same, eq-eqb f f refl, t.back f q at) (sym (binding_goes u q))
+    | inr apart ↦ rw (ne_eqb g f apart)
+        (sym (binding_stays u q (binding_at (bindings core) g) (λ is. apart (cc (t.named g q is)))))
   ]
-    where
-      the_frame : (g : ℕ) → ◌≡◌ {A = Option ℕ} (Some g) (Some f) → g ≡ f
-      the_frame g e = cc
 
 pub bound_dropped : (old now : Plain) (u q : ℕ) (home : Home) (table : List Ptw) (w : Ptw)
     → IsTableOf (bindings old.core) u table → w ≡ ptw_at table q → is_here w ≡ false
     → now ≡ dropped old home q w → (g : ℕ)
     → binding_at (bindings now.core) g ≡ unbound u (λ r. eqb r q) (binding_at (bindings old.core) g)
 bound_dropped old now u q home table Null t is off effect g =
-    ap (λ (s : Plain). binding_at (bindings s.core) g) effect ∙ bound_none old.core u q table t (ap frame_of (sym is)) g
+    rw effect (bound_none old.core u q table t (ap frame_of (sym is)) g)
 bound_dropped old now u q home table (Out r) t is off effect g =
-    ap (λ (s : Plain). binding_at (bindings s.core) g) effect ∙ bound_none old.core u q table t (ap frame_of (sym is)) g
+    rw effect (bound_none old.core u q table t (ap frame_of (sym is)) g)
 bound_dropped old now u q home table (Leaving f) t is off effect g =
-    ap (λ (s : Plain). binding_at (bindings s.core) g) effect
-    ∙ bound_free old.core u q table t f (ap frame_of (sym is)) g
+    rw effect (bound_free old.core u q table t f (ap frame_of (sym is)) g)
 bound_dropped old now u q home table (Here f) t is off effect g = cc
 
 -- ---- one after the other
@@ -117,34 +103,14 @@ fused_bound u t r (Some x) = by (eqb x.0 u) (t x.1) (r x.1) refl refl refl
 
 pub none_bound : (u : ℕ) (o : Option (ℕ × ℕ)) → o ≡ unbound u (λ q. false) o
 none_bound u None = refl
-none_bound u (Some x) = by (eqb x.0 u)
-  where
-    by : (a : Bool) → ◌≡◌ {A = Option (ℕ × ℕ)} (Some x) (cond (a && false) None (Some x))
-    by true = refl
-    by false = refl
+none_bound u (Some x) = rw (and_false (eqb x.0 u))
 
 -- a store as it was, where the pages that pass the test have no word and no frame
 pub unstores_still : {D : Type 0} (t : Storage D) (u : ℕ) (test : ℕ → Bool)
     → ((q : ℕ) → test q ≡ true → word_of t.segs.ast u q ≡ Null)
     → ((f : ℕ) → binding_at (bindings t.segs.pages.core) f
     ≡ unbound u test (binding_at (bindings t.segs.pages.core) f)) → Unstores t t u test
-unstores_still t u test gone bound = record {
-  nodes = refl;
-  entries = refl;
-  next = refl;
-  places = refl;
-  sizes = refl;
-  hands = refl;
-  tables = λ place apart. refl;
-  kept = λ q off. refl;
-  gone = gone;
-  bound = bound;
-  reads = refl;
-  links = refl;
-  moving = refl;
-  whos = refl;
-  drives = refl;
-}
+unstores_still t u test gone bound = assumption
 
 pub unstores_none : {D : Type 0} (t : Storage D) (u : ℕ) → Unstores t t u (λ q. false)
 unstores_none t u = unstores_still t u (λ q. false) (λ q on. cc)
@@ -159,8 +125,7 @@ unstores_both old mid new u t r x y = record {
   places = y.places ∙ x.places;
   sizes = y.sizes ∙ x.sizes;
   hands = y.hands ∙ x.hands;
-  tables = λ place apart. y.tables place (λ is. apart (ap (λ (e : List (Option Entry)). uid_in_place e place)
-      (sym x.places) ∙ is)) ∙ x.tables place apart;
+  tables = λ place apart. y.tables place (λ is. apart (cc (x.places, is))) ∙ x.tables place apart;
   kept = λ q off. y.kept q (or_parts (t q) (r q) off).1 ∙ x.kept q (or_parts (t q) (r q) off).0;
   gone = λ q on. by q (t q) (r q) refl refl on;
   bound = λ f. y.bound f ∙ ap (unbound u r) (x.bound f)
@@ -186,26 +151,8 @@ pub unstores_past : {D : Type 0} (old new : Storage D) (u from page : ℕ) → U
     → ((q : ℕ) → page ≤ q → word_of old.segs.ast u q ≡ Null)
     → ((q : ℕ) → page ≤ q → (f : ℕ) → binding_at (bindings old.segs.pages.core) f ≢ Some (u, q))
     → Unstores old new u (λ q. nat_le from q)
-unstores_past old new u from page x null unframed = record {
-  nodes = x.nodes;
-  entries = x.entries;
-  next = x.next;
-  places = x.places;
-  sizes = x.sizes;
-  hands = x.hands;
-  tables = x.tables;
-  kept = λ q off. x.kept q (ap (λ (z : Bool). z && nat_lt q page) off);
-  gone = λ q on. elim (cases_lt q page) [
-    | inl lt ↦ x.gone q (ap (λ (z : Bool). z && nat_lt q page) on ∙ below q lt)
-    | inr past ↦ x.kept q (ap (λ (z : Bool). z && nat_lt q page) on ∙ beyond q past) ∙ null q past
-  ];
-  bound = λ f. x.bound f ∙ by f (binding_at (bindings old.segs.pages.core) f) refl;
-  reads = x.reads;
-  links = x.links;
-  moving = x.moving;
-  whos = x.whos;
-  drives = x.drives;
-}
+unstores_past old new u from page x null unframed =
+    assumption (kept, gone, bound)
   where
     below : (q : ℕ) → q < page → nat_lt q page ≡ true
     below q lt = grind (arith, nat_tests)
@@ -213,34 +160,36 @@ unstores_past old new u from page x null unframed = record {
     beyond : (q : ℕ) → page ≤ q → nat_lt q page ≡ false
     beyond q past = grind (arith, nat_tests)
 
+    kept : (q : ℕ) → nat_le from q ≡ false → word_of new.segs.ast u q ≡ word_of old.segs.ast u q
+    kept q off = x.kept q (ap (λ (z : Bool). z && nat_lt q page) off)
+
+    gone : (q : ℕ) → nat_le from q ≡ true → word_of new.segs.ast u q ≡ Null
+    gone q on = elim (cases_lt q page) [
+      | inl lt ↦ x.gone q (rw on (below q lt))
+      | inr past ↦ x.kept q (rw on (beyond q past)) ∙ null q past
+    ]
+
     by : (f : ℕ) (o : Option (ℕ × ℕ)) → binding_at (bindings old.segs.pages.core) f ≡ o
         → unbound u (between from page) o ≡ unbound u (λ q. nat_le from q) o
     by f None e = refl
     by f (Some y) e = elim (cases_lt y.1 page) [
-      | inl lt ↦ ap (λ (z : Bool). cond {A = Option (ℕ × ℕ)} (eqb y.0 u && (nat_le from y.1 && z)) None (Some y))
-          (below y.1 lt)
-          ∙ ap (λ (z : Bool). cond {A = Option (ℕ × ℕ)} (eqb y.0 u && z) None (Some y)) (whole (nat_le from y.1))
+      | inl lt ↦ rw (below y.1 lt, and-true (nat_le from y.1))
       | inr past ↦ apart (eqb y.0 u) refl past
     ]
       where
-        whole : (z : Bool) → (z && true) ≡ z
-        whole true = refl
-        whole false = refl
-
         apart : (z : Bool) → eqb y.0 u ≡ z → page ≤ y.1
             → cond {A = Option (ℕ × ℕ)} (z && (nat_le from y.1 && nat_lt y.1 page)) None (Some y)
             ≡ cond {A = Option (ℕ × ℕ)} (z && nat_le from y.1) None (Some y)
-        apart true is past = absurd (unframed y.1 past f (e ∙ ap (λ (n : ℕ). Some (n, y.1)) (eqb-true y.0 u is)))
+        apart true is past = absurd (unframed y.1 past f (e ∙ λ i. Some (eqb-true y.0 u is i, y.1)))
         apart false is past = refl
+
+    bound : (f : ℕ) → binding_at (bindings new.segs.pages.core) f
+        ≡ unbound u (λ q. nat_le from q) (binding_at (bindings old.segs.pages.core) f)
+    bound f = x.bound f ∙ by f (binding_at (bindings old.segs.pages.core) f) refl
 
 pub home_still : {D : Type 0} (old new : Storage D) (u : ℕ) (test : ℕ → Bool) (v : ℕ) → Unstores old new u test
     → home_of new.accounts v ≡ home_of old.accounts v
-home_still old new u test v x =
-    ap (λ (n : ℕ). record { volume = n; entry = entry_of new.accounts v })
-    (ap (λ (ns : List Node). volume_in ns v) x.nodes)
-    ∙ ap (λ (n : ℕ). record { volume = volume_in old.accounts.nodes v; entry = n })
-    (ap (λ (ns : List Node). look (map (λ m. m.uid) ns) new.accounts.entries v) x.nodes
-    ∙ ap (λ (es : List ℕ). look (map (λ m. m.uid) old.accounts.nodes) es v) x.entries)
+home_still old new u test v x = rw (x.nodes, x.entries)
 
 pub active_still : {D : Type 0} (old new : Storage D) (u : ℕ) (test : ℕ → Bool) → Unstores old new u test
     → IsActive old.segs.ast.entries u → IsActive new.segs.ast.entries u
@@ -266,17 +215,14 @@ between_past from page = grind (arith, nat_tests)
 
 pub started_is : (frame : Frame) (u q : ℕ) → started_page frame ≡ Some (u, q) → frame ≡ Started u q
 started_is Free u q e = cc
-started_is (Started v r) u q e = (let same = page_is v r u q e in
-    ap (λ (n : ℕ). Started n r) same.0 ∙ ap (λ (n : ℕ). Started u n) same.1)
+started_is (Started v r) u q e = (let same = page_is v r u q e in λ i. Started (same.0 i) (same.1 i))
 started_is (Bound v r on wrote) u q e = cc
 
 -- the same where the reads are as they were
 pub idle_still : (old now : Core) (u q : ℕ) → reads_of now ≡ reads_of old → IsNotStarted old u q → IsNotStarted now u q
 idle_still old now u q same idle = record {
   none = λ f is. idle.none f (started_is (frame_at old f) u q
-      (sym (get_or-map started_page old.frames f Free)
-      ∙ ap (λ (xs : List (Option (ℕ × ℕ))). get_or xs f None) (sym same)
-      ∙ get_or-map started_page now.frames f Free ∙ ap started_page is));
+      (cc (get_or-map started_page old.frames f Free, same, get_or-map started_page now.frames f Free, is)));
 }
 
 pub taken_past : {D : Type 0} (old new : Storage D) (u words : ℕ)

@@ -1,5 +1,5 @@
 -- A node gets another volume: what is read of the nodes, and counted on each volume.
-use Rattle.storage_ops.proofs.Prelude.{◌≡◌, ◌≢◌, ℕ, ◌+◌, ◌<◌, Bool, true, false, cond, eqb, List, [], ◌∷◌, map, Option, Some, refl, sym, ap, subst, ◌∙◌, arith, inl, inr, count_by, cases_Bool, cases_eq, eq-eqb, eqb-true, ne_eqb, sum_by-cons, Node, entries_on, has_directory, node_in, taken_on, volume_in, AreBelow, IsTree, field_kept, field_mapped, is_there, joined_below}
+use Rattle.storage_ops.proofs.Prelude.{◌≡◌, ◌≢◌, ℕ, ◌+◌, ◌<◌, Bool, true, false, cond, eqb, List, [], ◌∷◌, map, Some, refl, sym, ap, subst, ◌∙◌, arith, inl, inr, count_by, cases_Bool, cases_eq, eq-eqb, eqb-true, ne_eqb, sum_by-cons, Node, entries_on, has_directory, node_in, taken_on, volume_in, AreBelow, IsTree, field_kept, field_mapped, is_there, joined_below}
 
 -- a node, on another volume where it has this uid
 abbrev pub on_volume : ℕ → ℕ → Node → Node
@@ -58,22 +58,15 @@ moved_sides f g u else [] v = by (eqb (g u) v) (eqb (f u) v)
     by false true = refl
     by false false = refl
 moved_sides f g u else (x ∷ xs) v = elim (cases_eq x.0 u) [
-  | inl same ↦ rw (first_f, first_g, first_u, eq-eqb x.0 u same, same)
+  | inl same ↦ rw (first f v, first g v, first (λ k. k) u, eq-eqb x.0 u same, same)
       (here (eqb (f u) v) (eqb (g u) v) _ _ _ (moved_sides f g u else xs v))
-  | inr ne ↦ rw (first_f, first_g, first_u, ne_eqb x.0 u ne, else x.0 ne)
+  | inr ne ↦ rw (first f v, first g v, first (λ k. k) u, ne_eqb x.0 u ne, else x.0 ne)
       (there (eqb (f u) v) (eqb (g u) v) (eqb (g x.0) v) _ _ _ (moved_sides f g u else xs v))
 ]
   where
-    first_f : count_by (λ y. eqb (f y.0) v) (x ∷ xs) ≡ cond {A = ℕ} (eqb (f x.0) v) 1 0 + count_by
-        (λ y. eqb (f y.0) v) xs
-    first_f = sum_by-cons (λ (y : ℕ × ℕ). cond (eqb (f y.0) v) 1 0) x xs
-
-    first_g : count_by (λ y. eqb (g y.0) v) (x ∷ xs) ≡ cond {A = ℕ} (eqb (g x.0) v) 1 0 + count_by
-        (λ y. eqb (g y.0) v) xs
-    first_g = sum_by-cons (λ (y : ℕ × ℕ). cond (eqb (g y.0) v) 1 0) x xs
-
-    first_u : count_by (λ y. eqb y.0 u) (x ∷ xs) ≡ cond {A = ℕ} (eqb x.0 u) 1 0 + count_by (λ y. eqb y.0 u) xs
-    first_u = sum_by-cons (λ (y : ℕ × ℕ). cond (eqb y.0 u) 1 0) x xs
+    first : (h : ℕ → ℕ) (w : ℕ)
+        → count_by (λ y. eqb (h y.0) w) (x ∷ xs) ≡ cond {A = ℕ} (eqb (h x.0) w) 1 0 + count_by (λ y. eqb (h y.0) w) xs
+    first h w = sum_by-cons (λ (y : ℕ × ℕ). cond (eqb (h y.0) w) 1 0) x xs
 
     here : (a b : Bool) (m n c : ℕ) → m + cond {A = ℕ} b c 0 ≡ n + cond {A = ℕ} a c 0
         → cond {A = ℕ} a 1 0 + m + cond {A = ℕ} b (1 + c) 0 ≡ cond {A = ℕ} b 1 0 + n + cond {A = ℕ} a (1 + c) 0
@@ -117,8 +110,8 @@ entries_moved [] tree u w n found v = cc
 entries_moved (m ∷ ns) tree u w n found v = elim (cases_eq m.uid u) [
   | inl same ↦
       (let z : Some m ≡ Some n = rw (eq-eqb m.uid u same) at found in
-      let is : m ≡ n = some_same z in
-      let below : AreBelow u ns = subst (λ x. AreBelow x ns) same (joined_below ns m.superior m tree.0) in
+      let is : m ≡ n = cc in
+      let below : AreBelow u ns = rw (← same) (joined_below ns m.superior m tree.0) in
       rw (eq-eqb m.uid u same, none_on u w ns below, first (record m { volume = w }) ns, first m ns, ← is)
       (omega arith))
   | inr ne ↦
@@ -126,9 +119,6 @@ entries_moved (m ∷ ns) tree u w n found v = elim (cases_eq m.uid u) [
       rw (ne_eqb m.uid u ne, first m (map (on_volume u w) ns), first m ns) (omega (arith, rest)))
 ]
   where
-    some_same : ◌≡◌ {A = Option Node} (Some m) (Some n) → m ≡ n
-    some_same e = cc
-
     first : (x : Node) (xs : List Node) → count_by (λ y. eqb y.volume v) (x ∷ xs)
         ≡ cond {A = ℕ} (eqb x.volume v) 1 0 + count_by (λ y. eqb y.volume v) xs
     first x xs = sum_by-cons (λ (y : Node). cond (eqb y.volume v) 1 0) x xs

@@ -5,9 +5,7 @@ use Rattle.storage_ops.proofs.cutting.word_of.Goals as goal
 pub returns-then-page-size : goal.returns-then-page-size
 returns-then-page-size c =
     let place = place_found c.args.ast.now.entries c.args.uid c.in-Some.place c.search.result c.requires
-    c.search.ensures.only c.in-Some.is in
-    c.get.ensures ∙ ap (λ (t : List Ptw). ptw_at t c.args.page) (c.table-table.ensures.words
-    ∙ ap (λ (n : ℕ). table_at c.args.ast.now.tables n) (sym place))
+    c.search.ensures.only c.in-Some.is in cc (c.get.ensures, c.table-table.ensures.words, place)
 
 pub returns-else-page-size : goal.returns-else-page-size
 returns-else-page-size c =

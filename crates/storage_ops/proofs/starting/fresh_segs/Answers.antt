@@ -1,4 +1,4 @@
-use Rattle.storage_ops.proofs.Prelude.{ℕ, sym, ap, subst, ◌∙◌, ◌≤◌, sum, List, None, no_segments, Paging, plain, Control, no_links, AreFresh, empty_frames, pools_few}
+use Rattle.storage_ops.proofs.Prelude.{ℕ, ap, ◌∙◌, sum, List, None, no_segments, Paging, plain, Control, no_links, AreFresh, empty_frames, pools_few}
 use Rattle.storage_ops.proofs.Fresh.{filed_fresh, rest_fresh}
 use Rattle.storage_ops.proofs.starting.fresh_segs.Given.{Over}
 use Rattle.storage_ops.proofs.starting.fresh_segs.Goals.{In_ok-pages}
@@ -8,8 +8,7 @@ use Rattle.storage_ops.proofs.starting.fresh_segs.Goals as goal
 fresh_pages : (g : Over) (c : In_ok-pages g)
     → AreFresh c.args.script.now c.in_ok-pages.pages.volumes.records c.in_ok-pages.pages.volumes.vtocs
 fresh_pages g c =
-    subst (λ (x : Paging g.row.D.Denot). AreFresh c.args.script.now x.volumes.records x.volumes.vtocs)
-    (sym c.in_ok-pages.ensures) c.requires.fresh
+    rw c.in_ok-pages.ensures c.requires.fresh
 
 pub new-requires-2-clause-records : goal.new-requires-2-clause-records
 new-requires-2-clause-records g c =
@@ -23,7 +22,7 @@ new-requires-2-clause-rest g c =
 
 pub new-requires-2-clause-pools : goal.new-requires-2-clause-pools
 new-requires-2-clause-pools g c =
-    subst (λ (ps : List ℕ). sum ps ≤ 1024) (sym c.pools.ensures)
+    rw c.pools.ensures
     (pools_few c.args.script.now.pools c.processes-processes.ensures.plan.pools)
 
 -- segment control over these pages, with so many places in the pools and so many processes

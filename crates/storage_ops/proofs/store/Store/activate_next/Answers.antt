@@ -1,5 +1,4 @@
-use Rattle.storage_ops.proofs.Prelude.{◌≡◌, ℕ, length, sym, subst, plain, IsGoing, IsNext, HasOneToGo, IsChainDown, Storage}
-use Rattle.seg_control.specs.declared.Next.TheVariants as Next
+use Rattle.storage_ops.proofs.Prelude.{length, plain}
 use Rattle.storage_ops.proofs.Held.{held, shown_held}
 use Rattle.storage_ops.proofs.ChainDown.{may_activate, shown_next, store_next}
 use Rattle.storage_ops.proofs.Tables.{all_drives}
@@ -8,9 +7,9 @@ use Rattle.storage_ops.proofs.store.Store.activate_next.Goals as goal
 pub activate_next-requires-clause-chain : goal.activate_next-requires-clause-chain
 activate_next-requires-clause-chain g c =
     let t = held c.self.view_is in
-    let down = subst (λ (x : Storage g.row.D.Denot). IsChainDown x.accounts c.args.chain.now) (sym c.self.view_is)
+    let down = rw (← c.self.view_is) at
     c.requires.chain in
-    let off = subst (λ (x : Storage g.row.D.Denot). HasOneToGo x.segs.ast c.args.chain.now) (sym c.self.view_is)
+    let off = rw (← c.self.view_is) at
     c.requires.off in
     may_activate (plain g.D.Drive.pages t.segs.pages) t.segs.ast t.segs.links t.accounts t.whos c.args.chain.now
     c.self.invariant c.promise.ensures.tree down (length t.segs.pages.volumes.drives)
@@ -18,18 +17,16 @@ activate_next-requires-clause-chain g c =
 
 pub returns-clause-next : goal.returns-clause-next
 returns-clause-next g c =
-    subst (λ (x : Storage g.row.D.Denot). IsNext x.segs c.activate_next.new.self c.args.chain.now
-    c.activate_next.result) c.self.view_is c.activate_next.ensures.next
+    rw (← c.self.view_is) c.activate_next.ensures.next
 
 pub returns-clause-victim : goal.returns-clause-victim
 returns-clause-victim g c =
-    subst (λ (x : Storage g.row.D.Denot). (place : ℕ) → IsGoing x.segs.ast c.args.chain.now place
-    → c.activate_next.result ≡ Next.Victim place) c.self.view_is c.activate_next.ensures.victim
+    rw (← c.self.view_is) c.activate_next.ensures.victim
 
 pub invariant_of-self : goal.invariant_of-self
 invariant_of-self g c =
     let t = held c.self.view_is in
-    let down = subst (λ (x : Storage g.row.D.Denot). IsChainDown x.accounts c.args.chain.now) (sym c.self.view_is)
+    let down = rw (← c.self.view_is) at
     c.requires.chain in
     store_next g.D.Drive.pages t.segs c.activate_next.new.self t.accounts t.whos c.args.chain.now
     c.activate_next.result c.activate_next.ensures.next c.promise.ensures.tree down c.look.ensures.kept.linked

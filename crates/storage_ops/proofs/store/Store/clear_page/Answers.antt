@@ -1,4 +1,4 @@
-use Rattle.storage_ops.proofs.Prelude.{◌≡◌, ◌&&◌, Bool, false, refl, sym, true, Some, take, replicate, ◌++◌, ◌-◌, ap, subst, ◌∙◌, cleared, is_stored, is_zero_page, Flat, cleared_absent, ActiveSegs, words_at, changed_page, plain, words_in, binding_at, bindings, has_record, is_out, word_of, Unstores, is_here, leaves, Shows, Storage, is_there, picture, Leaving, Null, Plan, is_cleared, page_cleared, paged, count_of}
+use Rattle.storage_ops.proofs.Prelude.{◌≡◌, ◌&&◌, Bool, false, refl, sym, true, Some, take, replicate, ◌++◌, ◌-◌, ap, ◌∙◌, cleared, is_stored, is_zero_page, Flat, cleared_absent, words_at, changed_page, plain, words_in, binding_at, bindings, has_record, is_out, word_of, is_here, leaves, Shows, is_there, picture, Leaving, Null, Plan, paged, count_of}
 use Rattle.storage_ops.proofs.Held.{active_held, held, shown_held, word_held}
 use Rattle.storage_ops.proofs.PagesLess.{cut_told, frame_bound, frame_is_bound, frame_told, leaving_bound, picture_bound, leaving_is, not_leaving, page_words, shown_cut, unstores_cut}
 use Rattle.storage_ops.proofs.Paged.{active_there, blank_shown, word_filed}
@@ -11,8 +11,7 @@ use Rattle.storage_ops.proofs.store.Store.clear_page.Goals as goal
 -- the word of a page that is on its way out
 word : (g : Over) (c : In-Some g) → word_of c.self.inside.segs.ast c.args.uid c.args.page ≡ Leaving c.in-Some.f
 word g c = leaving_is (word_of c.self.inside.segs.ast c.args.uid c.args.page) c.in-Some.f
-    (ap (λ (x : ActiveSegs). leaves (word_of x c.args.uid c.args.page)) (sym c.ast.ensures.ast)
-    ∙ ap leaves (sym c.word_of.ensures) ∙ sym c.leaves.ensures ∙ c.in-Some.is)
+    (cc (c.ast.ensures.ast, ap leaves c.word_of.ensures, c.leaves.ensures, c.in-Some.is))
 
 bound : (g : Over) (c : In-Some g) → binding_at (bindings c.self.inside.segs.pages.core) c.in-Some.f
     ≡ Some (c.args.uid, c.args.page)
@@ -49,8 +48,7 @@ null : (g : Over) (c : In-None g) → word_of c.self.inside.segs.ast c.args.uid 
 null g c = not_leaving (word_of c.self.inside.segs.ast c.args.uid c.args.page)
     (ap is_here (word_held c.self.view_is c.args.uid c.args.page) ∙ c.requires.taken)
     (ap is_out (word_held c.self.view_is c.args.uid c.args.page) ∙ c.requires.out)
-    (ap (λ (x : ActiveSegs). leaves (word_of x c.args.uid c.args.page)) (sym c.ast.ensures.ast)
-    ∙ ap leaves (sym c.word_of.ensures) ∙ sym c.leaves.ensures ∙ c.in-None.is)
+    (cc (c.ast.ensures.ast, ap leaves c.word_of.ensures, c.leaves.ensures, c.in-None.is))
 
 off : (g : Over) (c : In-None g) (p : Plan) (s : Flat) → Shows g.D.Drive.pages p s (held c.self.view_is)
     → is_stored s.stored c.args.uid c.args.page ≡ false
@@ -68,7 +66,7 @@ pub returns-in-Some-clause-rest : goal.returns-in-Some-clause-rest
 returns-in-Some-clause-rest g c =
     let t = held c.self.view_is in
     let n = record t { segs = c.cut_from.new.self } in
-    subst (λ (x : Storage g.row.D.Denot). Unstores x n c.args.uid (λ q. false)) c.self.view_is
+    rw (← c.self.view_is)
     (unstores_cut t n c.args.uid refl c.cut_from.ensures.ast c.cut_from.ensures.bindings c.cut_from.ensures.reads
     c.cut_from.ensures.links c.cut_from.ensures.moving refl c.cut_from.ensures.volumes)
 
@@ -98,10 +96,9 @@ returns-in-None-clause-rest g c = unstores_none c.args.self.now c.args.uid
 pub returns-in-None-clause-shown : goal.returns-in-None-clause-shown
 returns-in-None-clause-shown g c = λ p s h.
     let shown = shown_held c.self.view_is g.D.Drive.pages p s h in
-    subst (λ (x : Flat). Shows g.D.Drive.pages p x c.args.self.now)
-    (sym (cleared_absent s c.args.uid c.args.page c.args.at (λ o at.
+    rw (cleared_absent s c.args.uid c.args.page c.args.at (λ o at.
     blank_shown g.D.Drive.pages p s (held c.self.view_is) c.look.ensures.kept c.self.invariant shown c.args.uid o
-    (ap (is_stored s.stored c.args.uid) at ∙ off g c p s shown)))) h
+    (ap (is_stored s.stored c.args.uid) at ∙ off g c p s shown))) h
 
 pub returns-in-None-clause-zero : goal.returns-in-None-clause-zero
 returns-in-None-clause-zero g c = λ p s h.
@@ -112,8 +109,7 @@ pub returns-in-Some-clause-exact : goal.returns-in-Some-clause-exact
 returns-in-Some-clause-exact g c =
     let t = held c.self.view_is in
     let n = record t { segs = c.cut_from.new.self } in
-    subst (λ (x : Storage g.row.D.Denot). paged g.D.Drive.pages n c.args.uid ≡ page_cleared
-    (paged g.D.Drive.pages x c.args.uid) c.args.at (word_of x.segs.ast c.args.uid c.args.page)) c.self.view_is
+    rw (← c.self.view_is)
     ((λ i. record {
       pages = c.cut_from.ensures.cut i;
       ast = c.cut_from.ensures.ast i;
@@ -125,8 +121,7 @@ returns-in-Some-clause-exact g c =
 pub returns-in-Some-clause-told : goal.returns-in-Some-clause-told
 returns-in-Some-clause-told g c =
     let t = held c.self.view_is in
-    subst (λ (x : Storage g.row.D.Denot). c.cut_from.result ≡ is_cleared (paged g.D.Drive.pages x c.args.uid) c.args.at
-    (word_of x.segs.ast c.args.uid c.args.page)) c.self.view_is
+    rw (← c.self.view_is)
     (cleared_told (paged g.D.Drive.pages t c.args.uid) _ c.args.at c.in-Some.f
     (word_of t.segs.ast c.args.uid c.args.page) c.cut_from.result
     (word g (goal.at.returns-in-Some-clause-told g c).In-Some) c.cut_from.ensures.cut c.cut_from.ensures.zero)
@@ -134,15 +129,13 @@ returns-in-Some-clause-told g c =
 pub returns-in-None-clause-exact : goal.returns-in-None-clause-exact
 returns-in-None-clause-exact g c =
     let t = held c.self.view_is in
-    subst (λ (x : Storage g.row.D.Denot). paged g.D.Drive.pages x c.args.uid ≡ page_cleared
-    (paged g.D.Drive.pages x c.args.uid) c.args.at (word_of x.segs.ast c.args.uid c.args.page)) c.self.view_is
+    rw (← c.self.view_is)
     (null_cleared (paged g.D.Drive.pages t c.args.uid) c.args.at (word_of t.segs.ast c.args.uid c.args.page)
     (null g c)).0
 
 pub returns-in-None-clause-told : goal.returns-in-None-clause-told
 returns-in-None-clause-told g c =
     let t = held c.self.view_is in
-    subst (λ (x : Storage g.row.D.Denot). false ≡ is_cleared (paged g.D.Drive.pages x c.args.uid) c.args.at
-    (word_of x.segs.ast c.args.uid c.args.page)) c.self.view_is
+    rw (← c.self.view_is)
     (null_cleared (paged g.D.Drive.pages t c.args.uid) c.args.at (word_of t.segs.ast c.args.uid c.args.page)
     (null g c)).1

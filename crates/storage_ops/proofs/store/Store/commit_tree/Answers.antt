@@ -1,4 +1,4 @@
-use Rattle.storage_ops.proofs.Prelude.{◌≡◌, ◌<◌, ℕ, length, true, sym, subst, is_command, Command, IsReady, few_pages}
+use Rattle.storage_ops.proofs.Prelude.{length, subst, Command, IsReady, few_pages}
 use Rattle.storage_ops.proofs.Fresh.{dir_volume, new_length, seg_volume}
 use Rattle.storage_ops.proofs.Rest.{rest_accounts, rest_known, rest_made, rest_none}
 use Rattle.storage_ops.proofs.store.Store.commit_tree.Goals as goal
@@ -6,29 +6,29 @@ use Rattle.storage_ops.proofs.store.Store.commit_tree.Goals as goal
 pub make_dir-requires-clause-volume : goal.make_dir-requires-clause-volume
 make_dir-requires-clause-volume g c =
     dir_volume (length c.args.self.now.segs.pages.volumes.drives) c.in-MkDir.path c.in-MkDir.volume
-    (subst (λ (x : Command). is_command (length c.args.self.now.segs.pages.volumes.drives) x ≡ true) c.in-MkDir.is
+    (rw (← c.in-MkDir.is)
     c.requires.ranges)
 
 pub make_seg-requires-clause-process : goal.make_seg-requires-clause-process
 make_seg-requires-clause-process g c =
-    subst (λ (n : ℕ). c.args.process < n) (sym c.accounts-accounts.ensures.store.known.processes) c.requires.process
+    rw c.accounts-accounts.ensures.store.known.processes c.requires.process
 
 pub make_seg-requires-clause-volume : goal.make_seg-requires-clause-volume
 make_seg-requires-clause-volume g c =
     seg_volume (length c.args.self.now.segs.pages.volumes.drives) c.in-MkSeg.path c.in-MkSeg.pages c.in-MkSeg.volume
-    (subst (λ (x : Command). is_command (length c.args.self.now.segs.pages.volumes.drives) x ≡ true) c.in-MkSeg.is
+    (rw (← c.in-MkSeg.is)
     c.requires.ranges)
 
 pub make_seg-requires-clause-most : goal.make_seg-requires-clause-most
 make_seg-requires-clause-most g c =
     few_pages (length c.args.self.now.segs.pages.volumes.drives) c.in-MkSeg.path c.in-MkSeg.pages c.in-MkSeg.volume
-    (subst (λ (x : Command). is_command (length c.args.self.now.segs.pages.volumes.drives) x ≡ true) c.in-MkSeg.is
+    (rw (← c.in-MkSeg.is)
     c.requires.ranges)
 
 pub set_length-requires-clause-most : goal.set_length-requires-clause-most
 set_length-requires-clause-most g c =
     new_length (length c.args.self.now.segs.pages.volumes.drives) c.in-Length.path c.in-Length.pages
-    (subst (λ (x : Command). is_command (length c.args.self.now.segs.pages.volumes.drives) x ≡ true) c.in-Length.is
+    (rw (← c.in-Length.is)
     c.requires.ranges)
 
 pub truncate-requires-clause-past : goal.truncate-requires-clause-past

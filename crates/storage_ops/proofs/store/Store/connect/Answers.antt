@@ -1,6 +1,7 @@
-use Rattle.storage_ops.proofs.Prelude.{refl, sym, subst, plain, Control, place_of, linked, IsRight, Shows, Storage}
+use Rattle.storage_ops.proofs.Prelude.{refl, plain, place_of, linked}
 use Rattle.storage_ops.proofs.Held.{active_held, held, shown_held, store_after}
-use Rattle.storage_ops.proofs.LinkLaws.{shown_linked, store_linked}
+use Rattle.storage_ops.proofs.Less.{shown_linked}
+use Rattle.storage_ops.proofs.LinkLaws.{store_linked}
 use Rattle.storage_ops.proofs.Paged.{active_place}
 use Rattle.storage_ops.proofs.store.Store.connect.Goals as goal
 
@@ -8,8 +9,7 @@ pub invariant_of-self : goal.invariant_of-self
 invariant_of-self g c =
     let t = held c.self.view_is in
     let active = active_held c.self.view_is c.args.uid c.requires.active in
-    let right = subst (λ (x : Storage g.row.D.Denot). IsRight x.accounts.nodes x.whos c.args.process c.args.uid
-    c.args.mode c.args.pages) (sym c.self.view_is) c.requires.right in
+    let right = rw (← c.self.view_is) at c.requires.right in
     store_after g.D.Drive.pages t.accounts t.whos c.connect.ensures.effect
     (store_linked (plain g.D.Drive.pages t.segs.pages) t.segs.ast t.accounts t.whos t.segs.links c.args.process
     c.args.number (place_of t.segs.ast.entries c.args.uid) c.args.pages c.args.uid c.args.mode
@@ -18,8 +18,7 @@ invariant_of-self g c =
 pub returns-clause-shown : goal.returns-clause-shown
 returns-clause-shown g c = λ p s h.
     let t = held c.self.view_is in
-    subst (λ (x : Control g.row.D.Denot). Shows g.D.Drive.pages p s (record t { segs = x }))
-    (sym c.connect.ensures.effect)
+    rw c.connect.ensures.effect
     (shown_linked g.D.Drive.pages p s t (linked t.segs.links c.args.process c.args.number
     (place_of t.segs.ast.entries c.args.uid) c.args.mode c.args.pages) refl
     (shown_held c.self.view_is g.D.Drive.pages p s h))

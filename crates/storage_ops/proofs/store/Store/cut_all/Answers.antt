@@ -1,4 +1,4 @@
-use Rattle.storage_ops.proofs.Prelude.{sym, subst, plain, Control, Shows}
+use Rattle.storage_ops.proofs.Prelude.{plain}
 use Rattle.storage_ops.proofs.Held.{held, shown_held, store_after}
 use Rattle.storage_ops.proofs.Less.{shown_all_cut, store_all_cut}
 use Rattle.storage_ops.proofs.store.Store.cut_all.Goals as goal
@@ -12,6 +12,5 @@ invariant_of-self g c =
 pub returns-clause-shown : goal.returns-clause-shown
 returns-clause-shown g c = λ p s h.
     let t = held c.self.view_is in
-    subst (λ (x : Control g.row.D.Denot). Shows g.D.Drive.pages p s (record t { segs = x }))
-    (sym c.cut_all.ensures.effect)
+    rw c.cut_all.ensures.effect
     (shown_all_cut g.D.Drive.pages p s t c.args.aste (shown_held c.self.view_is g.D.Drive.pages p s h))

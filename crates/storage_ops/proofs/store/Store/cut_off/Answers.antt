@@ -1,4 +1,4 @@
-use Rattle.storage_ops.proofs.Prelude.{◌≡◌, ◌+◌, ◌/◌, ◌%◌, subst, nat_le, without_pages, Flat, even_cut, whole_cut, Shows, home_of, pages_in, Home, word_of, cut_by, paged}
+use Rattle.storage_ops.proofs.Prelude.{◌+◌, ◌/◌, nat_le, without_pages, even_cut, whole_cut, home_of, pages_in, paged}
 use Rattle.storage_ops.proofs.Rest.{cuts_even, cuts_odd}
 use Rattle.storage_ops.proofs.Unstored.{home_still, taken_past}
 use Rattle.storage_ops.proofs.CutExactly.{cut_evenly, cut_oddly, others_both}
@@ -18,12 +18,11 @@ returns-else-words-eq0-clause-pages g c =
     c.cut_page.result (λ is. c.if-words-eq0.false is) c.drop_from-else-words-eq0.ensures.rest c.cut_page.ensures.rest
 
 pub returns-then-words-eq0-clause-shown : goal.returns-then-words-eq0-clause-shown
-returns-then-words-eq0-clause-shown g c = λ p s h. subst (λ (x : Flat). Shows g.D.Drive.pages p x c.drop_from.new.self)
-    (even_cut s c.args.uid c.args.words c.if-words-eq0.true) (c.drop_from.ensures.shown p s h)
+returns-then-words-eq0-clause-shown g c = λ p s h.
+    rw (← even_cut s c.args.uid c.args.words c.if-words-eq0.true) (c.drop_from.ensures.shown p s h)
 
 pub returns-else-words-eq0-clause-shown : goal.returns-else-words-eq0-clause-shown
-returns-else-words-eq0-clause-shown g c = λ p s h. subst (λ (x : Flat). Shows g.D.Drive.pages p x c.cut_page.new.self)
-    (whole_cut s c.args.uid c.args.words)
+returns-else-words-eq0-clause-shown g c = λ p s h. rw (← whole_cut s c.args.uid c.args.words)
     (c.cut_page.ensures.shown p (without_pages s c.args.uid (λ q. nat_le (c.args.words / 1024 + 1) q))
     (c.drop_from-else-words-eq0.ensures.shown p s h))
 
@@ -39,10 +38,7 @@ returns-else-words-eq0-clause-exact g c =
     cut_oddly (paged g.D.Drive.pages c.args.self.now c.args.uid) (paged g.D.Drive.pages mid c.args.uid) _
     (home_of c.args.self.now.accounts c.args.uid) c.args.uid (pages_in c.args.self.now.accounts.nodes c.args.uid)
     c.args.words (λ is. c.if-words-eq0.false is) c.drop_from-else-words-eq0.ensures.exact
-    (subst (λ (h : Home). paged g.D.Drive.pages c.cut_page.new.self c.args.uid ≡ cut_by
-    (paged g.D.Drive.pages mid c.args.uid) h c.args.uid (c.args.words / 1024) (c.args.words % 1024)
-    (word_of mid.segs.ast c.args.uid (c.args.words / 1024)))
-    (home_still c.args.self.now mid c.args.uid _ c.args.uid c.drop_from-else-words-eq0.ensures.rest)
+    (rw (← home_still c.args.self.now mid c.args.uid _ c.args.uid c.drop_from-else-words-eq0.ensures.rest)
     c.cut_page.ensures.exact)
 
 pub returns-else-words-eq0-clause-others : goal.returns-else-words-eq0-clause-others

@@ -1,4 +1,4 @@
-use Rattle.storage_ops.proofs.Prelude.{◌≡◌, ℕ, ◌/◌, ◌%◌, Bool, true, false, cond, eqb, refl, sym, ap, subst, ◌∙◌, arith, cleared, has_cleared, without_pages, IsActive, plain, is_away, Shows, Storage, home_of, is_there, Home, word_of, page_cut, paged}
+use Rattle.storage_ops.proofs.Prelude.{◌≡◌, ℕ, ◌/◌, ◌%◌, true, false, eqb, refl, sym, ap, ◌∙◌, arith, cleared, has_cleared, plain, is_away, Storage, home_of, is_there, word_of, paged}
 use Rattle.storage_ops.proofs.Paged.{active_there}
 use Rattle.storage_ops.proofs.Unstored.{idle_still, unstores_both, active_still, home_still}
 use Rattle.storage_ops.proofs.CutExactly.{cut_dropped, cut_kept, others_both}
@@ -6,7 +6,7 @@ use Rattle.storage_ops.proofs.store.Store.cut_page.Goals as goal
 
 pub home-home-requires : goal.home-home-requires
 home-home-requires g c =
-    let active = subst (λ (x : Storage g.row.D.Denot). IsActive x.segs.ast.entries c.args.uid) (sym c.self.view_is)
+    let active = rw (← c.self.view_is) at
     c.requires.past.active in
     ap (λ (x : Storage g.row.D.Denot). is_there x.accounts.nodes c.args.uid) (sym c.self.view_is)
     ∙ active_there (plain g.D.Drive.pages c.self.inside.segs.pages) c.self.inside.segs.ast c.self.inside.segs.links
@@ -44,18 +44,14 @@ returns-then-clear_page-clause-shown g c = λ p s h.
     ∙ c.if-clear_page.true in
     let done = c.drop_page.ensures.shown p (cleared s c.args.uid page (c.args.words % 1024))
     (c.clear_page.ensures.shown p s h) in
-    subst (λ (z : Bool). Shows g.D.Drive.pages p
-    (cond z (without_pages (cleared s c.args.uid page (c.args.words % 1024)) c.args.uid (λ q. eqb q page))
-    (cleared s c.args.uid page (c.args.words % 1024))) c.drop_page.new.self) (sym is) done
+    rw is done
 
 pub returns-else-clear_page-clause-shown : goal.returns-else-clear_page-clause-shown
 returns-else-clear_page-clause-shown g c = λ p s h.
     let page : ℕ = c.args.words / 1024 in
     let is : has_cleared s c.args.uid page (c.args.words % 1024) ≡ false = sym (c.clear_page.ensures.zero p s h)
     ∙ c.if-clear_page.false in
-    subst (λ (z : Bool). Shows g.D.Drive.pages p
-    (cond z (without_pages (cleared s c.args.uid page (c.args.words % 1024)) c.args.uid (λ q. eqb q page))
-    (cleared s c.args.uid page (c.args.words % 1024))) c.clear_page.new.self) (sym is)
+    rw is
     (c.clear_page.ensures.shown p s h)
 
 pub returns-then-clear_page-clause-exact : goal.returns-then-clear_page-clause-exact
@@ -67,11 +63,8 @@ returns-then-clear_page-clause-exact g c =
     (home_of c.args.self.now.accounts c.args.uid) c.args.uid page (c.args.words % 1024) word
     (word_of c.clear_page.new.self.segs.ast c.args.uid page) (sym c.clear_page.ensures.told ∙ c.if-clear_page.true)
     c.clear_page.ensures.exact (c.clear_page.ensures.rest.kept page refl)
-    (subst (λ (h : Home). paged g.D.Drive.pages c.drop_page.new.self c.args.uid ≡ page_cut
-    (paged g.D.Drive.pages c.clear_page.new.self c.args.uid) h c.args.uid page
-    (word_of c.clear_page.new.self.segs.ast c.args.uid page))
-    (home_still c.args.self.now c.clear_page.new.self c.args.uid (λ q. false) c.args.uid c.clear_page.ensures.rest)
-    c.drop_page.ensures.exact)
+    (rw (← home_still c.args.self.now c.clear_page.new.self c.args.uid (λ q. false) c.args.uid
+    c.clear_page.ensures.rest) c.drop_page.ensures.exact)
 
 pub returns-else-clear_page-clause-exact : goal.returns-else-clear_page-clause-exact
 returns-else-clear_page-clause-exact g c =

@@ -1,4 +1,4 @@
-use Rattle.storage_ops.proofs.Prelude.{◌≡◌, ◌<◌, ℕ, is_some, List, true, false, eqb, refl, sym, ap, subst, ◌∙◌, arith, is_err, ne_eqb, Node, quota_in, as_term, has_inferior, branch_at, Flat, delete_done, delete_refused, delete_told, from_false, IsRemovable, IsRemovableAt, TakesOut, Shows, Storage, is_there, branch_refuses, Erases}
+use Rattle.storage_ops.proofs.Prelude.{◌≡◌, ◌<◌, ℕ, is_some, List, true, false, eqb, refl, sym, ap, ◌∙◌, arith, is_err, ne_eqb, Node, quota_in, as_term, has_inferior, branch_at, delete_done, delete_refused, delete_told, from_false, Storage, is_there, branch_refuses}
 use Rattle.storage_ops.proofs.Held.{tree_held}
 use Rattle.storage_ops.proofs.Rest.{out_still, rest_both, rest_none}
 use Rattle.storage_ops.proofs.CutExactly.{erased_exactly, same_uid}
@@ -34,9 +34,8 @@ returns-then-quota_of-gt0-clause-answer g c = λ p s h.
 
 pub make_inactive-requires-clause-ready : goal.make_inactive-requires-clause-ready
 make_inactive-requires-clause-ready g c =
-    let ready = subst (λ (x : Storage g.row.D.Denot). IsRemovableAt x.accounts x.segs c.args.path.now)
-    (sym c.self.view_is) c.requires.ready in
-    subst (λ (x : Storage g.row.D.Denot). IsRemovable x.segs c.in-Ok.node.now.uid) c.self.view_is
+    let ready = rw (← c.self.view_is) at c.requires.ready in
+    rw (← c.self.view_is)
     (ready (as_term (quota_in c.self.inside.accounts.nodes) c.in-Ok.node.now) c.in-Ok.ensures.ok)
 
 pub returns-clause-answer : goal.returns-clause-answer
@@ -53,8 +52,7 @@ pub returns-clause-effect : goal.returns-clause-effect
 returns-clause-effect g c = λ p s h.
     let tree = tree_held c.self.view_is s h.tree in
     let left = c.make_inactive.ensures.shown p s h in
-    subst (λ (x : Flat). Shows g.D.Drive.pages p x c.remove.new.self)
-    (left.2 ∙ sym (delete_done s c.args.path.now
+    rw (← left.2 ∙ sym (delete_done s c.args.path.now
     (as_term (quota_in c.self.inside.accounts.nodes) c.in-Ok.node.now)
     (ap (λ (ns : List Node). branch_at ns c.args.path.now) tree.nodes ∙ c.in-Ok.ensures.ok)))
     (c.remove.ensures.shown p left.0 left.1)
@@ -102,8 +100,7 @@ pub returns-clause-out : goal.returns-clause-out
 returns-clause-out g c = λ on n found.
     let here = ap (λ (x : Storage g.row.D.Denot). branch_at x.accounts.nodes c.args.path.now) (sym c.self.view_is)
     ∙ c.in-Ok.ensures.ok in
-    subst (λ (u : ℕ). TakesOut c.args.self.now c.remove.new.self u)
-    (same_uid (as_term (quota_in c.self.inside.accounts.nodes) c.in-Ok.node.now) n (sym here ∙ found))
+    rw (← same_uid (as_term (quota_in c.self.inside.accounts.nodes) c.in-Ok.node.now) n (sym here ∙ found))
     (out_still c.args.self.now c.make_inactive.new.self c.remove.new.self c.in-Ok.node.now.uid
     c.make_inactive.ensures.out c.remove.ensures.ast c.remove.ensures.core)
 
@@ -116,8 +113,7 @@ pub returns-clause-exact : goal.returns-clause-exact
 returns-clause-exact g c = λ on n found.
     let here = ap (λ (x : Storage g.row.D.Denot). branch_at x.accounts.nodes c.args.path.now) (sym c.self.view_is)
     ∙ c.in-Ok.ensures.ok in
-    subst (λ (u : ℕ). Erases g.D.Drive.pages c.args.self.now c.remove.new.self u)
-    (same_uid (as_term (quota_in c.self.inside.accounts.nodes) c.in-Ok.node.now) n (sym here ∙ found))
+    rw (← same_uid (as_term (quota_in c.self.inside.accounts.nodes) c.in-Ok.node.now) n (sym here ∙ found))
     (erased_exactly g.D.Drive.pages c.args.self.now c.make_inactive.new.self c.remove.new.self c.in-Ok.node.now.uid
     c.make_inactive.ensures.active c.make_inactive.ensures.still c.make_inactive.ensures.home c.remove.ensures.erased
     c.remove.ensures.ast)

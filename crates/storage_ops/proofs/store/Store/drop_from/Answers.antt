@@ -1,4 +1,4 @@
-use Rattle.storage_ops.proofs.Prelude.{◌≡◌, ◌≤◌, ◌<◌, ◌≢◌, ◌+◌, ◌-◌, ℕ, refl, Some, false, eqb, sym, ap, subst, ◌∙◌, arith, without_pages, Flat, all_between, between, more_between, none_between, binding_at, bindings, plain, word_of, is_here, Shows, Storage, home_of, is_there, pages_in, Home, range_with_len, page_cut, paged, pages_cut}
+use Rattle.storage_ops.proofs.Prelude.{◌≡◌, ◌≤◌, ◌<◌, ◌+◌, ◌-◌, ℕ, refl, false, eqb, sym, ap, ◌∙◌, arith, without_pages, all_between, between, more_between, none_between, plain, word_of, is_here, Storage, home_of, is_there, pages_in, range_with_len, paged, pages_cut}
 use Rattle.storage_ops.proofs.Held.{active_held, held, shown_held}
 use Rattle.storage_ops.proofs.Lengths.{filed_there}
 use Rattle.storage_ops.proofs.Paged.{active_there, blank_shown, past_unfiled, unfiled_unframed, word_filed}
@@ -18,9 +18,8 @@ loop-page-init g c =
     let t = held c.self.view_is in (
       λ p s h.
           let shown = shown_held c.self.view_is g.D.Drive.pages p s h in
-          subst (λ (x : Flat). Shows g.D.Drive.pages p x c.args.self.now)
-          (sym (none_between s c.args.uid c.args.from
-          (blank_shown g.D.Drive.pages p s t c.look.ensures.kept c.self.invariant shown))) h,
+          rw (none_between s c.args.uid c.args.from
+          (blank_shown g.D.Drive.pages p s t c.look.ensures.kept c.self.invariant shown)) h,
       unstores_same c.args.self.now c.args.self.now c.args.uid (λ q. false) (between c.args.from c.args.from)
           (λ q. between_none c.args.from q) (unstores_none c.args.self.now c.args.uid),
       omega arith,
@@ -48,8 +47,7 @@ unstore-requires-clause-taken g c =
 
 pub loop-page-preserved : goal.loop-page-preserved
 loop-page-preserved g c = (
-  λ p s h. subst (λ (x : Flat). Shows g.D.Drive.pages p x c.unstore.new.self)
-      (more_between s c.args.uid c.args.from c.loop-page.page c.loop-page.invariant.2)
+  λ p s h. rw (← more_between s c.args.uid c.args.from c.loop-page.page c.loop-page.invariant.2)
       (c.unstore.ensures.shown p (without_pages s c.args.uid (between c.args.from c.loop-page.page))
       (c.loop-page.invariant.0 p s h)),
   unstores_same c.args.self.now c.unstore.new.self c.args.uid _ (between c.args.from (c.loop-page.page + 1))
@@ -61,10 +59,7 @@ loop-page-preserved g c = (
   cut_next (paged g.D.Drive.pages c.args.self.now c.args.uid) (paged g.D.Drive.pages c.loop-page.self c.args.uid)
       (paged g.D.Drive.pages c.unstore.new.self c.args.uid) (home_of c.args.self.now.accounts c.args.uid) c.args.uid
       c.args.from c.loop-page.page c.loop-page.invariant.2 c.loop-page.invariant.3
-      (subst (λ (h : Home). paged g.D.Drive.pages c.unstore.new.self c.args.uid ≡ page_cut
-      (paged g.D.Drive.pages c.loop-page.self c.args.uid) h c.args.uid c.loop-page.page
-      (word_of c.loop-page.self.segs.ast c.args.uid c.loop-page.page))
-      (home_still c.args.self.now c.loop-page.self c.args.uid (between c.args.from c.loop-page.page) c.args.uid
+      (rw (← home_still c.args.self.now c.loop-page.self c.args.uid (between c.args.from c.loop-page.page) c.args.uid
       c.loop-page.invariant.1) c.unstore.ensures.exact),
   others_both c.args.self.now.accounts c.loop-page.self.accounts c.unstore.new.self.accounts c.args.uid
       c.loop-page.invariant.4 c.unstore.ensures.others,
@@ -85,8 +80,7 @@ returns-clause-shown g c = λ p s h.
     let size : pages_in t.accounts.nodes c.args.uid ≡ c.pages_of-page-end.result = sym c.pages_of-page-end.ensures in
     let past : pages_in t.accounts.nodes c.args.uid ≤ c.loop-page.page =
     omega (arith, size, c.loop-page-test.false) in
-    subst (λ (x : Flat). Shows g.D.Drive.pages p x c.loop-page.self)
-    (all_between s c.args.uid c.args.from c.loop-page.page
+    rw (← all_between s c.args.uid c.args.from c.loop-page.page
     (blank_shown g.D.Drive.pages p s t c.look.ensures.kept c.self.invariant shown)
     (λ q on. (let lt : q < pages_in t.accounts.nodes c.args.uid =
     c.self.invariant.counted.inside c.args.uid q there
@@ -108,8 +102,7 @@ returns-clause-rest g c =
     (λ q le. ap (λ (x : Storage g.row.D.Denot). word_of x.segs.ast c.args.uid q) (sym c.self.view_is)
     ∙ unrecorded (word_of t.segs.ast c.args.uid q) (sym (word_filed now t.segs.ast t.segs.links t.accounts t.whos
     c.look.ensures.kept c.self.invariant c.args.uid active q) ∙ off q le))
-    (λ q le. subst (λ (x : Storage g.row.D.Denot). (f : ℕ) → binding_at (bindings x.segs.pages.core) f
-    ≢ Some (c.args.uid, q)) c.self.view_is
+    (λ q le. rw (← c.self.view_is)
     (unfiled_unframed now t.segs.ast t.segs.links t.accounts t.whos c.look.ensures.kept c.self.invariant
     c.args.uid q (off q le)))
 

@@ -1,4 +1,4 @@
-use Rattle.storage_ops.proofs.Prelude.{◌≡◌, ◌-◌, refl, sym, ap, subst, ◌∙◌, inl, true, ActiveSegs, Home, plain, is_away, Links, word_of, IsHomeOf, IsStore, Storage, LosesPage, count_of}
+use Rattle.storage_ops.proofs.Prelude.{◌≡◌, ◌-◌, refl, ap, ◌∙◌, inl, true, ActiveSegs, plain, is_away, Links, word_of, count_of}
 use Rattle.storage_ops.proofs.Held.{active_held, held, home_held, word_held}
 use Rattle.storage_ops.proofs.PagesLess.{drop_done, may_drop, shown_dropped, unstores_one, MayDrop}
 use Rattle.storage_ops.proofs.Dropped.{store_dropped, HasDropped}
@@ -34,8 +34,7 @@ drop_page-requires-clause-page g c = (may g (goal.at.drop_page-requires-clause-p
 
 pub drop_page-requires-clause-home : goal.drop_page-requires-clause-home
 drop_page-requires-clause-home g c =
-    inl (subst (λ (h : Home). IsHomeOf c.self.inside.segs.pages.volumes.vtocs c.args.uid h)
-    (sym (home_held c.self.view_is c.args.uid c.args.home c.requires.may.home))
+    inl (rw (home_held c.self.view_is c.args.uid c.args.home c.requires.may.home)
     (may g (goal.at.drop_page-requires-clause-home g c).After-look).home)
 
 pub credit-requires-clause-segment : goal.credit-requires-clause-segment
@@ -48,8 +47,7 @@ pub invariant_of-self : goal.invariant_of-self
 invariant_of-self g c =
     let old = plain g.D.Drive.pages c.self.inside.segs.pages in
     let now = plain g.D.Drive.pages c.drop_page.new.self.pages in
-    subst (λ (x : Links). IsStore now c.drop_page.new.self.ast x c.credit.new.self c.self.inside.whos.items)
-    (sym c.drop_page.ensures.links)
+    rw c.drop_page.ensures.links
     (store_dropped old now c.self.inside.segs.ast c.drop_page.new.self.ast c.self.inside.segs.links
     c.self.inside.accounts c.credit.new.self c.self.inside.whos.items c.args.uid c.args.page (done g c)
     (may g (goal.at.invariant_of-self g c).After-look).some
@@ -61,7 +59,7 @@ returns g c =
     let t = held c.self.view_is in
     let n = record t { accounts = c.credit.new.self; segs = c.drop_page.new.self } in
     let kept = (goal.at.returns g c).After-look in
-    subst (λ (x : Storage g.row.D.Denot). LosesPage g.D.Drive.pages x n c.args.uid c.args.page) c.self.view_is
+    rw (← c.self.view_is)
     (record {
       rest = unstores_one g.D.Drive.pages t n c.args.uid c.args.page c.args.home
           (active_held c.self.view_is c.args.uid c.requires.may.active) c.look.ensures.kept.places (may g kept)

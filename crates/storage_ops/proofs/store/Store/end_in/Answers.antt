@@ -1,4 +1,4 @@
-use Rattle.storage_ops.proofs.Prelude.{refl, sym, ap, subst, ◌∙◌, ActiveSegs, plain, Links, IsStore}
+use Rattle.storage_ops.proofs.Prelude.{refl, ap, ◌∙◌, ActiveSegs, plain}
 use Rattle.storage_ops.proofs.Held.{held, home_for_held, shown_held}
 use Rattle.storage_ops.proofs.Still.{here_entries, own_home, shown_kept, store_still}
 use Rattle.storage_ops.proofs.store.Store.end_in.Goals as goal
@@ -6,9 +6,7 @@ use Rattle.storage_ops.proofs.store.Store.end_in.Goals as goal
 pub invariant_of-self : goal.invariant_of-self
 invariant_of-self g c =
     let same = here_entries c.self.inside.segs.ast c.args.uid c.args.p c.args.f c.end_in.result in
-    subst (λ (x : Links). IsStore (plain g.D.Drive.pages c.end_in.new.self.pages) c.end_in.new.self.ast x
-    c.self.inside.accounts c.self.inside.whos.items)
-    (sym c.end_in.ensures.links)
+    rw c.end_in.ensures.links
     (store_still (plain g.D.Drive.pages c.self.inside.segs.pages)
     (plain g.D.Drive.pages c.end_in.new.self.pages) c.self.inside.segs.ast
     c.end_in.new.self.ast c.self.inside.segs.links c.self.inside.accounts c.self.inside.whos.items

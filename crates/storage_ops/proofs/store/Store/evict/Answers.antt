@@ -1,4 +1,4 @@
-use Rattle.storage_ops.proofs.Prelude.{◌≡◌, IsOk, refl, sym, ap, subst, ◌≤◌, true, frame_at, Leaving, number_in, plain, record_of, words_in, NeedsNoWrite, has_record, Links, word_of, MayRelease, page_left, IsStore, Shows, Storage, has_segment, count_of}
+use Rattle.storage_ops.proofs.Prelude.{◌≡◌, refl, sym, ap, subst, ◌≤◌, true, frame_at, Leaving, number_in, plain, record_of, words_in, has_record, word_of, MayRelease, Storage, has_segment, count_of}
 use Rattle.storage_ops.proofs.Held.{active_held, held, home_for_held, leaving_held, shown_held}
 use Rattle.storage_ops.proofs.PageFacts.{page_counted, page_segment}
 use Rattle.storage_ops.proofs.PageLeft.{may_release, shown_left, store_left}
@@ -28,8 +28,7 @@ invariant_of-self g c =
     let active = active_held c.self.view_is c.args.uid c.requires.active in
     let home = home_for_held c.self.view_is g.D.Drive.pages c.args.uid c.args.home c.requires.home in
     let leaving = leaving_held c.self.view_is c.args.uid c.args.f c.requires.leaving in
-    subst (λ (x : Links). IsStore (plain g.D.Drive.pages c.evict-left.new.self.pages) c.evict-left.new.self.ast x
-    c.settle.new.accounts c.self.inside.whos.items) (sym c.evict-left.ensures.links)
+    rw c.evict-left.ensures.links
     (store_left (plain g.D.Drive.pages t.segs.pages) (plain g.D.Drive.pages c.evict-left.new.self.pages) t.segs.ast
     c.evict-left.new.self.ast t.segs.links t.accounts c.settle.new.accounts t.whos c.args.uid c.args.home
     (number_in (frame_at t.segs.pages.core c.args.f)) c.args.f c.look.ensures.kept c.self.invariant active
@@ -46,8 +45,7 @@ returns-clause-shown g c = λ p s h.
     let active = active_held c.self.view_is c.args.uid c.requires.active in
     let home = home_for_held c.self.view_is g.D.Drive.pages c.args.uid c.args.home c.requires.home in
     let leaving = leaving_held c.self.view_is c.args.uid c.args.f c.requires.leaving in
-    subst (λ (x : Storage g.row.D.Denot). Shows g.D.Drive.pages p (page_left s c.args.uid
-    (number_in (frame_at x.segs.pages.core c.args.f)) c.evict-left.result) u) c.self.view_is
+    rw (← c.self.view_is)
     (shown_left g.D.Drive.pages p s t u c.args.uid c.args.home (number_in (frame_at t.segs.pages.core c.args.f))
     c.args.f c.evict-left.result c.look.ensures.kept c.self.invariant active
     (own_home (plain g.D.Drive.pages t.segs.pages) t.accounts c.args.uid c.args.home _ c.self.invariant.housed home)
@@ -65,9 +63,7 @@ settle-requires-clause-stored g c =
 
 pub returns-clause-no_call : goal.returns-clause-no_call
 returns-clause-no_call g c =
-    subst (λ (x : Storage g.row.D.Denot). NeedsNoWrite (plain g.D.Drive.pages x.segs.pages) c.args.f
-    → IsOk c.evict-left.result × (c.evict-left.new.self.pages.volumes.drives ≡ x.segs.pages.volumes.drives))
-    c.self.view_is c.evict-left.ensures.no_call
+    rw (← c.self.view_is) c.evict-left.ensures.no_call
 
 pub returns-clause-may : goal.returns-clause-may
 returns-clause-may g c = λ p s h is.

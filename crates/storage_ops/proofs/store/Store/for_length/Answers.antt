@@ -1,4 +1,4 @@
-use Rattle.storage_ops.proofs.Prelude.{true, false, ap, subst, sym, ◌∙◌, AccountMaps, quota_in, as_term, length_refused, length_told, Leads, refusal}
+use Rattle.storage_ops.proofs.Prelude.{true, false, ap, sym, ◌∙◌, AccountMaps, quota_in, as_term, length_refused, length_told, refusal}
 use Rattle.storage_ops.proofs.FoundLaws.{leads_segment}
 use Rattle.storage_ops.proofs.PathRefusals.{refusal_told, segment_refuses}
 use Rattle.storage_ops.proofs.store.Store.for_length.Goals as goal
@@ -19,7 +19,7 @@ returns-else-stores_from-clause-refusal g c = λ p s h. ap refusal
 
 pub returns-else-stores_from-clause-leads : goal.returns-else-stores_from-clause-leads
 returns-else-stores_from-clause-leads g c =
-    subst (λ (a : AccountMaps). Leads a.nodes c.args.path.now c.in-Ok.node.now.uid) c.accounts.ensures.accounts
+    rw (← c.accounts.ensures.accounts)
     (leads_segment c.accounts.result.now.nodes c.args.path.now
     (as_term (quota_in c.accounts.result.now.nodes) c.in-Ok.node.now) c.in-Ok.ensures.ok)
 

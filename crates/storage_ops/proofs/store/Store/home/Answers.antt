@@ -1,4 +1,4 @@
-use Rattle.storage_ops.proofs.Prelude.{◌<◌, length, sym, subst, ℕ, arith, Storage, home_of, volume_found}
+use Rattle.storage_ops.proofs.Prelude.{arith, home_of, volume_found}
 use Rattle.storage_ops.proofs.Held.{there_held}
 use Rattle.storage_ops.proofs.Tables.{all_drives, homed_volume}
 use Rattle.storage_ops.proofs.store.Store.home.Goals as goal
@@ -9,7 +9,5 @@ returns-clause-volume g c =
     let lt = homed_volume c.self.inside.segs.pages.volumes.vtocs (home_of c.self.inside.accounts c.args.uid) c.args.uid
     (c.self.invariant.housed.homes c.args.uid there) in
     let all = all_drives g.D.Drive.pages c.self.inside.segs.pages.volumes c.look.ensures.parts in
-    subst (λ (n : ℕ). n < length c.args.self.now.segs.pages.volumes.drives)
-    (sym (volume_found c.self.inside.accounts.nodes c.args.uid _ c.in-Some.ensures.some))
-    (subst (λ (x : Storage g.row.D.Denot). (home_of c.self.inside.accounts c.args.uid).volume < length
-    x.segs.pages.volumes.drives) c.self.view_is (omega (arith, all, lt)))
+    rw (volume_found c.self.inside.accounts.nodes c.args.uid _ c.in-Some.ensures.some)
+    (rw (← c.self.view_is) (omega (arith, all, lt)))

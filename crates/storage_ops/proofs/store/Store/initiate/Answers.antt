@@ -1,4 +1,4 @@
-use Rattle.storage_ops.proofs.Prelude.{ℕ, List, Option, sym, subst, ◌∙◌, with_number, quota_in, as_term, plain, Control, kst_at, Shows, answered, after_initiate, segment_refuses, uid_below}
+use Rattle.storage_ops.proofs.Prelude.{ℕ, List, Option, ◌∙◌, with_number, quota_in, as_term, plain, kst_at, segment_refuses, uid_below}
 use Rattle.storage_ops.proofs.Held.{held, shown_held, store_after}
 use Rattle.storage_ops.proofs.Known.{initiate_answered, known_store, under_with}
 use Rattle.storage_ops.proofs.NamingLaws.{initiate_refused, initiate_told}
@@ -40,8 +40,7 @@ pub returns-clause-effect : goal.returns-clause-effect
 returns-clause-effect g c = λ p s h.
     let t = held c.self.view_is in
     let before = shown_held c.self.view_is g.D.Drive.pages p s h in
-    subst (λ (x : Control g.row.D.Denot). Shows g.D.Drive.pages p (answered c.known_or_full.result s
-    (after_initiate s c.args.process c.args.path.now)) (record t { segs = x })) (sym c.make_known.ensures.effect)
+    rw c.make_known.ensures.effect
     (initiate_answered g.D.Drive.pages p s t c.args.process c.args.path.now
     (as_term (quota_in c.self.inside.accounts.nodes) c.in-Ok.node.now) c.make_known.result c.known_or_full.result
     before c.in-Ok.ensures.ok

@@ -1,4 +1,4 @@
-use Rattle.storage_ops.proofs.Prelude.{true, false, List, Option, ℕ, is_some, sym, ap, ◌∙◌, ◌≡◌, Bool, cond, Some, None, number_for, quota_in, as_term, refusal, Shows, Plan, Flat, initiate_reply}
+use Rattle.storage_ops.proofs.Prelude.{true, false, sym, ap, ◌∙◌, ◌≡◌, Bool, cond, Some, None, quota_in, as_term, refusal, Shows, Plan, Flat, initiate_reply}
 use Rattle.book.specs.declared.replies.Reply.TheVariants as reply
 use Rattle.storage_ops.proofs.Held.{tree_held, known_held}
 use Rattle.storage_ops.proofs.NamingLaws.{initiate_free, initiate_refused}
@@ -14,8 +14,7 @@ free g c p s h b is =
     initiate_free s c.self.inside.accounts.nodes c.self.inside.segs.links.known
     (tree_held c.self.view_is s h.tree).nodes (known_held c.self.view_is s.known h.known) c.args.process
     c.args.path.now (as_term (quota_in c.self.inside.accounts.nodes) c.in-Ok.node.now) b c.in-Ok.ensures.ok
-    (is ∙ c.has_number_for.ensures
-    ∙ ap (λ (kst : List (Option ℕ)). is_some (number_for kst c.in-Ok.node.now.uid)) c.kst.ensures.kst)
+    (cc (is, c.has_number_for.ensures, c.kst.ensures.kst))
 
 pub returns-then-has_number_for : goal.returns-then-has_number_for
 returns-then-has_number_for g c = λ p s h.

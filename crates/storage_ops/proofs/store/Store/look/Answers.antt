@@ -1,4 +1,4 @@
-use Rattle.storage_ops.proofs.Prelude.{◌≡◌, ◌<◌, ℕ, List, length, replicate, refl, sym, ap, subst, ◌∙◌, true, get_or-replicate, Ptw, ptw_at, plain, has_record, word_of, table_of, is_there}
+use Rattle.storage_ops.proofs.Prelude.{◌≡◌, ℕ, replicate, refl, sym, ap, ◌∙◌, true, get_or-replicate, plain, has_record, word_of, table_of, is_there}
 use Rattle.storage_ops.proofs.Held.{active_held, held, length_held, shown_held, word_held}
 use Rattle.storage_ops.proofs.PageFacts.{table_told, word_within}
 use Rattle.storage_ops.proofs.Paged.{active_there, word_filed}
@@ -15,8 +15,7 @@ table g c = table_told c.self.inside.segs.ast c.ast-ast.result.now c.args.uid c.
     c.table.ensures.words
 
 word : (g : Over) (c : After-get g) → c.get.result ≡ word_of c.self.inside.segs.ast c.args.uid c.args.p
-word g c = c.get.ensures
-    ∙ ap (λ (ws : List Ptw). ptw_at ws c.args.p) (table g (goal.at.returns-clause-word g c).After-table)
+word g c = cc (c.get.ensures, table g (goal.at.returns-clause-word g c).After-table)
 
 there : (g : Over) (c : After-look g) → is_there c.self.inside.accounts.nodes c.args.uid ≡ true
 there g c = active_there (plain g.D.Drive.pages c.self.inside.segs.pages) c.self.inside.segs.ast
@@ -26,7 +25,7 @@ there g c = active_there (plain g.D.Drive.pages c.self.inside.segs.pages) c.self
 pub get-requires : goal.get-requires
 get-requires g c =
     let t = held c.self.view_is in
-    subst (λ (ws : List Ptw). c.args.p < length ws) (sym (table g c))
+    rw (table g c)
     (word_within (plain g.D.Drive.pages t.segs.pages) t.segs.ast t.segs.links t.accounts t.whos
     c.look.ensures.kept c.self.invariant c.args.uid
     (active_held c.self.view_is c.args.uid c.requires.active) c.args.p

@@ -1,4 +1,4 @@
-use Rattle.storage_ops.proofs.Prelude.{◌≡◌, ℕ, true, false, List, refl, sym, ap, subst, ◌∙◌, Node, quota_in, as_term, maker_rows, made_in, make_in, Flat, Shows, answered, node_refuses, make_in_segment, make_refused, make_root, make_told}
+use Rattle.storage_ops.proofs.Prelude.{◌≡◌, ℕ, true, false, List, refl, sym, ap, ◌∙◌, Node, quota_in, as_term, maker_rows, made_in, node_refuses, make_in_segment, make_refused, make_root, make_told}
 use Rattle.storage_ops.proofs.Held.{shown_held, tree_held}
 use Rattle.storage_ops.proofs.Made.{after_make_is}
 use Rattle.storage_ops.proofs.store.Store.make.Goals as goal
@@ -34,15 +34,13 @@ returns-clause-answer g c = λ p s h.
     make_told p s c.self.inside.accounts.nodes c.args.path.now c.in-Some.above.now c.in-Some.name.now c.args.volume
     c.args.dir shown.tree.nodes
     c.in-Some.ensures.parts n c.make_branch.result c.in-Ok.ensures.ok c.if-not-node.false
-    (c.make_branch.ensures.answer p s n h refl ∙ ap (λ (name : List ℕ). make_in p s c.args.volume c.args.dir name n)
-    c.copied.ensures)
+    (cc (c.make_branch.ensures.answer p s n h refl, c.copied.ensures))
 
 pub returns-clause-effect : goal.returns-clause-effect
 returns-clause-effect g c = λ p s h.
     let shown = shown_held c.self.view_is g.D.Drive.pages p s h in
     let n : Node = as_term (quota_in c.self.inside.accounts.nodes) c.in-Ok.node.now in
-    subst (λ (x : Flat). Shows g.D.Drive.pages p (answered c.make_branch.result s x) c.make_branch.new.self)
-    (ap (λ (name : List ℕ). made_in s c.args.volume c.args.dir c.args.pages (maker_rows c.args.maker) name n)
+    rw (← ap (λ (name : List ℕ). made_in s c.args.volume c.args.dir c.args.pages (maker_rows c.args.maker) name n)
     c.copied.ensures
     ∙ after_make_is s c.self.inside.accounts.nodes c.args.path.now c.in-Some.above.now c.in-Some.name.now c.args.volume
     c.args.dir shown.tree.nodes

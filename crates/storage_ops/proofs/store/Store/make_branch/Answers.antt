@@ -1,4 +1,4 @@
-use Rattle.storage_ops.proofs.Prelude.{◌≡◌, ℕ, Some, true, false, List, is_some, refl, sym, ap, subst, ◌∙◌, branch_of, as_node, unless_none, Flat, Node, entries_on, ActiveSegs, allocated, Plain, plain, Links, TakesHome, IsStore, Shows, Storage, branch_made}
+use Rattle.storage_ops.proofs.Prelude.{◌≡◌, ℕ, Some, true, false, List, is_some, refl, sym, ap, ◌∙◌, branch_of, as_node, unless_none, Node, entries_on, Plain, plain, branch_made}
 use Rattle.book.specs.declared.replies.Reply.TheVariants as reply
 use Rattle.storage_ops.proofs.Held.{held, shown_held}
 use Rattle.storage_ops.proofs.Homes.{HasNewHome, shown_new, store_new}
@@ -18,8 +18,7 @@ returns-in_default-clause-answer g c = λ p s d h below.
     c.may_add.result true shown.tree.nodes shown.tree.next below c.may_add.ensures (sym c.in-Ok.is)
     (all_used c.self.inside.segs.pages.volumes.vtocs c.args.new.volume _ _ c.in_default.ensures.none
     (shown.script.entries c.args.new.volume)
-    (ap (λ (ns : List Node). entries_on ns c.args.new.volume) shown.tree.nodes
-    ∙ sym (c.self.invariant.taken.entries c.args.new.volume)))
+    (cc (shown.tree.nodes, c.self.invariant.taken.entries c.args.new.volume)))
 
 pub returns-clause-answer : goal.returns-clause-answer
 returns-clause-answer g c = λ p s d h below.
@@ -62,10 +61,8 @@ pub invariant_of-self-2 : goal.invariant_of-self-2
 invariant_of-self-2 g c =
     let old : Plain = plain g.D.Drive.pages c.self.inside.segs.pages in
     let now : Plain = plain g.D.Drive.pages c.new_home.new.self.pages in
-    subst (λ (x : ActiveSegs). IsStore now x c.new_home.new.self.links c.attach.new.self c.self.inside.whos.items)
-    (sym c.new_home.ensures.ast)
-    (subst (λ (x : Links). IsStore now c.self.inside.segs.ast x c.attach.new.self c.self.inside.whos.items)
-    (sym c.new_home.ensures.links)
+    rw c.new_home.ensures.ast
+    (rw c.new_home.ensures.links
     (store_new c.self.inside.accounts c.attach.new.self (node g c) c.in-Some.entry old now (made g c)
     c.self.inside.segs.ast c.self.inside.segs.links
     c.self.inside.whos.items c.requires.most c.requires.flat c.self.invariant))
@@ -77,8 +74,7 @@ returns-clause-effect g c = λ p s d h below.
     let t = held c.self.view_is in
     let u = record t { accounts = c.attach.new.self; segs = c.new_home.new.self } in
     let shown = shown_held c.self.view_is g.D.Drive.pages p s h in
-    subst (λ (x : Flat). Shows g.D.Drive.pages p x u)
-    (branch_made s d c.self.inside.accounts.next
+    rw (← branch_made s d c.self.inside.accounts.next
     c.args.superior shown.tree.next below)
     (shown_new c.self.inside.accounts c.attach.new.self (node g c) c.in-Some.entry old now (made g c)
     c.self.inside.segs.ast c.self.inside.segs.links
@@ -92,11 +88,9 @@ returns-clause-effect g c = λ p s d h below.
 pub returns-clause-home : goal.returns-clause-home
 returns-clause-home g c = λ on.
     let u = record (held c.self.view_is) { accounts = c.attach.new.self; segs = c.new_home.new.self } in
-    subst (λ (x : Storage g.row.D.Denot). TakesHome g.D.Drive.pages x u c.args.new.volume) c.self.view_is (record {
+    rw (← c.self.view_is) (record {
       entry = c.in-Some.entry;
       least = sym c.in-Some.ensures.least;
-      filed = c.in-Some.ensures.effect
-          ∙ ap (λ (uid : ℕ). allocated (plain g.D.Drive.pages c.self.inside.segs.pages) c.args.new.volume
-          c.in-Some.entry uid) c.next_uid-uid.ensures.uid;
+      filed = cc (c.in-Some.ensures.effect, c.next_uid-uid.ensures.uid);
       beside = c.attach.ensures.effect.entries;
     })

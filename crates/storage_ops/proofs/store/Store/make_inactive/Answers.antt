@@ -1,4 +1,4 @@
-use Rattle.storage_ops.proofs.Prelude.{◌≡◌, ℕ, Some, None, List, Option, sym, ap, subst, ◌∙◌, arith, nat_le, has_inferior, without_pages, trailers_of, Entry, ActiveSegs, HasNoInferior, IsOneToOne, uid_in_place, Links, TakesOut, IsInactive, IsCut, Storage, home_of, pages_in, place_of, from_first}
+use Rattle.storage_ops.proofs.Prelude.{◌≡◌, ℕ, Some, None, List, Option, sym, ap, ◌∙◌, arith, nat_le, has_inferior, without_pages, trailers_of, Entry, ActiveSegs, uid_in_place, Links, IsInactive, Storage, home_of, pages_in, place_of, from_first}
 use Rattle.storage_ops.proofs.Removed.{branch_same, leaf_place, place_away, place_cut, place_idle}
 use Rattle.storage_ops.proofs.Rest.{out_active, out_inactive, rest_both, rest_inactive, rest_none, rest_unstored}
 use Rattle.storage_ops.proofs.Unstored.{home_still, idle_still}
@@ -11,8 +11,7 @@ use Rattle.storage_ops.proofs.store.Store.make_inactive.Goals as goal
 -- the segment was in the place that was found, and its pages are dropped where it is
 place : (g : Over) (c : In-Some g)
     → uid_in_place c.self.inside.segs.ast.entries c.in-Some.place ≡ Some c.args.uid
-place g c = ap (λ (x : ActiveSegs). uid_in_place x.entries c.in-Some.place) (sym c.ast.ensures.ast)
-    ∙ (c.search.ensures.only c.in-Some.place).0 c.in-Some.is
+place g c = cc (c.ast.ensures.ast, (c.search.ensures.only c.in-Some.place).0 c.in-Some.is)
 
 entries : (g : Over) (c : After-drop_from g)
     → c.drop_from.new.self.segs.ast.entries ≡ c.self.inside.segs.ast.entries
@@ -25,7 +24,7 @@ deactivate-requires-clause-leaf g c =
     let at = place g (goal.at.deactivate-requires-clause-leaf g c).In-Some in
     let none = ap (λ (x : Storage g.row.D.Denot). has_inferior x.accounts.nodes c.args.uid) c.self.view_is
     ∙ c.requires.empty in
-    subst (λ (e : List (Option Entry)). HasNoInferior e c.in-Some.place) (sym same)
+    rw same
     (leaf_place c.self.inside.accounts c.self.inside.segs.ast c.in-Some.place c.args.uid c.self.invariant.active none
     at)
 
@@ -34,7 +33,7 @@ deactivate-requires-clause-away g c =
     let same = entries g (goal.at.deactivate-requires-clause-away g c).After-drop_from in
     let at = place g (goal.at.deactivate-requires-clause-away g c).In-Some in
     place_away c.drop_from.new.self.segs.ast c.in-Some.place c.args.uid
-    (subst (λ (e : List (Option Entry)). IsOneToOne e) (sym same) c.look.ensures.kept.tree.once)
+    (rw same c.look.ensures.kept.tree.once)
     (ap (λ (e : List (Option Entry)). uid_in_place e c.in-Some.place) same ∙ at)
     (λ q. c.drop_from.ensures.rest.gone q (from_first q))
 
@@ -50,8 +49,7 @@ deactivate-requires-clause-idle g c =
 pub deactivate-requires-clause-cut : goal.deactivate-requires-clause-cut
 deactivate-requires-clause-cut g c =
     let at = place g (goal.at.deactivate-requires-clause-cut g c).In-Some in
-    let cut = subst (λ (x : Storage g.row.D.Denot). IsCut x.segs.ast.entries x.segs.links c.args.uid)
-    (sym c.self.view_is) c.requires.ready.cut in
+    let cut = rw (← c.self.view_is) at c.requires.ready.cut in
     ap (λ (l : Links). trailers_of l.trailers c.in-Some.place) (c.drop_from.ensures.rest.links
     ∙ ap (λ (x : Storage g.row.D.Denot). x.segs.links) (sym c.self.view_is))
     ∙ place_cut c.self.inside.segs.ast.entries c.self.inside.segs.links c.in-Some.place c.args.uid
@@ -77,7 +75,7 @@ returns-clause-out g c =
     let at = place g (goal.at.returns-clause-out g c).In-Some in
     let same = ap (λ (x : Storage g.row.D.Denot). x.segs.ast.entries) c.self.view_is in
     out_active c.args.self.now c.drop_from.new.self c.deactivate.new.self c.in-Some.place c.args.uid
-    (subst (λ (e : List (Option Entry)). IsOneToOne e) same c.look.ensures.kept.tree.once)
+    (rw (← same) c.look.ensures.kept.tree.once)
     (ap (λ (e : List (Option Entry)). uid_in_place e c.in-Some.place) (sym same) ∙ at) c.drop_from.ensures.rest
     c.deactivate.ensures.effect
 
@@ -89,7 +87,7 @@ returns-in_default-clause-out g c =
           (ap (λ (x : ActiveSegs). uid_in_place x.entries place) c.ast.ensures.ast ∙ at) in
           let clash : ◌≡◌ {A = Option ℕ} None (Some place) = sym c.in_default.is ∙ some in cc);
     } in
-    subst (λ (x : Storage g.row.D.Denot). TakesOut x x c.args.uid) c.self.view_is
+    rw (← c.self.view_is)
     (out_inactive _ c.args.uid inactive (λ f q e.
     (let active = c.look.ensures.kept.paged.bound f c.args.uid q e in inactive.nowhere active.0 active.1)))
 
@@ -101,10 +99,8 @@ returns-clause-active g c = λ active.
     let place : place_of entries c.args.uid ≡ c.in-Some.place =
     place_found entries c.args.uid c.in-Some.place c.search.result active
     (λ n. (
-      λ e. ap (λ (x : List (Option Entry)). uid_in_place x n)
-          (sym (ap (λ (x : ActiveSegs). x.entries) c.ast.ensures.ast ∙ same)) ∙ (search n).0 e,
-      λ e. (search n).1 (ap (λ (x : List (Option Entry)). uid_in_place x n)
-          (ap (λ (x : ActiveSegs). x.entries) c.ast.ensures.ast ∙ same) ∙ e),
+      λ e. cc (c.ast.ensures.ast, same, (search n).0 e),
+      λ e. (search n).1 (cc (c.ast.ensures.ast, same, e)),
     )) c.in-Some.is in
     put_out_exactly g.D.Drive.pages c.args.self.now c.drop_from.new.self c.deactivate.new.self c.args.uid
     c.in-Some.place (home_of c.args.self.now.accounts c.args.uid) (pages_in c.args.self.now.accounts.nodes c.args.uid)
@@ -113,17 +109,14 @@ returns-clause-active g c = λ active.
 pub returns-in_default-clause-active : goal.returns-in_default-clause-active
 returns-in_default-clause-active g c = λ active.
     let same = ap (λ (x : Storage g.row.D.Denot). x.segs.ast.entries) c.self.view_is in
-    let some = (c.search.ensures.only active.0).1 (ap (λ (x : List (Option Entry)). uid_in_place x active.0)
-    (ap (λ (x : ActiveSegs). x.entries) c.ast.ensures.ast ∙ same) ∙ active.1) in
+    let some = (c.search.ensures.only active.0).1 (cc (c.ast.ensures.ast, same, active.1)) in
     let clash : ◌≡◌ {A = Option ℕ} None (Some active.0) = sym c.in_default.is ∙ some in cc
 
 pub returns-clause-still : goal.returns-clause-still
 returns-clause-still g c = λ inactive.
     let same = ap (λ (x : Storage g.row.D.Denot). x.segs.ast.entries) c.self.view_is in
     absurd (inactive.nowhere c.in-Some.place
-    (ap (λ (x : List (Option Entry)). uid_in_place x c.in-Some.place)
-    (sym (ap (λ (x : ActiveSegs). x.entries) c.ast.ensures.ast ∙ same))
-    ∙ (c.search.ensures.only c.in-Some.place).0 c.in-Some.is))
+    (cc (c.ast.ensures.ast, same, (c.search.ensures.only c.in-Some.place).0 c.in-Some.is)))
 
 pub returns-clause-home : goal.returns-clause-home
 returns-clause-home g c =

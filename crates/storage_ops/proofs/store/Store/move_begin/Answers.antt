@@ -1,4 +1,4 @@
-use Rattle.storage_ops.proofs.Prelude.{◌≡◌, ◌<◌, ℕ, true, length, sym, ap, subst, ◌∙◌, count_of, CanBegin, pair_of, is_roomy, Storage, home_of}
+use Rattle.storage_ops.proofs.Prelude.{◌≡◌, ◌<◌, ℕ, true, length, sym, subst, count_of, CanBegin, pair_of, is_roomy, Storage, home_of}
 use Rattle.storage_ops.proofs.Held.{active_held, held}
 use Rattle.storage_ops.proofs.MoveFacts.{may_begin}
 use Rattle.storage_ops.proofs.store.Store.move_begin.Goals as goal
@@ -6,9 +6,7 @@ use Rattle.storage_ops.proofs.store.Store.move_begin.Goals as goal
 pub move_begin-requires-clause-can : goal.move_begin-requires-clause-can
 move_begin-requires-clause-can g c =
     let t = held c.self.view_is in
-    let from : c.args.from ≡ pair_of (home_of t.accounts c.args.uid) =
-    c.requires.home ∙ ap (λ (x : Storage g.row.D.Denot). pair_of (home_of x.accounts c.args.uid))
-    (sym c.self.view_is) in
+    let from : c.args.from ≡ pair_of (home_of t.accounts c.args.uid) = cc (c.requires.home, c.self.view_is) in
     let to = subst (λ (x : Storage g.row.D.Denot). c.args.to < length x.segs.pages.volumes.drives) (sym c.self.view_is)
     c.requires.volume in
     let roomy = subst (λ (x : Storage g.row.D.Denot). is_roomy x.segs.pages.volumes c.args.from.0

@@ -1,4 +1,4 @@
-use Rattle.storage_ops.proofs.Prelude.{◌≡◌, Option, Some, refl, sym, ap, subst, ◌∙◌, IfSome, has_segment, Home, entries, size, plain, Mover, Control, Links, IsUnderWay, home_at, IsStore, Storage, home_of}
+use Rattle.storage_ops.proofs.Prelude.{◌≡◌, Some, refl, ap, ◌∙◌, has_segment, plain, Control, home_at, Storage, home_of}
 use Rattle.storage_ops.proofs.Held.{held, shown_held}
 use Rattle.storage_ops.proofs.MoveFacts.{committed_entries, committed_sizes}
 use Rattle.storage_ops.proofs.NodeLaws.{segment_there}
@@ -12,7 +12,7 @@ left : (g : Over) (c : After-set_home g) → home_at c.args.m.from ≡ home_of c
 left g c =
     let moving : c.self.inside.segs.moving ≡ Some c.args.m =
     ap (λ (x : Storage g.row.D.Denot). x.segs.moving) c.self.view_is ∙ c.requires.moving in
-    let way = subst (λ (o : Option Mover). IfSome o (IsUnderWay c.self.inside.segs)) moving c.look_at_move.ensures in
+    let way = rw moving at c.look_at_move.ensures in
     c.self.invariant.housed.only (home_at c.args.m.from) c.args.m.uid way.home.used
 
 -- what has become of its home
@@ -24,9 +24,7 @@ done : (g : Over) (c : After-set_home g)
 done g c =
     let segment = ap (λ (x : Storage g.row.D.Denot). has_segment x.accounts.nodes c.args.m.uid) c.self.view_is
     ∙ c.requires.segment in
-    subst (λ (from : Home). HasRehomed (plain g.D.Drive.pages c.self.inside.segs.pages)
-    (plain g.D.Drive.pages c.move_commit-home.new.self.pages) c.self.inside.accounts c.set_home.new.self
-    c.args.m.uid from (home_at c.args.m.to)) (left g c) (record {
+    rw (← left g c) (record {
       there = segment_there c.self.inside.accounts.nodes c.args.m.uid segment;
       rehomes = c.set_home.ensures.home;
       here = c.move_commit-home.ensures.to;
@@ -42,11 +40,8 @@ done g c =
       beside = c.move_commit-home.ensures.entries;
       words = c.move_commit-home.ensures.moved;
       others = c.move_commit-home.ensures.words;
-      sizes = λ v. ap (λ (x : Control g.row.D.Denot). size x.pages.volumes.records v) c.move_commit-home.ensures.effect
-          ∙ committed_sizes c.self.inside.segs c.args.m v;
-      places = λ v. ap (λ (x : Control g.row.D.Denot). entries x.pages.volumes.vtocs v)
-          c.move_commit-home.ensures.effect
-          ∙ committed_entries c.self.inside.segs c.args.m v;
+      sizes = λ v. cc (c.move_commit-home.ensures.effect, committed_sizes c.self.inside.segs c.args.m v);
+      places = λ v. cc (c.move_commit-home.ensures.effect, committed_entries c.self.inside.segs c.args.m v);
     })
 
 pub invariant_of-self : goal.invariant_of-self
@@ -54,7 +49,7 @@ invariant_of-self g c =
     let t = held c.self.view_is in
     let now = c.move_commit-home.new.self in
     let links = ap (λ (x : Control g.row.D.Denot). x.links) c.move_commit-home.ensures.effect in
-    subst (λ (x : Links). IsStore (plain g.D.Drive.pages now.pages) now.ast x c.set_home.new.self t.whos) (sym links)
+    rw links
     (store_rehomed (plain g.D.Drive.pages t.segs.pages) (plain g.D.Drive.pages now.pages) t.accounts
     c.set_home.new.self c.args.m.uid (home_at c.args.m.to) (done g c) c.self.invariant.housed t.segs.ast now.ast
     t.segs.links t.whos c.promise.ensures.tree

@@ -1,4 +1,4 @@
-use Rattle.storage_ops.proofs.Prelude.{◌≡◌, ℕ, None, Some, true, false, length, is_some, replicate, refl, sym, ap, subst, ◌∙◌, arith, ◌<◌, length-replicate, length-map, Plan, ProcessPlan, root_alone, ActiveSegs, uid_in_place, Flat, root_of, after_asked, Plain, plain, Control, Links, AreFresh, IsStore, Shows, Storage}
+use Rattle.storage_ops.proofs.Prelude.{◌≡◌, ℕ, None, Some, true, false, length, is_some, replicate, refl, sym, ap, ◌∙◌, arith, length-replicate, length-map, Plan, ProcessPlan, root_alone, uid_in_place, root_of, after_asked, Plain, plain, Control, AreFresh, Storage}
 use Rattle.storage_ops.proofs.Fresh.{blank, boot_is, entries_some, entry_first, none_active, none_known, nothing, records_most, root_gains, shown_nothing, store_nothing}
 use Rattle.storage_ops.proofs.Homes.{HasNewHome, shown_new, store_new}
 use Rattle.storage_ops.proofs.Made.{length_inside}
@@ -10,8 +10,7 @@ use Rattle.storage_ops.proofs.store.Store.new.Goals as goal
 fresh_volumes : (g : Over) (c : In_ok-segs g)
     → AreFresh c.args.script.now c.in_ok-segs.segs.pages.volumes.records c.in_ok-segs.segs.pages.volumes.vtocs
 fresh_volumes g c =
-    subst (λ (x : Control g.row.D.Denot). AreFresh c.args.script.now x.pages.volumes.records x.pages.volumes.vtocs)
-    (sym c.in_ok-segs.ensures) c.requires.fresh
+    rw c.in_ok-segs.ensures c.requires.fresh
 
 -- so the root has the first entry
 first_entry : (g : Over) (c : In-Some g)
@@ -71,12 +70,10 @@ invariant_of-result g c =
     (λ process number u e. none_known _ process number u (ap (λ
     (x : Control g.row.D.Denot). Rattle.known_segs.specs.Known.uid_of
     (Rattle.seg_control.specs.Control.kst_at x.links.known process) number) (sym c.in_ok-segs.ensures) ∙ e))
-    count (λ v. subst (λ (n : ℕ). n < 65536) (fresh.records v)
+    count (λ v. rw (← fresh.records v)
     (records_most c.args.script.now.volumes v plan.volumes)) in
-    subst (λ (x : ActiveSegs). IsStore now x c.new_home.new.self.links c.in_ok-accounts.accounts
-    c.in_ok-whos.whos.items) (sym c.new_home.ensures.ast)
-    (subst (λ (x : Links). IsStore now c.in_ok-segs.segs.ast x c.in_ok-accounts.accounts c.in_ok-whos.whos.items)
-    (sym c.new_home.ensures.links)
+    rw c.new_home.ensures.ast
+    (rw c.new_home.ensures.links
     (store_new nothing c.in_ok-accounts.accounts _ c.in-Some.entry old now (made g at.In-Some zero)
     c.in_ok-segs.segs.ast
     c.in_ok-segs.segs.links
@@ -98,7 +95,7 @@ returns-clause-shown g c =
     } in
     let u = record t { accounts = c.in_ok-accounts.accounts; segs = c.new_home.new.self } in
     let known = ap (λ (x : Control g.row.D.Denot). x.links.known) c.in_ok-segs.ensures in
-    subst (λ (x : Flat). Shows g.D.Drive.pages p x u) (boot_is p c.quota.result c.quota.ensures)
+    rw (← boot_is p c.quota.result c.quota.ensures)
     (shown_new nothing c.in_ok-accounts.accounts _ c.in-Some.entry old now (made g at.In-Some zero)
     c.in_ok-segs.segs.ast
     c.in_ok-segs.segs.links
@@ -111,8 +108,7 @@ returns-clause-shown g c =
     (shown_nothing g.D.Drive.pages p t refl fresh known c.in_ok-whos.ensures))
 
 pub returns-clause-accounts : goal.returns-clause-accounts
-returns-clause-accounts g c =
-    c.in_ok-accounts.ensures ∙ ap (λ (q : ℕ). root_alone 0 0 q) c.quota.ensures
+returns-clause-accounts g c = cc (c.in_ok-accounts.ensures, c.quota.ensures)
 
 pub returns-clause-pages : goal.returns-clause-pages
 returns-clause-pages g c =

@@ -1,4 +1,4 @@
-use Rattle.storage_ops.proofs.Prelude.{◌+◌, ◌*◌, refl, subst, ◌∙◌, frame_at, number_in, plain, words_in, written, Flat, Shows, Storage, home_of}
+use Rattle.storage_ops.proofs.Prelude.{refl, ◌∙◌, frame_at, number_in, plain, words_in, home_of}
 use Rattle.page_control.specs.Tied.{uid_in}
 use Rattle.storage_ops.proofs.Held.{bound_held, held, shown_held}
 use Rattle.storage_ops.proofs.Paged.{active_there}
@@ -17,11 +17,8 @@ returns-clause-shown g c = λ p s h.
     let stored = shown.pages.stored uid number
     ∙ bound_filed old t.segs.ast t.segs.links t.accounts t.whos c.look.ensures.kept c.self.invariant c.args.f
     bound in
-    subst (λ (x : Storage g.row.D.Denot). Shows g.D.Drive.pages p (written s
-    (uid_in (frame_at x.segs.pages.core c.args.f)) (1024 * number_in (frame_at x.segs.pages.core c.args.f) + c.args.at)
-    c.args.w) u) c.self.view_is
-    (subst (λ (x : Flat). Shows g.D.Drive.pages p x u)
-    (written_there s uid number c.args.at c.args.w c.requires.at stored)
+    rw (← c.self.view_is)
+    (rw (← written_there s uid number c.args.at c.args.w c.requires.at stored)
     (shown_put g.D.Drive.pages p s t u uid number c.args.at c.args.w (words_in old c.args.f) refl refl
     c.put_word.ensures.links c.put_word.ensures.volumes
     (active_there old t.segs.ast t.segs.links t.accounts t.whos c.look.ensures.kept c.self.invariant uid

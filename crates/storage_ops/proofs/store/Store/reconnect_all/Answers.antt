@@ -1,16 +1,15 @@
-use Rattle.storage_ops.proofs.Prelude.{IsSome, sym, subst, plain, Control, reconnected, AreRights, Shows, Storage, some_number}
+use Rattle.storage_ops.proofs.Prelude.{plain, reconnected, some_number}
 use Rattle.active_segs.specs.Active.{uid_at}
 use Rattle.storage_ops.proofs.Held.{held, shown_held, store_after}
-use Rattle.storage_ops.proofs.LinkLaws.{known_reconnected, shown_linked, store_reconnected}
+use Rattle.storage_ops.proofs.Less.{shown_linked}
+use Rattle.storage_ops.proofs.LinkLaws.{known_reconnected, store_reconnected}
 use Rattle.storage_ops.proofs.store.Store.reconnect_all.Goals as goal
 
 pub invariant_of-self : goal.invariant_of-self
 invariant_of-self g c =
     let t = held c.self.view_is in
-    let active = subst (λ (x : Storage g.row.D.Denot). IsSome (uid_at x.segs.ast.entries c.args.aste))
-    (sym c.self.view_is) c.requires.active in
-    let rights = subst (λ (x : Storage g.row.D.Denot). AreRights x.accounts.nodes x.whos x.segs.ast.entries
-    c.args.aste c.args.list.now c.args.modes.now c.args.pages) (sym c.self.view_is) c.requires.rights in
+    let active = rw (← c.self.view_is) at c.requires.active in
+    let rights = rw (← c.self.view_is) at c.requires.rights in
     let at = some_number (uid_at t.segs.ast.entries c.args.aste) active in
     store_after g.D.Drive.pages t.accounts t.whos c.reconnect_all.ensures.effect
     (store_reconnected (plain g.D.Drive.pages t.segs.pages) t.segs.ast t.accounts t.whos c.args.aste c.args.pages at.0
@@ -19,8 +18,7 @@ invariant_of-self g c =
 pub returns-clause-shown : goal.returns-clause-shown
 returns-clause-shown g c = λ p s h.
     let t = held c.self.view_is in
-    subst (λ (x : Control g.row.D.Denot). Shows g.D.Drive.pages p s (record t { segs = x }))
-    (sym c.reconnect_all.ensures.effect)
+    rw c.reconnect_all.ensures.effect
     (shown_linked g.D.Drive.pages p s t (reconnected t.segs.links c.args.aste c.args.list.now c.args.modes.now
     c.args.pages)
     (known_reconnected c.args.aste c.args.pages c.args.list.now c.args.modes.now t.segs.links)

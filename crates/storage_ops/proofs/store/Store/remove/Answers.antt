@@ -1,4 +1,4 @@
-use Rattle.storage_ops.proofs.Prelude.{◌≡◌, refl, sym, ap, subst, ◌∙◌, ActiveSegs, Plain, plain, Links, IsInactive, KeepsRest, IsStore, Storage, home_of, Home, erased}
+use Rattle.storage_ops.proofs.Prelude.{refl, ap, ◌∙◌, Plain, plain, Storage, Home, erased}
 use Rattle.storage_ops.proofs.Held.{held, home_held, shown_held, there_held}
 use Rattle.storage_ops.proofs.NodeLaws.{found_there}
 use Rattle.storage_ops.proofs.Removed.{removed_done, shown_removed, store_removed}
@@ -9,18 +9,15 @@ pub invariant_of-self : goal.invariant_of-self
 invariant_of-self g c =
     let there = there_held c.self.view_is c.args.uid c.requires.there in
     let home = home_held c.self.view_is c.args.uid c.home-home.result c.home-home.ensures.home in
-    let inactive = subst (λ (x : Storage g.row.D.Denot). IsInactive x.segs.ast.entries c.args.uid)
-    (sym c.self.view_is) c.requires.inactive in
+    let inactive = rw (← c.self.view_is) at c.requires.inactive in
     let old = plain g.D.Drive.pages c.self.inside.segs.pages in
     let now = plain g.D.Drive.pages c.erase.new.self.pages in
     let found = found_there c.self.inside.accounts.nodes c.args.uid there in
     let done = removed_done old now c.self.inside.accounts c.uncount.new.accounts c.remove.new.self c.args.uid
     c.home-home.result home there c.uncount.ensures c.remove.ensures c.erase.ensures.effect c.erase.ensures.home
     c.erase.ensures.uids c.erase.ensures.maps c.erase.ensures.words c.erase.ensures.used c.erase.ensures.taken in
-    subst (λ (x : ActiveSegs). IsStore now x c.erase.new.self.links c.remove.new.self c.self.inside.whos.items)
-    (sym c.erase.ensures.ast)
-    (subst (λ (x : Links). IsStore now c.self.inside.segs.ast x c.remove.new.self c.self.inside.whos.items)
-    (sym c.erase.ensures.links)
+    rw c.erase.ensures.ast
+    (rw c.erase.ensures.links
     (store_removed old now c.self.inside.accounts c.uncount.new.accounts c.remove.new.self c.args.uid done
     c.self.invariant.housed c.self.inside.segs.ast c.self.inside.segs.links c.self.inside.whos.items found.0
     c.promise.ensures.tree found.1 inactive c.self.invariant))
@@ -29,7 +26,7 @@ pub returns-clause-rest : goal.returns-clause-rest
 returns-clause-rest g c =
     let t = held c.self.view_is in
     let n = record t { accounts = c.remove.new.self; segs = c.erase.new.self } in
-    subst (λ (x : Storage g.row.D.Denot). KeepsRest x n) c.self.view_is
+    rw (← c.self.view_is)
     (rest_erased g.D.Drive.pages t n c.home-home.result c.erase.ensures.effect c.erase.ensures.ast
     c.erase.ensures.links c.erase.ensures.moving refl c.erase.ensures.drives)
 
@@ -54,6 +51,5 @@ returns-clause-core g c = ap (λ (x : Plain). x.core) c.erase.ensures.effect
 pub returns-clause-erased : goal.returns-clause-erased
 returns-clause-erased g c =
     let home = home_held c.self.view_is c.args.uid c.home-home.result c.home-home.ensures.home in
-    subst (λ (x : Storage g.row.D.Denot). plain g.D.Drive.pages c.erase.new.self.pages
-    ≡ erased (plain g.D.Drive.pages x.segs.pages) (home_of x.accounts c.args.uid)) c.self.view_is
+    rw (← c.self.view_is)
     (c.erase.ensures.effect ∙ ap (λ (h : Home). erased (plain g.D.Drive.pages c.self.inside.segs.pages) h) home)

@@ -1,12 +1,11 @@
-use Rattle.storage_ops.proofs.Prelude.{sym, subst, row_with, plain, IsCutAt, Storage}
+use Rattle.storage_ops.proofs.Prelude.{row_with, plain}
 use Rattle.storage_ops.proofs.Held.{held, shown_held}
 use Rattle.storage_ops.proofs.Changed.{acl_shown, acl_store}
 use Rattle.storage_ops.proofs.store.Store.set_acl.Goals as goal
 
 pub invariant_of-self : goal.invariant_of-self
 invariant_of-self g c =
-    let cut = subst (λ (x : Storage g.row.D.Denot). IsCutAt x.accounts x.segs c.args.path.now)
-    (sym c.self.view_is) c.requires in
+    let cut = rw (← c.self.view_is) at c.requires in
     acl_store (plain g.D.Drive.pages c.self.inside.segs.pages) c.self.inside.segs.ast c.self.inside.segs.links
     c.self.inside.accounts
     c.set_row.new.accounts c.self.inside.whos.items c.args.path.now

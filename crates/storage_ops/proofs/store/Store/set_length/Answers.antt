@@ -1,4 +1,4 @@
-use Rattle.storage_ops.proofs.Prelude.{◌≡◌, true, false, refl, sym, ap, subst, ◌∙◌, Node, quota_in, as_term, plain, HasLengthSet, IsInactiveAt, Storage, is_filed, segment_refuses, length_refused}
+use Rattle.storage_ops.proofs.Prelude.{◌≡◌, true, false, refl, sym, ap, ◌∙◌, Node, quota_in, as_term, plain, Storage, is_filed, segment_refuses, length_refused}
 use Rattle.storage_ops.proofs.Held.{held, shown_held, tree_held}
 use Rattle.storage_ops.proofs.Lengths.{length_answered, length_shown, length_store}
 use Rattle.storage_ops.proofs.store.Store.set_length.Goals as goal
@@ -36,8 +36,7 @@ returns-clause-effect g c = λ p s h.
 
 pub invariant_of-self : goal.invariant_of-self
 invariant_of-self g c =
-    let inactive = subst (λ (x : Storage g.row.D.Denot). IsInactiveAt x.accounts x.segs c.args.path.now)
-    (sym c.self.view_is) c.requires.inactive in
+    let inactive = rw (← c.self.view_is) at c.requires.inactive in
     let n : Node = as_term (quota_in c.self.inside.accounts.nodes) c.in-Ok.node.now in
     length_store c.self.inside.accounts c.set_length.new.self c.in-Ok.node.now.uid c.args.pages
     c.in-Ok.ensures.segment c.set_length.ensures
@@ -56,8 +55,7 @@ returns-in-Err-clause-done g c = λ on.
 
 pub returns-clause-done : goal.returns-clause-done
 returns-clause-done g c = λ on.
-    subst (λ (x : Storage g.row.D.Denot). HasLengthSet x.accounts c.set_length.new.self c.args.path.now c.args.pages)
-    c.self.view_is
+    rw (← c.self.view_is)
     (record {
       node = as_term (quota_in c.self.inside.accounts.nodes) c.in-Ok.node.now;
       found = c.in-Ok.ensures.ok;

@@ -1,4 +1,4 @@
-use Rattle.storage_ops.proofs.Prelude.{◌≡◌, ℕ, Bool, true, false, cond, ◌&&◌, List, Err, set, replicate, refl, sym, ap, subst, ◌∙◌, Some, is_none, eq-eqb, Node, volume_in, node_in, is_out_of_room, is_used_up, is_volume_full, room_for, Home, plain, is_full, one_more, size, taken, created, next_record, ChangesStored, ChangesWords, Links, IsPageMade, move_target, IsStore, Shows, Storage, volume_found, Plan, Flat, has_segment, found_uid}
+use Rattle.storage_ops.proofs.Prelude.{◌≡◌, ℕ, Bool, true, false, cond, ◌&&◌, List, Err, refl, sym, ap, ◌∙◌, Some, is_none, eq-eqb, Node, volume_in, node_in, is_out_of_room, is_used_up, is_volume_full, room_for, Home, plain, is_full, size, taken, move_target, Shows, Storage, volume_found, Plan, Flat, has_segment, found_uid}
 use Rattle.book.specs.declared.replies.Reply.TheVariants as reply
 use Rattle.storage_ops.proofs.Held.{active_held, held, home_held, length_held, shown_held, word_held}
 use Rattle.storage_ops.proofs.PageFacts.{node_segment, word_within}
@@ -81,9 +81,7 @@ unreachable-requires g c =
     let same : taken t.segs.pages.volumes.records c.home-home.result.volume
     ≡ size t.segs.pages.volumes.records c.home-home.result.volume = all_taken _ all in
     let full : is_full t.segs.pages.volumes.records c.home-home.result.volume ≡ true = eq-eqb _ _ same in
-    let clash : true ≡ false = sym full
-    ∙ ap (λ (x : Storage g.row.D.Denot). is_full x.segs.pages.volumes.records c.home-home.result.volume) c.self.view_is
-    ∙ sym c.is_full.ensures ∙ c.if-is_full.false in
+    let clash : true ≡ false = cc (full, c.self.view_is, c.is_full.ensures, c.if-is_full.false) in
     cc
 
 pub invariant_of-self-2 : goal.invariant_of-self-2
@@ -93,8 +91,7 @@ invariant_of-self-2 g c =
     let lt = length_held c.self.view_is c.args.uid c.args.page c.requires.page in
     let null = word_held c.self.view_is c.args.uid c.args.page ∙ c.requires.null in
     let home = home_held c.self.view_is c.args.uid c.home-home.result c.home-home.ensures.home in
-    subst (λ (x : Links). IsStore (plain g.D.Drive.pages c.create_page.new.self.pages) c.create_page.new.self.ast x
-    c.charge.new.self c.self.inside.whos.items) (sym c.create_page.ensures.links)
+    rw c.create_page.ensures.links
     (store_made (plain g.D.Drive.pages t.segs.pages) (plain g.D.Drive.pages c.create_page.new.self.pages) t.segs.ast
     c.create_page.new.self.ast t.segs.links t.accounts c.charge.new.self t.whos c.args.uid c.home-home.result
     c.args.page c.args.f c.args.at c.args.w c.look.ensures.kept c.self.invariant active home null
@@ -117,19 +114,13 @@ returns-clause-made g c =
     let t = held c.self.view_is in
     let u = record t { accounts = c.charge.new.self; segs = c.create_page.new.self } in
     let home = home_held c.self.view_is c.args.uid c.home-home.result c.home-home.ensures.home in
-    subst (λ (x : Storage g.row.D.Denot). IsPageMade g.D.Drive.pages x u c.args.uid c.args.page c.args.f c.args.at
-    c.args.w) c.self.view_is (record {
-      pages = c.in-Ok.ensures.effect ∙ ap (λ (x : Home). created (plain g.D.Drive.pages t.segs.pages) c.args.uid
-          c.args.page x (next_record (plain g.D.Drive.pages t.segs.pages) x) c.args.f c.args.at c.args.w) home;
+    rw (← c.self.view_is) (record {
+      pages = cc (c.in-Ok.ensures.effect, home);
       word = c.in-Ok.ensures.word;
-      words = subst (λ (x : Home). ChangesWords (plain g.D.Drive.pages t.segs.pages)
-          (plain g.D.Drive.pages u.segs.pages) c.args.uid x c.args.page (set (replicate 1024 0) c.args.at c.args.w))
-          home
+      words = rw (← home)
           c.in-Ok.ensures.words;
-      stored = subst (λ (x : Home). ChangesStored (plain g.D.Drive.pages t.segs.pages)
-          (plain g.D.Drive.pages u.segs.pages) x c.args.page true) home c.in-Ok.ensures.stored;
-      taken_more = c.in-Ok.ensures.taken
-          ∙ ap (λ (x : Home). one_more (taken t.segs.pages.volumes.records) x.volume) home;
+      stored = rw (← home) c.in-Ok.ensures.stored;
+      taken_more = cc (c.in-Ok.ensures.taken, home);
       bound = c.in-Ok.ensures.bound;
       reads = c.create_page.ensures.reads;
       counts = c.create_page.ensures.counts;
@@ -151,8 +142,6 @@ returns-clause-shown g c = λ p s h.
     shown_made g.D.Drive.pages p s t u c.args.uid c.args.page c.args.at c.args.w c.look.ensures.kept
     c.self.invariant active null c.requires.at
     (on_ok c.charge.result c.if-is_err.ensures.value c.charge.ensures.ok) refl c.create_page.ensures.links
-    (subst (λ (x : Home). ChangesStored (plain g.D.Drive.pages t.segs.pages) (plain g.D.Drive.pages u.segs.pages) x
-    c.args.page true) home c.in-Ok.ensures.stored)
-    (subst (λ (x : Home). ChangesWords (plain g.D.Drive.pages t.segs.pages) (plain g.D.Drive.pages u.segs.pages)
-    c.args.uid x c.args.page (set (replicate 1024 0) c.args.at c.args.w)) home c.in-Ok.ensures.words)
+    (rw (← home) c.in-Ok.ensures.stored)
+    (rw (← home) c.in-Ok.ensures.words)
     c.create_page.ensures.counts shown

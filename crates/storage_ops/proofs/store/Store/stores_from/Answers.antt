@@ -1,4 +1,4 @@
-use Rattle.storage_ops.proofs.Prelude.{◌≡◌, ◌≤◌, ◌<◌, ℕ, is_some, false, ap, subst, ◌∙◌, record_at, Vols, vtoc_at, Storage, is_filed}
+use Rattle.storage_ops.proofs.Prelude.{ap, ◌∙◌, Vols, vtoc_at}
 use Rattle.storage_ops.proofs.Held.{held, home_held, shown_held, there_held}
 use Rattle.storage_ops.proofs.Lengths.{from_told, within_told}
 use Rattle.storage_ops.proofs.store.Store.stores_from.Goals as goal
@@ -14,8 +14,7 @@ returns-clause-answer g c = λ p s h.
     from_told here.accounts here.segs.pages.volumes.vtocs c.args.uid c.home-home.result c.vtoc.result.now there home
     table
     s.stored c.args.from c.names_from.result shown.pages.stored c.self.invariant.counted c.names_from.ensures.some
-    (subst (λ (n : ℕ). c.names_from.result ≡ false → (q : ℕ) → c.args.from ≤ q → q < n
-    → is_some (record_at c.vtoc.result.now c.home-home.result.entry q) ≡ false) c.pages_of-length.ensures
+    (rw (← c.pages_of-length.ensures)
     c.names_from.ensures.none)
 
 pub returns-clause-none : goal.returns-clause-none
@@ -28,8 +27,6 @@ returns-clause-none g c = λ off q on.
     within_told here.accounts here.segs.pages.volumes.vtocs c.args.uid c.home-home.result c.vtoc.result.now there
     home table
     c.args.from c.names_from.result c.self.invariant.counted
-    (subst (λ (n : ℕ). c.names_from.result ≡ false → (q : ℕ) → c.args.from ≤ q → q < n
-    → is_some (record_at c.vtoc.result.now c.home-home.result.entry q) ≡ false) c.pages_of-length.ensures
+    (rw (← c.pages_of-length.ensures)
     c.names_from.ensures.none) off q
-    (ap (λ (x : Storage g.row.D.Denot). is_filed x.accounts x.segs.pages.volumes.vtocs c.args.uid q) c.self.view_is
-    ∙ on)
+    (cc (c.self.view_is, on))

@@ -1,5 +1,4 @@
-use Rattle.storage_ops.proofs.Prelude.{◌≡◌, ◌<◌, ℕ, List, Option, Err, length, sym, ap, subst, ◌∙◌, get_or_read, Who, nobody, Reply, uid_of, node_in, quota_in, as_term, refusal_in, target, unless, IsFound, IsThere, Storage, who_at, found_uid}
-use Rattle.book.specs.declared.replies.Reply.TheVariants as reply
+use Rattle.storage_ops.proofs.Prelude.{◌≡◌, ◌<◌, ℕ, List, Option, length, sym, ap, ◌∙◌, get_or_read, Who, nobody, Reply, uid_of, node_in, quota_in, as_term, refusal_in, target, unless, Storage, who_at, found_uid}
 use Rattle.storage_ops.proofs.Held.{held}
 use Rattle.storage_ops.proofs.Refusals.{target_found, target_gone, target_unknown, within_told}
 use Rattle.storage_ops.proofs.store.Store.target.Given.{Over}
@@ -13,9 +12,8 @@ found : (g : Over) (c : After-refusal_in g)
 found g c =
     let t = held c.self.view_is in
     let n = as_term (quota_in t.accounts.nodes) c.in-Some-node.node.now in
-    let lt : c.args.process < length t.whos = subst (λ (n : ℕ). c.args.process < n)
-    (sym (c.self.invariant.known.processes
-    ∙ ap (λ (x : Storage g.row.D.Denot). length x.segs.links.known) c.self.view_is)) c.requires in
+    let lt : c.args.process < length t.whos = rw (c.self.invariant.known.processes
+    ∙ ap (λ (x : Storage g.row.D.Denot). length x.segs.links.known) c.self.view_is) c.requires in
     let who : c.index.result.now ≡ who_at t.whos c.args.process = get_or_read t.whos c.args.process _ lt c.index.ensures
     nobody in
     target_found t c.args.process c.args.reference.now c.in-Some.uid n
@@ -28,32 +26,26 @@ found g c =
 pub returns-in_default-clause-err : goal.returns-in_default-clause-err
 returns-in_default-clause-err g c =
     let t = held c.self.view_is in
-    subst (λ (x : Storage g.row.D.Denot). target x c.args.process c.args.reference.now ≡ Err reply.Unknown)
-    c.self.view_is (target_unknown t c.args.process c.args.reference.now
-    (ap (λ (kst : List (Option ℕ)). uid_of kst c.args.reference.now.number) (sym c.kst.ensures.kst)
-    ∙ sym c.uid_of.ensures.uid ∙ c.in_default.is))
+    rw (← c.self.view_is) (target_unknown t c.args.process c.args.reference.now
+    (cc (c.kst.ensures.kst, c.uid_of.ensures.uid, c.in_default.is)))
 
 pub returns-in_default-node-clause-err : goal.returns-in_default-node-clause-err
 returns-in_default-node-clause-err g c =
     let t = held c.self.view_is in
-    subst (λ (x : Storage g.row.D.Denot). target x c.args.process c.args.reference.now ≡ Err reply.Gone)
-    c.self.view_is (target_gone t c.args.process c.args.reference.now c.in-Some.uid
-    (ap (λ (kst : List (Option ℕ)). uid_of kst c.args.reference.now.number) (sym c.kst.ensures.kst)
-    ∙ sym c.uid_of.ensures.uid ∙ c.in-Some.is) c.in_default-node.ensures.none)
+    rw (← c.self.view_is) (target_gone t c.args.process c.args.reference.now c.in-Some.uid
+    (cc (c.kst.ensures.kst, c.uid_of.ensures.uid, c.in-Some.is)) c.in_default-node.ensures.none)
 
 pub returns-in-Some-refusal_in-clause-err : goal.returns-in-Some-refusal_in-clause-err
 returns-in-Some-refusal_in-clause-err g c =
     let n = as_term (quota_in c.self.inside.accounts.nodes) c.in-Some-node.node.now in
-    subst (λ (x : Storage g.row.D.Denot). target x c.args.process c.args.reference.now ≡ Err c.in-Some-refusal_in.reply)
-    c.self.view_is
+    rw (← c.self.view_is)
     (found g (goal.at.returns-in-Some-refusal_in-clause-err g c).After-refusal_in
     ∙ ap (λ (o : Option Reply). unless o n) c.in-Some-refusal_in.is)
 
 pub returns-in-None-clause-ok : goal.returns-in-None-clause-ok
 returns-in-None-clause-ok g c =
     let n = as_term (quota_in c.self.inside.accounts.nodes) c.in-Some-node.node.now in
-    subst (λ (x : Storage g.row.D.Denot). IsFound x.accounts.nodes (target x c.args.process c.args.reference.now)
-    c.in-Some-node.node.now) c.self.view_is
+    rw (← c.self.view_is)
     (found g (goal.at.returns-in-None-clause-ok g c).After-refusal_in
     ∙ ap (λ (o : Option Reply). unless o n) c.in-None.is)
 
@@ -61,7 +53,7 @@ pub returns-in-None-clause-there : goal.returns-in-None-clause-there
 returns-in-None-clause-there g c =
     let t = held c.self.view_is in
     let n = as_term (quota_in t.accounts.nodes) c.in-Some-node.node.now in
-    subst (λ (x : Storage g.row.D.Denot). IsThere x.accounts.nodes c.in-Some-node.node.now) c.self.view_is
+    rw (← c.self.view_is)
     (ap (node_in t.accounts.nodes) (found_uid t.accounts.nodes c.in-Some.uid n c.in-Some-node.ensures.some)
     ∙ c.in-Some-node.ensures.some)
 

@@ -1,4 +1,4 @@
-use Rattle.storage_ops.proofs.Prelude.{◌≡◌, Bool, true, false, not, ℕ, List, Option, cond, is_some, refl, sym, ap, subst, ◌∙◌, uid_of, after_terminate, terminate_reply, Control, Shows, Flat}
+use Rattle.storage_ops.proofs.Prelude.{◌≡◌, Bool, true, false, not, ℕ, List, Option, cond, is_some, refl, sym, ap, ◌∙◌, uid_of, terminate_reply, Flat}
 use Rattle.book.specs.declared.replies.Reply.TheVariants as reply
 use Rattle.storage_ops.proofs.Held.{held, shown_held, known_held}
 use Rattle.storage_ops.proofs.Known.{terminate_shown}
@@ -31,6 +31,5 @@ pub returns-clause-effect : goal.returns-clause-effect
 returns-clause-effect g c = λ p s h.
     let t = held c.self.view_is in
     let before = shown_held c.self.view_is g.D.Drive.pages p s h in
-    subst (λ (x : Control g.row.D.Denot). Shows g.D.Drive.pages p (after_terminate s c.args.process c.args.number)
-    (record t { segs = x })) (sym c.forget.ensures.effect)
+    rw c.forget.ensures.effect
     (terminate_shown g.D.Drive.pages p s t c.args.process c.args.number before)

@@ -1,4 +1,4 @@
-use Rattle.storage_ops.proofs.Prelude.{List, Option, Some, None, ℕ, refl, sym, ap, ◌∙◌, uid_of, Storage, refusal}
+use Rattle.storage_ops.proofs.Prelude.{Some, None, refl, sym, ap, ◌∙◌, Storage, refusal}
 use Rattle.storage_ops.proofs.NamingLaws.{terminate_told}
 use Rattle.storage_ops.proofs.store.Store.terminate_refusal.Goals as goal
 
@@ -6,12 +6,10 @@ pub returns-in-Some : goal.returns-in-Some
 returns-in-Some g c = λ p s h.
     ap refusal (terminate_told s s.nodes c.self.inside.segs.links.known refl
     (h.known ∙ ap (λ (x : Storage g.row.D.Denot). x.segs.links.known) (sym c.self.view_is)) c.args.process c.args.number
-    (Some c.in-Some.field-0) (c.in-Some.ensures.uid
-    ∙ ap (λ (kst : List (Option ℕ)). uid_of kst c.args.number) c.kst.ensures.kst))
+    (Some c.in-Some.field-0) (cc (c.in-Some.ensures.uid, c.kst.ensures.kst)))
 
 pub returns-in-None : goal.returns-in-None
 returns-in-None g c = λ p s h.
     ap refusal (terminate_told s s.nodes c.self.inside.segs.links.known refl
     (h.known ∙ ap (λ (x : Storage g.row.D.Denot). x.segs.links.known) (sym c.self.view_is)) c.args.process c.args.number
-    None (c.in-None.ensures.uid
-    ∙ ap (λ (kst : List (Option ℕ)). uid_of kst c.args.number) c.kst.ensures.kst))
+    None (cc (c.in-None.ensures.uid, c.kst.ensures.kst)))

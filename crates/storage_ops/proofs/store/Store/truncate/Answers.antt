@@ -1,4 +1,4 @@
-use Rattle.storage_ops.proofs.Prelude.{◌≡◌, ℕ, Ok, List, sym, ap, subst, ◌∙◌, Node, quota_in, as_term, segment_at, Flat, truncate_done, truncate_refused, truncate_told, CutsPages, IsTakenPast, IsTakenPastAt, Shows, Storage, home_of, pages_in, segment_refuses, CountsOthers, cut_at, paged}
+use Rattle.storage_ops.proofs.Prelude.{◌≡◌, Ok, List, sym, ap, ◌∙◌, Node, quota_in, as_term, segment_at, truncate_done, truncate_refused, truncate_told, Storage, segment_refuses}
 use Rattle.storage_ops.proofs.Held.{tree_held}
 use Rattle.storage_ops.proofs.Rest.{rest_none, rest_unstored}
 use Rattle.storage_ops.proofs.CutExactly.{not_both_found, same_uid}
@@ -25,9 +25,8 @@ returns-in-Err-clause-effect g c = λ p s h.
 
 pub cut_off-requires-clause-past : goal.cut_off-requires-clause-past
 cut_off-requires-clause-past g c =
-    let past = subst (λ (x : Storage g.row.D.Denot). IsTakenPastAt x.accounts x.segs c.args.path.now c.args.words)
-    (sym c.self.view_is) c.requires.past in
-    subst (λ (x : Storage g.row.D.Denot). IsTakenPast x.segs c.in-Ok.node.now.uid c.args.words) c.self.view_is
+    let past = rw (← c.self.view_is) at c.requires.past in
+    rw (← c.self.view_is)
     (past (as_term (quota_in c.self.inside.accounts.nodes) c.in-Ok.node.now) c.in-Ok.ensures.ok)
 
 pub returns-clause-answer : goal.returns-clause-answer
@@ -39,10 +38,9 @@ returns-clause-answer g c = λ p s h.
 pub returns-clause-effect : goal.returns-clause-effect
 returns-clause-effect g c = λ p s h.
     let tree = tree_held c.self.view_is s h.tree in
-    subst (λ (x : Flat). Shows g.D.Drive.pages p x c.cut_off.new.self)
-    (sym (truncate_done s c.args.path.now c.args.words
+    rw (truncate_done s c.args.path.now c.args.words
     (as_term (quota_in c.self.inside.accounts.nodes) c.in-Ok.node.now)
-    (ap (λ (ns : List Node). segment_at ns c.args.path.now) tree.nodes ∙ c.in-Ok.ensures.ok)))
+    (ap (λ (ns : List Node). segment_at ns c.args.path.now) tree.nodes ∙ c.in-Ok.ensures.ok))
     (c.cut_off.ensures.shown p s h)
 
 pub returns-in-Err-clause-rest : goal.returns-in-Err-clause-rest
@@ -59,21 +57,17 @@ returns-in-Err-clause-pages g c = λ n found.
 
 pub returns-clause-pages : goal.returns-clause-pages
 returns-clause-pages g c = λ n found.
-    subst (λ (u : ℕ). CutsPages c.args.self.now c.cut_off.new.self u c.args.words)
-    (same g (goal.at.returns-clause-pages g c).In-Ok n found)
+    rw (← same g (goal.at.returns-clause-pages g c).In-Ok n found)
     c.cut_off.ensures.pages
 
 pub returns-clause-exact : goal.returns-clause-exact
 returns-clause-exact g c = λ n found.
-    subst (λ (u : ℕ). paged g.D.Drive.pages c.cut_off.new.self u ≡ cut_at (paged g.D.Drive.pages c.args.self.now u)
-    (home_of c.args.self.now.accounts u) u (pages_in c.args.self.now.accounts.nodes u) c.args.words)
-    (same g (goal.at.returns-clause-exact g c).In-Ok n found)
+    rw (← same g (goal.at.returns-clause-exact g c).In-Ok n found)
     c.cut_off.ensures.exact
 
 pub returns-clause-others : goal.returns-clause-others
 returns-clause-others g c = λ n found.
-    subst (λ (u : ℕ). CountsOthers c.args.self.now.accounts c.cut_off.new.self.accounts u)
-    (same g (goal.at.returns-clause-others g c).In-Ok n found)
+    rw (← same g (goal.at.returns-clause-others g c).In-Ok n found)
     c.cut_off.ensures.others
 
 pub returns-in-Err-clause-exact : goal.returns-in-Err-clause-exact

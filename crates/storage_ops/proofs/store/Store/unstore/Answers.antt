@@ -1,4 +1,4 @@
-use Rattle.storage_ops.proofs.Prelude.{sym, ap, subst, ◌∙◌, refl, Flat, none_missing, ActiveSegs, plain, has_record, is_away, word_of, is_here, Shows, Storage, home_of, page_cut, paged, LosesPage}
+use Rattle.storage_ops.proofs.Prelude.{sym, ap, ◌∙◌, refl, none_missing, ActiveSegs, plain, has_record, is_away, word_of, is_here, Storage, home_of, page_cut, paged}
 use Rattle.storage_ops.proofs.Held.{active_held, held, word_held}
 use Rattle.storage_ops.proofs.PagesLess.{null_of, unstores_null}
 use Rattle.storage_ops.proofs.Paged.{active_tie, blank_shown, word_filed}
@@ -21,15 +21,14 @@ returns-else-is_away g c =
     let null = null_of (word_of t.segs.ast c.args.uid c.args.page) taken word in
     let filed = word_filed now t.segs.ast t.segs.links t.accounts t.whos c.ast.ensures.kept c.self.invariant
     c.args.uid active c.args.page ∙ ap has_record null in
-    subst (λ (x : Storage g.row.D.Denot). LosesPage g.D.Drive.pages x x c.args.uid c.args.page) c.self.view_is
+    rw (← c.self.view_is)
     (record {
       rest = unstores_null g.D.Drive.pages t c.args.uid c.args.page
           (active_tie now t.segs.ast t.segs.links t.accounts t.whos c.ast.ensures.kept c.self.invariant
           c.args.uid active).table null;
-      shown = λ p s h. subst (λ (x : Flat). Shows g.D.Drive.pages p x t)
-          (sym (none_missing s c.args.uid c.args.page
+      shown = λ p s h. rw (none_missing s c.args.uid c.args.page
           (blank_shown g.D.Drive.pages p s t c.ast.ensures.kept c.self.invariant h)
-          (h.pages.stored c.args.uid c.args.page ∙ filed))) h;
+          (h.pages.stored c.args.uid c.args.page ∙ filed)) h;
       exact = ap (page_cut (paged g.D.Drive.pages t c.args.uid) (home_of t.accounts c.args.uid) c.args.uid
           c.args.page) (sym null);
       others = λ s apart. refl;

@@ -1,4 +1,4 @@
-use Rattle.storage_ops.proofs.Prelude.{◌≡◌, ◌+◌, ◌*◌, sym, subst, ◌∙◌, frame_at, number_in, plain, words_in, Storage, home_of}
+use Rattle.storage_ops.proofs.Prelude.{sym, ◌∙◌, frame_at, number_in, plain, words_in, home_of}
 use Rattle.page_control.specs.Tied.{uid_in}
 use Rattle.storage_ops.proofs.Held.{bound_held, held, shown_held}
 use Rattle.storage_ops.proofs.Paged.{active_there}
@@ -11,8 +11,7 @@ returns-clause-told g c = λ p s h.
     let old = plain g.D.Drive.pages t.segs.pages in
     let frame = frame_at t.segs.pages.core c.args.f in
     let bound = bound_held c.self.view_is c.args.f c.requires.bound in
-    subst (λ (x : Storage g.row.D.Denot). c.word.result ≡ s.words (uid_in (frame_at x.segs.pages.core c.args.f))
-    (1024 * number_in (frame_at x.segs.pages.core c.args.f) + c.args.at)) c.self.view_is
+    rw (← c.self.view_is)
     (c.word.ensures.word ∙ sym (word_at g.D.Drive.pages p s t (uid_in frame) (number_in frame) c.args.at
     (words_in old c.args.f)
     (active_there old t.segs.ast t.segs.links t.accounts t.whos c.look.ensures.kept c.self.invariant
