@@ -1,5 +1,6 @@
 -- What a claim of a tree command names stays while pages are taken, and the descriptors of a process are cut in order.
-use Rattle.machine_tables.proofs.Prelude.{◌≡◌, ◌≢◌, ◌+◌, ◌-◌, ◌<◌, ◌≤◌, ℕ, suc, zero, Bool, true, false, cond, length, List, [], ◌∷◌, ◌++◌, map, set, Option, Some, None, refl, sym, ap, subst, ◌∙◌, arith, inl, inr, length-append, filter, nat_le, range_with_len, nat_tests, cases_lt, get_or-set_other, get_or-set_same, get_or_past, length-set, What, is_command, Sdw, Fault, sdw_at, Links, leads_at, sdws_at, unlinked, Aim, cut_all, cut_one, take_all, took, connected_of, cut_of_owner, descriptor_of, is_connected, State, none_some, Cuts, cuts_in, HasOwner, Parts, with_state, take_cut, cut_long, cut_known}
+use Rattle.machine_tables.proofs.Prelude.{◌≡◌, ◌≢◌, ◌+◌, ◌-◌, ◌<◌, ◌≤◌, ℕ, suc, zero, Bool, true, false, cond, length, List, [], ◌∷◌, ◌++◌, map, set, Option, Some, None, refl, sym, ap, subst, ◌∙◌, arith, inl, inr, length-append, filter, nat_le, range_with_len, nat_tests, cases_lt, get_or-set_other, get_or-set_same, What, is_command, Fault, Links, leads_at, sdws_at, unlinked, Aim, cut_all, cut_one, take_all, took, connected_of, cut_of_owner, descriptor_of, is_connected, State, none_some, Cuts, cuts_in, HasOwner, Parts, with_state, take_cut, cut_long, cut_known}
+use lib.Seq.{set_out}
 use Rattle.script.specs.declared.commands.Command.TheVariants as command
 use Rattle.machine_tables.specs.declared.claiming.Cuts.TheVariants as cuts
 use Rattle.machine_tables.specs.Claimed.{number_in}
@@ -74,31 +75,21 @@ pub next_connected : (links : Links) (k n : ℕ) → n < 256
     → connected_from links k n ≡ number_in links k n ++ connected_from links k (n + 1)
 next_connected links k n lt =
     let one : 256 - n ≡ suc (256 - (n + 1)) = omega (arith, lt) in
-    ap (λ (m : ℕ). connected_in links k (range_with_len n m)) one
-    ∙ one_connected links k n (range_with_len (n + 1) (256 - (n + 1)))
+    rw one (one_connected links k n (range_with_len (n + 1) (256 - (n + 1))))
 
 pub none_connected : (links : Links) (k n : ℕ) → 256 ≤ n → connected_from links k n ≡ []
 none_connected links k n le =
-    let none : 256 - n ≡ zero = omega (arith, le) in
-    ap (λ (m : ℕ). connected_in links k (range_with_len n m)) none
+    let none : 256 - n ≡ zero = omega (arith, le) in rw none
 
 -- a cut leaves the other numbers of the process
-word_left : (words : List Sdw) (n m : ℕ) → n ≢ m → sdw_at (set words n Fault) m ≡ sdw_at words m
-word_left words n m ne = get_or-set_other words n m Fault Fault (λ e. ne (sym e))
-
 number_left : (links : Links) (k n m : ℕ) → n ≢ m
     → descriptor_of (unlinked links k n (leads_at links.descriptors k n)) k m ≡ descriptor_of links k m
 number_left links k n m ne = by (leads_at links.descriptors k n)
   where
     here : (place : ℕ) → descriptor_of (unlinked links k n (Some place)) k m ≡ descriptor_of links k m
     here place = elim (cases_lt k (length links.descriptors)) [
-      | inl lt ↦ ap (λ (words : List Sdw). sdw_at words m)
-          (get_or-set_same links.descriptors k (set (sdws_at links.descriptors k) n Fault) [] lt)
-          ∙ word_left (sdws_at links.descriptors k) n m ne
-      | inr le ↦ ap (λ (words : List Sdw). sdw_at words m)
-          (get_or_past (set links.descriptors k (set (sdws_at links.descriptors k) n Fault)) k []
-          (let long = length-set links.descriptors k (set (sdws_at links.descriptors k) n Fault) in
-          omega (arith, long, le)) ∙ sym (get_or_past links.descriptors k [] le))
+      | inl lt ↦ rw (get_or-set_same, get_or-set_other _ n m Fault Fault (λ e. ne (sym e)))
+      | inr le ↦ rw (set_out links.descriptors k (set (sdws_at links.descriptors k) n Fault) le)
     ]
 
     by : (o : Option ℕ) → descriptor_of (unlinked links k n o) k m ≡ descriptor_of links k m
@@ -110,13 +101,12 @@ rest_left : (links : Links) (k n from count : ℕ) → n < from
     ≡ connected_in links k (range_with_len from count)
 rest_left links k n from zero lt = refl
 rest_left links k n from (suc count) lt =
-    one_connected (unlinked links k n (leads_at links.descriptors k n)) k from (range_with_len (from + 1) count)
-    ∙ (ap (λ (x : Sdw). cond (is_connected x) ((k, from) ∷ []) [] ++ connected_in
-    (unlinked links k n (leads_at links.descriptors k n)) k (range_with_len (from + 1) count))
-    (number_left links k n from (λ e. (omega (arith, e, lt))))
-    ∙ (ap (λ (xs : List (ℕ × ℕ)). number_in links k from ++ xs)
-    (rest_left links k n (from + 1) count (omega (arith, lt)))
-    ∙ sym (one_connected links k from (range_with_len (from + 1) count))))
+    cc (
+      one_connected (unlinked links k n (leads_at links.descriptors k n)) k from (range_with_len (from + 1) count),
+      number_left links k n from (λ e. (omega (arith, e, lt))),
+      rest_left links k n (from + 1) count (omega (arith, lt)),
+      one_connected links k from (range_with_len (from + 1) count),
+    )
 
 -- once a number is cut, if it was connected, the rest is left
 pub from_left : (s : State) (c : ℕ) (a : Aim) (w : What) (k n : ℕ)
@@ -138,15 +128,13 @@ pub record CutsAllOn (now first : State) (c : ℕ) (a : Aim) (w : What) (k n : �
   pub few : length (cut_of_owner now.owner) + length (connected_from now.store.links k n) ≤ 256
   pub room : length (connected_from now.store.links k n) ≤ now.spare
 
-pub number_few : (s first : State) (c : ℕ) (a : Aim) (w : What) (k n : ℕ) → CutsAllOn s first c a w k n → n < 256
+pub number_few : {s first : State} {c : ℕ} {a : Aim} {w : What} {k n : ℕ} → CutsAllOn s first c a w k n → n < 256
     → (length (cut_of_owner s.owner) + length (number_in s.store.links k n) ≤ 256)
     × (length (number_in s.store.links k n) ≤ s.spare)
-number_few s first c a w k n on lt =
+number_few {s} {k = k} {n} on lt =
     let all = ap length (next_connected s.store.links k n lt) in
     let both = length-append (number_in s.store.links k n) (connected_from s.store.links k (n + 1)) in
-    let few = on.few in
-    let room = on.room in
-    (omega (arith, all, both, few), omega (arith, all, both, room))
+    (omega (arith, all, both, on.few), omega (arith, all, both, on.room))
 
 -- what a cut leaves of the rest
 one_owner : (s : State) (c : ℕ) (a : Aim) (w : What) (xs : List (ℕ × ℕ)) → HasOwner s.owner
@@ -166,31 +154,29 @@ cuts_known s c a w [] = refl
 cuts_known s c a w (x ∷ xs) = cuts_known (cut_one s c a w x) c a w xs
     ∙ cut_known s.store.links x.0 x.1 (leads_at s.store.links.descriptors x.0 x.1)
 
-pub number_next : (s t first : State) (c : ℕ) (a : Aim) (w : What) (k n : ℕ) → CutsAllOn s first c a w k n → n < 256
-    → t ≡ cut_all s c a w (number_in s.store.links k n) → CutsAllOn t first c a w k (n + 1)
-number_next s t first c a w k n on lt is = subst (λ (x : State). CutsAllOn x first c a w k (n + 1)) (sym is) (
+pub number_next : {s t first : State} {c : ℕ} {a : Aim} {w : What} {k n : ℕ} → CutsAllOn s first c a w k n
+    → n < 256 → t ≡ cut_all s c a w (number_in s.store.links k n) → CutsAllOn t first c a w k (n + 1)
+number_next {s} {c = c} {a} {w} {k} {n} on lt is = rw is (
     let xs = number_in s.store.links k n in
     let all = next_connected s.store.links k n lt in
     let left = from_left s c a w k n in
     let count = ap length all ∙ length-append xs (connected_from s.store.links k (n + 1)) in
     let less = ap length left in
-    let few = on.few in
-    let room = on.room in
     let more = cut_long s c a w xs in
-    let spent = cuts_spent s c a w xs (omega (arith, count, room)) in
+    let spent = cuts_spent s c a w xs (omega (arith, count, on.room)) in
     record {
       same = ap (cut_all (cut_all s c a w xs) c a w) left
           ∙ (sym (cut_all-append s c a w xs (connected_from s.store.links k (n + 1)))
           ∙ (ap (cut_all s c a w) (sym all) ∙ on.same));
-      knows = subst (λ (ks : List (List (Option ℕ))). k < length ks) (sym (cuts_known s c a w xs)) on.knows;
+      knows = rw (cuts_known s c a w xs) on.knows;
       owner = one_owner s c a w xs on.owner;
-      few = omega (arith, count, less, few, more);
-      room = omega (arith, count, less, room, spent);
+      few = omega (arith, count, less, on.few, more);
+      room = omega (arith, count, less, on.room, spent);
     })
 
-pub numbers_end : (s first : State) (c : ℕ) (a : Aim) (w : What) (k n : ℕ) → CutsAllOn s first c a w k n → 256 ≤ n
+pub numbers_end : {s first : State} {c : ℕ} {a : Aim} {w : What} {k n : ℕ} → CutsAllOn s first c a w k n → 256 ≤ n
     → s ≡ cut_all first c a w (connected_of first.store.links k)
-numbers_end s first c a w k n on le =
+numbers_end {s} {first} {c} {a} {w} {k} {n} on le =
     ap (cut_all s c a w) (sym (none_connected s.store.links k n le)) ∙ on.same
 
 -- ---- numbers

@@ -1,5 +1,5 @@
 -- The accounts' lists, by what is told of each segment.
-use Rattle.machine_tables.proofs.Prelude.{◌≡◌, ◌≢◌, ℕ, ◌<◌, true, false, eqb, List, [], ◌∷◌, length, get_or, ext_get_or, if◌then◌else◌, inl, inr, refl, sym, ap, subst, ◌∙◌, arith, Result, Ok, cases_eq, ne_eqb, AccountMaps, HasColumns, Recounts, count_of, Node, has_segment, has, look, with_value, IsRising, length_with, look_with, look_with_other, has_at, look_at, Left, Kept, Released, IsSettled, accounts_left, first_less, first_once, rest_rises}
+use Rattle.machine_tables.proofs.Prelude.{◌≡◌, ◌≢◌, ℕ, ◌<◌, true, false, eqb, List, [], ◌∷◌, length, get_or, ext_get_or, if◌then◌else◌, inl, inr, refl, sym, ap, subst, ◌∙◌, arith, Result, Ok, cases_eq, ne_eqb, AccountMaps, HasColumns, Recounts, count_of, Node, has, look, with_value, IsRising, length_with, look_with, look_with_other, has_at, look_at, Left, Kept, Released, IsSettled, accounts_left, first_less, first_once, rest_rises}
 
 -- ---- rising uids
 
@@ -29,10 +29,8 @@ same_rest x y xs ys ux uy first same u = elim (cases_eq x u) [
 -- the same uids stand in the same order
 pub rising_same : (xs ys : List ℕ) → IsRising xs → IsRising ys → ((u : ℕ) → has xs u ≡ has ys u) → xs ≡ ys
 rising_same [] [] ux uy same = refl
-rising_same [] (y ∷ ys) ux uy same =
-    absurd (let no : false ≡ true = same y ∙ has_at (y ∷ ys) 0 (omega arith) in cc)
-rising_same (x ∷ xs) [] ux uy same =
-    absurd (let no : false ≡ true = sym (same x) ∙ has_at (x ∷ xs) 0 (omega arith) in cc)
+rising_same [] (y ∷ ys) ux uy same = cc (same y, has_at (y ∷ ys) 0 (omega arith))
+rising_same (x ∷ xs) [] ux uy same = cc (same x, has_at (x ∷ xs) 0 (omega arith))
 rising_same (x ∷ xs) (y ∷ ys) ux uy same =
     let first = same_first x y xs ys ux uy same in
     let rest = rising_same xs ys (rest_rises x xs ux) (rest_rises y ys uy) (same_rest x y xs ys ux uy first same) in
@@ -50,7 +48,7 @@ columns_same ks vs ws up long many same = ext_get_or 0 vs ws (long ∙ sym many)
 pub segments_same : (old new : AccountMaps) → HasColumns old → HasColumns new → new.nodes ≡ old.nodes
     → new.segments ≡ old.segments
 segments_same old new before after nodes = rising_same new.segments old.segments after.rising before.rising
-    (λ u. after.segments u ∙ (ap (λ (ns : List Node). has_segment ns u) nodes ∙ sym (before.segments u)))
+    (λ u. cc (after.segments u, nodes, before.segments u))
 
 -- accounts whose nodes and counts are told
 pub maps_same : (new old : AccountMaps) (nodes : List Node) (counts : List ℕ) → new.nodes ≡ nodes
@@ -86,7 +84,7 @@ recounted old new seg count before after told = maps_same new old _ _ told.nodes
     counts = columns_same old.segments new.counts (with_value old.segments old.counts seg count) before.rising
         (after.counted ∙ ap length segments)
         (length_with old.segments old.counts seg count ∙ before.counted)
-        (λ u there. ap (λ (ks : List ℕ). look ks new.counts u) (sym segments) ∙ (told.counts u ∙ beside u there))
+        (λ u there. cc (segments, told.counts u, beside u there))
 
 -- the accounts once a page has left its frame
 pub settled_is : {E : Type 0} (old new : AccountMaps) (uid : ℕ) (r : Result Left E) (how : Left) → r ≡ Ok how

@@ -1,5 +1,5 @@
 -- What a tree command changes of a store, exactly.
-use Rattle.machine_tables.proofs.Prelude.{◌≡◌, ℕ, Bool, true, false, cond, List, [], ◌∷◌, length, map, set, Option, None, refl, sym, ap, subst, ◌∙◌, ℤ, Result, Ok, Err, is_positive, unsigned_abs, Mode, Named, Plan, Command, Reply, AccountMaps, Changes, HasColumns, look, number_for, with_number, getter_of, giver_of, Node, above, has_segment, branch_at, directory_at, node_at, only_directory, only_segment, segment_at, takes_effect, after_initiate, after_terminate, initiate_of, initiate_reply, initiated, row_with, Store, kst_at, Commits, HasLengthSet, HasMoved, HasRowSet, Shows, Stored, answered, with_known, segment_refuses, with_row_of, with_effect, IsFaithful, uid_at_path, uid_of_command, uid_of_node, HasEffect, IsCommitted, TakesEffect, shown, keeps_length, keeps_moved, keeps_one, keeps_rows, segment_map}
+use Rattle.machine_tables.proofs.Prelude.{◌≡◌, ℕ, Bool, true, false, cond, List, [], ◌∷◌, length, map, set, Option, None, refl, sym, ap, ◌∙◌, ℤ, Result, Ok, Err, is_positive, unsigned_abs, Mode, Named, Plan, Command, Reply, AccountMaps, Changes, HasColumns, number_for, with_number, getter_of, giver_of, Node, above, branch_at, directory_at, node_at, only_directory, only_segment, segment_at, takes_effect, after_initiate, after_terminate, initiate_reply, initiated, row_with, Store, kst_at, Commits, HasLengthSet, HasMoved, HasRowSet, Shows, Stored, answered, with_known, segment_refuses, with_row_of, with_effect, IsFaithful, uid_at_path, uid_of_command, uid_of_node, HasEffect, IsCommitted, TakesEffect, shown, keeps_length, keeps_moved, keeps_one, keeps_rows, segment_map}
 use Rattle.script.specs.declared.commands.Command.TheVariants as command
 use Rattle.book.specs.declared.replies.Reply.TheVariants as reply
 use Rattle.machine_tables.proofs.ColumnLaws.{columns_same, maps_same, rising_same}
@@ -8,46 +8,42 @@ use Rattle.flat_model.proofs.KeepLaws.{Keeps}
 
 -- ---- what a path leads to
 
-leads_to : (ns : List Node) (path : List (List ℕ)) (n : Node) → node_at ns path ≡ Ok n
-    → uid_of_node (node_at ns path) ≡ n.uid
-leads_to ns path n h = ap uid_of_node h
-
 pub segment_node : (ns : List Node) (path : List (List ℕ)) (n : Node) → segment_at ns path ≡ Ok n
     → node_at ns path ≡ Ok n
 segment_node ns path n h = by (node_at ns path) refl h
   where
     kind : (b : Bool) (m : Node) → cond b (Err reply.IsDir) (Ok m) ≡ Ok n → m ≡ n
-    kind true m e = absurd (let no : Err reply.IsDir ≡ Ok n = e in cc)
-    kind false m e = let both : ◌≡◌ {A = Result Node Reply} (Ok m) (Ok n) = e in cc
+    kind true m e = cc
+    kind false m e = cc
 
     by : (x : Result Node Reply) → node_at ns path ≡ x → only_segment x ≡ Ok n → node_at ns path ≡ Ok n
-    by (Ok m) e i = e ∙ ap (λ (x : Node). Ok x) (kind m.directory m i)
-    by (Err r) e i = absurd (let no : Err r ≡ Ok n = i in cc)
+    by (Ok m) e i = cc (kind m.directory m i)
+    by (Err r) e i = cc
 
 pub segment_uid : (ns : List Node) (path : List (List ℕ)) (n : Node) → segment_at ns path ≡ Ok n
     → uid_of_node (node_at ns path) ≡ n.uid
-segment_uid ns path n h = leads_to ns path n (segment_node ns path n h)
+segment_uid ns path n h = ap uid_of_node (segment_node ns path n h)
 
 pub branch_node : (ns : List Node) (path : List (List ℕ)) (n : Node) → branch_at ns path ≡ Ok n → node_at ns path ≡ Ok n
-branch_node ns [] n h = absurd (let no : Err reply.Root ≡ Ok n = h in cc)
+branch_node ns [] n h = cc
 branch_node ns (name ∷ names) n h = h
 
 pub branch_uid : (ns : List Node) (path : List (List ℕ)) (n : Node) → branch_at ns path ≡ Ok n
     → uid_of_node (node_at ns path) ≡ n.uid
-branch_uid ns path n h = leads_to ns path n (branch_node ns path n h)
+branch_uid ns path n h = ap uid_of_node (branch_node ns path n h)
 
 directory_uid : (ns : List Node) (path : List (List ℕ)) (n : Node) → directory_at ns path ≡ Ok n
     → uid_of_node (node_at ns path) ≡ n.uid
 directory_uid ns path n h = branch_uid ns path n (by (branch_at ns path) refl h)
   where
     kind : (b : Bool) (m : Node) → cond b (Ok m) (Err reply.IsSeg) ≡ Ok n → m ≡ n
-    kind true m e = let both : ◌≡◌ {A = Result Node Reply} (Ok m) (Ok n) = e in cc
-    kind false m e = absurd (let no : Err reply.IsSeg ≡ Ok n = e in cc)
+    kind true m e = cc
+    kind false m e = cc
 
     by : (x : Result Node Reply) → branch_at ns path ≡ x → only_directory reply.IsSeg x ≡ Ok n
         → branch_at ns path ≡ Ok n
-    by (Ok m) e i = e ∙ ap (λ (x : Node). Ok x) (kind m.directory m i)
-    by (Err r) e i = absurd (let no : Err r ≡ Ok n = i in cc)
+    by (Ok m) e i = cc (kind m.directory m i)
+    by (Err r) e i = cc
 
 -- ---- nodes are changed
 
@@ -58,12 +54,11 @@ changed_nodes old new f keeps before after told =
   where
     segments : new.segments ≡ old.segments
     segments = rising_same new.segments old.segments after.rising before.rising
-        (λ u. after.segments u ∙ (ap (λ (ns : List Node). has_segment ns u) told.nodes
-        ∙ (segment_map f keeps old.nodes u ∙ sym (before.segments u))))
+        (λ u. cc (after.segments u, told.nodes, segment_map f keeps old.nodes u, before.segments u))
 
     counts : new.counts ≡ old.counts
     counts = columns_same old.segments new.counts old.counts before.rising (after.counted ∙ ap length segments)
-        before.counted (λ u there. ap (λ (ks : List ℕ). look ks new.counts u) (sym segments) ∙ told.counts u)
+        before.counted (λ u there. cc (segments, told.counts u))
 
 -- a store with other accounts
 accounts_shown : {D : Type 0} (drive : D → List (List ℕ)) (t u : Stored D) (a : AccountMaps)
@@ -126,14 +121,13 @@ module _ {D : Type 0} (drive : D → List (List ℕ)) (t u : Stored D) (k : ℕ)
 known_shown : {D : Type 0} (drive : D → List (List ℕ)) (t u : Stored D) (known : List (List (Option ℕ)))
     → u ≡ with_known t u.segs.links.known → u.segs.links.known ≡ known
     → shown drive u ≡ record (shown drive t) { links = record t.segs.links { known = known } }
-known_shown drive t u known rest is = ap (shown drive) rest
-    ∙ ap (λ (x : List (List (Option ℕ))). record (shown drive t) { links = record t.segs.links { known = x } }) is
+known_shown drive t u known rest is = ap (shown drive) rest ∙ rw is
 
 -- the flat store that is shown once a command took effect
 pub flat_after : {D : Type 0} (drive : D → List (List ℕ)) (t u : Stored D) (p : Plan) (flat next : Store) (r : Reply)
     → takes_effect r ≡ true → Shows drive p (answered r flat next) u → Shows drive p next u
 flat_after drive t u p flat next r takes shows =
-    subst (λ (s : Store). Shows drive p s u) (ap (λ (b : Bool). cond b next flat) takes) shows
+    rw takes at shows
 
 pub terminate_committed : {D : Type 0} (drive : D → List (List ℕ)) (t u : Stored D) (k number : ℕ) (r : Reply)
     → Commits drive t u k (command.Terminate number) r
@@ -162,9 +156,8 @@ initiate_exact drive t u k path r does rest frames p flat faithful takes = by (s
     by : (x : Result Node Reply) → segment_at flat.nodes path ≡ x
         → shown drive u ≡ with_effect (shown drive t) k (uid_at_path (shown drive t) path) frames
         (command.Initiate path)
-    by (Err q) e = absurd (let is : r ≡ q = does.answer p flat (shows_of drive p flat t faithful)
-        ∙ ap (initiate_of (kst_at flat.known k)) e in
-        let no : false ≡ true = sym (segment_refuses flat.nodes path q e) ∙ (ap takes_effect (sym is) ∙ takes) in cc)
+    by (Err q) e =
+        absurd (cc (does.answer p flat (shows_of drive p flat t faithful), segment_refuses flat.nodes path q e))
     by (Ok n) e =
         let at : segment_at t.accounts.nodes path ≡ Ok n =
         ap (λ (ns : List Node). segment_at ns path) (sym faithful.tree.nodes) ∙ e in

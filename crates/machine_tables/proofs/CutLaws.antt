@@ -1,5 +1,6 @@
 -- Descriptors of a segment that are cut one after the other.
-use Rattle.machine_tables.proofs.Prelude.{◌≡◌, ◌+◌, ◌<◌, ◌≤◌, ℕ, Bool, true, false, not, cond, count_by, List, [], ◌∷◌, length, get_or, Option, Some, None, refl, sym, ap, subst, ◌∙◌, arith, inl, inr, length-append, nat_lt, slice_get, position_or_len, cases_lt, lt-ltb, get_or-set_same, get_or_past, nil_from_length, sum_by-cons, What, Entry, IsActive, Sdw, Fault, leads_to, trailers_of, without_place, without_trailer, Links, leads, leads_at, place_of, sdws_at, unlinked, AreLinked, Aim, CutDescriptor, cut_all, cut_one, note_of, cut_of_owner, descriptor_of, is_active, trailers_in, State, Storage, none_some, active_at, HasOwner, IsOldest, eqb_self, shown_within, times_one}
+use Rattle.machine_tables.proofs.Prelude.{◌≡◌, ◌+◌, ◌<◌, ◌≤◌, ℕ, Bool, true, false, cond, count_by, List, [], ◌∷◌, length, get_or, Option, Some, refl, sym, ap, ◌∙◌, arith, length-append, slice_get, lt-ltb, get_or-set_same, nil_from_length, sum_by-cons, What, Entry, IsActive, Sdw, Fault, leads_to, trailers_of, without_trailer, Links, leads, leads_at, place_of, sdws_at, unlinked, AreLinked, Aim, CutDescriptor, cut_all, cut_one, note_of, cut_of_owner, descriptor_of, is_active, trailers_in, State, Storage, none_some, active_at, HasOwner, IsOldest, eqb_self, shown_within, times_one}
+use Rattle.laws.proofs.Lists.{within_from}
 
 -- ---- the oldest trailer
 
@@ -69,21 +70,11 @@ owner_still : (s : State) (c : ℕ) (a : Aim) (w : What) (pair : ℕ × ℕ) →
 owner_still s c a w pair none = none_some (sym none)
 
 without_first : (pair : ℕ × ℕ) (rest : List (ℕ × ℕ)) → without_trailer (pair ∷ rest) pair.0 pair.1 ≡ rest
-without_first pair rest =
-    let place : position_or_len (leads_to pair.0 pair.1) (pair ∷ rest) ≡ 0 =
-    ap (λ (b : Bool). cond (not b) (1 + position_or_len (leads_to pair.0 pair.1) rest) 0) (own_trailer pair) in
-    ap (λ (n : ℕ). without_place (pair ∷ rest) (cond (nat_lt n (length (pair ∷ rest))) (Some n) None)) place
-    ∙ ap (λ (b : Bool). without_place (pair ∷ rest) (cond b (Some 0) None))
-    (lt-ltb 0 (length (pair ∷ rest)) (omega arith))
+without_first pair rest = rw (own_trailer pair, lt-ltb 0 (length (pair ∷ rest)) (omega arith))
 
 trailers_within : (all : List (List (ℕ × ℕ))) (place : ℕ) (pair : ℕ × ℕ) (rest : List (ℕ × ℕ))
     → trailers_of all place ≡ pair ∷ rest → place < length all
-trailers_within all place pair rest is = elim (cases_lt place (length all)) [
-  | inl within ↦ within
-  | inr past ↦ let none : [] ≡ pair ∷ rest = sym (get_or_past all place [] past) ∙ is in absurd (let n = ap length
-      none in
-      omega (arith, n))
-]
+trailers_within all place pair rest is = within_from all place [] (λ none. cc)
 
 -- once the first trailer of a segment is cut, the others are left
 pub trailers_left : (st : Storage) (u : ℕ) (pair : ℕ × ℕ) (rest : List (ℕ × ℕ)) → trailers_in st u ≡ pair ∷ rest
@@ -99,12 +90,9 @@ trailers_left st u pair rest is leads = by (is_active st.ast u) refl is
     by : (b : Bool) → is_active st.ast u ≡ b → cond b (trailers_of st.links.trailers place) [] ≡ pair ∷ rest
         → cond b (trailers_of (unlinked st.links pair.0 pair.1 (leads_at st.links.descriptors pair.0 pair.1)).trailers
         place) [] ≡ rest
-    by false e is = absurd (let n = ap length is in omega (arith, n))
-    by true e is = ap (λ (o : Option ℕ). trailers_of (unlinked st.links pair.0 pair.1 o).trailers place) leads
-        ∙ get_or-set_same st.links.trailers place (without_trailer (trailers_of st.links.trailers place) pair.0
-        pair.1) []
-        (trailers_within st.links.trailers place pair rest is)
-        ∙ ap (λ (xs : List (ℕ × ℕ)). without_trailer xs pair.0 pair.1) is ∙ without_first pair rest
+    by false e is = absurd cc
+    by true e is = rw (leads, get_or-set_same, trailers_within st.links.trailers place pair rest is, is)
+        (without_first pair rest)
 
 -- so far as the descriptors of a segment are cut, the rest leads to the same
 pub record CutsOn (now first : State) (c : ℕ) (a : Aim) (w : What) (u : ℕ) : Type 0 where
@@ -114,34 +102,30 @@ pub record CutsOn (now first : State) (c : ℕ) (a : Aim) (w : What) (u : ℕ) :
   pub few : length (cut_of_owner now.owner) + length (trailers_in now.store u) ≤ 256
   pub room : length (trailers_in now.store u) ≤ now.spare
 
-pub one_few : (s first : State) (c : ℕ) (a : Aim) (w : What) (u : ℕ) (pair : ℕ × ℕ) → CutsOn s first c a w u
+pub one_few : {s first : State} {c : ℕ} {a : Aim} {w : What} {u : ℕ} {pair : ℕ × ℕ} → CutsOn s first c a w u
     → IsOldest s.store u pair → (length (cut_of_owner s.owner) < 256) × (0 < s.spare)
-one_few s first c a w u pair on is =
-    let all = ap length is.is in
-    let few = on.few in
-    let room = on.room in
-    (omega (arith, all, few), omega (arith, all, room))
+one_few on is =
+    let all = ap length is.is in (omega (arith, all, on.few), omega (arith, all, on.room))
 
-pub cuts_next : (s t first : State) (c : ℕ) (a : Aim) (w : What) (u : ℕ) (pair : ℕ × ℕ) → CutsOn s first c a w u
+pub cuts_next : {s t first : State} {c : ℕ} {a : Aim} {w : What} {u : ℕ} {pair : ℕ × ℕ} → CutsOn s first c a w u
     → IsOldest s.store u pair
     → t ≡ cut_one s c a w pair → CutsOn t first c a w u
-cuts_next s t first c a w u pair on is cut = subst (λ (x : State). CutsOn x first c a w u) (sym cut) (record {
+cuts_next {s} {c = c} {a} {w} {u} {pair} on is cut = rw cut (record {
   same = ap (cut_all (cut_one s c a w pair) c a w) left ∙ ap (cut_all s c a w) (sym is.is) ∙ on.same;
   active = on.active;
   owner = owner_still s c a w pair;
-  few = let more = length-append (cut_of_owner s.owner) (note ∷ []) in let few = on.few in let all = ap length
-      is.is in
-      let less = ap length left in omega (arith, more, few, all, less);
-  room = let room = on.room in let all = ap length is.is in let less = ap length left in omega (
-    arith,
-    room,
-    all,
-    less,
-  );
+  few = let more = length-append (cut_of_owner s.owner) (note ∷ []) in omega (arith, more, on.few, all, less);
+  room = omega (arith, on.room, all, less);
 })
   where
     left : trailers_in (cut_one s c a w pair).store u ≡ is.rest
     left = trailers_left s.store u pair is.rest is.is is.leads
+
+    less : length (trailers_in (cut_one s c a w pair).store u) ≡ length is.rest
+    less = ap length left
+
+    all : length (trailers_in s.store u) ≡ length (pair ∷ is.rest)
+    all = ap length is.is
 
     note : CutDescriptor
     note = note_of s.store pair.0 pair.1 (descriptor_of s.store.links pair.0 pair.1)
@@ -155,6 +139,6 @@ cut_smaller s t c a w u pair is cut =
     ∙ ap length (trailers_left s.store u pair is.rest is.is is.leads) in
     let all = ap length is.is in omega (arith, left, all)
 
-pub cuts_end : (s first : State) (c : ℕ) (a : Aim) (w : What) (u : ℕ) → CutsOn s first c a w u
+pub cuts_end : {s first : State} {c : ℕ} {a : Aim} {w : What} {u : ℕ} → CutsOn s first c a w u
     → trailers_in s.store u ≡ [] → s ≡ cut_all first c a w (trailers_in first.store u)
-cuts_end s first c a w u on none = ap (cut_all s c a w) (sym none) ∙ on.same
+cuts_end {s} {first} {c} {a} {w} on none = ap (cut_all s c a w) (sym none) ∙ on.same

@@ -1,5 +1,7 @@
 -- A node that is deleted, exactly.
-use Rattle.machine_tables.proofs.Prelude.{◌≡◌, ◌≢◌, ◌<◌, ℕ, ◌-◌, Bool, true, false, not, ◌&&◌, cond, eqb, is_some, length, map, count_by, List, [], ◌∷◌, get_or, Option, Some, None, refl, sym, ap, subst, ◌∙◌, arith, inl, inr, Result, Ok, Err, filter, range_with_len, cases_eq, cases_lt, ne_eqb, eq-eqb, get_or_past, length-map, sum_by-cons, Plan, Reply, HasColumns, count_of, InSegment, LeadsTo, Missing, Node, Walk, node_in, walk_in, without_node, branch_at, node_at, there_or, walked, takes_effect, after_delete, delete_of, delete_reply, deleted, without_stored, Store, Ptw, Leaving, Null, HasParts, Home, erased, Plain, filed, plain, vtoc_of, has_record, IsTied, is_for, place_of, table_of, word_of, IsKept, Commits, KeepsRest, Erases, paged, pages_cut, pages_from, IsStore, Shows, Stored, home_of, is_there, pages_in, branch_refuses, frames_freed, inactive_if, lost, with_deleted, with_effect, with_inactive, IsFaithful, is_active, uid_at_path, Storage, with_pages, active_place, within_some, none_some, active_at, word_within, IsCommitted, shown, OwnsAll, OwnsFor, found_uid}
+use Rattle.machine_tables.proofs.Prelude.{◌≡◌, ◌≢◌, ◌<◌, ℕ, ◌-◌, Bool, true, false, not, ◌&&◌, cond, eqb, is_some, length, map, count_by, List, [], ◌∷◌, get_or, Option, Some, None, refl, sym, ap, ◌∙◌, arith, inl, inr, Result, Ok, Err, filter, range_with_len, cases_eq, ne_eqb, eq-eqb, length-map, sum_by-cons, Plan, Reply, HasColumns, count_of, LeadsTo, Node, Walk, node_in, walk_in, without_node, branch_at, node_at, there_or, walked, takes_effect, after_delete, delete_reply, deleted, without_stored, Store, Ptw, Null, HasParts, Home, erased, Plain, filed, plain, vtoc_of, has_record, IsTied, is_for, place_of, table_of, word_of, IsKept, Commits, KeepsRest, Erases, paged, pages_cut, pages_from, IsStore, Shows, Stored, home_of, is_there, pages_in, branch_refuses, frames_freed, inactive_if, lost, with_deleted, with_effect, with_inactive, IsFaithful, is_active, uid_at_path, Storage, with_pages, active_place, within_some, active_at, word_within, IsCommitted, shown, OwnsAll, OwnsFor, found_uid}
+use Rattle.std.proofs.lemmas.Bool.{cases_Bool, false_from_ne_true}
+use Rattle.laws.proofs.Places.{shown_within}
 use Rattle.script.specs.declared.commands.Command.TheVariants as command
 use Rattle.book.specs.declared.replies.Reply.TheVariants as reply
 use Rattle.tree_model.specs.Trees.{IsTree}
@@ -23,12 +25,10 @@ count_kept s uid ne (x ∷ xs) =
     let rest = count_kept s uid ne xs in
     let all = sum_by-cons (λ (y : ℕ × ℕ). tally (eqb y.0 s)) x xs in
     elim (cases_eq x.0 uid) [
-      | inl is ↦ ap (λ (b : Bool). count_by (λ y. eqb y.0 s) (cond (not (b && true)) (x ∷ kept) kept))
-          (eq-eqb x.0 uid is)
-          ∙ (let none = ap tally (ne_eqb x.0 s (λ e. ne (sym e ∙ is))) in omega (arith, rest, all, none))
-      | inr isnt ↦ ap (λ (b : Bool). count_by (λ y. eqb y.0 s) (cond (not (b && true)) (x ∷ kept) kept))
-          (ne_eqb x.0 uid isnt)
-          ∙ (let more = sum_by-cons (λ (y : ℕ × ℕ). tally (eqb y.0 s)) x kept in omega (arith, rest, all, more))
+      | inl is ↦ rw (eq-eqb x.0 uid is)
+          (let none = ap tally (ne_eqb x.0 s (λ e. ne (sym e ∙ is))) in omega (arith, rest, all, none))
+      | inr isnt ↦ rw (ne_eqb x.0 uid isnt)
+          (let more = sum_by-cons (λ (y : ℕ × ℕ). tally (eqb y.0 s)) x kept in omega (arith, rest, all, more))
     ]
   where
     kept : List (ℕ × ℕ)
@@ -50,11 +50,7 @@ module _ (st : Storage) (uid : ℕ) (kept : IsKept st.pages st.ast st.links)
     home_within = by (get_or (vtoc_of st.pages home.volume) home.entry None) refl
       where
         volume : home.volume < length st.pages.vtocs
-        volume = elim (cases_lt home.volume (length st.pages.vtocs)) [
-          | inl lt ↦ lt
-          | inr le ↦ absurd (none_some (sym (ap (λ (t : List (Option Entry)). uid_of (get_or t home.entry None))
-              (get_or_past st.pages.vtocs home.volume [] le)) ∙ home_used))
-        ]
+        volume = shown_within (λ t. uid_of (get_or t home.entry None)) st.pages.vtocs home.volume [] uid refl home_used
 
         records : home.volume < length st.pages.records
         records =
@@ -65,14 +61,11 @@ module _ (st : Storage) (uid : ℕ) (kept : IsKept st.pages st.ast st.links)
             omega (arith, volume, tables, sizes, flags, drives)
 
         by : (x : Option Entry) → get_or (vtoc_of st.pages home.volume) home.entry None ≡ x → IsUsed st.pages home
-        by None e = absurd (none_some (sym (ap uid_of e) ∙ home_used))
+        by None e = absurd (cc home_used)
         by (Some entry) e = record {
           volume = volume;
           records = records;
-          entry = elim (cases_lt home.entry (length (vtoc_of st.pages home.volume))) [
-            | inl lt ↦ lt
-            | inr le ↦ absurd (none_some (sym (get_or_past (vtoc_of st.pages home.volume) home.entry None le) ∙ e))
-          ];
+          entry = shown_within uid_of (vtoc_of st.pages home.volume) home.entry None uid refl home_used;
           used = entry;
           is = e;
         }
@@ -94,24 +87,16 @@ module _ (st : Storage) (uid : ℕ) (kept : IsKept st.pages st.ast st.links)
         has_word w ne = refl
 
         some_is : (o : Option ℕ) → is_some o ≡ true → (r : ℕ) × (o ≡ Some r)
-        some_is None h = absurd (let no : false ≡ true = h in cc)
+        some_is None h = cc
         some_is (Some r) h = (r, refl)
 
     -- of a node that isn't active no page is on its way out
     idle_frames : (frames : List ℕ) → is_active st.ast uid ≡ false → OwnsAll st uid frames → (g : ℕ)
         → has frames g ≡ has [] g
     unfolding place_of
-    idle_frames frames idle owns g = by (has frames g) refl
-      where
-        by : (b : Bool) → has frames g ≡ b → b ≡ false
-        by false e = refl
-        by true e = absurd (let page = owns.pages g e in
-            let some : word_of st.ast uid page.0 ≢ Null =
-            λ null. (let no : Null ≡ Leaving g = sym null ∙ page.2 in cc) in
-            let within = (word_within st.ast uid page.0 some).0 in
-            let active = within_some (is_for uid) st.ast.entries
-            (subst (λ (n : ℕ). place_of st.ast.entries uid < n) kept.places within) in
-            let no : true ≡ false = sym active ∙ idle in cc)
+    idle_frames frames idle owns g = false_from_ne_true (has frames g) (λ e. (let page = owns.pages g e in
+        let within = (word_within st.ast uid page.0 (λ null. cc (page.2))).0 in
+        let active = within_some (is_for uid) st.ast.entries (rw kept.places at within) in cc))
 
 -- ---- the store
 
@@ -122,17 +107,12 @@ unfolding node_at
 node_there ns path n h = by (walk_in ns path) h
   where
     found : (v : ℕ) (x : Option Node) → node_in ns v ≡ x → there_or x ≡ Ok n → is_there ns n.uid ≡ true
-    found v None e i = absurd (let no : ◌≡◌ {A = Result Node Reply} (Err reply.NoPath) (Ok n) = i in cc)
-    found v (Some m) e i =
-        let same : m ≡ n = (let both : ◌≡◌ {A = Result Node Reply} (Ok m) (Ok n) = i in cc) in
-        let own : m.uid ≡ v = found_uid ns v m e in
-        ap (λ (y : Node). is_there ns y.uid) (sym same)
-        ∙ (ap (is_there ns) own ∙ ap (λ (o : Option Node). is_some o) e)
+    found v None e i = cc
+    found v (Some m) e i = cc (found_uid ns v m e)
 
     by : (w : Walk) → walked ns w ≡ Ok n → is_there ns n.uid ≡ true
     by (LeadsTo v) i = found v (node_in ns v) refl i
-    by Missing i = absurd (let no : ◌≡◌ {A = Result Node Reply} (Err reply.NoPath) (Ok n) = i in cc)
-    by InSegment i = absurd (let no : ◌≡◌ {A = Result Node Reply} (Err reply.NotDir) (Ok n) = i in cc)
+    by _ i = cc
 
 module _ {D : Type 0} (drive : D → List (List ℕ)) (t u : Stored D) (path : List (List ℕ)) (r : Reply)
     (before : HasColumns t.accounts) (after : HasColumns u.accounts) (tree : IsTree t.accounts.nodes)
@@ -179,7 +159,7 @@ module _ {D : Type 0} (drive : D → List (List ℕ)) (t u : Stored D) (path : L
     idle_erased : is_active st.ast n.uid ≡ false → HasErased
     idle_erased idle =
         let both = erases.inactive (record {
-          nowhere = λ place at. (let no : true ≡ false = sym (active_at st.ast place n.uid at) ∙ idle in cc);
+          nowhere = λ place at. (cc (active_at st.ast place n.uid at));
         }) in
         record {
           pages = both.0 ∙ ap (λ (x : Plain). erased x (home_of t.accounts n.uid))
@@ -191,11 +171,7 @@ module _ {D : Type 0} (drive : D → List (List ℕ)) (t u : Stored D) (path : L
         }
 
     has_erased : HasErased
-    has_erased = by (is_active st.ast n.uid) refl
-      where
-        by : (b : Bool) → is_active st.ast n.uid ≡ b → HasErased
-        by true e = active_erased e
-        by false e = idle_erased e
+    has_erased = elim (cases_Bool (is_active st.ast n.uid)) [ inl e ↦ active_erased e | inr e ↦ idle_erased e ]
 
   -- the accounts, and what leads to segments
   module _ (n : Node) (frames : List ℕ) (p : Plan) (flat : Store) (faithful : IsFaithful p flat st)
@@ -265,15 +241,14 @@ module _ {D : Type 0} (drive : D → List (List ℕ)) (t u : Stored D) (path : L
       by : (p : Plan) (flat : Store) → IsFaithful p flat st → takes_effect r ≡ true → (x : Result Node Reply)
           → branch_at flat.nodes path ≡ x
           → shown drive u ≡ with_effect st k (uid_at_path st path) frames (command.Delete path)
-      by p flat faithful takes (Err q) e = absurd (
-          let is : r ≡ q = does.answer p flat (shows_of drive p flat t faithful) ∙ ap (delete_of flat.nodes) e in
-          let no : false ≡ true = sym (branch_refuses flat.nodes path q e) ∙ (ap takes_effect (sym is) ∙ takes) in cc)
+      by p flat faithful takes (Err q) e =
+          absurd (cc (does.answer p flat (shows_of drive p flat t faithful), branch_refuses flat.nodes path q e))
       by p flat faithful takes (Ok n) e =
           let at : branch_at t.accounts.nodes path ≡ Ok n =
           ap (λ (ns : List Node). branch_at ns path) (sym faithful.tree.nodes) ∙ e in
           let now = flat_after drive t u p flat (after_delete flat path) r takes
           (does.effect p flat (shows_of drive p flat t faithful)) in
           deleted_exact n frames p flat at (owns n at) (erases takes n at) faithful
-          (subst (λ (x : Result Node Reply). Shows drive p (deleted flat x) u) e now)
+          (rw e at now)
           ∙ ap (λ (v : ℕ). with_effect st k v frames (command.Delete path))
           (sym (branch_uid t.accounts.nodes path n at))

@@ -59,11 +59,10 @@ module _ (old new : AccountMaps) (n : Node) (before : HasColumns old) (after : H
   )
     where
       same : (u : ℕ) → has new.segments u ≡ has old.segments u
-      same u = there_now u ∙ (ap (λ (b : Bool). cond (eqb n.uid u) (not b) (has old.segments u)) dir
-          ∙ elim (cases_eq n.uid u) [
-            | inl is ↦ rw (eq-eqb n.uid u is) (sym (ap (has old.segments) (sym is) ∙ fresh))
-            | inr isnt ↦ rw (ne_eqb n.uid u isnt) refl
-          ])
+      same u = there_now u ∙ rw dir (elim (cases_eq n.uid u) [
+        | inl is ↦ rw (eq-eqb n.uid u is) (sym (ap (has old.segments) (sym is) ∙ fresh))
+        | inr isnt ↦ rw (ne_eqb n.uid u isnt)
+      ])
 
       segments : new.segments ≡ old.segments
       segments = rising_same new.segments old.segments after.rising before.rising same

@@ -17,6 +17,7 @@ pub mod DeleteLaws
 pub mod DeletedLaws
 pub mod EffectLaws
 pub mod FailedLaws
+pub mod FindLaws
 pub mod FirstLaws
 pub mod FrameLaws
 pub mod GainLaws

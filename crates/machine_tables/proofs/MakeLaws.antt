@@ -1,5 +1,5 @@
 -- A directory or a segment that is made, exactly.
-use Rattle.machine_tables.proofs.Prelude.{◌≡◌, ℕ, ◌+◌, Bool, true, false, cond, List, [], ◌∷◌, Option, Some, None, get_or, refl, sym, ap, subst, ◌∙◌, Result, Ok, Err, get_or-map, Who, Plan, ProcessPlan, nobody, who_of, Reply, HasColumns, count_of, with_beside, Row, Node, AreBelow, node_at, only_directory, parts_of, takes_effect, after_make, made_at, made_in, made_of, make_at, make_of, make_reply, owner_row, Store, allocated, vtoc_of, least_free_entry, Commits, TakesHome, Shows, Stored, who_at, with_vtocs, node_refuses, branch_of, gained, with_branch, with_made, IsFaithful, or_zero, uid_at_path, uid_of_node, Storage, TakesEffect, shown}
+use Rattle.machine_tables.proofs.Prelude.{◌≡◌, ℕ, ◌+◌, Bool, true, false, cond, List, [], ◌∷◌, Option, Some, None, get_or, refl, sym, ap, subst, ◌∙◌, Result, Ok, Err, get_or-map, Who, Plan, ProcessPlan, nobody, who_of, Reply, HasColumns, count_of, with_beside, Row, Node, AreBelow, node_at, parts_of, takes_effect, after_make, made_at, made_in, made_of, make_of, make_reply, owner_row, Store, allocated, vtoc_of, least_free_entry, Commits, TakesHome, Shows, Stored, who_at, with_vtocs, node_refuses, branch_of, gained, with_branch, with_made, IsFaithful, or_zero, uid_at_path, uid_of_node, Storage, TakesEffect, shown}
 use Rattle.script.specs.declared.commands.Command.TheVariants as command
 use Rattle.book.specs.declared.replies.Reply.TheVariants as reply
 use Rattle.machine_tables.proofs.CommitLaws.{flat_after}
@@ -12,14 +12,9 @@ module _ (p : Plan) (flat : Store) (volume : ℕ) (dir : Bool) where
       → takes_effect r ≡ true → (d : Node) × (node_at flat.nodes parts.0 ≡ Ok d)
   made_below parts r is takes = by (node_at flat.nodes parts.0) refl
     where
-      refused : (q : Reply) → takes_effect q ≡ false
-          → make_at p flat volume dir parts.1 (only_directory reply.NotDir (node_at flat.nodes parts.0)) ≡ q → ⊥
-      refused q off e = let no : false ≡ true = sym off ∙ (ap takes_effect (sym (is ∙ e)) ∙ takes) in cc
-
       by : (x : Result Node Reply) → node_at flat.nodes parts.0 ≡ x → (d : Node) × (node_at flat.nodes parts.0 ≡ Ok d)
       by (Ok d) e = (d, e)
-      by (Err q) e = absurd (refused q (node_refuses flat.nodes parts.0 q e)
-          (ap (λ (x : Result Node Reply). make_at p flat volume dir parts.1 (only_directory reply.NotDir x)) e))
+      by (Err q) e = absurd (cc (node_refuses flat.nodes parts.0 q e))
 
 module _ {D : Type 0} (drive : D → List (List ℕ)) (t u : Stored D) (before : HasColumns t.accounts)
     (after : HasColumns u.accounts) (below : AreBelow t.accounts.next t.accounts.nodes) (volume : ℕ)
@@ -73,15 +68,9 @@ module _ {D : Type 0} (drive : D → List (List ℕ)) (t u : Stored D) (before :
       by : (b : Bool) → dir ≡ b
           → u.accounts ≡ gained t.accounts node (or_zero (least_free_entry (vtoc_of st.pages volume)))
       by true e = let both = directory_gained t.accounts u.accounts node before after below nodes counts e in
-          gains t.accounts.segments t.accounts.counts both.0 both.1
-          (ap (λ (z : Bool). cond z t.accounts.segments (with_beside t.accounts.segments t.accounts.segments node.uid
-          node.uid)) e)
-          (ap (λ (z : Bool). cond z t.accounts.counts (with_beside t.accounts.segments t.accounts.counts node.uid 0)) e)
+          gains t.accounts.segments t.accounts.counts both.0 both.1 (rw e) (rw e)
       by false e = let both = segment_gained t.accounts u.accounts node before after below nodes counts e in
-          gains _ _ both.0 both.1
-          (ap (λ (z : Bool). cond z t.accounts.segments (with_beside t.accounts.segments t.accounts.segments node.uid
-          node.uid)) e)
-          (ap (λ (z : Bool). cond z t.accounts.counts (with_beside t.accounts.segments t.accounts.counts node.uid 0)) e)
+          gains _ _ both.0 both.1 (rw e) (rw e)
 
   -- the store once it is made
   pub branch_made : shown drive u ≡ with_branch st node
@@ -108,7 +97,7 @@ module _ {D : Type 0} (drive : D → List (List ℕ)) (t u : Stored D) (before :
       by : (x : Option (List (List ℕ) × List ℕ)) → r ≡ make_of p flat volume dir x
           → Shows drive p (made_of flat volume dir pages rows x) u
           → shown drive u ≡ with_made (shown drive t) dir pages volume rows x
-      by None e shows = absurd (let no : false ≡ true = ap takes_effect (sym e) ∙ takes in cc)
+      by None e shows = absurd cc
       by (Some parts) e shows =
           let below_it = made_below p flat volume dir parts r e takes in
           branch_made drive t u before after below volume (home takes) rest p flat faithful dir pages rows parts

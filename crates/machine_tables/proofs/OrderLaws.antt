@@ -1,16 +1,11 @@
 -- Pages that are cut off: to drop those past the page that is cut before it is cut, or after, comes to the same.
-use Rattle.machine_tables.proofs.Prelude.{◌≡◌, ◌≢◌, ◌<◌, ◌≤◌, ◌+◌, ◌-◌, ℕ, suc, zero, Bool, true, false, cond, length, List, [], get_or, set, Option, Some, None, inl, inr, refl, sym, ap, ◌∙◌, arith, range_with_len, cases_eq, get_or-set_other, get_or-set_same, set-set, set_comm, Ptw, Here, Leaving, Null, Out, ptw_at, Frame, Free, Core, after_reference, with_record, ActiveSegs, Home, unstored, Plain, entry_of, filed, flags_of, frame_in, number_or_zero, vtoc_of, place_of, table_of, word_of, worded, Paged, is_cleared, page_cleared, page_cut, pages_cut, word_within, here_again, given_twice}
+use Rattle.machine_tables.proofs.Prelude.{◌≡◌, ◌≢◌, ◌<◌, ◌≤◌, ◌+◌, ◌-◌, ℕ, suc, zero, Bool, true, false, cond, length, List, get_or, set, Option, Some, None, inl, inr, refl, sym, ap, ◌∙◌, arith, range_with_len, cases_eq, get_or-set_other, get_or-set_same, set-set, set_comm, Ptw, Here, Leaving, Null, Frame, Free, Core, after_reference, with_record, ActiveSegs, Home, unstored, Plain, entry_of, filed, flags_of, frame_in, vtoc_of, place_of, table_of, word_of, worded, Paged, is_cleared, page_cleared, page_cut, pages_cut, word_within, here_again, given_twice}
+use Rattle.std.proofs.Common.{suc-add, zero-add}
 use Rattle.vtoc.specs.Vtoc.{Entry}
-use Rattle.machine_tables.proofs.DeleteLaws.{Drops, IsNamed, IsUsed, entry_less, filed_less, flags_less, page_drops, table_in, vtoc_less, word_gone}
-use Rattle.machine_tables.proofs.TakeLaws.{table_worded}
+use Rattle.machine_tables.proofs.DeleteLaws.{Drops, IsNamed, IsUsed, entry_less, filed_less, flags_less, page_drops, table_in, vtoc_less}
+use Rattle.machine_tables.proofs.TakeLaws.{word_other, word_put}
 
 -- ---- words
-
--- the other words of the page table stay
-pub word_other : (ast : ActiveSegs) (u p q : ℕ) (w : Ptw) → p < length (table_of ast u) → q ≢ p
-    → word_of (worded ast u p w) u q ≡ word_of ast u q
-word_other ast u p q w lt ne = ap (λ (t : List Ptw). ptw_at t q) (table_worded ast u p w lt)
-    ∙ get_or-set_other (table_of ast u) p q w Null ne
 
 -- two words are changed
 words_order : (ast : ActiveSegs) (u p q : ℕ) (v w : Ptw) → place_of ast.entries u < length ast.tables → p ≢ q
@@ -22,12 +17,10 @@ words_order ast u p q v w within ne = (λ i. record ast { tables = tables i })
 
     both : (a b : ℕ) (x y : Ptw) → (worded (worded ast u a x) u b y).tables
         ≡ set ast.tables place (set (set (table_of ast u) a x) b y)
-    both a b x y = set-set ast.tables place _ _
-        ∙ ap (λ (t : List Ptw). set ast.tables place (set t b y))
-        (get_or-set_same ast.tables place (set (table_of ast u) a x) [] within)
+    both a b x y = rw (set-set, get_or-set_same)
 
     tables : (worded (worded ast u p v) u q w).tables ≡ (worded (worded ast u q w) u p v).tables
-    tables = both p q v w ∙ (ap (set ast.tables place) (set_comm (table_of ast u) p q v w ne) ∙ sym (both q p w v))
+    tables = cc (both p q v w, both q p w v, set_comm (table_of ast u) p q v w ne)
 
 -- ---- records
 
@@ -39,39 +32,27 @@ module _ (s : Plain) (home : Home) (p q r n : ℕ) (used : IsUsed s home) (here 
   records_after : (a b i j : ℕ) → filed s home a ≡ Some i → filed s home b ≡ Some j → b ≢ a
       → (unstored (unstored s home a) home b).records ≡ flags_both i j
   records_after a b i j at bt other =
-      ap (λ (k : ℕ). set (unstored s home a).records home.volume
-      (set (flags_of (unstored s home a) home.volume) k false))
-      (ap number_or_zero (filed_less s home a i used at b other ∙ bt))
-      ∙ (set-set s.records home.volume _ _
-      ∙ ap (λ (f : List Bool). set s.records home.volume (set f j false)) (flags_less s home a i used at))
+      rw (set-set, flags_less s home a i used at, filed_less s home a i used at b other, bt)
 
   records_order : (unstored (unstored s home p) home q).records ≡ (unstored (unstored s home q) home p).records
-  records_order = records_after p q r n here there (λ e. ne (sym e))
-      ∙ (ap (set s.records home.volume) (given_twice (flags_of s home.volume) r n)
-      ∙ sym (records_after q p n r there here ne))
+  records_order = cc (
+    records_after p q r n here there (λ e. ne (sym e)),
+    records_after q p n r there here ne,
+    given_twice (flags_of s home.volume) r n,
+  )
 
   vtocs_after : (a b i : ℕ) → filed s home a ≡ Some i → (unstored (unstored s home a) home b).vtocs
       ≡ set s.vtocs home.volume (set (vtoc_of s home.volume) home.entry
       (with_record (with_record (entry_of s home) a None) b None))
-  vtocs_after a b i at =
-      set-set s.vtocs home.volume _ _
-      ∙ (ap (λ (v : List (Option Entry)). set s.vtocs home.volume (set v home.entry
-      (with_record (entry_of (unstored s home a) home) b None))) (vtoc_less s home a i used at)
-      ∙ (ap (set s.vtocs home.volume) (set-set (vtoc_of s home.volume) home.entry _ _)
-      ∙ ap (λ (e : Option Entry). set s.vtocs home.volume (set (vtoc_of s home.volume) home.entry
-      (with_record e b None))) (entry_less s home a i used at)))
+  vtocs_after a b i at = rw (set-set, entry_less s home a i used at, vtoc_less s home a i used at, set-set)
 
   maps_order : (e : Option Entry) → with_record (with_record e p None) q None
       ≡ with_record (with_record e q None) p None
   maps_order None = refl
-  maps_order (Some e) = ap (λ (m : List (Option ℕ)). Some (record e { records = m }))
-      (set_comm e.records p q None None ne)
+  maps_order (Some e) = rw (set_comm e.records p q None None ne)
 
   vtocs_order : (unstored (unstored s home p) home q).vtocs ≡ (unstored (unstored s home q) home p).vtocs
-  vtocs_order = vtocs_after p q r here
-      ∙ (ap (λ (e : Option Entry). set s.vtocs home.volume (set (vtoc_of s home.volume) home.entry e))
-      (maps_order (entry_of s home))
-      ∙ sym (vtocs_after q p n there))
+  vtocs_order = cc (vtocs_after p q r here, maps_order (entry_of s home), vtocs_after q p n there)
 
 -- ---- the page that is cut, and one that is dropped
 
@@ -89,14 +70,12 @@ cut_first x home uid p at w =
 pub cleared_same : (x : Paged) (home : Home) (uid q at f : ℕ) (v : Ptw)
     → is_cleared (page_cut x home uid q v) at (Leaving f) ≡ is_cleared x at (Leaving f)
 cleared_same x home uid q at f Null = refl
-cleared_same x home uid q at f (Out n) = refl
-cleared_same x home uid q at f (Here n) = refl
-cleared_same x home uid q at f (Leaving g) = refl
+cleared_same x home uid q at f v = refl
 
 module _ (x : Paged) (home : Home) (uid p q at f : ℕ) (word : word_of x.ast uid p ≡ Leaving f) (ne : p ≢ q)
     (named : IsNamed x home uid) where
   own : word_of x.ast uid p ≢ Null
-  own none = let no : Null ≡ Leaving f = sym none ∙ word in cc
+  own none = cc
 
   within : place_of x.ast.entries uid < length x.ast.tables
   within = (word_within x.ast uid p own).0
@@ -133,18 +112,13 @@ module _ (x : Paged) (home : Home) (uid p q at f : ℕ) (word : word_of x.ast ui
   free_order : (g : ℕ) → f ≢ g → (y z : Frame)
       → set (set (set x.pages.core.frames f y) f Free) g Free
       ≡ set (set (set x.pages.core.frames g Free) f z) f Free
-  free_order g apart y z = ap (λ (fs : List Frame). set fs g Free) (set-set x.pages.core.frames f y Free)
-      ∙ (set_comm x.pages.core.frames f g Free Free apart
-      ∙ sym (set-set (set x.pages.core.frames g Free) f z Free))
+  free_order g apart y z = rw (set-set, set_comm _ _ _ _ _ apart, set-set)
 
   mark_order : (g : ℕ) → f ≢ g
       → set (set x.pages.core.frames f (after_reference (get_or x.pages.core.frames f Free) true)) g Free
       ≡ set (set x.pages.core.frames g Free) f
       (after_reference (get_or (set x.pages.core.frames g Free) f Free) true)
-  mark_order g apart =
-      set_comm x.pages.core.frames f g (after_reference (get_or x.pages.core.frames f Free) true) Free apart
-      ∙ ap (λ (y : Frame). set (set x.pages.core.frames g Free) f (after_reference y true))
-      (sym (get_or-set_other x.pages.core.frames g f Free Free apart))
+  mark_order g apart = rw (set_comm _ _ _ _ _ apart, get_or-set_other)
 
   -- the two pages, where the frames come to the same
   dropped_order : (v : Ptw) (core : Core) → word_of x.ast uid q ≡ v → v ≢ Null
@@ -177,39 +151,31 @@ module _ (x : Paged) (home : Home) (uid p q at f : ℕ) (word : word_of x.ast ui
 
   drops_order : (v : Ptw) → word_of x.ast uid q ≡ v → v ≢ Leaving f → Commutes drops v
   drops_order Null is apart = refl
-  drops_order (Out n) is apart = dropped_order (Out n) _ is (λ e. (let no : Out n ≡ Null = e in cc)) refl
-  drops_order (Here n) is apart = dropped_order (Here n) _ is (λ e. (let no : Here n ≡ Null = e in cc)) refl
-  drops_order (Leaving g) is apart = dropped_order (Leaving g) _ is (λ e. (let no : Leaving g ≡ Null = e in cc))
-      (ap (λ (fs : List Frame). record x.pages.core { frames = fs })
-      (free_order g (λ e. apart (ap (λ (k : ℕ). Leaving k) (sym e)))
+  drops_order (Leaving g) is apart = dropped_order (Leaving g) _ is (λ e. cc)
+      (ap (λ (fs : List Frame). record x.pages.core { frames = fs }) (free_order g (λ e. apart (cc))
       (after_reference (frame_in x.pages f) true)
       (after_reference (get_or (set x.pages.core.frames g Free) f Free) true)))
+  drops_order v is apart = dropped_order v _ is (λ e. cc) refl
 
   stays_order : (v : Ptw) → word_of x.ast uid q ≡ v → v ≢ Leaving f → Commutes stays v
   stays_order Null is apart = refl
-  stays_order (Out n) is apart =
-      ap (λ (a : ActiveSegs). record (page_cut (stays x) home uid q (Out n)) { ast = a })
-      (words_order x.ast uid p q (Here f) Null within ne)
-  stays_order (Here n) is apart =
-      ap (λ (a : ActiveSegs). record (page_cut (stays x) home uid q (Here n)) { ast = a })
-      (words_order x.ast uid p q (Here f) Null within ne)
   stays_order (Leaving g) is apart =
       let words = words_order x.ast uid p q (Here f) Null within ne in
-      let frames_same = mark_order g (λ e. apart (ap (λ (k : ℕ). Leaving k) (sym e))) in
+      let frames_same = mark_order g (λ e. apart (cc)) in
       (λ i. record (page_cut (stays x) home uid q (Leaving g)) {
         pages = record (page_cut (stays x) home uid q (Leaving g)).pages {
           core = record x.pages.core { frames = frames_same i };
         };
         ast = words i;
       })
+  stays_order v is apart = ap (λ (a : ActiveSegs). record (page_cut (stays x) home uid q v) { ast = a })
+      (words_order x.ast uid p q (Here f) Null within ne)
 
   -- one page is dropped after the cut, or before
   pub one_order : (v : Ptw) → word_of x.ast uid q ≡ v → v ≢ Leaving f
       → page_cut (cut_first x home uid p at (Leaving f)) home uid q v
       ≡ cut_first (page_cut x home uid q v) home uid p at (Leaving f)
-  one_order v is apart = by (is_cleared x at (Leaving f))
-      ∙ ap (λ (b : Bool). cond b (drops (page_cut x home uid q v)) (stays (page_cut x home uid q v)))
-      (sym (cleared_same x home uid q at f v))
+  one_order v is apart = rw (cleared_same x home uid q at f v) (by (is_cleared x at (Leaving f)))
     where
       by : (b : Bool) → page_cut (cond b (drops x) (stays x)) home uid q v
           ≡ cond b (drops (page_cut x home uid q v)) (stays (page_cut x home uid q v))
@@ -234,20 +200,14 @@ pub record IsAlone (x : Paged) (uid p f : ℕ) : Type 0 where
 pub cut_gone : (x : Paged) (home : Home) (uid p : ℕ) (w : Ptw) → word_of x.ast uid p ≡ w
     → word_of (page_cut x home uid p w).ast uid p ≡ Null
 cut_gone x home uid p Null at = at
-cut_gone x home uid p (Out r) at = word_gone x.ast uid p
-    (table_in x.ast uid p (λ e. (let no : Null ≡ Out r = sym e ∙ at in cc)))
-cut_gone x home uid p (Here f) at = word_gone x.ast uid p
-    (table_in x.ast uid p (λ e. (let no : Null ≡ Here f = sym e ∙ at in cc)))
-cut_gone x home uid p (Leaving f) at = word_gone x.ast uid p
-    (table_in x.ast uid p (λ e. (let no : Null ≡ Leaving f = sym e ∙ at in cc)))
+cut_gone x home uid p w at = word_put x.ast uid p Null (table_in x.ast uid p (λ e. cc))
 
 alone_after : (x : Paged) (home : Home) (uid p q f : ℕ) → q ≢ p → IsNamed x home uid → IsAlone x uid p f
     → IsAlone (page_cut x home uid q (word_of x.ast uid q)) uid p f
 alone_after x home uid p q f ne named alone = record {
   word = drops.words p (λ e. ne (sym e)) ∙ alone.word;
   others = λ r other e. elim (cases_eq r q) [
-    | inl same ↦ (let no : Null ≡ Leaving f = sym (ap (word_of now.ast uid) same
-        ∙ cut_gone x home uid q (word_of x.ast uid q) refl) ∙ e in cc)
+    | inl same ↦ cc (cut_gone x home uid q (word_of x.ast uid q) refl)
     | inr apart ↦ alone.others r other (sym (drops.words r apart) ∙ e)
   ];
 }
@@ -268,12 +228,12 @@ some_order x home uid p at f from (suc n) lt named alone =
     let apart : p ≢ from = λ e. (ne (sym e)) in
     let v = word_of x.ast uid from in
     let now = page_cut x home uid from v in
-    ap (λ (w : Ptw). pages_cut (page_cut (cut_first x home uid p at (Leaving f)) home uid from w) home uid
-    (range_with_len (from + 1) n)) (first_other x home uid p from at f alone.word apart named)
-    ∙ (ap (λ (y : Paged). pages_cut y home uid (range_with_len (from + 1) n))
-    (one_order x home uid p from at f alone.word apart named v refl (alone.others from ne))
-    ∙ some_order now home uid p at f (from + 1) n (omega (arith, lt))
-    (page_drops x home uid from v refl named).named (alone_after x home uid p from f ne named alone))
+    cc (
+      first_other x home uid p from at f alone.word apart named,
+      one_order x home uid p from at f alone.word apart named v refl (alone.others from ne),
+      some_order now home uid p at f (from + 1) n (omega (arith, lt)) (page_drops x home uid from v refl named).named
+          (alone_after x home uid p from f ne named alone),
+    )
 
 -- ---- pages that aren't stored
 
@@ -285,21 +245,18 @@ null_cut : (x : Paged) (home : Home) (uid from n : ℕ) → IsNullFrom x uid fro
     → pages_cut x home uid (range_with_len from n) ≡ x
 null_cut x home uid from zero null = refl
 null_cut x home uid from (suc n) null =
-    ap (λ (w : Ptw). pages_cut (page_cut x home uid from w) home uid (range_with_len (from + 1) n))
-    (null.null from (omega arith))
-    ∙ null_cut x home uid (from + 1) n (record { null = λ q le. null.null q (omega (arith, le)) })
+    cc (
+      null.null from (omega arith),
+      null_cut x home uid (from + 1) n (record { null = λ q le. null.null q (omega (arith, le)) }),
+    )
 
 -- so it doesn't matter how many more are looked at
 pub null_more : (x : Paged) (home : Home) (uid from n k : ℕ) → IsNamed x home uid → IsNullFrom x uid (from + n)
     → pages_cut x home uid (range_with_len from (n + k)) ≡ pages_cut x home uid (range_with_len from n)
 null_more x home uid from zero k named null =
-    let none : 0 + k ≡ k = omega arith in
-    ap (λ (n : ℕ). pages_cut x home uid (range_with_len from n)) none
-    ∙ null_cut x home uid from k (record { null = λ q le. null.null q (omega (arith, le)) })
+    rw zero-add (null_cut x home uid from k (record { null = λ q le. null.null q (omega (arith, le)) }))
 null_more x home uid from (suc n) k named null =
     let v = word_of x.ast uid from in
     let drops = page_drops x home uid from v refl named in
-    let next : suc n + k ≡ suc (n + k) = omega arith in
-    ap (λ (m : ℕ). pages_cut x home uid (range_with_len from m)) next
-    ∙ null_more (page_cut x home uid from v) home uid (from + 1) n k drops.named
-    (record { null = λ q le. drops.words q (λ e. (omega (arith, le, e))) ∙ null.null q (omega (arith, le)) })
+    rw suc-add (null_more (page_cut x home uid from v) home uid (from + 1) n k drops.named
+    (record { null = λ q le. drops.words q (λ e. (omega (arith, le, e))) ∙ null.null q (omega (arith, le)) }))

@@ -87,7 +87,7 @@ pub use Rattle.page_table.specs.PageTable.{ptw_at}
 pub use Rattle.page_table.specs.declared.Ptw.{Ptw}
 pub use Rattle.page_table.specs.declared.Ptw.TheVariants.{Here, Leaving, Null, Out}
 pub use Rattle.vtoc.specs.Vtoc.{Entry as VtocEntry, fresh_entry, least_free_entry, with_record}
-pub use Rattle.core_map.specs.Clock.{clock_choice, is_idle, or_else, round_frames}
+pub use Rattle.core_map.specs.Clock.{clock_choice, or_else, round_frames}
 pub use Rattle.core_map.specs.CoreMap.{Core, after_reference, bound_page, frame_at, is_bound, is_free, is_started, least_free_frame, reads_of, started_page}
 pub use Rattle.core_map.specs.declared.Frame.{Frame}
 pub use Rattle.core_map.specs.declared.Frame.TheVariants.{Bound, Free, Started}
@@ -97,15 +97,14 @@ pub use Rattle.active_segs.specs.Active.{ActiveSegs, IsActive, IsFull, IsLeastFr
 pub use Rattle.active_segs.specs.Pool.{IsInPool, first_of, size_of}
 pub use Rattle.active_segs.specs.Victim.{HasItsSuperiors, HasOneOffChain, first_off_chain, hand_moved, hand_past, off_chain}
 pub use Rattle.active_segs.specs.declared.Entry.{Entry, Entry as Segment}
-pub use Rattle.descriptor_seg.specs.Descriptors.{sdw_at}
 pub use Rattle.descriptor_seg.specs.declared.Sdw.{Sdw}
 pub use Rattle.descriptor_seg.specs.declared.Sdw.TheVariants.{Fault}
-pub use Rattle.trailers.specs.Trailer.{leads_to, trailers_of, without_place, without_trailer}
+pub use Rattle.trailers.specs.Trailer.{leads_to, trailers_of, without_trailer}
 pub use Rattle.traffic.specs.Queue.{Queue, with_last}
 pub use Rattle.page_control.specs.Counts.{size}
 pub use Rattle.page_control.specs.Effects.{after_asked, allocated, cut, erased, framed, freed, referred, unstored, word_put}
 unfoldable pub use Rattle.page_control.specs.Picture.{is_filed_at}
-pub use Rattle.page_control.specs.Plain.{Plain, binding_at, bindings, entry_of, file_map_of, filed, flags_of, frame_in, number_in, number_or_zero, plain, record_of, vtoc_of, words_in}
+pub use Rattle.page_control.specs.Plain.{Plain, binding_at, bindings, entry_of, file_map_of, filed, flags_of, frame_in, number_in, plain, vtoc_of, words_in}
 pub use Rattle.page_control.specs.Tied.{frame_of, has_record, is_out, map_at, uid_in, vtoc_in}
 pub use Rattle.page_control.specs.Ties.{IsTied}
 pub use Rattle.page_control.specs.declared.Home.{Home}
@@ -157,7 +156,7 @@ pub use Rattle.machine_model.proofs.MachineBoot.{boot_keeps_all}
 pub use Rattle.machine_model.proofs.MoverTied.{here_moving, leaving_moving}
 pub use Rattle.machine_model.proofs.NumberLaws.{cut_long, take_cut, take_long}
 pub use Rattle.machine_model.proofs.OffChain.{pool_one_off}
-pub use Rattle.machine_model.proofs.OutlineTake.{cut_known, leaving_entries, leaving_links}
+pub use Rattle.machine_model.proofs.OutlineTake.{cut_known}
 pub use Rattle.machine_model.proofs.Returnable.{bound_is}
 pub use Rattle.machine_model.proofs.SaysLaws.{cut_less}
 pub use Rattle.machine_model.proofs.SharedLaws.{some_not_none, zeros_to}

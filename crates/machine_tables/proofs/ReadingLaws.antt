@@ -1,41 +1,8 @@
 -- The least frame into which a page of a segment is being read, by the processors that read.
-use Rattle.machine_tables.proofs.Prelude.{◌≡◌, ◌+◌, ◌<◌, ◌≤◌, ℕ, zero, suc, Bool, true, false, not, ◌&&◌, cond, eqb, List, [], ◌∷◌, length, get_or, position, Option, Some, None, ◌⊎◌, inl, inr, refl, sym, ap, subst, ◌∙◌, arith, nat_le, nat_lt, position_or_len, cases_lt, lt-ltb, eqb_tells, leb_tells, get_or_past, Frame, Free, Core, frame_at, reads_of, started_page, read_at, Transfer, Processor, frame_reading, is_page_of, no_processor, processor_at, map_list, none_some, AreRead, least_from, lesser, read_by}
-
--- ---- where something is found first
-
-module _ {X : Type 0} (p : X → Bool) (d : X) where
-  place_first : (xs : List X) (i : ℕ) → i < length xs → p (get_or xs i d) ≡ true
-      → ((j : ℕ) → j < i → p (get_or xs j d) ≡ false) → position_or_len p xs ≡ i
-  place_first [] i lt here before = absurd (omega (arith, lt))
-  place_first (x ∷ xs) zero lt here before = ap (λ (b : Bool). cond (not b) (1 + position_or_len p xs) 0) here
-  place_first (x ∷ xs) (suc i) lt here before =
-      ap (λ (b : Bool). cond (not b) (1 + position_or_len p xs) 0) (before zero (omega arith))
-      ∙ (let rest = place_first xs i (omega (arith, lt)) here (λ j under. before (suc j) (omega (arith, under))) in
-      let one : 1 + position_or_len p xs ≡ suc i = omega (arith, rest) in one)
-
-  place_none : (xs : List X) → ((j : ℕ) → j < length xs → p (get_or xs j d) ≡ false) → position_or_len p xs ≡ length xs
-  place_none [] off = refl
-  place_none (x ∷ xs) off =
-      ap (λ (b : Bool). cond (not b) (1 + position_or_len p xs) 0) (off zero (omega arith))
-      ∙ (let rest = place_none xs (λ j lt. off (suc j) (omega (arith, lt))) in
-      let one : 1 + position_or_len p xs ≡ suc (length xs) = omega (arith, rest) in one)
-
-  pub position_first : (xs : List X) (i : ℕ) → i < length xs → p (get_or xs i d) ≡ true
-      → ((j : ℕ) → j < i → p (get_or xs j d) ≡ false) → position p xs ≡ Some i
-  position_first xs i lt here before =
-      ap (λ (n : ℕ). cond (nat_lt n (length xs)) (Some n) None) (place_first xs i lt here before)
-      ∙ ap (λ (b : Bool). cond b (Some i) None) (lt-ltb i (length xs) lt)
-
-  pub position_not : (xs : List X) → ((j : ℕ) → j < length xs → p (get_or xs j d) ≡ false) → position p xs ≡ None
-  position_not xs off = by (nat_lt (position_or_len p xs) (length xs)) refl
-    where
-      by : (b : Bool) → nat_lt (position_or_len p xs) (length xs) ≡ b
-          → cond b (Some (position_or_len p xs)) None ≡ None
-      by false e = refl
-      by true e = elim (leb_tells (suc (position_or_len p xs)) (length xs)) [
-        | inl y ↦ absurd (let all = place_none xs off in let lt = y.1 in omega (arith, all, lt))
-        | inr n ↦ absurd (let no : true ≡ false = sym e ∙ n.0 in cc)
-      ]
+use Rattle.machine_tables.proofs.Prelude.{◌≡◌, ◌+◌, ◌<◌, ◌≤◌, ℕ, zero, suc, Bool, true, false, ◌&&◌, cond, eqb, List, length, Option, Some, None, ◌⊎◌, inl, inr, refl, sym, ap, subst, ◌∙◌, arith, nat_le, eqb_tells, leb_tells, Frame, Free, Core, frame_at, reads_of, started_page, read_at, Transfer, Processor, frame_reading, is_page_of, no_processor, processor_at, map_list, none_some, AreRead, least_from, lesser, read_by}
+use Rattle.laws.proofs.Lists.{within_from}
+use Rattle.laws.proofs.Places.{shown_within}
+use Rattle.machine_tables.proofs.FindLaws.{position_first, position_not}
 
 -- ---- the least of what processors read
 
@@ -157,7 +124,7 @@ module _ (core : Core) (ps : List Processor) (uid : ℕ) (test : ℕ → Bool) (
     where
       by : (o : Option (ℕ × ℕ)) → started_page (frame_at core f) ≡ o → is_page_of uid test o ≡ true
           → (d : ℕ) × (read_by uid test (processor_at ps d).cpu.transfer ≡ Some f)
-      by None e i = absurd (let no : false ≡ true = i in cc)
+      by None e i = absurd cc
       by (Some page) e i =
           let who = under.reader f page.0 page.1 (started_at f ∙ e) in (
             who.0,
@@ -166,18 +133,11 @@ module _ (core : Core) (ps : List Processor) (uid : ℕ) (test : ℕ → Bool) (
 
   -- a processor that reads is one of them
   reader_within : (d f : ℕ) → read_by uid test (processor_at ps d).cpu.transfer ≡ Some f → d < length ps
-  reader_within d f h = elim (cases_lt d (length ps)) [
-    | inl lt ↦ lt
-    | inr past ↦ absurd (none_some (sym (ap (λ (p : Processor). read_by uid test p.cpu.transfer)
-        (get_or_past ps d no_processor past)) ∙ h))
-  ]
+  reader_within d f h =
+      shown_within (λ p. read_by uid test p.cpu.transfer) ps d no_processor f refl h
 
   frame_within : (f : ℕ) → passes (frame_at core f) ≡ true → f < length core.frames
-  frame_within f h = elim (cases_lt f (length core.frames)) [
-    | inl lt ↦ lt
-    | inr past ↦ absurd (let no : false ≡ true =
-        sym (ap passes (get_or_past core.frames f Free past)) ∙ h in cc)
-  ]
+  frame_within f h = within_from core.frames f Free (λ none. cc)
 
   not_before : (g : ℕ) (o : Option ℕ) → least_from uid test ps (length ps) ≡ o → ((f : ℕ) → o ≡ Some f → g < f)
       → passes (frame_at core g) ≡ false

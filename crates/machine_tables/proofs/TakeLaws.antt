@@ -1,12 +1,12 @@
 -- Pages of a segment that are taken one after the other.
-use Rattle.machine_tables.proofs.Prelude.{◌≡◌, ◌+◌, ◌<◌, ◌≤◌, ℕ, true, List, [], ◌∷◌, ◌++◌, length, set, Option, Some, None, refl, sym, ap, ◌∙◌, arith, inl, inr, length-append, subst, cases_lt, drop_more, get_or-set_same, get_or_past, drop_of_length-le, What, Frame, Free, Started, Bound, bound_page, is_bound, Ptw, Null, Entry, ActiveSegs, IsActive, table_at, frame_in, number_in, uid_in, place_of, table_of, word_of, worded, Aim, take_all, take_one, frames_from, frames_in, frames_of_owner, here_in, State, leaving_moving, none_some, HasOwner, LeavesPast, take_long, page_is}
+use Rattle.machine_tables.proofs.Prelude.{◌≡◌, ◌≢◌, ◌+◌, ◌<◌, ◌≤◌, ℕ, true, List, [], ◌∷◌, ◌++◌, length, set, Option, Some, None, refl, sym, ap, ◌∙◌, arith, length-append, subst, drop_more, get_or-set_other, get_or-set_same, drop_of_length-le, What, Frame, Bound, bound_page, is_bound, Ptw, Null, Entry, ActiveSegs, IsActive, frame_in, number_in, uid_in, place_of, table_of, word_of, worded, Aim, take_all, take_one, frames_from, frames_in, frames_of_owner, here_in, State, leaving_moving, none_some, HasOwner, LeavesPast, take_long, page_is}
+use Rattle.laws.proofs.Places.{list_within}
 
 -- what a frame that a page is in is bound to
 pub bound_parts : (x : Frame) (u p : ℕ) → bound_page x ≡ Some (u, p)
     → (is_bound x ≡ true) × (uid_in x ≡ u) × (number_in x ≡ p)
-bound_parts Free u p h = absurd (none_some h)
-bound_parts (Started v q) u p h = absurd (none_some h)
 bound_parts (Bound v q used modified) u p h = let same = page_is v q u p h in (refl, same.0, same.1)
+bound_parts _ u p h = cc
 
 -- ---- the list of what is taken
 
@@ -35,16 +35,17 @@ frames_here ast u p lt = ap frames_in (drop_more (table_of ast u) p Null lt)
 pub frames_past : (ast : ActiveSegs) (u p : ℕ) → length (table_of ast u) ≤ p → frames_from ast u p ≡ []
 frames_past ast u p le = ap frames_in (drop_of_length-le (table_of ast u) le)
 
-table_within : (tables : List (List Ptw)) (place p : ℕ) → p < length (table_at tables place) → place < length tables
-table_within tables place p lt = elim (cases_lt place (length tables)) [
-  | inl within ↦ within
-  | inr past ↦ let none = ap length (get_or_past tables place [] past) in absurd (omega (arith, none, lt))
-]
-
 pub table_worded : (ast : ActiveSegs) (u p : ℕ) (w : Ptw) → p < length (table_of ast u)
     → table_of (worded ast u p w) u ≡ set (table_of ast u) p w
-table_worded ast u p w lt = get_or-set_same ast.tables (place_of ast.entries u) (set (table_of ast u) p w) []
-    (table_within ast.tables (place_of ast.entries u) p lt)
+table_worded ast u p w lt = rw (get_or-set_same, list_within ast.tables (place_of ast.entries u) p lt)
+
+pub word_put : (ast : ActiveSegs) (u p : ℕ) (w : Ptw) → p < length (table_of ast u) → word_of (worded ast u p w) u p ≡ w
+word_put ast u p w lt = rw (table_worded, get_or-set_same)
+
+-- the other words of the page table stay
+pub word_other : (ast : ActiveSegs) (u p q : ℕ) (w : Ptw) → p < length (table_of ast u) → q ≢ p
+    → word_of (worded ast u p w) u q ≡ word_of ast u q
+word_other ast u p q w lt ne = rw (table_worded, get_or-set_other)
 
 -- no segment moves while pages are taken
 takes_still : (s : State) (c : ℕ) (a : Aim) (w : What) (fs : List ℕ) → s.store.moving ≡ None
@@ -65,30 +66,26 @@ pub record TakesOn (now first : State) (c : ℕ) (a : Aim) (w : What) (u p low :
   pub still : now.store.moving ≡ None
 
 -- what the next page asks
-pub here_few : (s first : State) (c : ℕ) (a : Aim) (w : What) (u p low : ℕ) → TakesOn s first c a w u p low
+pub here_few : {s first : State} {c : ℕ} {a : Aim} {w : What} {u p low : ℕ} → TakesOn s first c a w u p low
     → p < length (table_of s.store.ast u)
     → (length (frames_of_owner s.owner) + length (here_in (word_of s.store.ast u p)) ≤ 256)
     × (length (here_in (word_of s.store.ast u p)) ≤ s.spare)
-here_few s first c a w u p low on lt =
+here_few {s} {u = u} {p = p} on lt =
     let all = ap length (frames_here s.store.ast u p lt) in
     let both = length-append (here_in (word_of s.store.ast u p)) (frames_from s.store.ast u (p + 1)) in
-    let few = on.few in
-    let room = on.room in
-    (omega (arith, all, both, few), omega (arith, all, both, room))
+    (omega (arith, all, both, on.few), omega (arith, all, both, on.room))
 
-pub takes_next : (s t first : State) (c : ℕ) (a : Aim) (w : What) (u p low : ℕ) → TakesOn s first c a w u p low
+pub takes_next : {s t first : State} {c : ℕ} {a : Aim} {w : What} {u p low : ℕ} → TakesOn s first c a w u p low
     → p < length (table_of s.store.ast u) → t ≡ take_all s c a w (here_in (word_of s.store.ast u p))
     → LeavesPast s.store.ast t.store.ast u p → TakesOn t first c a w u (p + 1) low
-takes_next s t first c a w u p low on lt is past =
+takes_next {s} {t} {first} {c} {a} {w} {u} {p} on lt is past =
     let hs = here_in (word_of s.store.ast u p) in
     let rest : frames_from t.store.ast u (p + 1) ≡ frames_from s.store.ast u (p + 1) = ap frames_in past.past in
     let all = frames_here s.store.ast u p lt in
     let count = ap length all ∙ length-append hs (frames_from s.store.ast u (p + 1)) in
     let less = ap length rest in
-    let few = on.few in
-    let room = on.room in
     let more = ap (λ (x : State). length (frames_of_owner x.owner)) is ∙ take_long s c a w hs in
-    let spent = room_less s c a w hs (omega (arith, count, room)) in
+    let spent = room_less s c a w hs (omega (arith, count, on.room)) in
     let spare = ap (λ (x : State). x.spare) is in
     record {
       same = ap (λ (x : State). take_all x c a w (frames_from t.store.ast u (p + 1))) is
@@ -98,11 +95,11 @@ takes_next s t first c a w u p low on lt is past =
       active = subst (λ (e : List (Option Entry)). IsActive e u) (sym past.entries) on.active;
       long = past.long ∙ on.long;
       owner = subst (λ (x : State). HasOwner x.owner) (sym is) (owner_still s c a w hs on.owner);
-      few = omega (arith, count, less, few, more);
-      room = omega (arith, count, less, room, spent, spare);
+      few = omega (arith, count, less, on.few, more);
+      room = omega (arith, count, less, on.room, spent, spare);
       still = ap (λ (x : State). x.store.moving) is ∙ takes_still s c a w hs on.still;
     }
 
-pub takes_end : (s first : State) (c : ℕ) (a : Aim) (w : What) (u p low : ℕ) → TakesOn s first c a w u p low
+pub takes_end : {s first : State} {c : ℕ} {a : Aim} {w : What} {u p low : ℕ} → TakesOn s first c a w u p low
     → length (table_of s.store.ast u) ≤ p → s ≡ take_all first c a w (frames_from first.store.ast u low)
-takes_end s first c a w u p low on le = ap (take_all s c a w) (sym (frames_past s.store.ast u p le)) ∙ on.same
+takes_end {s} {first} {c} {a} {w} {u} {p} on le = ap (take_all s c a w) (sym (frames_past s.store.ast u p le)) ∙ on.same

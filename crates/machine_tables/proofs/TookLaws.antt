@@ -1,38 +1,29 @@
 -- What stays while pages are taken, and what is taken of a segment.
-use Rattle.machine_tables.proofs.Prelude.{◌≡◌, ◌+◌, ◌<◌, ◌≤◌, ℕ, true, false, not, cond, List, [], ◌∷◌, ◌++◌, length, Option, refl, sym, ap, subst, ◌∙◌, arith, drop, drop_of_length-le, drop_more, list_any, What, bound_page, Entry, frame_in, ptw_at, Ptw, Null, trailers_of, IsActive, Links, is_for, place_of, Aim, cut_all, take_all, take_one, took, is_empty, cut_of_owner, frames_in, here_in, trailers_in, State, HasOwner, Parts, with_state, is_bare, take_cut, leaving_entries, leaving_links}
+use Rattle.machine_tables.proofs.Prelude.{◌≡◌, ◌+◌, ◌<◌, ◌≤◌, ℕ, true, false, not, List, [], ◌∷◌, ◌++◌, length, Option, refl, sym, ap, subst, ◌∙◌, arith, drop, drop_of_length-le, drop_more, What, Entry, ptw_at, Ptw, Null, IsActive, Aim, cut_all, take_all, took, is_empty, cut_of_owner, frames_in, here_in, trailers_in, State, HasOwner, Parts, with_state, is_bare, take_cut}
+use Rattle.machine_model.proofs.TakeWhole.{take_rest}
 use Rattle.machine_tables.proofs.TakeLaws.{owner_still, room_less}
 
 pub entries_still : (s : State) (c : ℕ) (a : Aim) (w : What) (fs : List ℕ)
     → (take_all s c a w fs).store.ast.entries ≡ s.store.ast.entries
-entries_still s c a w [] = refl
-entries_still s c a w (f ∷ fs) = entries_still (take_one s c a w f) c a w fs
-    ∙ leaving_entries s.store f (bound_page (frame_in s.store.pages f))
+entries_still s c a w fs = (take_rest s c a w fs).2
 
 pub links_still : (s : State) (c : ℕ) (a : Aim) (w : What) (fs : List ℕ)
     → (take_all s c a w fs).store.links ≡ s.store.links
-links_still s c a w [] = refl
-links_still s c a w (f ∷ fs) = links_still (take_one s c a w f) c a w fs
-    ∙ leaving_links s.store f (bound_page (frame_in s.store.pages f))
-
-abbrev trailers_by : List (Option Entry) → Links → ℕ → List (ℕ × ℕ)
-trailers_by entries links u =
-    cond (list_any (is_for u) entries) (trailers_of links.trailers (place_of entries u)) []
+links_still s c a w fs = (take_rest s c a w fs).1
 
 pub trailers_still : (s : State) (c : ℕ) (a : Aim) (w : What) (fs : List ℕ) (u : ℕ)
     → trailers_in (take_all s c a w fs).store u ≡ trailers_in s.store u
-trailers_still s c a w fs u =
-    ap (λ (es : List (Option Entry)). trailers_by es (take_all s c a w fs).store.links u) (entries_still s c a w fs)
-    ∙ ap (λ (ls : Links). trailers_by s.store.ast.entries ls u) (links_still s c a w fs)
+trailers_still s c a w fs u = cc (entries_still s c a w fs, links_still s c a w fs)
 
 -- ---- whether there is something to take
 
 nonempty_append : (xs ys : List ℕ) → not (is_empty xs) ≡ true → not (is_empty (xs ++ ys)) ≡ true
-nonempty_append [] ys h = absurd (let no : false ≡ true = h in cc)
+nonempty_append [] ys h = cc
 nonempty_append (x ∷ xs) ys h = refl
 
 none_of : (xs : List ℕ) → not (is_empty xs) ≡ false → xs ≡ []
 none_of [] h = refl
-none_of (x ∷ xs) h = absurd (let no : true ≡ false = h in cc)
+none_of (x ∷ xs) h = cc
 
 pub some_here : (ws : List Ptw) (p low : ℕ) → frames_in (drop p ws) ≡ frames_in (drop low ws) → p < length ws
     → not (is_empty (here_in (ptw_at ws p))) ≡ true → not (is_empty (frames_in (drop low ws))) ≡ true
@@ -52,7 +43,7 @@ none_here ws p low same past =
     ap (λ (xs : List ℕ). not (is_empty xs)) (sym same ∙ ap frames_in (drop_of_length-le ws past))
 
 pub bare_pages : (fs : List ℕ) (pairs : List (ℕ × ℕ)) → not (is_empty fs) ≡ true → is_bare fs pairs ≡ false
-bare_pages [] pairs h = absurd (let no : false ≡ true = h in cc)
+bare_pages [] pairs h = cc
 bare_pages (f ∷ fs) pairs h = refl
 
 pub bare_trailers : (fs : List ℕ) (pairs rest : List (ℕ × ℕ)) (pair : ℕ × ℕ) → pairs ≡ pair ∷ rest

@@ -1,5 +1,6 @@
 -- What a truncation changes of a store, by page control, the active segments and one count.
-use Rattle.machine_tables.proofs.Prelude.{◌≡◌, ◌≢◌, ◌<◌, ◌-◌, ◌/◌, ◌%◌, ℕ, Bool, true, false, cond, length, List, [], ◌∷◌, Some, inl, inr, refl, sym, ap, subst, ◌∙◌, arith, cases_eq, cases_lt, eq-eqb, ne_eqb, get_or-set_same, get_or_past, AccountMaps, count_of, look, with_value, length_with, look_with_other, Free, after_reference, bound_page, Ptw, Here, Leaving, Null, Out, Home, cut, frame_in, words_in, word_of, Paged, is_cleared, page_cut, pages_cut, with_cut, with_truncated, without_page, without_pages, pages_past, are_zeros, here_if, with_here, home_in, Storage, with_pages, none_some, bound_after}
+use Rattle.machine_tables.proofs.Prelude.{◌≡◌, ◌≢◌, ◌-◌, ◌/◌, ◌%◌, ℕ, Bool, true, false, cond, length, List, [], ◌∷◌, Some, inl, inr, refl, sym, ap, ◌∙◌, arith, cases_eq, eq-eqb, ne_eqb, get_or-set_same, count_of, look, with_value, length_with, look_with_other, Free, bound_page, Ptw, Here, Leaving, Null, Out, cut, frame_in, words_in, word_of, Paged, is_cleared, page_cut, pages_cut, with_cut, with_truncated, without_page, without_pages, pages_past, are_zeros, here_if, with_here, home_in, Storage, with_pages, bound_after}
+use Rattle.laws.proofs.Lists.{within_from}
 use Rattle.machine_tables.proofs.OrderLaws.{cut_first}
 
 -- what is told of a segment
@@ -13,17 +14,11 @@ less_of ks vs u = by ks vs (look ks vs u) refl
   where
     -- the value that is put is told, where the uid has one
     by : (is ws : List ℕ) (n : ℕ) → look is ws u ≡ n → look is (with_value is ws u (n - 1)) u ≡ n - 1
-    by [] ws n e = let none : 0 ≡ n = e in omega (arith, none)
-    by (i ∷ is) [] n e = let none : 0 ≡ n = e in omega (arith, none)
     by (i ∷ is) (w ∷ ws) n e = elim (cases_eq i u) [
-      | inl same ↦ (let own = eq-eqb i u same in
-          ap (λ (b : Bool). look (i ∷ is) (cond b ((n - 1) ∷ ws) (w ∷ with_value is ws u (n - 1))) u) own
-          ∙ ap (λ (b : Bool). cond b (n - 1) (look is ws u)) own)
-      | inr other ↦ (let far = ne_eqb i u other in
-          ap (λ (b : Bool). look (i ∷ is) (cond b ((n - 1) ∷ ws) (w ∷ with_value is ws u (n - 1))) u) far
-          ∙ (ap (λ (b : Bool). cond b w (look is (with_value is ws u (n - 1)) u)) far
-          ∙ by is ws n (sym (ap (λ (b : Bool). cond b w (look is ws u)) far) ∙ e)))
+      | inl same ↦ simp (eq-eqb i u same)
+      | inr other ↦ simp (ne_eqb i u other) (by is ws n (rw (ne_eqb i u other) at e))
     ]
+    by is ws n e = let none : 0 ≡ n = e in omega (arith, none)
 
 -- ---- what else stays
 
@@ -39,23 +34,6 @@ pub record KeepsOthers (old now : Storage) (uid : ℕ) : Type 0 where
   pub whos : now.whos ≡ old.whos
   pub moving : now.moving ≡ old.moving
 
-keeps_same : (old now : Storage) (uid : ℕ) → now.accounts ≡ old.accounts → now.links ≡ old.links → now.whos ≡ old.whos
-    → now.moving ≡ old.moving → KeepsOthers old now uid
-keeps_same old now uid accounts links whos moving = record {
-  nodes = ap (λ (a : AccountMaps). a.nodes) accounts;
-  entries = ap (λ (a : AccountMaps). a.entries) accounts;
-  next = ap (λ (a : AccountMaps). a.next) accounts;
-  segments = ap (λ (a : AccountMaps). a.segments) accounts;
-  long = ap (λ (a : AccountMaps). length a.counts) accounts;
-  counts = λ s other. ap (λ (a : AccountMaps). count_of a s) accounts;
-  links = links;
-  whos = whos;
-  moving = moving;
-}
-
-keeps_all : (st : Storage) (uid : ℕ) → KeepsOthers st st uid
-keeps_all st uid = keeps_same st st uid refl refl refl refl
-
 keeps_both : (a b c : Storage) (uid : ℕ) → KeepsOthers a b uid → KeepsOthers b c uid → KeepsOthers a c uid
 keeps_both a b c uid x y = record {
   nodes = y.nodes ∙ x.nodes;
@@ -69,51 +47,27 @@ keeps_both a b c uid x y = record {
   moving = y.moving ∙ x.moving;
 }
 
--- a page less is counted
-keeps_credited : (st now : Storage) (uid : ℕ) → now.accounts
-    ≡ record st.accounts {
-      counts = with_value st.accounts.segments st.accounts.counts uid (count_of st.accounts uid - 1);
-    } → now.links ≡ st.links → now.whos ≡ st.whos → now.moving ≡ st.moving → KeepsOthers st now uid
-keeps_credited st now uid is links whos moving = record {
-  nodes = ap (λ (a : AccountMaps). a.nodes) is;
-  entries = ap (λ (a : AccountMaps). a.entries) is;
-  next = ap (λ (a : AccountMaps). a.next) is;
-  segments = ap (λ (a : AccountMaps). a.segments) is;
-  long = ap (λ (a : AccountMaps). length a.counts) is
-      ∙ length_with st.accounts.segments st.accounts.counts uid (count_of st.accounts uid - 1);
-  counts = λ s other. ap (λ (a : AccountMaps). count_of a s) is ∙ look_with_other st.accounts.segments
-      st.accounts.counts uid (count_of st.accounts uid - 1) s (λ e. other (sym e));
-  links = links;
-  whos = whos;
-  moving = moving;
-}
-
 -- ---- pages that are stored no more
 
 without_told : (st : Storage) (uid p : ℕ) (w : Ptw)
     → told_of (without_page st uid p w) uid ≡ page_cut (told_of st uid) (home_in st uid) uid p w
 without_told st uid p Null = refl
-without_told st uid p (Out r) =
-    ap (λ (n : ℕ). record (page_cut (told_of st uid) (home_in st uid) uid p (Out r)) { stored = n })
-    (less_of st.accounts.segments st.accounts.counts uid)
-without_told st uid p (Here f) =
-    ap (λ (n : ℕ). record (page_cut (told_of st uid) (home_in st uid) uid p (Here f)) { stored = n })
-    (less_of st.accounts.segments st.accounts.counts uid)
-without_told st uid p (Leaving f) =
-    ap (λ (n : ℕ). record (page_cut (told_of st uid) (home_in st uid) uid p (Leaving f)) { stored = n })
+without_told st uid p w = ap (λ (n : ℕ). record (page_cut (told_of st uid) (home_in st uid) uid p w) { stored = n })
     (less_of st.accounts.segments st.accounts.counts uid)
 
 without_keeps : (st : Storage) (uid p : ℕ) (w : Ptw) → KeepsOthers st (without_page st uid p w) uid
-without_keeps st uid p Null = keeps_all st uid
-without_keeps st uid p (Out r) = keeps_credited st (without_page st uid p (Out r)) uid refl refl refl refl
-without_keeps st uid p (Here f) = keeps_credited st (without_page st uid p (Here f)) uid refl refl refl refl
-without_keeps st uid p (Leaving f) = keeps_credited st (without_page st uid p (Leaving f)) uid refl refl refl refl
+without_keeps st uid p Null = assumption
+without_keeps st uid p w =
+    let less = count_of st.accounts uid - 1 in
+    assumption (
+      length_with st.accounts.segments st.accounts.counts uid less,
+      (λ (s : ℕ) (other : s ≢ uid). look_with_other st.accounts.segments st.accounts.counts uid less s
+          (λ e. other (sym e))),
+    )
 
 -- the home of a segment stays
 home_same : (old now : Storage) (uid : ℕ) → KeepsOthers old now uid → home_in now uid ≡ home_in old uid
-home_same old now uid keeps = (λ i. home_in (record old {
-  accounts = record old.accounts { nodes = keeps.nodes i; entries = keeps.entries i };
-}) uid)
+home_same old now uid keeps = cc (keeps.nodes, keeps.entries)
 
 some_told : (st : Storage) (uid : ℕ) (ps : List ℕ)
     → told_of (without_pages st uid ps) uid ≡ pages_cut (told_of st uid) (home_in st uid) uid ps
@@ -121,12 +75,14 @@ some_told st uid [] = refl
 some_told st uid (p ∷ ps) =
     let w = word_of st.ast uid p in
     let now = without_page st uid p w in
-    some_told now uid ps
-    ∙ (ap (λ (h : Home). pages_cut (told_of now uid) h uid ps) (home_same st now uid (without_keeps st uid p w))
-    ∙ ap (λ (x : Paged). pages_cut x (home_in st uid) uid ps) (without_told st uid p w))
+    cc (
+      some_told now uid ps,
+      home_same st now uid (without_keeps st uid p w),
+      without_told st uid p w,
+    )
 
 some_keeps : (st : Storage) (uid : ℕ) (ps : List ℕ) → KeepsOthers st (without_pages st uid ps) uid
-some_keeps st uid [] = keeps_all st uid
+some_keeps st uid [] = assumption
 some_keeps st uid (p ∷ ps) =
     let now = without_page st uid p (word_of st.ast uid p) in
     keeps_both st now (without_pages now uid ps) uid (without_keeps st uid p (word_of st.ast uid p))
@@ -143,15 +99,11 @@ pub record IsCuttable (st : Storage) (uid p : ℕ) (w : Ptw) : Type 0 where
 -- a reference leaves what a frame is bound to
 bound_cut : (st : Storage) (f at uid p : ℕ) → bound_page (frame_in st.pages f) ≡ Some (uid, p)
     → bound_page (frame_in (cut st.pages f at) f) ≡ Some (uid, p)
-bound_cut st f at uid p bound = ap bound_page
-    (get_or-set_same st.pages.core.frames f (after_reference (frame_in st.pages f) true) Free within)
-    ∙ (bound_after (frame_in st.pages f) true ∙ bound)
-  where
-    within : f < length st.pages.core.frames
-    within = elim (cases_lt f (length st.pages.core.frames)) [
-      | inl lt ↦ lt
-      | inr le ↦ absurd (none_some (sym (ap bound_page (get_or_past st.pages.core.frames f Free le)) ∙ bound))
-    ]
+bound_cut st f at uid p bound = rw (
+  get_or-set_same,
+  within_from st.pages.core.frames f Free (λ free. cc),
+  bound_after (frame_in st.pages f) true,
+) bound
 
 -- both ends of a cut
 module _ (st : Storage) (uid p at f : ℕ) (bound : bound_page (frame_in st.pages f) ≡ Some (uid, p)) where
@@ -166,18 +118,12 @@ module _ (st : Storage) (uid p at f : ℕ) (bound : bound_page (frame_in st.page
 
   leaving_told : (b : Bool) → is_cleared (told_of st uid) at (Leaving f) ≡ b
       → told_of (ends b) uid ≡ cut_first (told_of st uid) (home_in st uid) uid p at (Leaving f)
-  leaving_told true e = without_told cleared uid p (Leaving f)
-      ∙ sym (ap (λ (b : Bool). cond b (page_cut (told_of cleared uid) (home_in st uid) uid p (Leaving f))
-      (told_of (here_if cleared f (Some (uid, p))) uid)) e)
-  leaving_told false e = ap (λ (x : Storage). told_of x uid) stays_is
-      ∙ sym (ap (λ (b : Bool). cond b (page_cut (told_of cleared uid) (home_in st uid) uid p (Leaving f))
-      (told_of (here_if cleared f (Some (uid, p))) uid)) e)
+  leaving_told true e = rw e (without_told cleared uid p (Leaving f))
+  leaving_told false e = rw (e, stays_is)
 
   leaving_keeps : (b : Bool) → KeepsOthers st (ends b) uid
-  leaving_keeps true = keeps_both st cleared (without_page cleared uid p (Leaving f)) uid
-      (keeps_same st cleared uid refl refl refl refl) (without_keeps cleared uid p (Leaving f))
-  leaving_keeps false = subst (λ (x : Storage). KeepsOthers st x uid) (sym stays_is)
-      (keeps_same st (here_if cleared f (Some (uid, p))) uid refl refl refl refl)
+  leaving_keeps true = assumption (without_keeps cleared uid p (Leaving f))
+  leaving_keeps false = rw stays_is assumption
 
 pub cut_told : (st : Storage) (uid p at : ℕ) (w : Ptw) → IsCuttable st uid p w
     → told_of (with_cut st uid p at w) uid ≡ cut_first (told_of st uid) (home_in st uid) uid p at w
@@ -189,7 +135,7 @@ cut_told st uid p at (Leaving f) may = leaving_told st uid p at f (may.bound f r
 
 pub cut_keeps : (st : Storage) (uid p at : ℕ) (w : Ptw) → IsCuttable st uid p w
     → KeepsOthers st (with_cut st uid p at w) uid
-cut_keeps st uid p at Null may = keeps_all st uid
+cut_keeps st uid p at Null may = assumption
 cut_keeps st uid p at (Out r) may = absurd (may.inside r refl)
 cut_keeps st uid p at (Here f) may = absurd (may.away f refl)
 cut_keeps st uid p at (Leaving f) may = leaving_keeps st uid p at f (may.bound f refl)
@@ -204,13 +150,9 @@ module _ (st : Storage) (uid words : ℕ) where
   abbrev at : ℕ
   at = words % 1024
 
-  abbrev cut_or_not : Bool → Storage
-  cut_or_not b = cond b st (with_cut st uid page at (word_of st.ast uid page))
-
   pub even_told : at ≡ 0 → told_of (with_truncated st uid words) uid
       ≡ pages_cut (told_of st uid) (home_in st uid) uid (pages_past st uid words)
-  even_told even = ap (λ (b : Bool). told_of (without_pages (cut_or_not b) uid (pages_past st uid words)) uid)
-      (eq-eqb at 0 even) ∙ some_told st uid (pages_past st uid words)
+  even_told even = rw (eq-eqb at 0 even) (some_told st uid (pages_past st uid words))
 
   pub odd_told : at ≢ 0 → IsCuttable st uid page (word_of st.ast uid page)
       → told_of (with_truncated st uid words) uid
@@ -218,23 +160,17 @@ module _ (st : Storage) (uid words : ℕ) where
       (home_in st uid) uid (pages_past st uid words)
   odd_told odd may =
       let now = with_cut st uid page at (word_of st.ast uid page) in
-      ap (λ (b : Bool). told_of (without_pages (cut_or_not b) uid (pages_past st uid words)) uid)
-      (ne_eqb at 0 odd)
-      ∙ (some_told now uid (pages_past st uid words)
-      ∙ (ap (λ (h : Home). pages_cut (told_of now uid) h uid (pages_past st uid words))
-      (home_same st now uid (cut_keeps st uid page at (word_of st.ast uid page) may))
-      ∙ ap (λ (x : Paged). pages_cut x (home_in st uid) uid (pages_past st uid words))
-      (cut_told st uid page at (word_of st.ast uid page) may)))
+      rw (ne_eqb at 0 odd) (cc (
+        some_told now uid (pages_past st uid words),
+        home_same st now uid (cut_keeps st uid page at (word_of st.ast uid page) may),
+        cut_told st uid page at (word_of st.ast uid page) may,
+      ))
 
   pub truncated_keeps : (at ≢ 0 → IsCuttable st uid page (word_of st.ast uid page))
       → KeepsOthers st (with_truncated st uid words) uid
   truncated_keeps may = elim (cases_eq at 0) [
-    | inl even ↦ subst (λ (b : Bool). KeepsOthers st
-        (without_pages (cut_or_not b) uid (pages_past st uid words)) uid) (sym (eq-eqb at 0 even))
-        (some_keeps st uid (pages_past st uid words))
-    | inr odd ↦ subst (λ (b : Bool). KeepsOthers st
-        (without_pages (cut_or_not b) uid (pages_past st uid words)) uid) (sym (ne_eqb at 0 odd))
-        (let now = with_cut st uid page at (word_of st.ast uid page) in
+    | inl even ↦ rw (eq-eqb at 0 even) (some_keeps st uid (pages_past st uid words))
+    | inr odd ↦ rw (ne_eqb at 0 odd) (let now = with_cut st uid page at (word_of st.ast uid page) in
         keeps_both st now (without_pages now uid (pages_past st uid words)) uid
         (cut_keeps st uid page at (word_of st.ast uid page) (may odd))
         (some_keeps now uid (pages_past st uid words)))

@@ -1,5 +1,7 @@
 -- A segment that is truncated, exactly.
-use Rattle.machine_tables.proofs.Prelude.{◌≡◌, ◌≢◌, ◌<◌, ◌≤◌, ◌+◌, ◌-◌, ◌*◌, ◌/◌, ◌%◌, ℕ, suc, zero, Bool, true, false, not, ◌&&◌, ◌||◌, cond, eqb, length, map, List, [], ◌∷◌, Option, Some, None, inl, inr, refl, sym, ap, subst, ◌∙◌, arith, Result, Ok, Err, nat_lt, range_with_len, cases_eq, cases_lt, eq-eqb, le-ltb, lt-ltb, ne_eqb, get_or_past, Plan, Reply, InSegment, LeadsTo, Missing, Node, Walk, node_in, walk_in, PathFault, path_answer, HasColumns, count_of, look, done_at, node_at, only_segment, segment_at, there_or, walked, takes_effect, after_truncate, truncate_reply, Store, Free, bound_page, frame_at, is_bound, Ptw, Here, Leaving, Null, Out, Segment, ActiveSegs, IsActive, Home, cut, frame_in, number_in, plain, words_in, is_filed_at, frame_of, has_record, is_out, uid_in, IsTied, place_of, table_of, word_of, worded, IsKept, HasParts, CutsPages, IsTakenPast, IsTakenPastAt, KeepsRest, is_here, frame_left, CountsOthers, Paged, cut_at, cut_by, is_cleared, page_cleared, page_cut, paged, pages_cut, pages_from, IsStore, Shows, Stored, answered, home_of, is_there, pages_in, segment_refuses, first_past, frame_entry, stays, with_effect, with_truncated, are_zeros, page_or_zero, IsFaithful, is_active, OwnsFor, OwnsFrom, Storage, active_place, map_list, none_some, active_at, is_kept, left_entry, shown, IsCommittedBut, here_again, uid_found, found_uid, page_is}
+use Rattle.machine_tables.proofs.Prelude.{◌≡◌, ◌≢◌, ◌<◌, ◌≤◌, ◌+◌, ◌-◌, ◌*◌, ◌/◌, ◌%◌, ℕ, suc, zero, Bool, true, false, not, ◌&&◌, cond, eqb, length, map, List, [], ◌∷◌, Option, Some, None, inl, inr, refl, sym, ap, subst, ◌∙◌, arith, Result, Ok, Err, nat_lt, range_with_len, cases_eq, cases_lt, eq-eqb, le-ltb, lt-ltb, ne_eqb, get_or_past, Plan, Reply, LeadsTo, Node, Walk, node_in, walk_in, PathFault, path_answer, HasColumns, count_of, look, node_at, only_segment, segment_at, walked, takes_effect, after_truncate, truncate_reply, Store, Free, bound_page, frame_at, is_bound, Ptw, Here, Leaving, Null, Segment, ActiveSegs, IsActive, Home, cut, frame_in, number_in, plain, words_in, is_filed_at, frame_of, has_record, is_out, uid_in, IsTied, place_of, table_of, word_of, worded, IsKept, HasParts, CutsPages, IsTakenPast, IsTakenPastAt, KeepsRest, is_here, frame_left, CountsOthers, Paged, cut_at, cut_by, is_cleared, page_cleared, page_cut, paged, pages_cut, IsStore, Shows, Stored, answered, home_of, is_there, pages_in, segment_refuses, first_past, frame_entry, stays, with_effect, with_truncated, are_zeros, page_or_zero, IsFaithful, is_active, OwnsFor, OwnsFrom, Storage, active_place, map_list, none_some, active_at, is_kept, left_entry, shown, IsCommittedBut, here_again, uid_found, found_uid, page_is}
+use Rattle.std.proofs.lemmas.Bool.{or_right}
+use Rattle.laws.proofs.Numbers.{eqb_self}
 use Rattle.script.specs.declared.commands.Command.TheVariants as command
 use Rattle.book.specs.declared.entries.Entry.{Entry}
 use Rattle.book.specs.declared.entries.Entry.TheVariants as entry
@@ -27,8 +29,6 @@ cut_again : (x : Paged) (home : Home) (uid p at : ℕ) (w : Ptw) → word_of x.a
     → is_out w ≡ false → again (cut_by x home uid p at w) uid p (word_of (cut_by x home uid p at w).ast uid p)
     ≡ cut_first x home uid p at w
 cut_again x home uid p at Null word away inside = ap (again x uid p) word
-cut_again x home uid p at (Out r) word away inside = absurd (let no : true ≡ false = inside in cc)
-cut_again x home uid p at (Here f) word away inside = absurd (let no : true ≡ false = away in cc)
 cut_again x home uid p at (Leaving f) word away inside = by (is_cleared x at (Leaving f))
   where
     y : Paged
@@ -39,8 +39,9 @@ cut_again x home uid p at (Leaving f) word away inside = by (is_cleared x at (Le
 
     by : (b : Bool) → again (cond b gone y) uid p (word_of (cond b gone y).ast uid p)
         ≡ cond b gone (again y uid p (Leaving f))
-    by true = ap (again gone uid p) (cut_gone y home uid p (Leaving f) word)
-    by false = ap (again y uid p) word
+    by true = rw (cut_gone y home uid p (Leaving f) word)
+    by false = rw word
+cut_again x home uid p at _ word away inside = cc
 
 some_other : (x : Paged) (home : Home) (uid p from n : ℕ) → p < from → IsNamed x home uid
     → word_of (pages_cut x home uid (range_with_len from n)).ast uid p ≡ word_of x.ast uid p
@@ -56,11 +57,9 @@ null_same : (x : Paged) (home : Home) (uid from n m : ℕ) → IsNamed x home ui
     → pages_cut x home uid (range_with_len from n) ≡ pages_cut x home uid (range_with_len from m)
 null_same x home uid from n m named short long = elim (cases_lt n m) [
   | inl lt ↦ (let more : n + (m - n) ≡ m = omega (arith, lt) in
-      sym (null_more x home uid from n (m - n) named short)
-      ∙ ap (λ (k : ℕ). pages_cut x home uid (range_with_len from k)) more)
+      sym (rw more at (null_more x home uid from n (m - n) named short)))
   | inr le ↦ (let more : m + (n - m) ≡ n = omega (arith, le) in
-      sym (ap (λ (k : ℕ). pages_cut x home uid (range_with_len from k)) more)
-      ∙ null_more x home uid from m (n - m) named long)
+      rw more at (null_more x home uid from m (n - m) named long))
 ]
 
 module _ (x : Paged) (home : Home) (uid size words : ℕ) (named : IsNamed x home uid)
@@ -96,19 +95,15 @@ module _ (x : Paged) (home : Home) (uid size words : ℕ) (named : IsNamed x hom
       ≡ pages_cut x home uid (range_with_len (first_past words) (long - first_past words))
   even_cut even gone =
       let first : first_past words ≡ number = omega (arith, even) in
-      ap (again now uid number) gone
-      ∙ (ap (λ (b : Bool). cond b (pages_cut x home uid (pages_from number size)) (cut_by past home uid number at
-      (word_of past.ast uid number))) (eq-eqb at 0 even)
-      ∙ (all_past number
-      ∙ ap (λ (k : ℕ). pages_cut x home uid (range_with_len k (long - k))) (sym first)))
+      rw (gone, first, eq-eqb at 0 even) (all_past number)
 
   -- it is within a page
   pub odd_cut : at ≢ 0 → IsLeaving x uid number → again now uid number (word_of now.ast uid number)
       ≡ pages_cut (cut_first x home uid number at (word_of x.ast uid number)) home uid
       (range_with_len (first_past words) (long - first_past words))
-  odd_cut odd leaving = within ∙ (kept ∙ (by (word_of x.ast uid number) refl
-      ∙ ap (λ (k : ℕ). pages_cut (cut_first x home uid number at (word_of x.ast uid number)) home uid
-      (range_with_len k (long - k))) (sym first)))
+  odd_cut odd leaving = rw (ne_eqb at 0 odd, stays, first)
+      (cut_again past home uid number at (word_of x.ast uid number) stays leaving.away leaving.inside
+      ∙ by (word_of x.ast uid number) refl)
     where
       first : first_past words ≡ number + 1
       first = omega (arith, odd)
@@ -116,33 +111,14 @@ module _ (x : Paged) (home : Home) (uid size words : ℕ) (named : IsNamed x hom
       stays : word_of past.ast uid number ≡ word_of x.ast uid number
       stays = some_other x home uid number (number + 1) (size - (number + 1)) (omega arith) named
 
-      within : again now uid number (word_of now.ast uid number)
-          ≡ again (cut_by past home uid number at (word_of x.ast uid number)) uid number
-          (word_of (cut_by past home uid number at (word_of x.ast uid number)).ast uid number)
-      within = ap (λ (y : Paged). again y uid number (word_of y.ast uid number))
-          (ap (λ (b : Bool). cond b (pages_cut x home uid (pages_from number size)) (cut_by past home uid number at
-          (word_of past.ast uid number))) (ne_eqb at 0 odd) ∙ ap (cut_by past home uid number at) stays)
-
-      kept : again (cut_by past home uid number at (word_of x.ast uid number)) uid number
-          (word_of (cut_by past home uid number at (word_of x.ast uid number)).ast uid number)
-          ≡ cut_first past home uid number at (word_of x.ast uid number)
-      kept = cut_again past home uid number at (word_of x.ast uid number) stays leaving.away leaving.inside
-
       by : (w : Ptw) → word_of x.ast uid number ≡ w → cut_first past home uid number at (word_of x.ast uid number)
           ≡ pages_cut (cut_first x home uid number at (word_of x.ast uid number)) home uid
           (range_with_len (number + 1) (long - (number + 1)))
-      by Null e = ap (cut_first past home uid number at) e
-          ∙ (all_past (number + 1)
-          ∙ ap (λ (w : Ptw). pages_cut (cut_first x home uid number at w) home uid
-          (range_with_len (number + 1) (long - (number + 1)))) (sym e))
-      by (Out r) e = absurd (let no : true ≡ false = sym (ap is_out e) ∙ leaving.inside in cc)
-      by (Here f) e = absurd (let no : true ≡ false = sym (ap is_here e) ∙ leaving.away in cc)
-      by (Leaving f) e = ap (cut_first past home uid number at) e
-          ∙ (ap (λ (y : Paged). cut_first y home uid number at (Leaving f)) (all_past (number + 1))
-          ∙ (sym (some_order x home uid number at f (number + 1) (long - (number + 1)) (omega arith) named
-          (leaving.alone f e))
-          ∙ ap (λ (w : Ptw). pages_cut (cut_first x home uid number at w) home uid
-          (range_with_len (number + 1) (long - (number + 1)))) (sym e)))
+      by Null e = rw e (all_past (number + 1))
+      by (Leaving f) e = rw (e, all_past (number + 1))
+          (sym (some_order x home uid number at f (number + 1) (long - (number + 1)) (omega arith) named
+          (leaving.alone f e)))
+      by _ e = absurd cc
 
 -- ---- what the segment is like before
 
@@ -165,19 +141,16 @@ pub comes_back : {D : Type 0} (drive : D → List (List ℕ)) (t : Stored D) (ui
 comes_back drive t uid p f kept active left = by (word_of t.segs.ast uid p) refl left
   where
     by : (w : Ptw) → word_of t.segs.ast uid p ≡ w → Some f ≡ frame_left w → ComesBack t uid p f
-    by Null e i = absurd (none_some (sym i))
-    by (Out r) e i = absurd (none_some (sym i))
-    by (Here g) e i = absurd (none_some (sym i))
     by (Leaving g) e i =
-        let same : f ≡ g = cc in
-        let word : word_of t.segs.ast uid p ≡ Leaving f = e ∙ ap (λ (k : ℕ). Leaving k) (sym same) in
+        let word : word_of t.segs.ast uid p ≡ Leaving f = cc in
         let parts = bound_parts (frame_at t.segs.pages.core f) uid p (leaving_bound (shown drive t) uid p f kept
         (active_at t.segs.ast active.0 uid active.1) word) in
         record { bound = parts.0; own = parts.1; number = parts.2; word = word }
+    by _ e i = cc
 
 pub back_is : (ast : ActiveSegs) (uid p q f : ℕ) (w : Ptw) → w ≡ Leaving f → q ≡ p
     → worded ast uid q (Here f) ≡ here_again ast uid p w
-back_is ast uid p q f w is at = ap (λ (k : ℕ). worded ast uid k (Here f)) at ∙ ap (here_again ast uid p) (sym is)
+back_is ast uid p q f w is at = cc
 
 module _ (st : Storage) (uid : ℕ) (kept : IsKept st.pages st.ast st.links)
     (counted : IsStore st.pages st.ast st.links st.accounts st.whos) (there : is_there st.accounts.nodes uid ≡ true)
@@ -211,9 +184,7 @@ module _ (st : Storage) (uid : ℕ) (kept : IsKept st.pages st.ast st.links)
       by : (q : ℕ) → pages_in st.accounts.nodes uid ≤ q → (w : Ptw) → word_of st.ast uid q ≡ w
           → word_of st.ast uid q ≡ Null
       by q le Null e = e
-      by q le (Out r) e = absurd (not_stored q le (ap has_record e))
-      by q le (Here f) e = absurd (not_stored q le (ap has_record e))
-      by q le (Leaving f) e = absurd (not_stored q le (ap has_record e))
+      by q le w e = absurd (not_stored q le (ap has_record e))
 
   module _ (p : ℕ) (away : is_here (word_of st.ast uid p) ≡ false) (inside : is_out (word_of st.ast uid p) ≡ false)
     where
@@ -222,8 +193,8 @@ module _ (st : Storage) (uid : ℕ) (kept : IsKept st.pages st.ast st.links)
 
       pub cuttable_in : IsCuttable st uid p (word_of st.ast uid p)
       cuttable_in = record {
-        away = λ f e. (let no : true ≡ false = sym (ap is_here e) ∙ away in cc);
-        inside = λ r e. (let no : true ≡ false = sym (ap is_out e) ∙ inside in cc);
+        away = λ f e. cc;
+        inside = λ r e. cc;
         bound = λ f e. leaving_bound st uid p f kept active e;
       }
 
@@ -232,14 +203,7 @@ module _ (st : Storage) (uid : ℕ) (kept : IsKept st.pages st.ast st.links)
 map_same : (g h : ℕ → Entry) (fs : List ℕ) → ((f : ℕ) → has fs f ≡ true → g f ≡ h f) → map g fs ≡ map h fs
 map_same g h [] same = refl
 map_same g h (f ∷ fs) same =
-    let first : g f ≡ h f = same f (ap (λ (b : Bool). b || has fs f) (eq-eqb f f refl)) in
-    let rest : map g fs ≡ map h fs = map_same g h fs (λ k is. same k (ap (λ (b : Bool). eqb f k || b) is
-    ∙ last (eqb f k))) in
-    λ i. first i ∷ rest i
-  where
-    last : (b : Bool) → (b || true) ≡ true
-    last true = refl
-    last false = refl
+    cc (same f (rw (eqb_self f)), map_same g h fs (λ k is. same k (or_right (eqb f k) _ is)))
 
 module _ {D : Type 0} (drive : D → List (List ℕ)) (t m u : Stored D) (n : Node) (words : ℕ)
     (before : HasColumns t.accounts) (after : HasColumns m.accounts)
@@ -263,25 +227,37 @@ module _ {D : Type 0} (drive : D → List (List ℕ)) (t m u : Stored D) (n : No
   abbrev page : ℕ
   page = words / 1024
 
+  abbrev offset : ℕ
+  offset = words % 1024
+
+  abbrev own_home : Home
+  own_home = home_of t.accounts n.uid
+
+  abbrev size : ℕ
+  size = pages_in t.accounts.nodes n.uid
+
+  abbrev x : Paged
+  x = told_of st n.uid
+
   abbrev target : Storage
   target = with_truncated st n.uid words
 
   active : is_active st.ast n.uid ≡ true
   active = active_at st.ast taken.active.0 n.uid taken.active.1
 
-  named : IsNamed (told_of st n.uid) (home_of t.accounts n.uid) n.uid
+  named : IsNamed x own_home n.uid
   named = names st n.uid kept counted parts there (count_of t.accounts n.uid) active
 
-  null : IsNullFrom (told_of st n.uid) n.uid (pages_in t.accounts.nodes n.uid)
+  null : IsNullFrom x n.uid size
   null = null_past st n.uid kept counted there active
 
-  inside : words % 1024 ≢ 0 → is_out (word_of st.ast n.uid page) ≡ false
+  inside : offset ≢ 0 → is_out (word_of st.ast n.uid page) ≡ false
   inside odd = taken.cut (omega (arith, odd))
 
   away : is_here (word_of st.ast n.uid page) ≡ false
   away = taken.past.taken page (omega arith)
 
-  even_gone : words % 1024 ≡ 0 → word_of m.segs.ast n.uid page ≡ Null
+  even_gone : offset ≡ 0 → word_of m.segs.ast n.uid page ≡ Null
   even_gone even = pages.unstores.gone page (pages.past page (omega (arith, even)))
 
   keeps : KeepsOthers st target n.uid
@@ -289,17 +265,14 @@ module _ {D : Type 0} (drive : D → List (List ℕ)) (t m u : Stored D) (n : No
       (λ odd. cuttable_in st n.uid kept counted there active page away (inside odd))
 
   told : told_of target n.uid ≡ again (paged drive m n.uid) n.uid page (word_of m.segs.ast n.uid page)
-  told = elim (cases_eq (words % 1024) 0) [
-    | inl even ↦ even_told st n.uid words even
-        ∙ (sym (even_cut (told_of st n.uid) (home_of t.accounts n.uid) n.uid (pages_in t.accounts.nodes n.uid) words
-        named null even (ap (λ (x : Paged). word_of x.ast n.uid page) (sym exact) ∙ even_gone even))
-        ∙ ap (λ (x : Paged). again x n.uid page (word_of x.ast n.uid page)) (sym exact))
+  told = elim (cases_eq offset 0) [
+    | inl even ↦ even_told st n.uid words even ∙ sym (even_cut x own_home n.uid size words named null even
+        (ap (λ (y : Paged). word_of y.ast n.uid page) (sym exact) ∙ even_gone even))
     | inr odd ↦ odd_told st n.uid words odd
         (cuttable_in st n.uid kept counted there active page away (inside odd))
-        ∙ (sym (odd_cut (told_of st n.uid) (home_of t.accounts n.uid) n.uid (pages_in t.accounts.nodes n.uid) words
-        named null odd (leaving_in st n.uid kept counted there active page away (inside odd)))
-        ∙ ap (λ (x : Paged). again x n.uid page (word_of x.ast n.uid page)) (sym exact))
-  ]
+        ∙ sym (odd_cut x own_home n.uid size words named null odd
+        (leaving_in st n.uid kept counted there active page away (inside odd)))
+  ] ∙ ap (λ (y : Paged). again y n.uid page (word_of y.ast n.uid page)) (sym exact)
 
   segments : m.accounts.segments ≡ target.accounts.segments
   segments = segments_same t.accounts m.accounts before after pages.unstores.nodes ∙ sym keeps.segments
@@ -315,8 +288,7 @@ module _ {D : Type 0} (drive : D → List (List ℕ)) (t m u : Stored D) (n : No
 
       each : (s : ℕ) → count_of m.accounts s ≡ count_of target.accounts s
       each s = elim (cases_eq s n.uid) [
-        | inl own ↦ ap (count_of m.accounts) own ∙ (sym (ap (λ (x : Paged). x.stored) told)
-            ∙ ap (count_of target.accounts) (sym own))
+        | inl own ↦ rw own (sym (ap (λ (y : Paged). y.stored) told))
         | inr other ↦ others s other ∙ sym (keeps.counts s other)
       ]
 
@@ -341,53 +313,37 @@ module _ {D : Type 0} (drive : D → List (List ℕ)) (t m u : Stored D) (n : No
 
   -- ---- the frames that were taken
 
-  cut_zeros : (f from k : ℕ) (x : Paged) → is_cleared (pages_cut x (home_of t.accounts n.uid) n.uid
-      (range_with_len from k)) (words % 1024) (Leaving f) ≡ is_cleared x (words % 1024) (Leaving f)
-  cut_zeros f from zero x = refl
-  cut_zeros f from (suc k) x =
-      let w = word_of x.ast n.uid from in
-      cut_zeros f (from + 1) k (page_cut x (home_of t.accounts n.uid) n.uid from w)
-      ∙ cleared_same x (home_of t.accounts n.uid) n.uid from (words % 1024) f w
+  cut_zeros : (f from k : ℕ) (y : Paged)
+      → is_cleared (pages_cut y own_home n.uid (range_with_len from k)) offset (Leaving f)
+      ≡ is_cleared y offset (Leaving f)
+  cut_zeros f from zero y = refl
+  cut_zeros f from (suc k) y = let w = word_of y.ast n.uid from in
+      cc (cut_zeros f (from + 1) k (page_cut y own_home n.uid from w), cleared_same y own_home n.uid from offset f w)
 
   abbrev kept_frame : Option ℕ
   kept_frame = frame_left (word_of m.segs.ast n.uid page)
 
   -- the page that is cut
-  odd_kept : (f : ℕ) → words % 1024 ≢ 0 → word_of st.ast n.uid page ≡ Leaving f
-      → is_kept kept_frame f ≡ not (is_cleared (told_of st n.uid) (words % 1024) (Leaving f))
+  odd_kept : (f : ℕ) → offset ≢ 0 → word_of st.ast n.uid page ≡ Leaving f
+      → is_kept kept_frame f ≡ not (is_cleared x offset (Leaving f))
   odd_kept f odd word =
-      ap (λ (x : Paged). is_kept (frame_left (word_of x.ast n.uid page)) f)
-      (exact ∙ ap (λ (b : Bool). cond b (pages_cut x home n.uid (pages_from page size))
-      (cut_by past home n.uid page at (word_of past.ast n.uid page))) (ne_eqb at 0 odd)
-      ∙ ap (cut_by past home n.uid page at) stays)
-      ∙ (by (is_cleared past at (Leaving f))
+      ap (λ (y : Paged). is_kept (frame_left (word_of y.ast n.uid page)) f) exact
+      ∙ rw (ne_eqb offset 0 odd, stays) (by (is_cleared past offset (Leaving f))
       ∙ ap not (cut_zeros f (page + 1) (size - (page + 1)) x))
     where
-      x : Paged
-      x = told_of st n.uid
-
-      home : Home
-      home = home_of t.accounts n.uid
-
-      size : ℕ
-      size = pages_in t.accounts.nodes n.uid
-
-      at : ℕ
-      at = words % 1024
-
       past : Paged
-      past = pages_cut x home n.uid (range_with_len (page + 1) (size - (page + 1)))
+      past = pages_cut x own_home n.uid (range_with_len (page + 1) (size - (page + 1)))
 
       stays : word_of past.ast n.uid page ≡ Leaving f
-      stays = some_other x home n.uid page (page + 1) (size - (page + 1)) (omega arith) named ∙ word
+      stays = some_other x own_home n.uid page (page + 1) (size - (page + 1)) (omega arith) named ∙ word
 
       now : Paged
-      now = page_cleared past at (Leaving f)
+      now = page_cleared past offset (Leaving f)
 
-      by : (b : Bool) → is_kept (frame_left (word_of (cond b (page_cut now home n.uid page (Leaving f)) now).ast
+      by : (b : Bool) → is_kept (frame_left (word_of (cond b (page_cut now own_home n.uid page (Leaving f)) now).ast
           n.uid page)) f ≡ not b
-      by true = ap (λ (w : Ptw). is_kept (frame_left w) f) (cut_gone now home n.uid page (Leaving f) stays)
-      by false = ap (λ (w : Ptw). is_kept (frame_left w) f) stays ∙ eq-eqb f f refl
+      by true = rw (cut_gone now own_home n.uid page (Leaving f) stays)
+      by false = rw (stays, eqb_self f)
 
   -- a page past it
   past_gone : (f p : ℕ) → page < p → word_of st.ast n.uid p ≡ Leaving f → is_kept kept_frame f ≡ false
@@ -395,15 +351,13 @@ module _ {D : Type 0} (drive : D → List (List ℕ)) (t m u : Stored D) (n : No
     where
       by : (w : Ptw) → word_of m.segs.ast n.uid page ≡ w → (b : Bool) → pages.test page ≡ b
           → is_kept (frame_left w) f ≡ false
-      by Null e b i = refl
-      by (Out r) e b i = refl
-      by (Here g) e b i = refl
-      by (Leaving g) e true i = absurd (let no : Null ≡ Leaving g = sym (pages.unstores.gone page i) ∙ e in cc)
+      by (Leaving g) e true i = cc (pages.unstores.gone page i)
       by (Leaving g) e false i = ne_eqb g f (λ same.
           (let was = leaving_bound st n.uid page g kept active (sym (pages.unstores.kept page i) ∙ e) in
           let its = leaving_bound st n.uid p f kept active word in
           let one = (page_is n.uid page n.uid p (sym was
           ∙ (ap (λ (k : ℕ). bound_page (frame_in st.pages k)) same ∙ its))).1 in omega (arith, lt, one)))
+      by _ e b i = refl
 
   -- each is booked by whether its page stays
   each_kept : (frames : List ℕ) → OwnsFrom st n.uid page frames → (f : ℕ) → has frames f ≡ true
@@ -420,15 +374,19 @@ module _ {D : Type 0} (drive : D → List (List ℕ)) (t m u : Stored D) (n : No
 
       whether : is_kept kept_frame f ≡ (nat_lt (1024 * own.0) words && zeros)
       whether = elim (cases_eq own.0 page) [
-        | inl same ↦ elim (cases_eq (words % 1024) 0) [
-          | inl even ↦ ap (λ (w : Ptw). is_kept (frame_left w) f) (even_gone even)
-              ∙ sym (ap (λ (b : Bool). b && zeros) (le-ltb (1024 * own.0) words (omega (arith, same, even))))
-          | inr odd ↦ odd_kept f odd (ap (word_of st.ast n.uid) (sym same) ∙ own.3)
-              ∙ sym (ap (λ (b : Bool). b && zeros) (lt-ltb (1024 * own.0) words (omega (arith, same, odd))))
+        | inl same ↦ elim (cases_eq offset 0) [
+          | inl even ↦ rw (even_gone even, le-ltb (1024 * own.0) words (omega (arith, same, even)))
+          | inr odd ↦ rw (
+            odd_kept f odd (ap (word_of st.ast n.uid) (sym same) ∙ own.3),
+            lt-ltb (1024 * own.0) words (omega (arith, same, odd)),
+          )
         ]
-        | inr other ↦ past_gone f own.0 (let le = own.1 in omega (arith, le, other)) own.3
-            ∙ sym (ap (λ (b : Bool). b && zeros) (le-ltb (1024 * own.0) words
-            (let le = own.1 in omega (arith, le, other))))
+        | inr other ↦ (let le = own.1 in
+            rw (
+              past_gone f own.0 (omega (arith, le, other)) own.3,
+              le-ltb (1024 * own.0) words
+                  (omega (arith, le, other)),
+            ))
       ]
 
   pub truncated_left : (path : List (List ℕ)) (frames : List ℕ) → OwnsFrom st n.uid page frames
@@ -440,14 +398,12 @@ module _ {D : Type 0} (drive : D → List (List ℕ)) (t m u : Stored D) (n : No
 -- ---- the command
 
 pub not_leaving : (w : Ptw) → ((f : ℕ) → w ≢ Leaving f) → None ≡ frame_left w
-not_leaving Null isnt = refl
-not_leaving (Out r) isnt = refl
-not_leaving (Here f) isnt = refl
 not_leaving (Leaving f) isnt = absurd (isnt f refl)
+not_leaving w isnt = refl
 
 found_node : (x : Result Node Reply) (uid : ℕ) → Some uid ≡ uid_found x → (n : Node) × (x ≡ Ok n) × (uid ≡ n.uid)
-found_node (Ok n) uid e = (n, refl, let same : uid ≡ n.uid = cc in same)
-found_node (Err r) uid e = absurd (none_some (sym e))
+found_node (Ok n) uid e = (n, refl, cc)
+found_node (Err r) uid e = cc
 
 -- the segment that a walk leads to
 walked_found : (ns : List Node) (path : List (List ℕ)) (uid : ℕ) (n : Node)
@@ -458,10 +414,8 @@ walked_found ns path uid n to found = ap (λ (x : Result Node Reply). uid_found 
     (walks (walk_in ns path) to) ∙ by n.directory
   where
     walks : (w : Walk) → Ok uid ≡ path_answer w → walked ns w ≡ Ok n
-    walks (LeadsTo u) e = (let same : uid ≡ u = cc in ap (λ (x : ℕ). there_or (node_in ns x)) (sym same)
-        ∙ ap there_or found)
-    walks Missing e = cc
-    walks InSegment e = cc
+    walks (LeadsTo u) e = cc
+    walks _ e = cc
 
     by : (b : Bool) → uid_found (cond b (Err reply.IsDir) (Ok n)) ≡ cond b None (Some uid)
     by true = refl
@@ -470,14 +424,12 @@ walked_found ns path uid n to found = ap (λ (x : Result Node Reply). uid_found 
 pub is_segment : (ns : List Node) (path : List (List ℕ)) (uid : ℕ) (n : Node)
     → Ok uid ≡ path_answer (walk_in ns path) → node_in ns uid ≡ Some n → n.directory ≡ false
     → Some uid ≡ uid_found (segment_at ns path)
-is_segment ns path uid n to found kind = sym (walked_found ns path uid n to found
-    ∙ ap (λ (b : Bool). cond b None (Some uid)) kind)
+is_segment ns path uid n to found kind = sym (rw kind at (walked_found ns path uid n to found))
 
 pub is_directory : (ns : List Node) (path : List (List ℕ)) (uid : ℕ) (n : Node)
     → Ok uid ≡ path_answer (walk_in ns path) → node_in ns uid ≡ Some n → n.directory ≡ true
     → None ≡ uid_found (segment_at ns path)
-is_directory ns path uid n to found kind = sym (walked_found ns path uid n to found
-    ∙ ap (λ (b : Bool). cond b None (Some uid)) kind)
+is_directory ns path uid n to found kind = sym (rw kind at (walked_found ns path uid n to found))
 
 pub is_nothing : (ns : List Node) (path : List (List ℕ)) (fault : PathFault)
     → Err fault ≡ path_answer (walk_in ns path) → None ≡ uid_found (segment_at ns path)
@@ -485,9 +437,8 @@ unfolding node_at
 is_nothing ns path fault to = by (walk_in ns path) to
   where
     by : (w : Walk) → Err fault ≡ path_answer w → None ≡ uid_found (only_segment (walked ns w))
-    by (LeadsTo uid) e = absurd (let no : ◌≡◌ {A = Result ℕ PathFault} (Err fault) (Ok uid) = e in cc)
-    by Missing e = refl
-    by InSegment e = refl
+    by (LeadsTo uid) e = cc
+    by _ e = refl
 
 module _ {D : Type 0} (drive : D → List (List ℕ)) (t m : Stored D) (path : List (List ℕ)) (words : ℕ) (r : Reply)
     (answer : (p : Plan) (s : Store) → Shows drive p s t → r ≡ truncate_reply s path)
@@ -504,9 +455,7 @@ module _ {D : Type 0} (drive : D → List (List ℕ)) (t m : Stored D) (path : L
     where
       by : (x : Result Node Reply) → segment_at flat.nodes path ≡ x
           → (n : Node) × (segment_at t.accounts.nodes path ≡ Ok n)
-      by (Err q) e = absurd (
-          let is : r ≡ q = answer p flat (shows_of drive p flat t faithful) ∙ ap done_at e in
-          let no : false ≡ true = sym (segment_refuses flat.nodes path q e) ∙ (ap takes_effect (sym is) ∙ takes) in cc)
+      by (Err q) e = cc (answer p flat (shows_of drive p flat t faithful), segment_refuses flat.nodes path q e)
       by (Ok n) e = (n, ap (λ (ns : List Node). segment_at ns path) (sym faithful.tree.nodes) ∙ e)
 
   -- no segment is there
@@ -560,11 +509,7 @@ module _ {D : Type 0} (drive : D → List (List ℕ)) (t m : Stored D) (path : L
           ast = here_again m.segs.ast its.0.uid (words / 1024) (word_of m.segs.ast its.0.uid (words / 1024));
         };
       }
-      back_at = back ∙ ap (λ (v : ℕ). record m {
-        segs = record m.segs {
-          ast = here_again m.segs.ast v (words / 1024) (word_of m.segs.ast v (words / 1024));
-        };
-      }) its.2
+      back_at = rw its.2 at back
 
       store_is : shown drive u ≡ with_truncated old its.0.uid words
       store_is = truncated_exact drive t m u its.0 words before after kept counted parts there (taken its.0 its.1)
@@ -572,10 +517,8 @@ module _ {D : Type 0} (drive : D → List (List ℕ)) (t m : Stored D) (path : L
 
       frames_left : (frames : List ℕ) → OwnsFrom old its.0.uid (words / 1024) frames
           → map (left_entry (frame_left word)) frames ≡ map (frame_entry old (command.Truncate path words)) frames
-      frames_left frames owns = ap (λ (v : ℕ). map (left_entry (frame_left (word_of m.segs.ast v (words / 1024))))
-          frames) its.2
-          ∙ truncated_left drive t m u its.0 words before after kept counted parts there (taken its.0 its.1)
-          (pages its.0 its.1) (exact its.0 its.1) (others its.0 its.1) back_at path frames owns
+      frames_left frames owns = rw its.2 (truncated_left drive t m u its.0 words before after kept counted parts there
+          (taken its.0 its.1) (pages its.0 its.1) (exact its.0 its.1) (others its.0 its.1) back_at path frames owns)
 
       pub truncate_committed : (k : ℕ) (frames : List ℕ) → OwnsFor old frames (command.Truncate path words)
           → (o : Option ℕ) → o ≡ frame_left word
@@ -591,6 +534,5 @@ module _ {D : Type 0} (drive : D → List (List ℕ)) (t m : Stored D) (path : L
               (sym (segment_uid t.accounts.nodes path its.0 its.1));
           drives = ap (λ (x : Stored D). x.segs.pages.volumes.drives) back ∙ rest.drives;
         };
-        left = λ p flat faithful takes. ap (λ (v : Option ℕ). map (left_entry v) frames) is
-            ∙ frames_left frames (owns its.0 its.1);
+        left = λ p flat faithful takes. (rw is (frames_left frames (owns its.0 its.1)));
       }

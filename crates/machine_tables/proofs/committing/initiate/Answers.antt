@@ -3,8 +3,5 @@ use Rattle.machine_tables.proofs.committing.initiate.Goals as goal
 
 pub returns : goal.returns
 returns g c = initiate_committed g.D.Drive.pages c.args.store.now c.initiate.new.self c.args.process c.args.path.now
-    c.initiate.result (record {
-      answer = c.initiate.ensures.answer;
-      effect = c.initiate.ensures.effect;
-    })
+    c.initiate.result (assumption c.initiate.ensures)
     c.initiate.ensures.rest

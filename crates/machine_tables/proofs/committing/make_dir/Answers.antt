@@ -5,5 +5,5 @@ pub returns : goal.returns
 returns g c = λ k. dir_committed g.D.Drive.pages c.args.store.now c.make_dir-reply.new.self
     k c.args.path.now c.args.volume c.make_dir-reply.result
     c.look.ensures.columns c.look-2.ensures.columns c.look.ensures.below
-    (record { answer = c.make_dir-reply.ensures.answer; effect = c.make_dir-reply.ensures.effect })
+    (assumption c.make_dir-reply.ensures)
     c.make_dir-reply.ensures.home c.make_dir-reply.ensures.rest

@@ -5,5 +5,5 @@ pub returns : goal.returns
 returns g c = seg_committed g.D.Drive.pages c.args.store.now c.make_seg-reply.new.self
     c.args.process c.args.path.now c.args.pages c.args.volume c.make_seg-reply.result
     c.look.ensures.columns c.look-2.ensures.columns c.look.ensures.below
-    (record { answer = c.make_seg-reply.ensures.answer; effect = c.make_seg-reply.ensures.effect })
+    (assumption c.make_seg-reply.ensures)
     c.make_seg-reply.ensures.home c.make_seg-reply.ensures.rest

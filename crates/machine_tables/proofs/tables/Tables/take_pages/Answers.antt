@@ -11,13 +11,11 @@ past : {p now first found : ℕ} → now ≡ first → found ≡ first → found
 past same size le = omega (arith, same, size, le)
 
 pub take_page-requires-clause-few : goal.take_page-requires-clause-few
-take_page-requires-clause-few g c = (here_few c.loop-p.self.state c.args.self.now.state c.args.c c.args.aim
-    c.args.what c.args.uid c.loop-p.p c.args.low c.loop-p.invariant.on
+take_page-requires-clause-few g c = (here_few c.loop-p.invariant.on
     (before c.loop-p.invariant.on.long c.table_size-p-end.ensures c.loop-p-test.true)).0
 
 pub take_page-requires-clause-room : goal.take_page-requires-clause-room
-take_page-requires-clause-room g c = (here_few c.loop-p.self.state c.args.self.now.state c.args.c c.args.aim
-    c.args.what c.args.uid c.loop-p.p c.args.low c.loop-p.invariant.on
+take_page-requires-clause-room g c = (here_few c.loop-p.invariant.on
     (before c.loop-p.invariant.on.long c.table_size-p-end.ensures c.loop-p-test.true)).1
 
 pub take_page-requires-clause-page : goal.take_page-requires-clause-page
@@ -26,8 +24,7 @@ take_page-requires-clause-page g c =
 
 pub loop-p-preserved : goal.loop-p-preserved
 loop-p-preserved g c = record {
-  on = takes_next c.loop-p.self.state c.take_page.new.self.state c.args.self.now.state c.args.c c.args.aim
-      c.args.what c.args.uid c.loop-p.p c.args.low c.loop-p.invariant.on
+  on = takes_next c.loop-p.invariant.on
       (before c.loop-p.invariant.on.long c.table_size-p-end.ensures c.loop-p-test.true)
       (state_of c.loop-p.self c.take_page.new.self _ c.take_page.ensures.effect) c.take_page.ensures.rest;
   rest = rest_next c.loop-p.self c.take_page.new.self c.args.self.now _ c.loop-p.invariant.rest
@@ -35,7 +32,5 @@ loop-p-preserved g c = record {
 }
 
 pub returns : goal.returns
-returns g c = rest_end c.loop-p.self c.args.self.now _ c.loop-p.invariant.rest
-    (takes_end c.loop-p.self.state c.args.self.now.state c.args.c c.args.aim c.args.what c.args.uid c.loop-p.p
-    c.args.low c.loop-p.invariant.on
+returns g c = rest_end c.loop-p.self c.args.self.now _ c.loop-p.invariant.rest (takes_end c.loop-p.invariant.on
     (past c.loop-p.invariant.on.long c.table_size-p-end.ensures c.loop-p-test.false))
