@@ -1,16 +1,12 @@
 -- A drive in core without lines never fails.
-use Rattle.std.proofs.Common.{◌≡◌, ℕ, zero, suc, Bool, false, true, [], refl, ◌⊎◌, Option, None, Some, Result, Ok, Err}
+use Rattle.std.proofs.Common.{◌≡◌, ℕ, false, true, [], refl, ◌⊎◌, Option, None, Some, Result, Ok, Err}
 use Rattle.std.proofs.Common.{IsOk, IfSome, IfNone, OnOk, OnErr, inl, inr}
 use Rattle.std.proofs.Common.{arith}
 use Rattle.site_io.specs.Faults.{Rose}
-use Rattle.volumes.specs.FailLine.{IsOneMore, named_calls}
+use Rattle.volumes.specs.FailLine.{IsOneMore}
 use Rattle.volumes.specs.CoreDrive.{DriveState, faults_of}
 use Rattle.bulk_store.specs.Contents.{CountsBoth}
-
-named_none : (write : Bool) (n : ℕ) → named_calls [] write n ≡ 0
-unfolding named_calls
-named_none write zero = omega arith
-named_none write (suc n) = let before = named_none write n in omega (arith, before)
+use Rattle.volumes.proofs.Faults.{named_none}
 
 no_faults : (d : DriveState) → d.fails ≡ [] → faults_of d ≡ 0
 no_faults d none = rw none (let reads = named_none false d.reads in let writes =
