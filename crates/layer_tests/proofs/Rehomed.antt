@@ -7,7 +7,6 @@ use Rattle.std.proofs.Math.ListN.{get_or-map}
 use Rattle.std.proofs.lemmas.List.{length-replicate}
 use Rattle.core_map.specs.declared.Frame.TheVariants.{Free, Started}
 use Rattle.core_map.specs.CoreMap.{Core, frame_at, reads_of, started_page}
-use Rattle.vtoc.specs.FileMap.{no_records}
 use Rattle.vtoc.specs.Vtoc.{Entry, entry_at, record_at, records_in}
 use Rattle.volumes.specs.declared.Part.{Part}
 use Rattle.volumes.specs.Volumes.{Vols, made_of}
@@ -17,16 +16,13 @@ use Rattle.page_table.specs.PageTable.{ptw_at}
 use Rattle.page_control.specs.Tied.{AreFiled, IsBlank, IsNotStarted, flags_in, has_record, vtoc_in}
 use Rattle.laws.proofs.Lists.{all_same}
 use Rattle.laws.proofs.Bools.{off_and_on}
+use Rattle.vtoc.proofs.Table.{no_record}
 
 abbrev no_entry : Option Entry
 no_entry = None
 
 abbrev no_place : Option ℕ
 no_place = None
-
-no_record : (q : ℕ) → get_or no_records q None ≡ None
-unfolding no_records
-no_record q = all_same 256 q no_place
 
 -- volumes as they are made
 vtoc_made : {D : Type 0} (parts : List (Part D)) (v e : ℕ)

@@ -121,7 +121,7 @@ pub use Rattle.machine_model.proofs.FindLaws.{choice_bound, free_frame, free_is,
 pub use Rattle.machine_model.proofs.FlatAlike.{append_assoc}
 pub use Rattle.machine_model.proofs.IdleKept.{FillsBusy, idle_kept}
 pub use Rattle.machine_model.proofs.InsideLaws.{due_is, inside_is}
-pub use Rattle.machine_model.proofs.JobKept.{bound_unmarked}
+pub use Rattle.page_control.proofs.Turns.{page_unmarked}
 pub use Rattle.machine_model.proofs.LeafLaws.{leaf_inferiors, victim_leaf}
 pub use Rattle.machine_model.proofs.ListLaws.{map_list, within_by}
 pub use Rattle.machine_model.proofs.ListSizes.{command_few, connected_few, descriptors_few, frames_from_few, no_table, pages_few, trailers_few}

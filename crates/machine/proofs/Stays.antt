@@ -1,5 +1,5 @@
 -- A store after a call that isn't seen in the flat store: it shows what it showed.
-use Rattle.machine.proofs.Prelude.{◌≡◌, ◌<◌, ℕ, Bool, true, false, cond, get_or, length, map, replicate, set, sum, List, [], ◌∷◌, Option, None, refl, sym, ap, subst, ◌∙◌, arith, ◌/◌, ◌%◌, map-set_same, Plan, AccountMaps, Frame, Core, bound_page, with_frame, after_choice, is_idle, passed_over, round_frames, unmarked, ActiveSegs, Plain, bindings, words_at, entries, size, picture_by, Links, IsKept, IsStore, ShowsTree, home_of, is_filed, is_there, picture, Store, Action, action_of, after, no_call, AreAccounts, IsFaithful, StoreKept, shown_after, State, Storage, with_pages, Parts, IsSound, bound_unmarked}
+use Rattle.machine.proofs.Prelude.{◌≡◌, ◌<◌, ℕ, Bool, true, false, cond, get_or, length, map, replicate, set, sum, List, [], ◌∷◌, Option, None, refl, sym, ap, subst, ◌∙◌, arith, ◌/◌, ◌%◌, map-set_same, Plan, AccountMaps, Frame, Core, bound_page, with_frame, after_choice, is_idle, passed_over, round_frames, unmarked, ActiveSegs, Plain, bindings, words_at, entries, size, picture_by, Links, IsKept, IsStore, ShowsTree, home_of, is_filed, is_there, picture, Store, Action, action_of, after, no_call, AreAccounts, IsFaithful, StoreKept, shown_after, State, Storage, with_pages, Parts, IsSound, page_unmarked}
 use Rattle.core_map.specs.declared.Frame.TheVariants as frame
 use Rattle.core_map.specs.Clock.{frame_in}
 use Rattle.vtoc.specs.Vtoc.{Entry}
@@ -141,7 +141,7 @@ unfolding passed_over
 passed_bound frames [] = refl
 passed_bound frames (f ∷ fs) = by (is_idle (frame_in frames f))
     (passed_bound (set frames f (unmarked (frame_in frames f))) fs
-    ∙ map-set_same bound_page frames f (unmarked (frame_in frames f)) frame.Free (bound_unmarked (frame_in frames f)))
+    ∙ map-set_same bound_page frames f (unmarked (frame_in frames f)) frame.Free (page_unmarked (frame_in frames f)))
   where
     by : (b : Bool) → map bound_page (passed_over (set frames f (unmarked (frame_in frames f))) fs)
         ≡ map bound_page frames

@@ -16,6 +16,7 @@ use Rattle.machine_model.proofs.TellKept.{CanTell, told_keeps, works_counted}
 use Rattle.machine_model.proofs.TieLaws.{none_some}
 use Rattle.machine_model.proofs.TransferKept.{kept_with, quiet_faults}
 use Rattle.machine_model.proofs.TransferLaws.{CanMake, here_keeps}
+use Rattle.page_control.proofs.Facts.{page_referred}
 
 -- ---- a segment becomes active
 
@@ -167,11 +168,6 @@ created_kept s c f u p r k can within active inner idle quiet tell says = kept_w
 
 -- ---- a word is reached through a frame
 
-pub bound_after : (x : Frame) (b : Bool) → bound_page (after_reference x b) ≡ bound_page x
-bound_after frame.Free b = refl
-bound_after (frame.Started u p) b = refl
-bound_after (frame.Bound u p used modified) b = refl
-
 pub started_after : (x : Frame) (b : Bool) → started_page (after_reference x b) ≡ started_page x
 started_after frame.Free b = refl
 started_after (frame.Started u p) b = refl
@@ -185,7 +181,7 @@ through_seen s f r = by (alters r.kind)
     marked : (b : Bool) → seen (with_store s (with_pages s.store (referred s.store.pages f b))) ≡ seen s
     marked b = λ i. record (seen s) {
       bound = λ g. binding_at (map_kept bound_page s.store.pages.core.frames f frame.Free
-          (after_reference (frame_in s.store.pages f) b) (bound_after (frame_in s.store.pages f) b) i) g;
+          (after_reference (frame_in s.store.pages f) b) (page_referred (frame_in s.store.pages f) b) i) g;
       reads = λ g. read_at (map_kept started_page s.store.pages.core.frames f frame.Free
           (after_reference (frame_in s.store.pages f) b) (started_after (frame_in s.store.pages f) b) i) g;
     }

@@ -13,11 +13,7 @@ use Rattle.machine_model.proofs.OwnerLaws.{bound_here}
 use Rattle.machine_model.proofs.SpeakLaws.{Speaks, speaks}
 use Rattle.machine_model.proofs.StepAsks.{ReadsFor, reads_for}
 use Rattle.machine_model.proofs.StepGoes.{may_answer}
-use Rattle.machine_model.proofs.WantLaws.{IsReferring, linked_here, refers, tree_wants, want_here}
-
-is_refer : Want → Bool
-is_refer (Refer chain uid page makes) = true
-is_refer _ = false
+use Rattle.machine_model.proofs.WantLaws.{IsReferring, is_refer, linked_here, refers, tree_wants, want_here}
 
 is_take : act.Action → Bool
 is_take act.TakeSupervisor = true

@@ -17,6 +17,7 @@ use Rattle.machine_model.proofs.OwnedLaws.{IsIdle}
 use Rattle.machine_model.proofs.OwnerLaws.{bound_here, idle_names}
 use Rattle.machine_model.proofs.TakeSeen.{take_one_seen}
 use Rattle.machine_model.proofs.TransferKept.{kept_with, quiet_faults}
+use Rattle.page_control.proofs.Turns.{page_unmarked}
 
 -- ---- the clock
 
@@ -32,11 +33,6 @@ module _ {B : Type 0} (g : Frame → B) (same : (x : Frame) → g (unmarked x) �
       by true rest = refl
       by false rest = rest ∙ map_kept g xs f frame.Free (unmarked (frame_in xs f)) (same (frame_in xs f))
 
-pub bound_unmarked : (x : Frame) → bound_page (unmarked x) ≡ bound_page x
-bound_unmarked frame.Free = refl
-bound_unmarked (frame.Started u p) = refl
-bound_unmarked (frame.Bound u p used modified) = refl
-
 started_unmarked : (x : Frame) → started_page (unmarked x) ≡ started_page x
 started_unmarked frame.Free = refl
 started_unmarked (frame.Started u p) = refl
@@ -45,7 +41,7 @@ started_unmarked (frame.Bound u p used modified) = refl
 -- custody doesn't see the marks and the hand
 pub choice_seen : (s : State) (f : ℕ) → seen (with_store s (with_choice s.store f)) ≡ seen s
 choice_seen s f = λ i. record (seen s) {
-  bound = λ g. binding_at (passed_alike bound_page bound_unmarked s.store.pages.core.frames
+  bound = λ g. binding_at (passed_alike bound_page page_unmarked s.store.pages.core.frames
       (round_frames s.store.pages.core) i) g;
   reads = λ g. read_at (passed_alike started_page started_unmarked s.store.pages.core.frames
       (round_frames s.store.pages.core) i) g;

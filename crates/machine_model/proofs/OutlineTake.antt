@@ -1,5 +1,5 @@
 -- In the outline of the machine, taking, signalling and finishing are steps of the owner's job.
-use Rattle.machine_model.proofs.Prelude.{◌≡◌, ◌≢◌, ◌≤◌, ℕ, suc, ◌+◌, Bool, true, false, cond, eqb, List, [], ◌∷◌, ◌++◌, length, map, Option, Some, None, is_some, set, refl, sym, ap, subst, ◌∙◌, inl, inr, ◌⊎◌, append_assoc, zero-add, eqb_tells, What, Frame, bound_page, core_frame, is_idle, unmarked, round_frames, passed_over, command_at, AccountMaps, Plain, Active, Links, leads_at, place_of, unlinked, is_filed, Aim, Phase, Processor, CutDescriptor, State, Storage, Owner, next_command, no_processor, run_at, processor_at, frames_of_owner, cut_of_owner, cut_all, cut_one, eviction_begun, leaving_if, owner_signalled, phase_signalled, signalled, take_all, take_one, told_from, took, with_choice, with_leaving, Runner, EvictFrame, Look, Taken, Waiting, runner_at, at_stage, IsIn, JobStep, takes_segment, takes_frame, takes_for_commit, signals, CanEmpty, CanEvict, AreAlike, AreOf, with_runners, Around, around, bare, lacks_record, left_in, want_of, runner_by, runner_of, first_frame, work_of, stage_of, keeper_of, outline_of, map_kept}
+use Rattle.machine_model.proofs.Prelude.{◌≡◌, ◌≢◌, ◌≤◌, ℕ, suc, ◌+◌, Bool, true, false, cond, eqb, List, [], ◌∷◌, ◌++◌, length, map, Option, Some, None, is_some, set, refl, sym, ap, subst, ◌∙◌, inl, inr, ◌⊎◌, append_assoc, zero-add, eqb_tells, What, Frame, bound_page, core_frame, is_idle, unmarked, round_frames, passed_over, command_at, AccountMaps, Plain, Active, Links, leads_at, place_of, is_filed, Aim, Phase, Processor, CutDescriptor, State, Storage, Owner, next_command, no_processor, run_at, processor_at, frames_of_owner, cut_of_owner, cut_all, cut_one, eviction_begun, leaving_if, owner_signalled, phase_signalled, signalled, take_all, take_one, told_from, took, with_choice, with_leaving, Runner, EvictFrame, Look, Taken, Waiting, runner_at, at_stage, IsIn, JobStep, takes_segment, takes_frame, takes_for_commit, signals, CanEmpty, CanEvict, AreAlike, AreOf, with_runners, Around, around, bare, lacks_record, left_in, want_of, runner_by, runner_of, first_frame, work_of, stage_of, keeper_of, outline_of, map_kept}
 use Rattle.core_map.specs.declared.Frame.TheVariants as frame
 use Rattle.machine_model.specs.declared.Aim.TheVariants as aim
 use Rattle.machine_model.specs.declared.Phase.TheVariants as phase
@@ -9,6 +9,7 @@ use Rattle.machine_model.proofs.OutlineJob.{job_to, in_job}
 use Rattle.machine_model.proofs.LeaveSeen.{told_has, told_online, told_process, told_reads}
 use Rattle.machine_model.proofs.SaysLaws.{leaving_pages}
 use Rattle.machine_model.proofs.ClearLaws.{told_transfer}
+use Rattle.storage_ops.proofs.Less.{one_known}
 
 -- ---- the clock's choice
 
@@ -97,13 +98,9 @@ take_all_like s c a w (f ∷ fs) =
     like_on s (take_one s c a w f) (take_all (take_one s c a w f) c a w fs) (take_one_like s c a w f)
     (take_all_like (take_one s c a w f) c a w fs)
 
-pub cut_known : (links : Links) (k n : ℕ) (o : Option ℕ) → (unlinked links k n o).known ≡ links.known
-cut_known links k n None = refl
-cut_known links k n (Some place) = refl
-
 cut_one_like : (s : State) (c : ℕ) (a : Aim) (w : What) (pair : ℕ × ℕ) → LooksLike s (cut_one s c a w pair)
 cut_one_like s c a w pair = looks_like refl refl refl refl refl refl refl refl
-    (cut_known s.store.links pair.0 pair.1 (leads_at s.store.links.descriptors pair.0 pair.1))
+    (one_known s.store.links pair.0 pair.1 (leads_at s.store.links.descriptors pair.0 pair.1))
 
 cut_all_like : (s : State) (c : ℕ) (a : Aim) (w : What) (pairs : List (ℕ × ℕ)) → LooksLike s (cut_all s c a w pairs)
 cut_all_like s c a w [] = like_self s

@@ -1,5 +1,5 @@
 -- What a processor reads into a frame is for the next command of its process through every action, until it is read.
-use Rattle.machine_model.proofs.Prelude.{◌≡◌, ◌≢◌, ◌<◌, ℕ, ◌+◌, Bool, true, false, ◌&&◌, cond, eqb, is_some, length, List, [], map, set, Option, Some, None, ◌⊎◌, inl, inr, refl, sym, ap, subst, ◌∙◌, arith, ℤ, eqb_tells, get_or-set_other, get_or-set_same, length-set, Plan, command_at, Command, Reference, Reply, What, Row, Node, node_in, without_node, IsTree, uid_of, Ptw, erased, has_record, kst_at, word_of, Cpu, Transfer, parts_of, segment_at, word_reply, node_gone, is_filed, is_there, pages_in, pages_of, Processor, Run, action_of, clear_or, own_or_run, transfer_or, Outcome, after, committed, committed_at, frames_freed, inactive_if, with_deleted, with_made, with_truncated, is_out, emptied, eviction_begun, eviction_done, page_done, pages_back, segs_back, told_from, took, victim_taken, with_choice, with_hand_moved, write_failed, Keeps, copy_failed, page_copied, without_move, IsMachine, AllRead, IsReadFor, IsReading, Refers, Truncates, Wants, cpu_at, cut_of_owner, frames_from, frames_of_owner, home_in, is_active, next_command, no_processor, no_run, or_zero, process_at, processor_at, run_at, trailers_in, refusal_of, reply_of, uid_of_command, State, Storage, fault_told, frame_lost, old_word, page_made, pages_after, started, told, transfer_failed, transferred, with_faults, with_pages, with_store, IsReached, MayFailBy, not_both}
+use Rattle.machine_model.proofs.Prelude.{◌≡◌, ◌≢◌, ◌<◌, ℕ, ◌+◌, Bool, true, false, ◌&&◌, cond, eqb, is_some, length, List, [], map, set, Option, Some, None, ◌⊎◌, inl, inr, refl, sym, ap, subst, ◌∙◌, arith, ℤ, eqb_tells, get_or-set_other, get_or-set_same, length-set, Plan, command_at, Command, Reference, Reply, What, Row, Node, node_in, without_node, IsTree, uid_of, erased, kst_at, word_of, Cpu, Transfer, parts_of, segment_at, word_reply, node_gone, is_filed, is_there, pages_in, pages_of, Processor, Run, action_of, clear_or, own_or_run, transfer_or, Outcome, after, committed, committed_at, frames_freed, inactive_if, with_deleted, with_made, with_truncated, emptied, eviction_begun, eviction_done, page_done, pages_back, segs_back, told_from, took, victim_taken, with_choice, with_hand_moved, write_failed, Keeps, copy_failed, page_copied, without_move, IsMachine, AllRead, IsReadFor, IsReading, Refers, Truncates, Wants, cpu_at, cut_of_owner, frames_from, frames_of_owner, home_in, is_active, next_command, no_processor, no_run, or_zero, process_at, processor_at, run_at, trailers_in, refusal_of, reply_of, uid_of_command, State, Storage, fault_told, frame_lost, old_word, page_made, pages_after, started, told, transfer_failed, transferred, with_faults, with_pages, with_store, IsReached, MayFailBy, not_both}
 use Rattle.script.specs.declared.commands.Command.TheVariants as command
 use Rattle.book.specs.declared.replies.Reply.TheVariants as reply
 use Rattle.assoc_mem.specs.declared.What.TheVariants as what
@@ -22,6 +22,7 @@ use Rattle.machine_model.proofs.ScheduleKept as seats
 use Rattle.machine_model.proofs.TieLaws.{none_some}
 use Rattle.machine_model.proofs.TransferKept.{active_at}
 use Rattle.machine_model.proofs.ClearLaws.{told_transfer}
+use Rattle.page_control.proofs.Looks.{stored_out}
 
 -- one node changes
 pub with_names : (v : ℕ) (change : Node → Node) → KeepsName change
@@ -152,10 +153,6 @@ reads_like s now same sits h = rw sits.plan (subst (λ (rs : List Run). AllRead 
 
 -- ---- a failure of the drive may be told
 
-recorded : (w : Ptw) → is_out w ≡ true → has_record w ≡ true
-recorded (ptw.Out n) e = refl
-recorded _ e = absurd (not_both e refl)
-
 module _ (s : State) (d : ℕ) (t : Transfer) (keeps : Keeps s) (mine : (cpu_at s.processors d).transfer ≡ Some t) where
   read_active : is_active s.store.ast t.uid ≡ true
   read_active = let at = keeps.store.kept.paged.started t.frame t.uid t.page
@@ -166,7 +163,7 @@ module _ (s : State) (d : ℕ) (t : Transfer) (keeps : Keeps s) (mine : (cpu_at 
   unfolding is_filed
   page_inside = keeps.store.counted.counted.inside t.uid t.page (active_there s keeps t.uid read_active)
       (second (is_there s.store.accounts.nodes t.uid) (sym (keeps.faithful.pages.stored t.uid t.page)
-      ∙ (stored_is s keeps t.uid read_active t.page ∙ recorded (word_of s.store.ast t.uid t.page)
+      ∙ (stored_is s keeps t.uid read_active t.page ∙ stored_out (word_of s.store.ast t.uid t.page)
       (keeps.book.tied.out t.frame t.uid t.page (keeps.book.under_way.reading d t mine)))))
     where
       second : (a : Bool) {b : Bool} → (a && b) ≡ true → b ≡ true

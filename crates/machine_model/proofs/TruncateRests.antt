@@ -20,7 +20,8 @@ use Rattle.machine_model.proofs.TieLaws.{none_some}
 use Rattle.machine_model.proofs.TruncateKept.{QuietWords, all_left, cut_store, leaf, leaves, segment}
 use Rattle.machine_model.proofs.TransferKept.{active_at}
 use Rattle.machine_model.proofs.WordLaws.{word_within}
-use Rattle.machine_model.proofs.ActiveKept.{bound_after, started_after}
+use Rattle.machine_model.proofs.ActiveKept.{started_after}
+use Rattle.page_control.proofs.Facts.{page_referred}
 
 -- ---- numbers in a row
 
@@ -69,7 +70,7 @@ module _ (st : Storage) (u p at f : ℕ) (h : HasPlaces st) (leaving : word_in s
 
   bound_same : (g : ℕ) → bound_in now g ≡ bound_in st g
   bound_same g = λ i. binding_at (map_kept bound_page st.pages.core.frames f frame.Free
-      (after_reference (frame_in st.pages f) true) (bound_after (frame_in st.pages f) true) i) g
+      (after_reference (frame_in st.pages f) true) (page_referred (frame_in st.pages f) true) i) g
 
   reads_same : (g : ℕ) → read_in now g ≡ read_in st g
   reads_same g = λ i. read_at (map_kept started_page st.pages.core.frames f frame.Free

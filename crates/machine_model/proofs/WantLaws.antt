@@ -45,7 +45,7 @@ module _ (s : State) (k : ℕ) (keeps : Keeps s) (r : Reference) (u : ℕ) (insi
 
 -- ---- the other way
 
-is_refer : Want → Bool
+unfoldable pub is_refer : Want → Bool
 is_refer (Refer chain uid page makes) = true
 is_refer _ = false
 

@@ -1,5 +1,5 @@
 -- What a claim of a tree command names stays while pages are taken, and the descriptors of a process are cut in order.
-use Rattle.machine_tables.proofs.Prelude.{◌≡◌, ◌≢◌, ◌+◌, ◌-◌, ◌<◌, ◌≤◌, ℕ, suc, zero, Bool, true, false, cond, length, List, [], ◌∷◌, ◌++◌, map, set, Option, Some, None, refl, sym, ap, subst, ◌∙◌, arith, inl, inr, length-append, filter, nat_le, range_with_len, nat_tests, cases_lt, get_or-set_other, get_or-set_same, What, is_command, Fault, Links, leads_at, sdws_at, unlinked, Aim, cut_all, cut_one, take_all, took, connected_of, cut_of_owner, descriptor_of, is_connected, State, none_some, Cuts, cuts_in, HasOwner, Parts, with_state, take_cut, cut_long, cut_known}
+use Rattle.machine_tables.proofs.Prelude.{◌≡◌, ◌≢◌, ◌+◌, ◌-◌, ◌<◌, ◌≤◌, ℕ, suc, zero, Bool, true, false, cond, length, List, [], ◌∷◌, ◌++◌, map, set, Option, Some, None, refl, sym, ap, subst, ◌∙◌, arith, inl, inr, length-append, filter, nat_le, range_with_len, nat_tests, cases_lt, get_or-set_other, get_or-set_same, What, is_command, Fault, Links, leads_at, sdws_at, unlinked, Aim, cut_all, cut_one, take_all, took, connected_of, cut_of_owner, descriptor_of, is_connected, State, none_some, Cuts, cuts_in, HasOwner, Parts, with_state, take_cut, cut_long, one_known}
 use lib.Seq.{set_out}
 use Rattle.script.specs.declared.commands.Command.TheVariants as command
 use Rattle.machine_tables.specs.declared.claiming.Cuts.TheVariants as cuts
@@ -152,7 +152,7 @@ cuts_known : (s : State) (c : ℕ) (a : Aim) (w : What) (xs : List (ℕ × ℕ))
     → (cut_all s c a w xs).store.links.known ≡ s.store.links.known
 cuts_known s c a w [] = refl
 cuts_known s c a w (x ∷ xs) = cuts_known (cut_one s c a w x) c a w xs
-    ∙ cut_known s.store.links x.0 x.1 (leads_at s.store.links.descriptors x.0 x.1)
+    ∙ one_known s.store.links x.0 x.1 (leads_at s.store.links.descriptors x.0 x.1)
 
 pub number_next : {s t first : State} {c : ℕ} {a : Aim} {w : What} {k n : ℕ} → CutsAllOn s first c a w k n
     → n < 256 → t ≡ cut_all s c a w (number_in s.store.links k n) → CutsAllOn t first c a w k (n + 1)

@@ -139,7 +139,7 @@ pub use Rattle.processor.specs.Moves.{AreWords, IsLongEnough, next_move}
 pub use Rattle.processor.specs.declared.Cpu.{Cpu}
 pub use Rattle.processor.specs.declared.Move.{Move}
 pub use Rattle.processor.specs.declared.Transfer.{Transfer}
-pub use Rattle.machine_model.proofs.ActiveKept.{bound_after}
+pub use Rattle.page_control.proofs.Facts.{page_referred}
 pub use Rattle.machine_model.proofs.ActiveSeen.{active_place, any_at, inactive_blank, some_within, within_some}
 pub use Rattle.machine_model.proofs.AllEnded.{over_idle}
 pub use Rattle.machine_model.proofs.ChainFacts.{AllFail, chain_active, first_there, turned}
@@ -156,7 +156,7 @@ pub use Rattle.machine_model.proofs.MachineBoot.{boot_keeps_all}
 pub use Rattle.machine_model.proofs.MoverTied.{here_moving, leaving_moving}
 pub use Rattle.machine_model.proofs.NumberLaws.{cut_long, take_cut, take_long}
 pub use Rattle.machine_model.proofs.OffChain.{pool_one_off}
-pub use Rattle.machine_model.proofs.OutlineTake.{cut_known}
+pub use Rattle.storage_ops.proofs.Less.{one_known}
 pub use Rattle.machine_model.proofs.Returnable.{bound_is}
 pub use Rattle.machine_model.proofs.SaysLaws.{cut_less}
 pub use Rattle.machine_model.proofs.SharedLaws.{some_not_none, zeros_to}

@@ -1,5 +1,5 @@
 -- What a truncation changes of a store, by page control, the active segments and one count.
-use Rattle.machine_tables.proofs.Prelude.{◌≡◌, ◌≢◌, ◌-◌, ◌/◌, ◌%◌, ℕ, Bool, true, false, cond, length, List, [], ◌∷◌, Some, inl, inr, refl, sym, ap, ◌∙◌, arith, cases_eq, eq-eqb, ne_eqb, get_or-set_same, count_of, look, with_value, length_with, look_with_other, Free, bound_page, Ptw, Here, Leaving, Null, Out, cut, frame_in, words_in, word_of, Paged, is_cleared, page_cut, pages_cut, with_cut, with_truncated, without_page, without_pages, pages_past, are_zeros, here_if, with_here, home_in, Storage, with_pages, bound_after}
+use Rattle.machine_tables.proofs.Prelude.{◌≡◌, ◌≢◌, ◌-◌, ◌/◌, ◌%◌, ℕ, Bool, true, false, cond, length, List, [], ◌∷◌, Some, inl, inr, refl, sym, ap, ◌∙◌, arith, cases_eq, eq-eqb, ne_eqb, get_or-set_same, count_of, look, with_value, length_with, look_with_other, Free, bound_page, Ptw, Here, Leaving, Null, Out, cut, frame_in, words_in, word_of, Paged, is_cleared, page_cut, pages_cut, with_cut, with_truncated, without_page, without_pages, pages_past, are_zeros, here_if, with_here, home_in, Storage, with_pages, page_referred}
 use Rattle.laws.proofs.Lists.{within_from}
 use Rattle.machine_tables.proofs.OrderLaws.{cut_first}
 
@@ -102,7 +102,7 @@ bound_cut : (st : Storage) (f at uid p : ℕ) → bound_page (frame_in st.pages 
 bound_cut st f at uid p bound = rw (
   get_or-set_same,
   within_from st.pages.core.frames f Free (λ free. cc),
-  bound_after (frame_in st.pages f) true,
+  page_referred (frame_in st.pages f) true,
 ) bound
 
 -- both ends of a cut

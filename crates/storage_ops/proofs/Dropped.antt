@@ -1,7 +1,8 @@
 -- A page is stored no more, and its account is credited.
 use Rattle.storage_ops.proofs.Prelude.{◌≡◌, ◌≢◌, ℕ, zero, suc, ◌+◌, ◌-◌, ◌≤◌, Bool, true, false, cond, eqb, List, [], ◌∷◌, get_or, length, map, Some, None, is_some, replicate, refl, sym, ap, ◌∙◌, arith, inl, inr, count_by, cases_eq, ne_eqb, nat_tests, sum_by-cons, get_or-map, Who, AccountMaps, Counts, Recounts, count_of, Node, taken_on, volume_in, ActiveSegs, Ptw, Here, Leaving, Null, Out, Home, KeepsCounts, entries, one_less, size, taken, used, dropped, unstored, ChangesStored, ChangesWords, is_filed_at, Plain, map_at, uid_at, Links, AreCounted, AreHoused, AreTaken, IsStore, home_of, is_filed, is_there, named_at, eq-eqb}
 use Rattle.storage_ops.proofs.Entries.{one_named, put_here, put_other, put_uid}
-use Rattle.storage_ops.proofs.Homes.{filed_map, home_cases}
+use Rattle.seg_control.proofs.Homes.{home_cases}
+use Rattle.storage_ops.proofs.Homes.{filed_map}
 use Rattle.storage_ops.proofs.Lengths.{filed_there}
 use Rattle.storage_ops.proofs.Still.{tree_still}
 

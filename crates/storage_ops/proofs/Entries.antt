@@ -2,6 +2,7 @@
 use Rattle.storage_ops.proofs.Prelude.{◌≡◌, ◌≢◌, ℕ, zero, suc, ◌+◌, Bool, true, cond, List, [], ◌∷◌, set, get_or, Option, Some, None, is_some, refl, sym, ap, ◌∙◌, arith, inl, inr, count_by, cases_eq, get_or-set_other, get_or-set_same, sum_by-cons, entry_at, records_in, with_record, Home, map_at, uid_at, vtoc_in}
 use Rattle.vtoc.specs.Vtoc.{Entry, uid_of}
 use Rattle.storage_ops.proofs.Tables.{homed_entry, homed_volume}
+use Rattle.page_control.proofs.Places.{same_uid}
 
 -- the entry at a home becomes this
 abbrev pub entry_put : List (List (Option Entry)) → Home → Option Entry → List (List (Option Entry))
@@ -34,10 +35,6 @@ entry_told vtocs home u x P other used here there = elim (cases_eq other.volume 
       ])
 ]
 
-record_uid : (o : Option Entry) (q : ℕ) (r : Option ℕ) → uid_of (with_record o q r) ≡ uid_of o
-record_uid None q r = refl
-record_uid (Some x) q r = refl
-
 record_map : (o : Option Entry) (q u : ℕ) (r : Option ℕ) → uid_of o ≡ Some u
     → records_in (with_record o q r) ≡ set (records_in o) q r
 record_map None q u r e = cc
@@ -52,7 +49,7 @@ module _ (vtocs : List (List (Option Entry))) (home : Home) (u q : ℕ) (r : Opt
   pub put_uid : (other : Home) → uid_at (map_put vtocs home q r) other ≡ uid_at vtocs other
   put_uid other = entry_told vtocs home u (with_record (entry_there vtocs home) q r)
       (λ (o : Option Entry). uid_of o ≡ uid_at vtocs other) other used
-      (λ same. record_uid (entry_there vtocs home) q r ∙ sym (ap (uid_at vtocs) same)) (λ ne. refl)
+      (λ same. same_uid (entry_there vtocs home) q r ∙ sym (ap (uid_at vtocs) same)) (λ ne. refl)
 
   pub put_other : (other : Home) → other ≢ home → map_at (map_put vtocs home q r) other ≡ map_at vtocs other
   put_other other apart = entry_told vtocs home u (with_record (entry_there vtocs home) q r)

@@ -1,15 +1,7 @@
 -- A node is added, with a home of its own.
-use Rattle.storage_ops.proofs.Prelude.{◌≡◌, ◌≢◌, ◌⊎◌, ℕ, ◌+◌, ◌≤◌, ◌/◌, Bool, true, false, cond, eqb, List, [], ◌∷◌, Option, Some, None, get_or, is_some, is_none, replicate, refl, sym, ap, ◌∙◌, arith, inl, inr, length, count_by, position, cases_eq, cases_lt, ne_eqb, get_or-replicate, get_or_past, sum_by-cons, position-Some, Who, Plan, AccountMaps, Gains, count_of, Node, entries_on, has_directory, node_in, taken_on, is_stored, Store, taken_new, VtocEntry, entry_at, least_free_entry, record_at, records_in, no_records, ActiveSegs, uid_in_place, Home, Plain, bindings, binding_at, plain, map_at, uid_at, vtoc_in, one_more, size, taken, used, is_binding, is_filed_at, words_at, words_of_page, words_held, Links, IsKept, AreCounted, AreHoused, IsStore, Shows, Storage, home_of, is_filed, is_there, named_at, pages_in, pages_of, picture, eqb_turned, and_false, and_both, eq-eqb}
+use Rattle.storage_ops.proofs.Prelude.{◌≡◌, ◌≢◌, ℕ, ◌+◌, ◌≤◌, ◌/◌, Bool, true, false, cond, eqb, List, [], ◌∷◌, Option, Some, None, get_or, is_some, is_none, replicate, refl, sym, ap, ◌∙◌, arith, inl, inr, length, count_by, position, cases_eq, cases_lt, ne_eqb, get_or-replicate, get_or_past, sum_by-cons, position-Some, Who, Plan, AccountMaps, Gains, count_of, Node, entries_on, has_directory, node_in, taken_on, is_stored, Store, taken_new, VtocEntry, entry_at, least_free_entry, record_at, records_in, no_records, ActiveSegs, uid_in_place, Home, Plain, bindings, binding_at, plain, map_at, uid_at, vtoc_in, one_more, size, taken, used, is_binding, is_filed_at, words_at, words_of_page, words_held, Links, IsKept, AreCounted, AreHoused, IsStore, Shows, Storage, home_of, is_filed, is_there, named_at, pages_in, pages_of, picture, eqb_turned, and_false, and_both, eq-eqb, entries}
 use Rattle.vtoc.specs.Vtoc.{uid_of}
-
-pub home_cases : (a b : Home) → (a ≡ b) ⊎ (a ≢ b)
-home_cases a b = elim (cases_eq a.volume b.volume) [
-  | inl v ↦ elim (cases_eq a.entry b.entry) [
-    | inl e ↦ inl (λ i. record { volume = v i; entry = e i })
-    | inr ne ↦ inr (λ same. ne (λ i. (same i).entry))
-  ]
-  | inr ne ↦ inr (λ same. ne (λ i. (same i).volume))
-]
+use Rattle.seg_control.proofs.Homes.{home_cases}
 
 -- ---- words of pages that aren't stored
 

@@ -35,7 +35,8 @@ shown_linked drive p s t new known h =
 
 -- ---- one descriptor is cut
 
-one_known : (links : Links) (process number : ℕ) (o : Option ℕ) → (unlinked links process number o).known ≡ links.known
+pub one_known : (links : Links) (process number : ℕ) (o : Option ℕ)
+    → (unlinked links process number o).known ≡ links.known
 one_known links process number None = refl
 one_known links process number (Some place) = refl
 

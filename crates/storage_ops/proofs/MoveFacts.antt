@@ -1,9 +1,10 @@
 -- What the calls of a move ask and leave, by what is true of a store.
-use Rattle.storage_ops.proofs.Prelude.{◌≡◌, ℕ, ◌+◌, ◌-◌, ◌<◌, ◌≤◌, Bool, true, false, List, [], ◌∷◌, Option, Some, None, length, map, set, refl, sym, ◌∙◌, arith, nat_lt, eq-eqb, nat_tests, length-set, least_free, HasParts, Vols, records_at, used_at, vtoc_at, IsActive, count_of, plain, entries, size, Mover, CanBegin, begun, flags_given, flags_taken, with_taken, Control, IsKept, move_committed, pair_of, is_roomy, IsStore, Storage, home_of, is_there, named_at, room_parts}
+use Rattle.storage_ops.proofs.Prelude.{◌≡◌, ℕ, ◌+◌, ◌-◌, ◌<◌, ◌≤◌, Bool, true, false, List, [], ◌∷◌, Option, Some, None, length, map, refl, sym, ◌∙◌, arith, nat_lt, eq-eqb, nat_tests, length-set, least_free, HasParts, Vols, records_at, used_at, vtoc_at, IsActive, count_of, plain, entries, size, Mover, CanBegin, begun, flags_taken, with_taken, Control, IsKept, move_committed, pair_of, is_roomy, IsStore, Storage, home_of, is_there, named_at, room_parts}
 use Rattle.seg_mover.specs.Homes.{map_at}
 use Rattle.storage_ops.proofs.Known.{size_set}
 use Rattle.storage_ops.proofs.Paged.{active_there}
 use Rattle.storage_ops.proofs.Tables.{all_drives, homed_volume}
+use Rattle.seg_mover.proofs.Records.{length_given}
 
 -- ---- a move may begin
 
@@ -57,18 +58,13 @@ taken_length flags (Some r ∷ places) =
     one None = refl
     one (Some q) = length-set flags q true
 
-given_length : (flags : List Bool) (places : List (Option ℕ)) → length (flags_given flags places) ≡ length flags
-given_length flags [] = refl
-given_length flags (None ∷ places) = given_length flags places
-given_length flags (Some r ∷ places) = given_length (set flags r false) places ∙ length-set flags r false
-
 module _ {D : Type 0} (c : Control D) (m : Mover) where
   abbrev vols : Vols D
   vols = begun c.pages.volumes m.uid m.from m.to.0
 
   pub committed_sizes : (v : ℕ) → size (move_committed c m).pages.volumes.records v ≡ size c.pages.volumes.records v
   committed_sizes v =
-      size_set vols.records m.from.0 _ (given_length (records_at vols m.from.0) (map_at vols m.from)) v
+      size_set vols.records m.from.0 _ (length_given (records_at vols m.from.0) (map_at vols m.from)) v
       ∙ size_set c.pages.volumes.records m.to.0 _
       (taken_length (records_at c.pages.volumes m.to.0) (map_at c.pages.volumes m.from)) v
 

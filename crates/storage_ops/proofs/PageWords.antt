@@ -1,20 +1,15 @@
 -- One word of a page in a frame is written.
-use Rattle.storage_ops.proofs.Prelude.{◌≡◌, ◌≢◌, ℕ, ◌+◌, ◌*◌, ◌<◌, ◌/◌, ◌%◌, Bool, true, false, cond, eqb, ◌&&◌, List, length, get_or, set, replicate, Some, refl, sym, ap, ◌∙◌, arith, inl, inr, cases_eq, ne_eqb, eq-eqb, get_or-set_other, get_or-set_same, same_Some, get_or-map, Plan, AccountMaps, is_stored, with_word, written, Store, with_old, Frame, Free, Started, Bound, bound_page, frame_at, is_bound, Who, ptw_at, ActiveSegs, IsActive, table_at, Home, Plain, binding_at, bindings, number_in, plain, words_in, changed_at, changed_page, words_at, IsTableOf, frame_of, Links, word_of, IsKept, IsStore, Shows, Storage, home_of, is_filed, is_there, picture, and_false}
+use Rattle.storage_ops.proofs.Prelude.{◌≡◌, ◌≢◌, ℕ, ◌+◌, ◌*◌, ◌<◌, ◌/◌, ◌%◌, Bool, true, false, cond, eqb, ◌&&◌, List, length, get_or, set, replicate, Some, refl, sym, ap, ◌∙◌, arith, inl, inr, cases_eq, ne_eqb, eq-eqb, get_or-set_other, get_or-set_same, same_Some, get_or-map, Plan, AccountMaps, is_stored, with_word, written, Store, with_old, Free, bound_page, frame_at, is_bound, Who, ptw_at, ActiveSegs, IsActive, table_at, Home, Plain, binding_at, bindings, number_in, plain, words_in, changed_at, changed_page, words_at, IsTableOf, frame_of, Links, word_of, IsKept, IsStore, Shows, Storage, home_of, is_filed, is_there, picture, and_false}
 use Rattle.page_control.specs.Tied.{uid_in}
 use Rattle.storage_ops.proofs.Paged.{active_tie, picture_there, word_filed, framed_recorded}
 use Rattle.storage_ops.proofs.PagesLess.{words_bound}
-
--- what a bound frame is bound to
-pub bound_told : (frame : Frame) → is_bound frame ≡ true → bound_page frame ≡ Some (uid_in frame, number_in frame)
-bound_told Free b = cc
-bound_told (Started u p) b = cc
-bound_told (Bound u p x y) b = refl
+use Rattle.page_control.proofs.Facts.{bound_to}
 
 -- a bound frame has the page of an active segment, whose page table names the frame
 module _ (now : Plain) (ast : ActiveSegs) (links : Links) (kept : IsKept now ast links) (f : ℕ)
     (bound : is_bound (frame_at now.core f) ≡ true) where
   binding : binding_at (bindings now.core) f ≡ Some (uid_in (frame_at now.core f), number_in (frame_at now.core f))
-  binding = get_or-map bound_page now.core.frames f Free ∙ bound_told (frame_at now.core f) bound
+  binding = get_or-map bound_page now.core.frames f Free ∙ bound_to (frame_at now.core f) bound
 
   pub bound_active : IsActive ast.entries (uid_in (frame_at now.core f))
   bound_active = kept.paged.bound f (uid_in (frame_at now.core f)) (number_in (frame_at now.core f)) binding

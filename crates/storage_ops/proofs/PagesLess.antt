@@ -8,6 +8,8 @@ use Rattle.storage_ops.proofs.Lengths.{filed_there}
 use Rattle.storage_ops.proofs.Paged.{active_home, active_there, active_tie, filed_absent, picture_absent, picture_there, word_filed}
 use Rattle.storage_ops.proofs.Unstored.{bound_dropped, bound_none, none_bound, word_within, worded_here, unstores_still, worded_other, worded_table}
 use Rattle.storage_ops.proofs.PageFacts.{segment_of}
+use Rattle.page_control.proofs.Facts.{bound_from_page}
+use Rattle.page_control.proofs.Calls.{stored_away}
 
 -- ---- a page is stored no more
 
@@ -219,12 +221,6 @@ pub record MayDrop (now : Plain) (ast : ActiveSegs) (a : AccountMaps) (u q : ℕ
   pub home : IsHomeOf now.vtocs u (home_of a u)
   pub table : IsTableOf (bindings now.core) u (table_of ast u)
 
-away_recorded : (w : Ptw) → is_away w ≡ true → has_record w ≡ true
-away_recorded Null e = cc
-away_recorded (Out r) e = refl
-away_recorded (Here f) e = cc
-away_recorded (Leaving f) e = refl
-
 pub away_isnt_here : (w : Ptw) → is_away w ≡ true → is_here w ≡ false
 away_isnt_here Null e = cc
 away_isnt_here (Out r) e = refl
@@ -252,7 +248,7 @@ may_drop now ast links a whos u q k h active away = record {
 }
   where
     record_there : has_record (word_of ast u q) ≡ true
-    record_there = away_recorded (word_of ast u q) away
+    record_there = stored_away (word_of ast u q) away
 
     there : is_there a.nodes u ≡ true
     there = active_there now ast links a whos k h u active
@@ -375,14 +371,9 @@ pub leaving_bound : (now : Plain) (ast : ActiveSegs) (links : Links) (a : Accoun
 leaving_bound now ast links a whos k h u q f active word =
     (active_tie now ast links a whos k h u active).table.back f q (ap frame_of word)
 
-bound_is : (frame : Frame) (u q : ℕ) → bound_page frame ≡ Some (u, q) → is_bound frame ≡ true
-bound_is Free u q e = cc
-bound_is (Started v r) u q e = cc
-bound_is (Bound v r used modified) u q e = refl
-
 pub frame_is_bound : (core : Core) (u q f : ℕ) → binding_at (bindings core) f ≡ Some (u, q)
     → is_bound (frame_at core f) ≡ true
-frame_is_bound core u q f e = bound_is (frame_at core f) u q (sym (get_or-map bound_page core.frames f Free) ∙ e)
+frame_is_bound core u q f e = bound_from_page (frame_at core f) u q (sym (get_or-map bound_page core.frames f Free) ∙ e)
 
 -- what is told of a page that is cut through its frame
 pub frame_told : (now : Plain) (f at : ℕ) (r : Bool) (next : Plain) → next ≡ cut now f at

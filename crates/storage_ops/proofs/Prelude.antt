@@ -98,7 +98,7 @@ pub use Rattle.core_map.specs.declared.Frame.{Frame}
 pub use Rattle.core_map.specs.declared.Frame.TheVariants.{Bound, Free, Started}
 pub use Rattle.volumes.specs.Volumes.{HasParts, KeepsTables, Vols, records_at, used_at, vtoc_at}
 pub use Rattle.seg_mover.specs.Moves.{CanBegin, begun}
-pub use Rattle.seg_mover.specs.Records.{flags_given, flags_taken, with_taken}
+pub use Rattle.seg_mover.specs.Records.{flags_taken, with_taken}
 pub use Rattle.seg_mover.specs.declared.Mover.{Mover}
 pub use Rattle.active_segs.specs.Active.{ActiveSegs, HasNoInferior, IsActive, IsAway, IsOneToOne, deactivated, entry_at as entry_in_place, no_segments, superior_in, superior_in as superior_of_entry, table_at, uid_at as uid_in_place, uid_in}
 pub use Rattle.active_segs.specs.Pool.{IsInPool}

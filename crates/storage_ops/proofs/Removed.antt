@@ -6,7 +6,7 @@ use Rattle.storage_ops.proofs.Known.{size_set}
 use Rattle.storage_ops.proofs.Lengths.{filed_there}
 use Rattle.storage_ops.proofs.Made.{length_inside}
 use Rattle.storage_ops.proofs.NodeLaws.{found_there}
-use Rattle.storage_ops.proofs.Unstored.{started_is}
+use Rattle.seg_control.proofs.Frames.{started_from}
 use Rattle.storage_ops.proofs.Paged.{active_place, filed_absent, picture_absent, picture_there}
 
 -- a node is taken out whose pages are counted no more and whose home is free
@@ -314,7 +314,7 @@ pub place_idle : (core : Core) (entries : List (Option Entry)) (place u : ℕ) �
 place_idle core entries place u at idle = record {
   none = λ f v q is read.
       (idle q).none f
-      (cc (started_is (frame_at core f) v q (sym (get_or-map started_page core.frames f Free) ∙ read)));
+      (cc (started_from (frame_at core f) v q (sym (get_or-map started_page core.frames f Free) ∙ read)));
 }
 
 no_trailer : (xs : List (ℕ × ℕ)) → ((process number : ℕ) → count_by (leads_to process number) xs ≡ 0) → xs ≡ []

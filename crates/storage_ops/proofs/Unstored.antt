@@ -1,7 +1,8 @@
 -- What stays where pages of an active segment are stored no more.
-use Rattle.storage_ops.proofs.Prelude.{◌≡◌, ◌≢◌, ℕ, ◌+◌, ◌/◌, ◌<◌, ◌≤◌, Bool, true, false, cond, eqb, ◌&&◌, ◌||◌, List, [], get_or, length, nat_le, nat_lt, set, Option, Some, None, refl, sym, ap, subst, ◌∙◌, arith, inl, inr, cases_eq, cases_lt, eq-eqb, eqb-true, ne_eqb, or_parts, nat_tests, get_or-set_other, get_or-set_same, get_or-map, Core, bound_page, frame_at, reads_of, started_page, with_frame, Frame, Bound, Free, Started, Ptw, Here, Leaving, Null, Out, ptw_at, Entry, ActiveSegs, IsActive, table_at, uid_in_place, uid_in, dropped, Home, Plain, binding_at, bindings, IsNotStarted, IsTableOf, frame_of, has_record, is_out, place_of, table_of, word_of, worded, between, Storage, home_of, IsTakenPast, Unstores, is_here, unbound, page_is, shown_within, within_from, off_and_on, and_false, and-true, ◌∷◌, suc, zero}
+use Rattle.storage_ops.proofs.Prelude.{◌≡◌, ◌≢◌, ℕ, ◌+◌, ◌/◌, ◌<◌, ◌≤◌, Bool, true, false, cond, eqb, ◌&&◌, ◌||◌, List, [], get_or, length, nat_le, nat_lt, set, Option, Some, None, refl, sym, ap, subst, ◌∙◌, arith, inl, inr, cases_eq, cases_lt, eq-eqb, eqb-true, ne_eqb, or_parts, nat_tests, get_or-set_other, get_or-set_same, get_or-map, Core, bound_page, frame_at, reads_of, started_page, with_frame, Frame, Free, Ptw, Here, Leaving, Null, Out, ptw_at, Entry, ActiveSegs, IsActive, table_at, uid_in_place, uid_in, dropped, Home, Plain, binding_at, bindings, IsNotStarted, IsTableOf, frame_of, has_record, is_out, place_of, table_of, word_of, worded, between, Storage, home_of, IsTakenPast, Unstores, is_here, unbound, shown_within, within_from, off_and_on, and_false, and-true, ◌∷◌, suc, zero}
 use Rattle.storage_ops.proofs.Known.{set_told}
 use Rattle.storage_ops.proofs.Paged.{active_place}
+use Rattle.seg_control.proofs.Frames.{started_from}
 
 -- ---- the words of a segment's page table
 
@@ -213,15 +214,10 @@ between_past from page = grind (arith, nat_tests)
 
 -- ---- what is being read
 
-pub started_is : (frame : Frame) (u q : ℕ) → started_page frame ≡ Some (u, q) → frame ≡ Started u q
-started_is Free u q e = cc
-started_is (Started v r) u q e = (let same = page_is v r u q e in λ i. Started (same.0 i) (same.1 i))
-started_is (Bound v r on wrote) u q e = cc
-
 -- the same where the reads are as they were
 pub idle_still : (old now : Core) (u q : ℕ) → reads_of now ≡ reads_of old → IsNotStarted old u q → IsNotStarted now u q
 idle_still old now u q same idle = record {
-  none = λ f is. idle.none f (started_is (frame_at old f) u q
+  none = λ f is. idle.none f (started_from (frame_at old f) u q
       (cc (get_or-map started_page old.frames f Free, same, get_or-map started_page now.frames f Free, is)));
 }
 
