@@ -4,6 +4,7 @@ use Rattle.std.specs.Prelude.{ℕ, ◌+◌, ◌*◌, ◌<◌, Bool, true, false,
 use Rattle.std.specs.Prelude.{is_some}
 use Rattle.std.specs.Prelude.{count_by, length, List, [], Option, Some, None}
 use Rattle.std.specs.List.{list_any}
+use Rattle.script.specs.declared.plan.TheConstants.{MOST_PROCESSORS}
 use Rattle.core_map.specs.declared.Frame.{Frame}
 use Rattle.core_map.specs.declared.Frame.TheVariants as frame
 use Rattle.core_map.specs.CoreMap.{is_free}
@@ -102,7 +103,8 @@ parts_of s x stage = record {
 -- one number, in which each part has room
 abbrev pub rank_of : Parts → ℕ
 rank_of p =
-    ((((((p.reading * 16 + p.idle) * 2048 + p.off) * 2 + p.link) * 2 + p.room) * 2 + p.frame) * 512 + p.stage) * 16
+    ((((((p.reading * 16 + p.idle) * 2048 + p.off) * 2 + p.link) * 2 + p.room) * 2 + p.frame) * 512 + p.stage)
+    * (2 * MOST_PROCESSORS)
     + p.due
 
 -- each part but the first is below its room
@@ -113,7 +115,7 @@ pub record IsSmall (p : Parts) : Type 0 where
   pub room : p.room < 2
   pub frame : p.frame < 2
   pub stage : p.stage < 512
-  pub due : p.due < 16
+  pub due : p.due < 2 * MOST_PROCESSORS
 
 abbrev pub job_left : Outline → Option Keeper → ℕ
 job_left s None = 0
@@ -187,4 +189,5 @@ unfoldable pub offline : List Runner → ℕ
 offline runners = count_by (λ x. not x.online) runners
 
 unfoldable pub all_rank : Outline → ℕ
-all_rank s = ((s.left * 16 + over s.runners) * 64 + s.ready) * 16 + offline s.runners
+all_rank s =
+    ((s.left * (2 * MOST_PROCESSORS) + over s.runners) * 64 + s.ready) * (2 * MOST_PROCESSORS) + offline s.runners

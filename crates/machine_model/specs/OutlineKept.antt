@@ -1,6 +1,7 @@
 -- What is true of an outline between two steps: that the measures have room for what they count, and that whoever is
 -- waited for is there (own).
 use Rattle.std.specs.Prelude.{◌≡◌, ℕ, ◌<◌, ◌≤◌, Bool, true, false, not, length, List, [], ◌∷◌, Some, None, Contains}
+use Rattle.script.specs.declared.plan.TheConstants.{MOST_PROCESSORS}
 use Rattle.core_map.specs.declared.Frame.{Frame}
 use Rattle.core_map.specs.declared.Frame.TheVariants as frame
 use Rattle.active_segs.specs.Victim.{IsOffChain}
@@ -20,7 +21,7 @@ EndsChain (Length uid) = Unit {0}
 EndsChain Other = Unit {0}
 
 pub record HasSizes (s : Outline) : Type 0 where
-  pub few_runners : length s.runners ≤ 8
+  pub few_runners : length s.runners ≤ MOST_PROCESSORS
   pub some_runner : 0 < length s.runners
   pub few_entries : length s.entries ≤ 1024
   pub few_ready : s.ready ≤ 32

@@ -8,14 +8,12 @@ use crate::pausing::Bell;
 use crate::working::work;
 use arrayvec::ArrayVec;
 use machine::Machine;
+use script::MOST_PROCESSORS;
 use site_io::Gate;
 use std::marker::Brand;
 use std::sync::{Mutex, Wait};
 use std::thread::{self, Threads};
 use volumes::Drive;
-
-/// The most processors of a machine.
-const MOST: usize = 8;
 
 impl Run for Brand {
     ghost use Rattle.std.specs.Prelude.{[]};
@@ -35,8 +33,8 @@ impl Run for Brand {
 }
 
 /// The numbers of so many processors.
-fn numbers(count: u32) -> ArrayVec<u32, MOST>
-    requires { count ≤ 8 }
+fn numbers(count: u32) -> ArrayVec<u32, MOST_PROCESSORS>
+    requires { count ≤ MOST_PROCESSORS }
     ensures { All (λ (c : ℕ). c < count) result.items }
 {
     let mut numbers = ArrayVec::new();
