@@ -231,6 +231,14 @@ fn hash_of(superior: Option<u32>, name: &Name) -> u32
     (mixed(hash, last_word(rest)) >> 32) as u32
 }
 
+/// How two names stand to each other, by their letters.
+#[inline(never)]
+fn compare_letters(own: &Name, other: &Name) -> Ordering
+    ensures { result ≡ slice_cmp nat_cmp own.now other.now }
+{
+    own.as_str().cmp(other.as_str())
+}
+
 /// How two names stand to each other. Most are the same, which is seen of many bytes at a time.
 fn compare_names(own: &Name, other: &Name) -> Ordering
     ensures { result ≡ slice_cmp nat_cmp own.now other.now }
@@ -238,7 +246,7 @@ fn compare_names(own: &Name, other: &Name) -> Ordering
     if own == other {
         Ordering::Equal
     } else {
-        own.as_str().cmp(other.as_str())
+        compare_letters(own, other)
     }
 }
 
