@@ -1,5 +1,5 @@
 -- The names that the proofs of this crate take from elsewhere.
-pub use Rattle.std.proofs.Common.{All, Bool, Err, IfOk, IsOk, IsSome, IsTrue, List, None, Ok, OnOk, Option, Result, Some, [], ap, arith, cond, eqb, false, get_or, inl, inr, is_none, is_some, length, map, not, refl, replicate, rules, set, subst, suc, sum, sym, take, true, w32, zero, ℕ, ℤ, ◌%◌, ◌&&◌, ◌*◌, ◌++◌, ◌+◌, ◌-◌, ◌/◌, ◌<◌, ◌^◌, ◌||◌, ◌↔◌, ◌∙◌, ◌∷◌, ◌≡◌, ◌≢◌, ◌≤◌, ◌⊎◌}
+pub use Rattle.std.proofs.Common.{All, Bool, Err, IfOk, IsSome, IsTrue, List, None, Ok, OnOk, Option, Result, Some, [], ap, arith, cond, eqb, false, get_or, inl, inr, is_none, is_some, length, map, not, refl, replicate, rules, set, subst, suc, sum, sym, take, true, w32, zero, ℕ, ℤ, ◌%◌, ◌&&◌, ◌*◌, ◌++◌, ◌+◌, ◌-◌, ◌/◌, ◌<◌, ◌^◌, ◌||◌, ◌↔◌, ◌∙◌, ◌∷◌, ◌≡◌, ◌≢◌, ◌≤◌, ◌⊎◌}
 pub use Rattle.std.proofs.Math.Bool.{and-true}
 pub use Rattle.std.proofs.Math.ListN.{get_or-map}
 pub use Rattle.std.proofs.lemmas.Bool.{cases_Bool, cases_eq, cases_lt, eq-eqb, eqb-true, ne_eqb, or_parts}
@@ -13,7 +13,7 @@ pub use Rattle.std.proofs.lemmas.Option.{same_Some}
 pub use Rattle.std.specs.Int.{is_positive}
 pub use Rattle.std.specs.Int.RustNames.{unsigned_abs}
 pub use Rattle.std.specs.List.{list_all, list_any, position_or_len, range_with_len}
-pub use Rattle.std.specs.Prelude.{IfSome, count_by, nat_le, nat_lt, position, slice_get}
+pub use Rattle.std.specs.Prelude.{count_by, nat_le, nat_lt, position, slice_get}
 pub use Rattle.std.specs.Result.{is_err}
 pub use Rattle.laws.proofs.Bools.{and_false, and_parts, off_and_on, or_true, room_parts}
 pub use Rattle.laws.proofs.Lists.{all_same, get_or_any, none_put, within_from}
@@ -46,7 +46,6 @@ pub use Rattle.known_segs.specs.Known.{first_of_two, known_count, number_for, nu
 pub use Rattle.dir_tree.proofs.QuotaLemmas.{unless_none}
 pub use Rattle.dir_tree.specs.Nodes.{add_fault_of, as_node, as_term, chain_of, has_inferior, maker_rows}
 pub use Rattle.dir_tree.specs.declared.node.AddFault.{AddFault}
-pub use Rattle.quota_cells.specs.Accounts.{look}
 pub use Rattle.quota_cells.specs.Scratch.{charge_answer}
 pub use Rattle.quota_cells.specs.declared.Full.{Full}
 pub use Rattle.accounts.specs.Maps.{AccountMaps, Changes, Counts, Gains, Loses, Recounts, Rehomes, branch_of, count_of, entry_of, root_alone}
@@ -72,16 +71,16 @@ unfoldable pub use Rattle.flat_model.specs.Branches.{node_at}
 pub use Rattle.flat_model.specs.Commands.{takes_effect}
 pub use Rattle.flat_model.specs.Cuts.{cleared, has_cleared, without_branch, without_pages}
 pub use Rattle.flat_model.specs.Legal.{MayRelease}
-pub use Rattle.flat_model.specs.Making.{made_at, made_in, made_of, make_in}
+pub use Rattle.flat_model.specs.Making.{made_in, make_in}
 unfoldable pub use Rattle.flat_model.specs.Making.{after_make}
 pub use Rattle.flat_model.specs.Naming.{initiate_of, initiated, known_or_full}
 unfoldable pub use Rattle.flat_model.specs.Naming.{after_initiate, after_terminate, initiate_reply, terminate_reply}
-pub use Rattle.flat_model.specs.Pages.{IsOnce, Words, is_page, is_stored, is_stored_from, with_word}
+pub use Rattle.flat_model.specs.Pages.{IsOnce, Words, is_stored, is_stored_from, with_word}
 unfoldable pub use Rattle.flat_model.specs.Pages.{is_zero_page, with_stored, without_stored}
-pub use Rattle.flat_model.specs.References.{is_out_of_room, is_used_up, is_volume_full, reply_at, reply_of, room_reply, stores_page, word_reply, written, written_by}
+pub use Rattle.flat_model.specs.References.{is_out_of_room, is_used_up, is_volume_full, reply_at, reply_of, room_reply, stores_page, word_reply, written}
 unfoldable pub use Rattle.flat_model.specs.References.{after_reference, reply_to_reference}
 pub use Rattle.flat_model.specs.Rights.{moved, nodes_moved, row_with}
-unfoldable pub use Rattle.flat_model.specs.Rights.{after_acl, after_move, move_reply}
+unfoldable pub use Rattle.flat_model.specs.Rights.{after_acl, after_move}
 pub use Rattle.flat_model.specs.Rooms.{has_room, room_for}
 unfoldable pub use Rattle.flat_model.specs.Sizes.{after_length, length_reply}
 pub use Rattle.flat_model.specs.Store.{Store, Store as Flat, at_first, entries_in, entries_of, known_uid, numbers_of, records_in as sizes_in, records_of, root_of}
@@ -110,7 +109,7 @@ pub use Rattle.descriptor_seg.specs.declared.Sdw.TheVariants.{Fault, Present}
 pub use Rattle.trailers.specs.Trailer.{leads_to, trailers_of}
 pub use Rattle.page_control.specs.Counts.{KeepsCounts, entries, is_full, size, taken, taken_after, used}
 unfoldable pub use Rattle.page_control.specs.Counts.{named_on, one_less, one_more}
-pub use Rattle.page_control.specs.Effects.{NeedsNoWrite, after_asked, after_evict, allocated, created, cut, dropped, erased, freed, next_record, unstored}
+pub use Rattle.page_control.specs.Effects.{after_asked, after_evict, created, cut, dropped, erased, freed, next_record, unstored}
 pub use Rattle.page_control.specs.Picture.{ChangesStored, ChangesWords, KeepsWords, changed_page, is_binding, is_kept, words_at, words_held}
 unfoldable pub use Rattle.page_control.specs.Picture.{changed_at, is_filed_at, words_of_page}
 pub use Rattle.page_control.specs.Plain.{Paging, Plain, binding_at, bindings, file_map_of, flags_of, number_in, plain, record_of, words_in}
@@ -124,18 +123,18 @@ unfoldable pub use Rattle.seg_control.specs.Control.{place_of}
 pub use Rattle.seg_control.specs.Effects.{faulting, linked, no_links, table_here, table_left, unlinked, worded}
 unfoldable pub use Rattle.seg_control.specs.Effects.{all_cut, reconnected}
 pub use Rattle.seg_control.specs.Kept.{AreAtRest, AreExact, AreLinked, IsHomeFor, IsHomeOf, IsInactive, IsKept, IsNotRead, pair_at, times}
-pub use Rattle.seg_control.specs.Moving.{IsUnderWay, home_at, move_committed, pair_of}
-pub use Rattle.seg_control.specs.Next.{IsGoing, IsNext, MayActivate, link_at, no_link, superior_of, uids_of}
+pub use Rattle.seg_control.specs.Moving.{home_at, move_committed, pair_of}
+pub use Rattle.seg_control.specs.Next.{IsNext, MayActivate, link_at, no_link, superior_of, uids_of}
 pub use Rattle.seg_control.specs.declared.Link.{Link}
 pub use Rattle.seg_control.specs.declared.Next.{Next}
 pub use Rattle.seg_control.specs.declared.Next.TheVariants.{Activated, Victim, Whole}
-pub use Rattle.storage_ops.specs.Connecting.{AreRights, HasOneToGo, IsChainDown, IsRight, link_of, pool_in}
-pub use Rattle.storage_ops.specs.Cut.{CutsPages, HasLengthSet, IsReady, IsRemovable, IsRemovableAt, IsTakenPast, IsTakenPastAt, KeepsRest, TakesOut, Unstores, is_here, leaves, unbound}
-pub use Rattle.storage_ops.specs.CutOff.{CountsOthers, Erases, LosesPage, Paged, TakesHome, cut_at, cut_by, cut_within, is_cleared, page_cleared, page_cut, paged, pages_cut, pages_from, put_out}
+pub use Rattle.storage_ops.specs.Connecting.{HasOneToGo, IsChainDown, IsRight, link_of, pool_in}
+pub use Rattle.storage_ops.specs.Cut.{CutsPages, IsReady, IsTakenPast, KeepsRest, TakesOut, Unstores, is_here, leaves, unbound}
+pub use Rattle.storage_ops.specs.CutOff.{CountsOthers, Erases, Paged, cut_at, cut_by, is_cleared, page_cleared, page_cut, paged, pages_cut, pages_from, put_out}
 pub use Rattle.storage_ops.specs.Found.{Leads}
-pub use Rattle.storage_ops.specs.Paged.{IsPageMade, IsSettled, done_or, page_left, page_made}
+pub use Rattle.storage_ops.specs.Paged.{IsSettled, done_or, page_left, page_made}
 pub use Rattle.storage_ops.specs.References.{brings_word, is_of_room, is_out_of_room as has_no_room, is_outside, is_spent, only, outside_by, refusal_by, refusal_in, refused_by, room_by, room_in, target_at, target_of, unless, want_of_room}
 unfoldable pub use Rattle.storage_ops.specs.References.{outside_refusal, room_refusal, target}
 pub use Rattle.storage_ops.specs.Rooms.{first_roomy, is_roomy, move_target, room_of}
-pub use Rattle.storage_ops.specs.Shown.{AreCounted, AreFresh, AreHoused, AreInTree, AreKnown, AreTaken, HasMoved, HasRowSet, HaveRights, IsCut, IsCutAt, IsFound, IsInactiveAt, IsStore, IsThere, Shows, ShowsPages, ShowsTree, Storage, answered, empty_frames, home_of, is_refusal, is_there, named_at, pages_in, pages_of, refusal, who_at, with_known, with_vtocs}
+pub use Rattle.storage_ops.specs.Shown.{AreCounted, AreFresh, AreHoused, AreInTree, AreKnown, AreTaken, HasMoved, HasRowSet, HaveRights, IsCut, IsStore, Shows, ShowsPages, ShowsTree, Storage, answered, empty_frames, home_of, is_refusal, is_there, named_at, pages_in, pages_of, refusal, who_at, with_known, with_vtocs}
 unfoldable pub use Rattle.storage_ops.specs.Shown.{is_filed, picture}
