@@ -34,20 +34,16 @@ module _ (k : ℕ) (test : ℕ → Bool) where
           (filter test (range_with_len (from + 1) n))))) ≡ true
       by true e rest = refl
       by false e rest = elim (eqb_tells i from) [
-        | inl same ↦ absurd (let no : true ≡ false = sym h ∙ ap test same.1 ∙ e in cc)
+        | inl same ↦ cc (same.1)
         | inr m ↦ (let other = m.1 in rest (omega (arith, a, other)))
       ]
 
   pub no_pair : (from n : ℕ) → ((i : ℕ) → i < from + n → test i ≡ false) → pairs from n ≡ []
   no_pair from zero off = refl
-  no_pair from (suc n) off =
-      ap (λ (t : Bool). map (λ (x : ℕ). (k, x)) (cond t (from ∷ filter test (range_with_len (from + 1) n))
-      (filter test (range_with_len (from + 1) n)))) (off from (omega arith))
-      ∙ no_pair (from + 1) n (λ i lt. off i (omega (arith, lt)))
+  no_pair from (suc n) off = rw (off from (omega arith)) (no_pair (from + 1) n (λ i lt. off i (omega (arith, lt))))
 
   pub no_pairs : (n : ℕ) → ((i : ℕ) → i < n → test i ≡ false) → false ≡ not (is_bare [] (pairs 0 n))
-  no_pairs n off = sym (ap (λ (xs : List (ℕ × ℕ)). not (is_bare [] xs))
-      (no_pair 0 n (λ i lt. off i (omega (arith, lt)))))
+  no_pairs n off = rw (no_pair 0 n (λ i lt. off i (omega (arith, lt))))
 
 -- none of the numbers up to the next passes
 pub none_next : (test : ℕ → Bool) (n : ℕ) → ((i : ℕ) → i < n → test i ≡ false) → test n ≡ false → (i : ℕ)
@@ -62,8 +58,7 @@ none_next test n before here i lt = elim (eqb_tells i n) [
 bare : (fs : List ℕ) (pairs : List (ℕ × ℕ)) → not (is_empty fs) ≡ false → not (is_bare [] pairs) ≡ false
     → (w : What) → act.Commit ≡ take_or_commit fs pairs w
 bare [] [] a b w = refl
-bare [] (x ∷ xs) a b w = absurd (let no : true ≡ false = b in cc)
-bare (f ∷ fs) pairs a b w = absurd (let no : true ≡ false = a in cc)
+bare _ _ a b w = cc
 
 module _ (s : State) (k u : ℕ) (c : Command) where
   abbrev frames : List ℕ
@@ -78,7 +73,7 @@ module _ (s : State) (k u : ℕ) (c : Command) where
     where
       both : (a b : Bool) → not (is_empty frames) ≡ a → not (is_bare [] descriptors) ≡ b → (a || b) ≡ false
           → act.Commit ≡ take_or_commit frames descriptors (what_taken u c)
-      both true b d e h = absurd (let no : true ≡ false = h in cc)
+      both true b d e h = absurd cc
       both false b d e h = bare frames descriptors d (e ∙ h) (what_taken u c)
 
 -- ---- the page that is cut
@@ -92,13 +87,9 @@ module _ (st : Storage) (u words : ℕ) (otherwise : act.Action) where
 
   brought : (w : Ptw) → is_out w ≡ true
       → room_for core u page (λ f. act.Start f u page) ≡ bring_cut core u page w otherwise
-  brought ptw.Null h = absurd (let no : false ≡ true = h in cc)
   brought (ptw.Out r) h = refl
-  brought (ptw.Here f) h = absurd (let no : false ≡ true = h in cc)
-  brought (ptw.Leaving f) h = absurd (let no : false ≡ true = h in cc)
+  brought _ h = absurd cc
 
   left : (w : Ptw) → is_out w ≡ false → otherwise ≡ bring_cut core u page w otherwise
-  left ptw.Null h = refl
-  left (ptw.Out r) h = absurd (let no : true ≡ false = h in cc)
-  left (ptw.Here f) h = refl
-  left (ptw.Leaving f) h = refl
+  left (ptw.Out r) h = absurd cc
+  left w h = refl

@@ -31,19 +31,7 @@ module _ (st : Storage) (k : ℕ) where
       → look_to_take st k u c ≡ look_to_change st k u c
   by_itself u (command.Truncate path words) a b = absurd (a path words refl)
   by_itself u (command.Length path pages) a b = absurd (b path pages refl)
-  by_itself u (command.MkDir path volume) a b = refl
-  by_itself u (command.MkSeg path pages volume) a b = refl
-  by_itself u (command.Initiate path) a b = refl
-  by_itself u (command.Terminate number) a b = refl
-  by_itself u (command.Acl path row m) a b = refl
-  by_itself u (command.Delete path) a b = refl
-  by_itself u (command.Move path amount) a b = refl
-  by_itself u (command.Status path) a b = refl
-  by_itself u command.End a b = refl
-  by_itself u (command.Read n o) a b = refl
-  by_itself u (command.Write n o w) a b = refl
-  by_itself u (command.Add n o w) a b = refl
-  by_itself u (command.Await n o w t) a b = refl
+  by_itself u _ a b = refl
 
   pub changes_else : (c : Command) → ((path : List (List ℕ)) (words : ℕ) → c ≢ command.Truncate path words)
       → ((path : List (List ℕ)) (pages : ℕ) → c ≢ command.Length path pages) → (u v : ℕ) → u ≡ v

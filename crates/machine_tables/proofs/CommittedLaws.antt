@@ -1,78 +1,34 @@
 -- A tree command takes effect: the steps of the whole come to the model's.
-use Rattle.machine_tables.proofs.Prelude.{◌≡◌, ℕ, Bool, true, false, if◌then◌else◌, List, [], ◌∷◌, ◌++◌, map, Option, Some, None, refl, sym, ap, ◌∙◌, Command, Reply, committed_at, cut_entry, frame_entry, gone_entries, inactive_entries, left_after, with_effect, cpu_at, cut_of_owner, frames_of_owner, is_active, next_command, or_zero, process_at, reply_of, uid_of_command, Owner, State, Storage, booked, left_at, told_by, with_owner, with_store, effect_for, reply_for, ends_in, goes_inactive, inactive_entry, left_entries, left_entry, next_frame_entry, Parts, with_state}
+use Rattle.machine_tables.proofs.Prelude.{◌≡◌, ℕ, Bool, true, false, if◌then◌else◌, [], ◌∷◌, map, Option, Some, None, refl, sym, ap, ◌∙◌, Command, Reply, committed_at, frame_entry, gone_entries, inactive_entries, left_after, with_effect, cpu_at, frames_of_owner, is_active, next_command, or_zero, process_at, reply_of, uid_of_command, Owner, State, Storage, booked, left_at, told_by, with_owner, with_store, effect_for, reply_for, ends_in, goes_inactive, inactive_entry, left_entries, left_entry, next_frame_entry, Parts, with_state}
 use Rattle.script.specs.declared.commands.Command.TheVariants as command
-use Rattle.book.specs.declared.entries.Entry.{Entry}
 use Rattle.book.specs.declared.entries.Entry.TheVariants as entry
 
 -- ---- entries
 
 inactive_named : (st : Storage) (k : ℕ) (x : Command)
     → inactive_entry (goes_inactive st k (Some x)) ≡ inactive_entries st (uid_of_command st k x) x
-inactive_named st k (command.MkDir path volume) = refl
-inactive_named st k (command.MkSeg path pages volume) = refl
-inactive_named st k (command.Initiate path) = refl
-inactive_named st k (command.Terminate number) = refl
-inactive_named st k (command.Read number offset) = refl
-inactive_named st k (command.Write number offset word) = refl
-inactive_named st k (command.Add number offset word) = refl
-inactive_named st k (command.Await number offset word tries) = refl
-inactive_named st k (command.Acl path row m) = refl
-inactive_named st k (command.Length path pages) = refl
-inactive_named st k (command.Truncate path words) = refl
 inactive_named st k (command.Delete path) = split (is_active st.ast (uid_of_command st k (command.Delete path)))
   where
     split : (b : Bool) → inactive_entry (if b then Some (uid_of_command st k (command.Delete path)) else None)
         ≡ (if b then entry.Deactivate (uid_of_command st k (command.Delete path)) ∷ [] else [])
     split true = refl
     split false = refl
-inactive_named st k (command.Move path amount) = refl
-inactive_named st k (command.Status path) = refl
-inactive_named st k command.End = refl
+inactive_named st k _ = refl
 
 entries_named : (s : State) (k : ℕ) (x : Command) (kept : Option ℕ)
     → map (left_entry kept) (frames_of_owner s.owner) ≡ map (frame_entry s.store x) (frames_of_owner s.owner)
     → left_entries s kept (goes_inactive s.store k (Some x)) ≡ gone_entries s (uid_of_command s.store k x) x
-entries_named s k x kept left =
-    ap (λ (es : List Entry). es ++ (map cut_entry (cut_of_owner s.owner)
-    ++ inactive_entry (goes_inactive s.store k (Some x)))) left
-    ∙ ap (λ (es : List Entry). map (frame_entry s.store x) (frames_of_owner s.owner)
-    ++ (map cut_entry (cut_of_owner s.owner) ++ es)) (inactive_named s.store k x)
+entries_named s k x kept left = cc (left, inactive_named s.store k x)
 
 -- ---- the end of a process
 
 stays_at : (t : State) (c : ℕ) (x : Command) → ends_in (Some x) ≡ false → left_after t c x ≡ t
-stays_at t c (command.MkDir path volume) e = refl
-stays_at t c (command.MkSeg path pages volume) e = refl
-stays_at t c (command.Initiate path) e = refl
-stays_at t c (command.Terminate number) e = refl
-stays_at t c (command.Read number offset) e = refl
-stays_at t c (command.Write number offset word) e = refl
-stays_at t c (command.Add number offset word) e = refl
-stays_at t c (command.Await number offset word tries) e = refl
-stays_at t c (command.Acl path row m) e = refl
-stays_at t c (command.Length path pages) e = refl
-stays_at t c (command.Truncate path words) e = refl
-stays_at t c (command.Delete path) e = refl
-stays_at t c (command.Move path amount) e = refl
-stays_at t c (command.Status path) e = refl
-stays_at t c command.End e = absurd (let no : true ≡ false = e in cc)
+stays_at t c command.End e = cc
+stays_at t c _ e = refl
 
 leaves_at : (t : State) (c : ℕ) (x : Command) → ends_in (Some x) ≡ true → left_after t c x ≡ left_at t c
-leaves_at t c (command.MkDir path volume) e = absurd (let no : false ≡ true = e in cc)
-leaves_at t c (command.MkSeg path pages volume) e = absurd (let no : false ≡ true = e in cc)
-leaves_at t c (command.Initiate path) e = absurd (let no : false ≡ true = e in cc)
-leaves_at t c (command.Terminate number) e = absurd (let no : false ≡ true = e in cc)
-leaves_at t c (command.Read number offset) e = absurd (let no : false ≡ true = e in cc)
-leaves_at t c (command.Write number offset word) e = absurd (let no : false ≡ true = e in cc)
-leaves_at t c (command.Add number offset word) e = absurd (let no : false ≡ true = e in cc)
-leaves_at t c (command.Await number offset word tries) e = absurd (let no : false ≡ true = e in cc)
-leaves_at t c (command.Acl path row m) e = absurd (let no : false ≡ true = e in cc)
-leaves_at t c (command.Length path pages) e = absurd (let no : false ≡ true = e in cc)
-leaves_at t c (command.Truncate path words) e = absurd (let no : false ≡ true = e in cc)
-leaves_at t c (command.Delete path) e = absurd (let no : false ≡ true = e in cc)
-leaves_at t c (command.Move path amount) e = absurd (let no : false ≡ true = e in cc)
-leaves_at t c (command.Status path) e = absurd (let no : false ≡ true = e in cc)
 leaves_at t c command.End e = refl
+leaves_at t c _ e = cc
 
 -- ---- all of it
 
@@ -105,20 +61,10 @@ module _ {D : Type 0} (old applied gone said : Parts D) (c k : ℕ) (kept inacti
       (left ∙ ap (λ (o : Option Command). map (next_frame_entry s.store o) (frames_of_owner s.owner)) next)
 
   said_state : with_owner said.state None ≡ full k
-  said_state = ap (λ (t : Parts D). with_owner t.state None) tells
-      ∙ (ap (λ (t : Parts D). with_owner (told_by t.state c k None r) None) goes
-      ∙ (ap (λ (t : Parts D). with_owner (told_by (booked t.state (left_entries t.state kept inactive)) c k None r)
-      None) does
-      ∙ (ap (λ (o : Option Command). with_owner (told_by (booked (with_store s (effect_for s.store k
-      (frames_of_owner s.owner) o)) (left_entries s kept inactive)) c k None r) None) next
-      ∙ (ap (λ (es : List Entry). with_owner (told_by (booked after es) c k None r) None) entries
-      ∙ ap (λ (y : Reply). with_owner (told_by (booked after (gone_entries s uid x)) c k None y) None)
-      (answer ∙ ap (reply_for s k) next)))))
+  said_state = rw (tells, goes, does, answer, next, entries)
 
   said_whole : said ≡ with_state old said.state
-  said_whole = tells ∙ (ap (λ (t : Parts D). with_state t (told_by gone.state c k None r)) goes
-      ∙ (ap (λ (t : Parts D). with_state t (told_by gone.state c k None r)) does
-      ∙ sym (ap (λ (t : Parts D). with_state old t.state) tells)))
+  said_whole = rw (tells, goes, does)
 
   process : process_at s c ≡ k
   process = ap or_zero its
@@ -134,11 +80,7 @@ module _ {D : Type 0} (old applied gone said : Parts D) (c k : ℕ) (kept inacti
   final : {v : Parts D} (last : Parts D) (J : Option Owner) → v ≡ last → J ≡ None → last ≡ with_state old last.state
       → with_owner last.state None ≡ whole_at k
       → with_state v (with_owner v.state J) ≡ with_state old (committed_at s c (next_command s k))
-  final last J view none keeps state =
-      ap (λ (t : Parts D). with_state t (with_owner t.state J)) view
-      ∙ (ap (λ (o : Option Owner). with_state last (with_owner last.state o)) none
-      ∙ (ap (λ (t : Parts D). with_state t (with_owner last.state None)) keeps
-      ∙ ap (with_state old) (state ∙ committed_is)))
+  final last J view none keeps state = rw (view, none, keeps) (ap (with_state old) (state ∙ committed_is))
 
   pub committed_stays : {v : Parts D} (J : Option Owner) (b : Bool) → v ≡ said → J ≡ None
       → b ≡ ends_in (next_command s k) → b ≡ false
@@ -161,5 +103,4 @@ module _ {D : Type 0} (old applied gone said : Parts D) (c k : ℕ) (kept inacti
           ∙ ap (λ (t : State). with_owner (left_at t c) None) said_state
 
       left_whole : left ≡ with_state old left.state
-      left_whole = leaves ∙ (ap (λ (t : Parts D). with_state t (left_at said.state c)) said_whole
-          ∙ sym (ap (λ (t : Parts D). with_state old t.state) leaves))
+      left_whole = rw (leaves, said_whole)

@@ -24,10 +24,10 @@ pub stays : {D : Type 0} (drive : D → List (List ℕ)) (s : State) (t : Stored
     → (h : IsMakeable s k f r) → uid_of (kst_at s.store.links.known k) r.number ≡ Some u → move_target t u ≡ None
 stays drive s t k f r u shows kept parts h known =
     target_told drive s.plan (flat_of s) t u shows kept parts ∙ moves_is s u
-    ∙ ap (move_to s) (same (sym known ∙ h.place.known)) ∙ h.stays
+    ∙ ap (move_to s) same ∙ h.stays
   where
-    same : {a b : ℕ} → Some a ≡ Some b → a ≡ b
-    same e = cc
+    same : u ≡ h.place.uid
+    same = cc (known, h.place.known)
 
 -- the page is made where there is room for it
 pub made_surely : {D : Type 0} (drive : D → List (List ℕ)) (t : Stored D) (st : Storage) (k f : ℕ) (r : Reference)

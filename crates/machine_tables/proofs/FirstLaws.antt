@@ -1,40 +1,26 @@
 -- The tables at first: a store of the root alone on volumes of which nothing is in use.
-use Rattle.machine_tables.proofs.Prelude.{◌≡◌, ℕ, zero, suc, Bool, false, List, [], ◌∷◌, map, length, get_or, set, sum, replicate, Option, Some, None, refl, sym, ap, subst, ◌∙◌, arith, slice_get, length-map, length-replicate, IsPlan, Plan, VolumeLine, root_alone, Store, boot, entries_in, records_in, store_after-nil, VtocEntry, fresh_entry, in_use, HasParts, Vols, Entry, ActiveSegs, no_segments, after_asked, Plain, plain, vtoc_in, no_links, IsKept, AreFresh, IsStore, Shows, Stored, empty_frames, booted, first_pages, first_state, first_store, first_vtocs, unused_entries, unused_records, AllCome, AreAccounts, IsConserved, IsFaithful, StoreSays, KeepsAll, State, Storage, none_fits, conserved_by, boot_keeps_all, none_some, kept_with, none_work, first_words, shown}
-use Rattle.vtoc.specs.Vtoc.{entry_at}
+use Rattle.machine_tables.proofs.Prelude.{◌≡◌, ℕ, suc, false, List, [], ◌∷◌, map, length, get_or, set, sum, replicate, Option, Some, None, refl, sym, ap, subst, ◌∙◌, arith, slice_get, length-map, length-replicate, IsPlan, Plan, VolumeLine, root_alone, Store, boot, entries_in, records_in, store_after-nil, VtocEntry, fresh_entry, HasParts, Vols, Entry, no_segments, after_asked, Plain, plain, vtoc_in, no_links, IsKept, AreFresh, IsStore, Shows, Stored, empty_frames, booted, first_pages, first_state, first_store, first_vtocs, unused_entries, unused_records, AllCome, AreAccounts, IsConserved, IsFaithful, StoreSays, KeepsAll, State, Storage, none_fits, conserved_by, boot_keeps_all, none_some, kept_with, none_work, first_words, shown}
+use Rattle.std.proofs.Common.{ext_get_or}
+use Rattle.laws.proofs.Lists.{all_same}
 use Rattle.core_map.specs.declared.Frame.TheVariants as frame
 
 -- ---- lists of nothing
 
-none_used : (xs : List Bool) (n : ℕ) → n ≡ length xs → ((r : ℕ) → in_use xs r ≡ false) → xs ≡ replicate n false
-none_used [] zero e off = refl
-none_used [] (suc n) e off = absurd (omega (arith, e))
-none_used (x ∷ xs) zero e off = absurd (omega (arith, e))
-none_used (x ∷ xs) (suc n) e off = λ i. off 0 i ∷ none_used xs n (omega (arith, e)) (λ r. off (suc r)) i
+all_blank : {X : Type 0} (xs : List X) (n : ℕ) (d : X) → n ≡ length xs → ((r : ℕ) → get_or xs r d ≡ d)
+    → xs ≡ replicate n d
+all_blank xs n d long off = ext_get_or d xs (replicate n d) (sym long ∙ sym (length-replicate n d))
+    (λ i lt. off i ∙ sym (all_same n i d))
 
-none_entered : (xs : List (Option VtocEntry)) (n : ℕ) → n ≡ length xs → ((r : ℕ) → entry_at xs r ≡ None)
-    → xs ≡ replicate n None
-none_entered [] zero e off = refl
-none_entered [] (suc n) e off = absurd (omega (arith, e))
-none_entered (x ∷ xs) zero e off = absurd (omega (arith, e))
-none_entered (x ∷ xs) (suc n) e off = λ i. off 0 i ∷ none_entered xs n (omega (arith, e)) (λ r. off (suc r)) i
-
-records_are : (vs : List VolumeLine) (flags : List (List Bool)) → length flags ≡ length vs
-    → ((v : ℕ) → records_in (slice_get vs v) ≡ length (get_or flags v []))
-    → ((v r : ℕ) → in_use (get_or flags v []) r ≡ false) → flags ≡ unused_records vs
-records_are [] [] e long off = refl
-records_are [] (f ∷ fs) e long off = absurd (omega (arith, e))
-records_are (x ∷ vs) [] e long off = absurd (omega (arith, e))
-records_are (x ∷ vs) (f ∷ fs) e long off = λ i. none_used f x.records (long 0) (off 0) i
-    ∷ records_are vs fs (omega (arith, e)) (λ v. long (suc v)) (λ v. off (suc v)) i
-
-entries_are : (vs : List VolumeLine) (vtocs : List (List (Option VtocEntry))) → length vtocs ≡ length vs
-    → ((v : ℕ) → entries_in (slice_get vs v) ≡ length (get_or vtocs v []))
-    → ((v r : ℕ) → entry_at (get_or vtocs v []) r ≡ None) → vtocs ≡ map unused_entries vs
-entries_are [] [] e long off = refl
-entries_are [] (f ∷ fs) e long off = absurd (omega (arith, e))
-entries_are (x ∷ vs) [] e long off = absurd (omega (arith, e))
-entries_are (x ∷ vs) (f ∷ fs) e long off = λ i. none_entered f x.entries (long 0) (off 0) i
-    ∷ entries_are vs fs (omega (arith, e)) (λ v. long (suc v)) (λ v. off (suc v)) i
+-- as many lists as volumes, each as long as its volume says
+all_are : {X : Type 0} (d : X) (count : Option VolumeLine → ℕ) (vs : List VolumeLine) (xs : List (List X))
+    → length xs ≡ length vs → ((v : ℕ) → count (slice_get vs v) ≡ length (get_or xs v []))
+    → ((v r : ℕ) → get_or (get_or xs v []) r d ≡ d) → xs ≡ map (λ v. replicate (count (Some v)) d) vs
+all_are d count [] [] e long off = refl
+all_are d count (v ∷ vs) (x ∷ xs) e long off = cc (
+  all_blank x (count (Some v)) d (long 0) (off 0),
+  all_are d count vs xs (omega (arith, e)) (λ w. long (suc w)) (λ w. off (suc w)),
+)
+all_are d count vs xs e long off = absurd (omega (arith, e))
 
 -- the root has the first entry of the first volume
 with_root : List (List (Option VtocEntry)) → List (List (Option VtocEntry))
@@ -51,14 +37,14 @@ module _ {D : Type 0} (pages : D → List (List ℕ)) (p : Plan) (v : Vols D)
     (count : length v.drives ≡ length p.volumes) (fresh : AreFresh p v.records v.vtocs)
     (parts : HasParts (map pages v.drives) v.records v.vtocs) where
   records_first : v.records ≡ unused_records p.volumes
-  records_first = records_are p.volumes v.records long fresh.records fresh.unused
+  records_first = all_are false records_in p.volumes v.records long fresh.records fresh.unused
     where
       long : length v.records ≡ length p.volumes
       long = sym (length-map v.records length) ∙ ap length parts.sizes ∙ length-map (map pages v.drives) length
           ∙ length-map v.drives pages ∙ count
 
   vtocs_first : with_root v.vtocs ≡ first_vtocs p.volumes
-  vtocs_first = ap with_root (entries_are p.volumes v.vtocs
+  vtocs_first = ap with_root (all_are None entries_in p.volumes v.vtocs
       (parts.tables ∙ length-map v.drives pages ∙ count) fresh.entries fresh.free) ∙ root_in p.volumes
 
   pages_first : after_asked (plain pages (empty_frames p.frames v)) 0 1 (Some 0)
@@ -119,11 +105,7 @@ module _ {D : Type 0} (pages : D → List (List ℕ)) (p : Plan) (v : Vols D) (t
       → Shows pages p (boot p) t → t.segs.ast ≡ no_segments p.pools
       → plain pages t.segs.pages ≡ after_asked (plain pages (empty_frames p.frames v)) 0 1 (Some 0) → StoreSays s
   says_boot kept counted accounts shows ast paged = subst StoreSays (sym is) (says_first p (shown pages t) spare faults
-      (subst (λ (x : State). IsKept x.store.pages x.store.ast x.store.links) is kept)
-      (subst (λ (x : State). IsStore x.store.pages x.store.ast x.store.links x.store.accounts x.store.whos) is counted)
-      (subst (λ (x : State). AreAccounts x.store.accounts) is accounts)
-      (subst (λ (a : ActiveSegs). length a.entries ≡ sum a.sizes) (sym ast) places)
-      (record { tree = shows.tree; known = shows.known; pages = shows.pages; script = shows.script })
+      (rw is at kept) (rw is at counted) (rw is at accounts) (rw ast places) (assumption shows)
       (ap (λ (x : Plain). length x.core.frames) paged ∙ length-replicate p.frames frame.Free))
     where
       places : length (no_segments p.pools).entries ≡ sum p.pools
@@ -160,14 +142,7 @@ module _ (p : Plan) (words : List (List ℕ)) (disks : List (List (List ℕ))) (
   }
     where
       booting : KeepsAll (booted p words disks)
-      booting = boot_keeps_all p words disks script (record {
-        store = says.store;
-        faithful = says.faithful;
-        rights = says.rights;
-        cut = says.cut;
-        conserved = says.conserved;
-        frames = says.frames;
-      })
+      booting = boot_keeps_all p words disks script (assumption says)
 
   -- Tables at first keep the whole promise, where their store does.
   pub first_keeps : (s : State) → s ≡ first → StoreSays s → KeepsAll s

@@ -1,87 +1,17 @@
 -- The next segment of the chain of a node: which it is, its pool, and what becomes of it.
-use Rattle.machine_tables.proofs.Prelude.{◌≡◌, ℕ, suc, zero, ◌+◌, ◌-◌, ◌<◌, ◌≤◌, Bool, true, false, not, cond, is_none, List, [], ◌∷◌, length, map, get_or, Option, Some, None, refl, sym, ap, subst, ◌∙◌, arith, ◌⊎◌, inl, inr, IsSome, find, range_with_len, length-map, get_or-range_with_len, length-range_with_len, AccountMaps, chain_of, Node, node_in, Entry, ActiveSegs, IsFull, IsLeastFree, entry_at, first_of, size_of, HasOneOffChain, first_off_chain, hand_moved, hand_past, map_at, Link, Next, Activated, Victim, Whole, place_of, IsInactive, AreActive, IsFirstInactive, link_at, made_active, no_link, superior_of, table_for, uids_of, HasOneToGo, IsChainDown, link_of, IsStore, home_of, is_there, link_pool, link_superior, link_there, found_there, pool_of_node, with_hand_moved, first_inactive, frames_from, free_place, is_active, or_zero, superior_of_node, trailers_in, Storage, with_active, active_place, find_true, none_some, active_at, FindsFull, Joins, JoinsAt, NeedsVictim, links_of, wanted_pool, IsEmptied, is_bare, some_not_none}
+use Rattle.machine_tables.proofs.Prelude.{◌≡◌, ℕ, ◌-◌, ◌<◌, true, false, not, List, [], ◌∷◌, length, map, get_or, Option, Some, None, refl, sym, ap, subst, ◌∙◌, arith, ◌⊎◌, inl, inr, IsSome, length-map, AccountMaps, chain_of, Node, node_in, ActiveSegs, IsFull, HasOneOffChain, first_off_chain, hand_moved, hand_past, map_at, Link, Next, Activated, Victim, Whole, place_of, IsInactive, AreActive, IsFirstInactive, link_at, made_active, no_link, superior_of, table_for, uids_of, HasOneToGo, IsChainDown, link_of, IsStore, home_of, is_there, link_pool, link_superior, link_there, found_there, pool_of_node, with_hand_moved, first_inactive, frames_from, free_place, is_active, or_zero, superior_of_node, trailers_in, Storage, with_active, active_place, none_some, active_at, FindsFull, Joins, JoinsAt, NeedsVictim, links_of, wanted_pool, IsEmptied, is_bare}
+use Rattle.std.proofs.lemmas.Bool.{false_from_ne_true}
 use Rattle.std.proofs.lemmas.List.{get_or-map}
 use Rattle.tree_model.specs.Trees.{IsTree}
 use Rattle.seg_control.specs.Next.{words_in}
-
--- ---- what is found in a list
-
-module _ (p : ℕ → Bool) where
-  find_at : (xs : List ℕ) (i : ℕ) → i < length xs → p (get_or xs i 0) ≡ true
-      → ((j : ℕ) → j < i → p (get_or xs j 0) ≡ false) → find p xs ≡ Some (get_or xs i 0)
-  find_at [] i lt here before = absurd (omega (arith, lt))
-  find_at (x ∷ xs) zero lt here before = ap (λ (b : Bool). cond b (Some x) (find p xs)) here
-  find_at (x ∷ xs) (suc i) lt here before = ap (λ (b : Bool). cond b (Some x) (find p xs)) (before 0 (omega arith))
-      ∙ find_at xs i (omega (arith, lt)) here (λ j less. before (suc j) (omega (arith, less)))
-
-  find_none : (xs : List ℕ) → ((j : ℕ) → j < length xs → p (get_or xs j 0) ≡ false) → find p xs ≡ None
-  find_none [] none = refl
-  find_none (x ∷ xs) none = ap (λ (b : Bool). cond b (Some x) (find p xs)) (none 0 (omega arith))
-      ∙ find_none xs (λ j less. none (suc j) (omega (arith, less)))
-
-  find_in : (a n q : ℕ) → find p (range_with_len a n) ≡ Some q → (a ≤ q) × (q < a + n)
-  find_in a zero q h = absurd (none_some h)
-  find_in a (suc n) q h = by (p a) h (find_in (a + 1) n q)
-    where
-      by : (b : Bool) → cond b (Some a) (find p (range_with_len (a + 1) n)) ≡ Some q
-          → (find p (range_with_len (a + 1) n) ≡ Some q → (a + 1 ≤ q) × (q < a + 1 + n)) → (a ≤ q) × (q < a + suc n)
-      by true e rest = let same : a ≡ q = cc in (omega (arith, same), omega (arith, same))
-      by false e rest = let both = rest e in let low = both.0 in let high = both.1 in
-          (omega (arith, low), omega (arith, high))
-
--- ---- the free place of a pool
-
-least_is : (ast : ActiveSegs) (pool place : ℕ) → IsLeastFree ast pool place → free_place ast pool ≡ Some place
-least_is ast pool place least =
-    let from = least.in_pool.from in
-    let to = least.in_pool.to in
-    let long : (low + many) - low ≡ many = omega arith in
-    let count : length places ≡ many = length-range_with_len low ((low + many) - low) ∙ long in
-    let at : get_or places (place - low) 0 ≡ place =
-    get_or-range_with_len low ((low + many) - low) (place - low) 0 (omega (arith, from, to)) ∙ omega (arith, from) in
-    find_at (λ q. is_none (entry_at ast.entries q)) places (place - low) (omega (arith, from, to, count))
-    (ap (λ (q : ℕ). is_none (entry_at ast.entries q)) at ∙ ap (λ (e : Option Entry). is_none e) least.free)
-    (λ j less. (let here : get_or places j 0 ≡ low + j =
-    get_or-range_with_len low ((low + many) - low) j 0 (omega (arith, from, to, less)) in
-    ap (λ (q : ℕ). is_none (entry_at ast.entries q)) here
-    ∙ some_not_none (entry_at ast.entries (low + j)) (least.least (low + j)
-    (record { from = omega arith; to = omega (arith, from, to, less) }) (omega (arith, from, less)))))
-    ∙ ap (λ (q : ℕ). Some q) at
-  where
-    low : ℕ
-    low = first_of ast.sizes pool
-
-    many : ℕ
-    many = size_of ast.sizes pool
-
-    places : List ℕ
-    places = range_with_len low ((low + many) - low)
-
-not_full : (ast : ActiveSegs) (pool : ℕ) (o : Option ℕ) → free_place ast pool ≡ o → IsSome o → IsFull ast pool → ⊥
-not_full ast pool None e free full = let no : false ≡ true = free in cc
-not_full ast pool (Some q) e free full =
-    let inside = find_in (λ x. is_none (entry_at ast.entries x)) low ((low + many) - low) q e in
-    let from = inside.0 in
-    let to = inside.1 in
-    let none = find_true (λ x. is_none (entry_at ast.entries x)) (range_with_len low ((low + many) - low)) q e in
-    let some = some_not_none (entry_at ast.entries q)
-    (full q (record { from = from; to = omega (arith, to) })) in
-    let no : true ≡ false = sym none ∙ some in cc
-  where
-    low : ℕ
-    low = first_of ast.sizes pool
-
-    many : ℕ
-    many = size_of ast.sizes pool
+use Rattle.machine_tables.proofs.FindLaws.{find_first, find_none}
+use Rattle.machine_tables.proofs.PoolLaws.{full_none, least_free}
 
 -- ---- the chain of a node
 
 idle_is : (ast : ActiveSegs) (u : ℕ) → IsInactive ast.entries u → is_active ast u ≡ false
-idle_is ast u idle = by (is_active ast u) refl
-  where
-    by : (b : Bool) → is_active ast u ≡ b → b ≡ false
-    by false e = refl
-    by true e = absurd (idle.nowhere (place_of ast.entries u) (active_place ast u e).1)
+idle_is ast u idle = false_from_ne_true (is_active ast u)
+    (λ on. idle.nowhere (place_of ast.entries u) (active_place ast u on).1)
 
 same_uids : (a : AccountMaps) (us : List ℕ) → uids_of (map (link_of a) us) ≡ us
 same_uids a [] = refl
@@ -120,7 +50,7 @@ module _ (st new : Storage) (of : ℕ) (h : IsStore st.pages st.ast st.links st.
   first_is : (i : ℕ) → IsFirstInactive st.ast.entries chain i → first_inactive st.ast uids ≡ Some (link_at chain i).uid
   first_is i first =
       let within = first.within in
-      find_at (λ u. not (is_active st.ast u)) uids i (omega (arith, within, same_length))
+      find_first (λ u. not (is_active st.ast u)) 0 uids i (omega (arith, within, same_length))
       (ap (λ (u : ℕ). not (is_active st.ast u)) (sym (uid_is i within))
       ∙ ap not (idle_is st.ast (link_at chain i).uid first.inactive))
       (λ j less. (let active = first.before j less in
@@ -139,7 +69,7 @@ module _ (st new : Storage) (of : ℕ) (h : IsStore st.pages st.ast st.links st.
 
   pub joined_place : (place i : ℕ) → JoinsAt st new chain place i → free_place st.ast (wanted_pool st of) ≡ Some place
   joined_place place i joins = ap (free_place st.ast) (sym (pool_is i joins.first))
-      ∙ least_is st.ast (link_at chain i).pool place joins.least
+      ∙ least_free st.ast (link_at chain i).pool place joins.least
 
   pub joined_is : (place i uid : ℕ) → JoinsAt st new chain place i → first_inactive st.ast uids ≡ Some uid
       → new ≡ with_active st uid place
@@ -154,11 +84,8 @@ module _ (st new : Storage) (of : ℕ) (h : IsStore st.pages st.ast st.links st.
       found : (n : Node) × (node_in a.nodes (link_at chain i).uid ≡ Some n)
       found = node_is i within
 
-      one : {x y : ℕ} → Some x ≡ Some y → x ≡ y
-      one e = cc
-
       same : (link_at chain i).uid ≡ uid
-      same = one (sym (first_is i joins.first) ∙ wanted)
+      same = cc (first_is i joins.first, wanted)
 
       at : node_in a.nodes uid ≡ Some found.0
       at = ap (node_in a.nodes) (sym same) ∙ found.1
@@ -177,8 +104,8 @@ module _ (st new : Storage) (of : ℕ) (h : IsStore st.pages st.ast st.links st.
   -- where its pool has a free place, no other segment has to go
   pub no_victim : (i : ℕ) → IsFirstInactive st.ast.entries chain i → IsSome (free_place st.ast (wanted_pool st of))
       → IsFull st.ast (link_at chain i).pool → ⊥
-  no_victim i first free full = not_full st.ast (wanted_pool st of) (free_place st.ast (wanted_pool st of)) refl free
-      (subst (IsFull st.ast) (pool_is i first) full)
+  no_victim i first free full =
+      let none = full_none st.ast (wanted_pool st of) (subst (IsFull st.ast) (pool_is i first) full) in cc
 
   pub free_to_go : IsSome (free_place st.ast (wanted_pool st of)) → HasOneToGo st.ast chain
   free_to_go free = record { off = λ i first full. absurd (no_victim i first free full) }
@@ -199,17 +126,10 @@ module _ (st new : Storage) (of : ℕ) (h : IsStore st.pages st.ast st.links st.
 
   -- one of the chain isn't active
   pub not_whole : AreActive st.ast.entries chain → IsSome (first_inactive st.ast uids) → ⊥
-  not_whole all some = by (first_inactive st.ast uids) none some
-    where
-      none : first_inactive st.ast uids ≡ None
-      none = find_none (λ u. not (is_active st.ast u)) uids (λ j less. (let within : j < length chain =
-          omega (arith, less, same_length) in let active = all.each j within in
-          ap (λ (u : ℕ). not (is_active st.ast u)) (sym (uid_is j within))
-          ∙ ap not (active_at st.ast active.0 (link_at chain j).uid active.1)))
-
-      by : (o : Option ℕ) → o ≡ None → IsSome o → ⊥
-      by None e some = let no : false ≡ true = some in cc
-      by (Some u) e some = none_some (sym e)
+  not_whole all some = let none = find_none (λ u. not (is_active st.ast u)) 0 uids (λ j less.
+      (let within : j < length chain = omega (arith, less, same_length) in let active = all.each j within in
+      ap (λ (u : ℕ). not (is_active st.ast u)) (sym (uid_is j within))
+      ∙ ap not (active_at st.ast active.0 (link_at chain j).uid active.1))) in cc
 
   -- a segment whose pool has a free place becomes active, and one whose pool is full has the pool's hand pass
   pub must_join : (r : Next) → Joins st new chain r → IsSome (first_inactive st.ast uids)
@@ -235,10 +155,4 @@ bare_after st pool us uid empty = by (first_off_chain st.ast pool us)
         (trailers_in (record st { ast = hand_past st.ast pool o }) uid) ≡ true
         → IsEmptied (record st { ast = hand_past st.ast pool o }) uid
     by None bare = empty bare
-    by (Some place) bare = let e = empty bare in record {
-      active = e.active;
-      leaf = e.leaf;
-      away = e.away;
-      idle = e.idle;
-      cut = e.cut;
-    }
+    by (Some place) bare = assumption (empty bare)

@@ -79,11 +79,8 @@ all_gone {D} old mid next new kept inactive pages cut segs last = whole ∙ ap (
     I = inactive_entry inactive
 
     segs_state : with_owner next.state None ≡ with_owner (booked old.state (F ++ C)) None
-    segs_state = ap (λ (x : Parts D). with_owner x.state None) segs
-        ∙ (segs_booked mid.state (cut_of_owner mid.state.owner)
-        ∙ (ap (λ (ds : List CutDescriptor). with_owner (booked mid.state (map cut_entry ds)) None) cut
-        ∙ (ap (λ (x : Parts D). with_owner (booked x.state C) None) pages
-        ∙ ap (λ (x : State). with_owner x None) (booked_more old.state F C))))
+    segs_state = rw (segs, segs_booked mid.state (cut_of_owner mid.state.owner), cut, pages)
+        (ap (λ (x : State). with_owner x None) (booked_more old.state F C))
 
     none_state : with_owner new.state None ≡ with_owner (booked old.state (F ++ (C ++ I))) None
     none_state = ap (λ (x : Parts D). with_owner x.state None) last
@@ -95,6 +92,4 @@ all_gone {D} old mid next new kept inactive pages cut segs last = whole ∙ ap (
     state = ap (λ (x : State). with_owner x new.state.owner) none_state
 
     whole : new ≡ with_state old new.state
-    whole = last ∙ (ap (λ (x : Parts D). with_state x (booked next.state I)) (segs
-        ∙ ap (λ (x : Parts D). with_state x (segs_gone mid.state (cut_of_owner mid.state.owner))) pages)
-        ∙ sym (ap (λ (x : Parts D). with_state old x.state) last))
+    whole = rw (last, segs, pages)

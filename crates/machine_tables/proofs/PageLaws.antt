@@ -1,5 +1,6 @@
 -- A word that is read and then written through a frame.
-use Rattle.machine_tables.proofs.Prelude.{◌≡◌, ◌<◌, ◌%◌, ℕ, Bool, true, false, cond, set, length, refl, sym, ap, ◌∙◌, inl, inr, cases_lt, get_or-set_same, get_or_past, set-set, Frame, Free, Started, Bound, after_reference, is_bound, Plain, frame_in, words_in, framed, referred, word_put, Reference, alters, new_word, old_word, pages_after, Parts, with_pages_of}
+use Rattle.machine_tables.proofs.Prelude.{◌≡◌, ◌<◌, ◌%◌, ℕ, Bool, true, false, cond, set, length, refl, sym, ap, ◌∙◌, get_or-set_same, set-set, Frame, Free, Started, Bound, after_reference, is_bound, Plain, frame_in, words_in, framed, referred, word_put, Reference, alters, new_word, old_word, pages_after, Parts, with_pages_of}
+use Rattle.laws.proofs.Lists.{within_from}
 use Rattle.page_control.specs.Effects.{worded}
 
 -- a reference that writes leaves the marks as it does where one that reads came before
@@ -10,10 +11,7 @@ twice (Bound uid page used true) = refl
 twice (Bound uid page used false) = refl
 
 pub bound_within : (s : Plain) (f : ℕ) → is_bound (frame_in s f) ≡ true → f < length s.core.frames
-bound_within s f e = elim (cases_lt f (length s.core.frames)) [
-  | inl lt ↦ lt
-  | inr past ↦ let z : false ≡ true = sym (ap is_bound (get_or_past s.core.frames f Free past)) ∙ e in cc z
-]
+bound_within s f e = within_from s.core.frames f Free (λ free. cc)
 
 put_after : (s : Plain) (f at w : ℕ) → is_bound (frame_in s f) ≡ true → word_put (referred s f false) f at w
     ≡ word_put s f at w

@@ -34,14 +34,14 @@ module _ (ast : ActiveSegs) (pool : ℕ) where
   size = size_of ast.sizes pool
 
   -- the least free place of a pool, however it is told
-  least_free : (place : ℕ) → IsLeastFree ast pool place → free_place ast pool ≡ Some place
+  pub least_free : (place : ℕ) → IsLeastFree ast pool place → free_place ast pool ≡ Some place
   least_free place h = (let from = h.in_pool.from in let to = h.in_pool.to in
       first_in (λ q. is_none (entry_at ast.entries q)) first (first + size - first) place from
       (omega (arith, from, to)) (ap is_none h.free)
       (λ q a b. some_not_none (entry_at ast.entries q)
       (h.least q (record { from = a; to = omega (arith, b, to) }) b)))
 
-  full_none : IsFull ast pool → free_place ast pool ≡ None
+  pub full_none : IsFull ast pool → free_place ast pool ≡ None
   full_none h = none_in (λ q. is_none (entry_at ast.entries q)) first (first + size - first)
       (λ q a b. some_not_none (entry_at ast.entries q) (h q (record { from = a; to = omega (arith, a, b) })))
 
@@ -63,13 +63,9 @@ pool_few (Some n) = pool_small n
 -- each other pool has some, after those of the first
 pub others_some : (sizes : List ℕ) (pool : ℕ) → ArePools sizes → pool < 4 → pool ≢ 0
     → (1 ≤ size_of sizes pool) × (size_of sizes 0 ≤ first_of sizes pool)
-others_some [] pool h few other = absurd h
-others_some (a ∷ []) pool h few other = absurd h
-others_some (a ∷ b ∷ []) pool h few other = absurd h
-others_some (a ∷ b ∷ c ∷ []) pool h few other = absurd h
-others_some (a ∷ b ∷ c ∷ d ∷ e ∷ rest) pool h few other = absurd h
 others_some (a ∷ b ∷ c ∷ d ∷ []) zero h few other = absurd (other refl)
 others_some (a ∷ b ∷ c ∷ d ∷ []) (suc zero) h few other = (h.1, omega arith)
 others_some (a ∷ b ∷ c ∷ d ∷ []) (suc (suc zero)) h few other = (h.2, omega arith)
 others_some (a ∷ b ∷ c ∷ d ∷ []) (suc (suc (suc zero))) h few other = (h.3, omega arith)
 others_some (a ∷ b ∷ c ∷ d ∷ []) (suc (suc (suc (suc n)))) h few other = absurd (omega (arith, few))
+others_some _ pool h few other = absurd h

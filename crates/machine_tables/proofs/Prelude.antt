@@ -1,5 +1,5 @@
 -- The names that the proofs of this crate take from elsewhere.
-pub use Rattle.std.proofs.Common.{Bool, List, None, Option, Some, [], ap, append-nil, append_assoc, arith, cond, count_by, drop, eqb, ext_get_or, false, get_or, if◌then◌else◌, inl, inr, is_none, is_some, length, length-append, map, not, position, refl, replicate, reverse, rules, set, subst, suc, sum, sym, take, true, w32, zero, ℕ, ◌%◌, ◌&&◌, ◌*◌, ◌++◌, ◌+◌, ◌-◌, ◌<◌, ◌==◌, ◌||◌, ◌∙◌, ◌∷◌, ◌≡◌, ◌≢◌, ◌≤◌, ◌⊎◌}
+pub use Rattle.std.proofs.Common.{Bool, List, None, Option, Some, [], ap, append-nil, append_assoc, arith, cond, count_by, drop, eqb, ext_get_or, false, get_or, if◌then◌else◌, inl, inr, is_none, is_some, length, length-append, map, not, position, refl, replicate, reverse, rules, set, subst, suc, sum, sym, take, true, w32, zero, ℕ, ◌%◌, ◌&&◌, ◌*◌, ◌++◌, ◌+◌, ◌-◌, ◌<◌, ◌||◌, ◌∙◌, ◌∷◌, ◌≡◌, ◌≢◌, ◌≤◌, ◌⊎◌}
 pub use Rattle.std.proofs.Math.ListN.{drop_of_length-le, get_or-map}
 pub use Rattle.std.proofs.lemmas.Bool.{and_parts, cases_Bool, cases_eq, cases_lt, eq-eqb, eqb-true, le-ltb, lt-ltb, ne_eqb}
 pub use Rattle.std.proofs.lemmas.Bool.Decides.{eqb_tells, leb_tells, nat_tests}
@@ -8,7 +8,6 @@ pub use Rattle.std.proofs.lemmas.Int.{to_z-of_z}
 pub use Rattle.std.proofs.lemmas.List.{drop_more, get_or-reverse, get_or-set_other, get_or-set_same, get_or_default, get_or_past, length-map, length-replicate, length-reverse, length-set, nil_from_length, reverse-reverse, set-set, set_comm}
 pub use Rattle.std.proofs.lemmas.List.Edits.{length-insert, length-remove}
 pub use Rattle.std.proofs.lemmas.List.Elements.{All-get_or}
-pub use Rattle.std.proofs.lemmas.List.FromFn.{get_or-range_with_len, length-range_with_len}
 pub use Rattle.std.proofs.lemmas.List.Sums.{sum_by-cons}
 pub use Rattle.std.specs.Int.{is_positive}
 pub use Rattle.std.specs.Int.RustNames.{unsigned_abs}
@@ -39,12 +38,10 @@ pub use Rattle.tree_model.proofs.ChainLaws.{has_chains}
 pub use Rattle.tree_model.proofs.Finds.{IsMember, found_front, found_member, past_front}
 pub use Rattle.tree_model.proofs.SharedLaws.{found_uid, joined_below, some_there, without_absent as all_left}
 pub use Rattle.tree_model.proofs.TreeLaws.{IsUp, above_once, superior_found, superior_in, superior_up}
-pub use Rattle.tree_model.specs.Access.{Row, takes_row, with_row as with_row_of}
+pub use Rattle.tree_model.specs.Access.{Row, with_row as with_row_of}
 unfoldable pub use Rattle.tree_model.specs.Access.{access_of}
 pub use Rattle.tree_model.specs.Quotas.{getter_of, giver_of}
-unfoldable pub use Rattle.tree_model.specs.Quotas.{over_in}
-pub use Rattle.tree_model.specs.Tree.{InSegment, LeadsTo, Missing, Node, Walk, above, branch_in, has_directory, is_inferior, node_in, pool_for, pool_of, quota_in, step_up, volume_in, walk_in, without_node}
-unfoldable pub use Rattle.tree_model.specs.Tree.{entries_on}
+pub use Rattle.tree_model.specs.Tree.{LeadsTo, Node, Walk, above, has_directory, node_in, pool_for, pool_of, quota_in, step_up, volume_in, walk_in, without_node}
 pub use Rattle.tree_model.specs.Trees.{AreBelow, HasChains, IsChain, IsTree as IsNodeTree, has_segment}
 pub use Rattle.known_segs.specs.Known.{number_for, uid_of, with_number}
 pub use Rattle.dir_tree.specs.Nodes.{as_term, chain_of, path_answer}
@@ -67,22 +64,20 @@ unfoldable pub use Rattle.flat_model.specs.Branches.{node_at}
 pub use Rattle.flat_model.specs.Commands.{effect_by, effect_of_tree_command, reply_by, reply_to_command, reply_to_tree_command, takes_effect}
 pub use Rattle.flat_model.specs.Making.{delete_of, deleted, made_at, made_in, made_of, make_at, make_of, owner_row}
 unfoldable pub use Rattle.flat_model.specs.Making.{after_delete, after_make, delete_reply, make_reply}
-pub use Rattle.flat_model.specs.Naming.{initiate_of, initiated, known_or_full}
+pub use Rattle.flat_model.specs.Naming.{initiate_of, initiated}
 unfoldable pub use Rattle.flat_model.specs.Naming.{after_initiate, after_terminate, initiate_reply, terminate_reply}
-pub use Rattle.flat_model.specs.Pages.{is_stored_from}
 unfoldable pub use Rattle.flat_model.specs.Pages.{without_stored}
 pub use Rattle.flat_model.specs.References.{is_volume_full, room_reply, written}
 unfoldable pub use Rattle.flat_model.specs.References.{reply_to_reference}
-pub use Rattle.flat_model.specs.Rights.{acl_of, done_or_over, move_of, nodes_moved, row_with}
+pub use Rattle.flat_model.specs.Rights.{acl_of, move_of, row_with}
 unfoldable pub use Rattle.flat_model.specs.Rights.{acl_reply, move_reply}
 pub use Rattle.flat_model.specs.Rooms.{room_for}
 pub use Rattle.flat_model.specs.Sizes.{length_of}
 unfoldable pub use Rattle.flat_model.specs.Sizes.{after_truncate, length_reply, truncate_reply}
-pub use Rattle.flat_model.specs.Store.{Store, entries_in, entries_of, known_uid, numbers_of, records_in, records_of}
+pub use Rattle.flat_model.specs.Store.{Store, entries_in, known_uid, numbers_of, records_in, records_of}
 unfoldable pub use Rattle.flat_model.specs.Store.{boot}
 pub use Rattle.custody_model.proofs.SharedLaws.{has_append, range_end, range_length}
 pub use Rattle.custody_model.specs.Custody.{range}
-pub use Rattle.bitmap.specs.Bitmap.{in_use}
 pub use Rattle.page_table.specs.PageTable.{ptw_at}
 pub use Rattle.page_table.specs.declared.Ptw.{Ptw}
 pub use Rattle.page_table.specs.declared.Ptw.TheVariants.{Here, Leaving, Null, Out}
@@ -134,7 +129,7 @@ pub use Rattle.storage_ops.specs.Cut.{Commits, CutsPages, HasLengthSet, IsReady,
 pub use Rattle.storage_ops.specs.CutOff.{CountsOthers, Erases, Paged, TakesHome, cut_at, cut_by, is_cleared, page_cleared, page_cut, paged, pages_cut, pages_from}
 pub use Rattle.storage_ops.specs.Paged.{IsKnownAs, IsPageMade, IsSettled, done_or, page_left}
 pub use Rattle.storage_ops.specs.Rooms.{move_target, room_of}
-pub use Rattle.storage_ops.specs.Shown.{AreFresh, AreHoused, HasMoved, HasRowSet, IsStore, Shows, Storage as Stored, answered, empty_frames, home_of, is_refusal, is_there, pages_in, pages_of, refusal, who_at, with_known, with_vtocs}
+pub use Rattle.storage_ops.specs.Shown.{AreFresh, AreHoused, HasMoved, HasRowSet, IsStore, Shows, Storage as Stored, answered, empty_frames, home_of, is_there, pages_in, pages_of, refusal, who_at, with_known, with_vtocs}
 pub use Rattle.processor.specs.Moves.{AreWords, IsLongEnough, next_move}
 pub use Rattle.processor.specs.declared.Cpu.{Cpu}
 pub use Rattle.processor.specs.declared.Move.{Move}

@@ -1,6 +1,6 @@
 -- What a reference goes to that nothing refuses before its page is looked at: its segment is there, and where its
 -- number is connected the segment is active, with a word for the page in its page table.
-use Rattle.machine_tables.proofs.Prelude.{◌≡◌, ℕ, true, false, is_some, length, ◌<◌, ◌≤◌, Option, Some, None, refl, sym, ap, subst, ◌∙◌, arith, ◌/◌, Reference, Node, node_in, pool_of, has_segment, Sdw, IsActive, uid_at, leads, place_of, table_of, IsKept, is_there, pages_of, directory_found, long_segment, Keeps, descriptor_of, is_connected, or_zero, outside_refusal, uid_of_number, State, Storage, inside_is, IsInside}
+use Rattle.machine_tables.proofs.Prelude.{◌≡◌, ℕ, true, is_some, length, ◌<◌, ◌≤◌, Option, Some, None, refl, sym, ap, subst, ◌∙◌, arith, ◌/◌, Reference, Node, node_in, pool_of, has_segment, Sdw, IsActive, uid_at, leads, place_of, table_of, IsKept, is_there, pages_of, directory_found, long_segment, Keeps, descriptor_of, is_connected, or_zero, outside_refusal, uid_of_number, State, Storage, inside_is, IsInside}
 use Rattle.descriptor_seg.specs.declared.Sdw.TheVariants as sdw
 use Rattle.storage_ops.proofs.PageFacts.{room_of}
 use Rattle.machine_tables.proofs.LinkLaws.{place_found}
@@ -12,7 +12,7 @@ connected_active st k n kept h = by (descriptor_of st.links k n) refl h
   where
     by : (x : Sdw) → descriptor_of st.links k n ≡ x → is_connected x ≡ true
         → IsActive st.ast.entries (uid_of_number st k n)
-    by sdw.Fault e i = absurd (let no : false ≡ true = i in cc)
+    by sdw.Fault e i = absurd cc
     by (sdw.Present aste m pages) e i = let at = kept.linked.known k n aste (ap leads e) in
         (aste, at.active ∙ ap (λ (u : ℕ). Some u) (sym (ap or_zero at.known_as)))
 

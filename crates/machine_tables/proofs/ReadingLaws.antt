@@ -1,5 +1,5 @@
 -- The least frame into which a page of a segment is being read, by the processors that read.
-use Rattle.machine_tables.proofs.Prelude.{◌≡◌, ◌+◌, ◌<◌, ◌≤◌, ℕ, zero, suc, Bool, true, false, ◌&&◌, cond, eqb, List, length, Option, Some, None, ◌⊎◌, inl, inr, refl, sym, ap, subst, ◌∙◌, arith, nat_le, eqb_tells, leb_tells, Frame, Free, Core, frame_at, reads_of, started_page, read_at, Transfer, Processor, frame_reading, is_page_of, no_processor, processor_at, map_list, none_some, AreRead, least_from, lesser, read_by}
+use Rattle.machine_tables.proofs.Prelude.{◌≡◌, ◌+◌, ◌<◌, ◌≤◌, ℕ, zero, suc, Bool, true, false, ◌&&◌, cond, eqb, List, length, Option, Some, None, ◌⊎◌, inl, inr, refl, sym, ap, subst, ◌∙◌, arith, nat_le, eqb_tells, nat_tests, Frame, Free, Core, frame_at, reads_of, started_page, read_at, Transfer, Processor, frame_reading, is_page_of, no_processor, processor_at, map_list, none_some, AreRead, least_from, lesser, read_by}
 use Rattle.laws.proofs.Lists.{within_from}
 use Rattle.laws.proofs.Places.{shown_within}
 use Rattle.machine_tables.proofs.FindLaws.{position_first, position_not}
@@ -22,37 +22,18 @@ lesser_from (Some x) (Some y) f h = by (nat_le x y) h
 abbrev pub AtMost : Option ℕ → ℕ → Type 0
 AtMost o g = (f : ℕ) × (o ≡ Some f) × (f ≤ g)
 
+least_of : (x y g : ℕ) → (x ≤ g) ⊎ (y ≤ g) → AtMost (Some (cond (nat_le x y) x y)) g
+least_of x y g either = (cond (nat_le x y) x y, refl, grind (arith, nat_tests))
+
 lesser_left : (a b : Option ℕ) (g : ℕ) → AtMost a g → AtMost (lesser a b) g
 lesser_left None b g m = absurd (none_some m.1)
 lesser_left (Some x) None g m = m
-lesser_left (Some x) (Some y) g m = elim (leb_tells x y) [
-  | inl e ↦ (
-    x,
-    ap (λ (t : Bool). Some (cond t x y)) e.0,
-    let same = some_same m.1 in let le = m.2 in omega (arith, same, le),
-  )
-  | inr n ↦ (
-    y,
-    ap (λ (t : Bool). Some (cond t x y)) n.0,
-    let same = some_same m.1 in let le = m.2 in let lt = n.1 in omega (arith, same, le, lt),
-  )
-]
+lesser_left (Some x) (Some y) g m = least_of x y g (inl (let same = some_same m.1 in omega (arith, same, m.2)))
 
 lesser_right : (a b : Option ℕ) (g : ℕ) → AtMost b g → AtMost (lesser a b) g
 lesser_right None b g m = m
 lesser_right (Some x) None g m = absurd (none_some m.1)
-lesser_right (Some x) (Some y) g m = elim (leb_tells x y) [
-  | inl e ↦ (
-    x,
-    ap (λ (t : Bool). Some (cond t x y)) e.0,
-    let same = some_same m.1 in let le = m.2 in let lt = e.1 in omega (arith, same, le, lt),
-  )
-  | inr n ↦ (
-    y,
-    ap (λ (t : Bool). Some (cond t x y)) n.0,
-    let same = some_same m.1 in let le = m.2 in omega (arith, same, le),
-  )
-]
+lesser_right (Some x) (Some y) g m = least_of x y g (inr (let same = some_same m.1 in omega (arith, same, m.2)))
 
 module _ (uid : ℕ) (test : ℕ → Bool) (ps : List Processor) where
   abbrev reads : ℕ → Option ℕ

@@ -40,7 +40,7 @@ pub busy_goes_on : (s : State) (c : ℕ) → has_process (processor_at s.process
 busy_goes_on s c busy = by (is_over s) refl
   where
     none : (o : Option ℕ) → is_some o ≡ true → ((k : ℕ) → o ≢ Some k) → ⊥
-    none None e idle = let no : false ≡ true = e in cc
+    none None e idle = cc
     none (Some k) e idle = idle k refl
 
     by : (b : Bool) → is_over s ≡ b → b ≡ false

@@ -16,9 +16,8 @@ shown_by drive old before after p t u same call h = faithful_of drive p u after
 
 -- the page in a bound frame
 page_told : (x : Frame) → is_bound x ≡ true → ◌≡◌ {A = ℕ × ℕ} (uid_in x, number_in x) (page_or_zero (bound_page x))
-page_told Free h = absurd (let no : false ≡ true = h in cc)
-page_told (Started u q) h = absurd (let no : false ≡ true = h in cc)
 page_told (Bound u q used modified) h = refl
+page_told _ h = cc
 
 pub page_of_frame : {D : Type 0} (drive : D → List (List ℕ)) (old : Parts D) (before : Stored D) (f : ℕ)
     → shown drive before ≡ old.state.store → is_bound (frame_at old.state.store.pages.core f) ≡ true

@@ -1,5 +1,7 @@
 -- Where a pool is full something of it isn't of the chain that becomes active, and the chain goes up to the root.
 use Rattle.machine_tables.proofs.Prelude.{◌≡◌, ◌≢◌, ℕ, zero, suc, ◌+◌, ◌-◌, ◌<◌, ◌≤◌, Bool, true, false, not, cond, eqb, List, [], ◌∷◌, length, get_or, Option, Some, None, refl, sym, ap, subst, ◌∙◌, arith, inl, inr, ◌⊎◌, ◌++◌, reverse, IsSome, find, list_any, position_or_len, cases_lt, eqb_tells, reverse_onto, get_or_default, get_or-reverse, length-reverse, reverse-reverse, Who, ArePools, AccountMaps, Node, above, has_directory, node_in, pool_for, pool_of, HasChains, IsChain, IsNodeTree, has_chains, IsMember, found_front, found_member, past_front, IsUp, superior_in, superior_up, superior_found, chain_of, Entry, ActiveSegs, IsFull, IsTree, entry_at, uid_at, IsInPool, first_of, size_of, HasItsSuperiors, HasOneOffChain, off_chain, Plain, Links, IsStore, is_there, chain_first, chain_length, chain_next, found_there, directory_found, pool_of_node, first_inactive, is_active, some_within, AllFail, first_there, find_true, pool_one_off, none_some, active_at, found, first_pool}
+use Rattle.std.proofs.lemmas.Bool.{eqb-true, false_from_ne_true, not_from_false}
+use Rattle.machine_model.proofs.FindLaws.{first_idle}
 use Rattle.active_segs.specs.Active.{uid_in}
 use Rattle.machine_tables.proofs.PoolLaws.{others_some, pool_few}
 
@@ -14,19 +16,8 @@ member_at x (y ∷ ys) (inr m) = let rest = member_at x ys m in let lt = rest.1 
     (suc rest.0, omega (arith, lt), rest.2)
 
 any_place : (x : ℕ) (xs : List ℕ) → list_any (λ y. eqb y x) xs ≡ true → IsAt xs x
-any_place x xs h = (place, lt, same)
-  where
-    place : ℕ
-    place = position_or_len (λ y. eqb y x) xs
-
-    lt : place < length xs
-    lt = some_within (λ y. eqb y x) xs h
-
-    same : get_or xs place 0 ≡ x
-    same = elim (eqb_tells (get_or xs place 0) x) [
-      | inl e ↦ e.1
-      | inr n ↦ absurd (let no : true ≡ false = sym (found (λ y. eqb y x) xs 0 lt) ∙ n.0 in cc)
-    ]
+any_place x xs h = let lt = some_within (λ y. eqb y x) xs h in
+    (position_or_len (λ y. eqb y x) xs, lt, eqb-true _ _ (found (λ y. eqb y x) xs 0 lt))
 
 -- ---- a chain of the tree
 
@@ -90,11 +81,7 @@ module _ (now : Plain) (ast : ActiveSegs) (links : Links) (a : AccountMaps) (who
       (first : first_inactive ast (chain_of a.nodes u) ≡ Some v) (n : Node) (node : node_in a.nodes v ≡ Some n)
       (full : IsFull ast (pool_of n)) where
     inactive : is_active ast v ≡ false
-    inactive = off (is_active ast v) (find_true (λ w. not (is_active ast w)) (chain_of a.nodes u) v first)
-      where
-        off : (b : Bool) → not b ≡ true → b ≡ false
-        off false e = refl
-        off true e = absurd (let none : false ≡ true = e in cc)
+    inactive = first_idle ast (chain_of a.nodes u) v first
 
     -- the first pool has more places than the chain has links
     in_first : pool_of n ≡ 0 → HasOneOffChain ast (pool_of n) (chain_of a.nodes u)
@@ -146,13 +133,9 @@ module _ (now : Plain) (ast : ActiveSegs) (links : Links) (a : AccountMaps) (who
 
         by : (o : Option Entry) → entry_at ast.entries place ≡ o → IsSome o
             → off_chain (chain_of a.nodes u) (entry_at ast.entries place) ≡ true
-        by None e some = absurd (let no : false ≡ true = some in cc)
-        by (Some x) e some = ap (off_chain (chain_of a.nodes u)) e
-            ∙ outside (list_any (λ y. eqb y x.uid) (chain_of a.nodes u)) refl
-          where
-            outside : (b : Bool) → list_any (λ y. eqb y x.uid) (chain_of a.nodes u) ≡ b → not b ≡ true
-            outside false i = refl
-            outside true i = absurd (no_link x e (any_place x.uid (chain_of a.nodes u) i))
+        by None e some = absurd cc
+        by (Some x) e some = rw e (not_from_false _ (false_from_ne_true _
+            (λ i. no_link x e (any_place x.uid (chain_of a.nodes u) i))))
 
     pub one_off : HasOneOffChain ast (pool_of n) (chain_of a.nodes u)
     one_off = elim (eqb_tells (pool_of n) 0) [ inl e ↦ in_first e.1 | inr m ↦ in_other m.1 ]
@@ -196,7 +179,7 @@ module _ (ns : List Node) (t : IsNodeTree ns) (ast : ActiveSegs) (x v : ℕ)
       (one (idle w) (sym (past_front idle (reverse ws) (w ∷ []) front) ∙ at), none_fails ws front)
     where
       one : (b : Bool) → cond b (Some w) None ≡ None → b ≡ false
-      one true e = absurd (let no : Some w ≡ None = e in cc)
+      one true e = cc
       one false e = refl
 
   -- what is above the first of a chain that isn't active is active

@@ -1,12 +1,6 @@
 -- The superiors of an active node are active, all of them.
-use Rattle.machine_tables.proofs.Prelude.{◌≡◌, ℕ, suc, zero, ◌+◌, ◌-◌, ◌<◌, Bool, true, false, not, cond, List, [], ◌∷◌, length, ◌++◌, get_or, reverse, Some, None, refl, sym, ap, subst, ◌∙◌, arith, find, get_or-reverse, length-reverse, Who, AccountMaps, above, node_in, step_up, IsNodeTree, past_front, above_once, superior_in, superior_found, chain_of, ActiveSegs, IsTree, Plain, Links, place_of, IsStore, is_there, chain_next, found_there, first_inactive, is_active, superior_of_node, State, active_place, turned, active_at, MayLook}
-
--- nothing of a list is found whose numbers all fail
-module _ (p : ℕ → Bool) where
-  none_found : (xs : List ℕ) → ((i : ℕ) → i < length xs → p (get_or xs i 0) ≡ false) → find p xs ≡ None
-  none_found [] fails = refl
-  none_found (x ∷ xs) fails = ap (λ (b : Bool). cond b (Some x) (find p xs)) (fails 0 (omega arith))
-      ∙ none_found xs (λ i less. fails (suc i) (omega (arith, less)))
+use Rattle.machine_tables.proofs.Prelude.{◌≡◌, ℕ, suc, zero, ◌+◌, ◌-◌, ◌<◌, Bool, true, false, not, cond, List, [], ◌∷◌, length, ◌++◌, get_or, reverse, Some, None, sym, ap, subst, ◌∙◌, arith, get_or-reverse, length-reverse, Who, AccountMaps, above, node_in, step_up, IsNodeTree, past_front, above_once, superior_in, superior_found, chain_of, ActiveSegs, IsTree, Plain, Links, place_of, IsStore, is_there, chain_next, found_there, first_inactive, is_active, superior_of_node, State, active_place, turned, active_at, MayLook}
+use Rattle.machine_tables.proofs.FindLaws.{find_none}
 
 module _ (now : Plain) (ast : ActiveSegs) (links : Links) (a : AccountMaps) (whos : List Who)
     (h : IsStore now ast links a whos) (t : IsNodeTree a.nodes) (tree : IsTree ast.entries) (u : ℕ)
@@ -39,7 +33,7 @@ module _ (now : Plain) (ast : ActiveSegs) (links : Links) (a : AccountMaps) (who
   each (suc n) i end = before i (omega (arith, end)) (each n (suc i) (omega (arith, end)))
 
   whole_chain : first_inactive ast chain ≡ None
-  whole_chain = none_found (λ x. not (is_active ast x)) chain
+  whole_chain = find_none (λ x. not (is_active ast x)) 0 chain
       (λ i less. ap not (each (length chain - suc i) i (omega (arith, less))))
 
 -- of a node that is active no superior is inactive

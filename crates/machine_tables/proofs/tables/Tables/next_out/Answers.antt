@@ -1,20 +1,14 @@
-use Rattle.machine_tables.proofs.Prelude.{◌∙◌, ap, sym, is_out, table_of}
+use Rattle.machine_tables.proofs.Prelude.{◌∙◌, ap, sym, is_out}
 use Rattle.machine_tables.proofs.NextOut.{out_end, out_here, out_later}
 use Rattle.machine_tables.proofs.tables.Tables.next_out.Goals as goal
 
 pub returns-then-is_out : goal.returns-then-is_out
-returns-then-is_out g c = sym (c.loop-page.invariant
-    ∙ out_here (table_of c.args.self.now.state.store.ast c.args.uid) c.table_size-page-end.result c.loop-page.page
-    c.table_size-page-end.ensures c.requires.short c.loop-page-test.true
-    (sym (c.is_out.ensures ∙ ap is_out c.word_of.ensures.word) ∙ c.if-is_out.true))
+returns-then-is_out g c = sym (c.loop-page.invariant ∙ out_here _ _ _ c.table_size-page-end.ensures c.requires.short
+    c.loop-page-test.true (sym (c.is_out.ensures ∙ ap is_out c.word_of.ensures.word) ∙ c.if-is_out.true))
 
 pub loop-page-preserved : goal.loop-page-preserved
-loop-page-preserved g c = c.loop-page.invariant
-    ∙ out_later (table_of c.args.self.now.state.store.ast c.args.uid) c.table_size-page-end.result c.loop-page.page
-    c.table_size-page-end.ensures c.requires.short c.loop-page-test.true
-    (sym (c.is_out.ensures ∙ ap is_out c.word_of.ensures.word) ∙ c.if-is_out.false)
+loop-page-preserved g c = c.loop-page.invariant ∙ out_later _ _ _ c.table_size-page-end.ensures c.requires.short
+    c.loop-page-test.true (sym (c.is_out.ensures ∙ ap is_out c.word_of.ensures.word) ∙ c.if-is_out.false)
 
 pub returns : goal.returns
-returns g c = sym (c.loop-page.invariant
-    ∙ out_end (table_of c.args.self.now.state.store.ast c.args.uid) c.table_size-page-end.result c.loop-page.page
-    c.table_size-page-end.ensures c.loop-page-test.false)
+returns g c = sym (c.loop-page.invariant ∙ out_end _ _ _ c.table_size-page-end.ensures c.loop-page-test.false)

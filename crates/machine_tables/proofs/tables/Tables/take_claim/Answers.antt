@@ -1,4 +1,4 @@
-use Rattle.machine_tables.proofs.Prelude.{List, Option, subst, sym, Entry, IsActive, frames_taken, State, Committing}
+use Rattle.machine_tables.proofs.Prelude.{frames_taken, Committing}
 use Rattle.machine_tables.proofs.ClaimLaws.{claim_after, claim_is}
 use Rattle.machine_tables.proofs.PartLaws.{state_of}
 use Rattle.machine_tables.proofs.TookLaws.{entries_still}
@@ -12,11 +12,11 @@ cut_claimed-requires g c =
     c.requires.takes.owner c.requires.takes.descriptors c.requires.takes.room in
     record {
       process = can.knows;
-      active = λ needs. subst (λ (s : State). IsActive s.store.ast.entries c.args.claim.uid)
-          (sym (state_of c.args.self.now c.take_claimed.new.self _ c.take_claimed.ensures))
-          (subst (λ (e : List (Option Entry)). IsActive e c.args.claim.uid)
-          (sym (entries_still c.args.self.now.state c.args.c Committing c.args.claim.what
-          (frames_taken c.args.self.now.state.store c.args.claim.uid c.args.claim.low))) (c.requires.active needs));
+      active = λ needs. (rw (
+        state_of c.args.self.now c.take_claimed.new.self _ c.take_claimed.ensures,
+        entries_still c.args.self.now.state c.args.c Committing c.args.claim.what
+            (frames_taken c.args.self.now.state.store c.args.claim.uid c.args.claim.low),
+      ) (c.requires.active needs));
       number = c.requires.number;
       owner = can.owner;
       few = can.few;
