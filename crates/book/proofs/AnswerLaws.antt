@@ -23,8 +23,10 @@ from_within xs e n le = ap (list_any is_answer) (drop-append-le n xs (e ∷ []) 
     ∙ list_any-append is_answer (drop n xs) (e ∷ [])
 
 -- and from past the end on
-from_past : (xs : List Entry) (e : Entry) (n : ℕ) → length xs + 1 ≤ n → list_any is_answer (drop n (xs ++ e ∷ [])) ≡ false
-from_past xs e n le = ap (list_any is_answer) (drop_all n (xs ++ e ∷ []) (omega (arith, le, length-append {A = Entry} xs (e ∷ []))))
+from_past : (xs : List Entry) (e : Entry) (n : ℕ) → length xs + 1 ≤ n
+    → list_any is_answer (drop n (xs ++ e ∷ [])) ≡ false
+from_past xs e n le = ap (list_any is_answer)
+    (drop_all n (xs ++ e ∷ []) (omega (arith, le, length-append {A = Entry} xs (e ∷ []))))
 
 -- an answer is the last one
 pub answer_more : (xs : List Entry) (e : Entry) → is_answer e ≡ true → AnswersUpTo (xs ++ e ∷ []) (length xs + 1)

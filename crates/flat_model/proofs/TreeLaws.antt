@@ -116,7 +116,7 @@ pub branch_made : {volume pages : ℕ} {directory : Bool} {rows : List Row} {nam
     → record s { nodes = new_branch next superior name directory volume pages rows ∷ s.nodes; next = s.next + 1 }
     ≡ made_in s volume directory pages rows name d
 branch_made {volume} {pages} {directory} {rows} {name} s d next superior at below =
-    ap (λ (u : ℕ). record s { nodes = new_branch u superior name directory volume pages rows ∷ s.nodes; next = s.next + 1 })
-    (sym at)
-    ∙ ap (λ (u : ℕ). record s { nodes = new_branch s.next u name directory volume pages rows ∷ s.nodes; next = s.next + 1 })
-    (sym below)
+    ap (λ (u : ℕ).
+    record s { nodes = new_branch u superior name directory volume pages rows ∷ s.nodes; next = s.next + 1 }) (sym at)
+    ∙ ap (λ (u : ℕ).
+    record s { nodes = new_branch s.next u name directory volume pages rows ∷ s.nodes; next = s.next + 1 }) (sym below)

@@ -172,8 +172,8 @@ impl Holdings {
         Ok(())
     }
 
-    /// Writes a word of a segment whose page isn't stored. A page that gets a word other than 0 is from then on, if there
-    /// is room.
+    /// Writes a word of a segment whose page isn't stored. A page that gets a word other than 0 is from then on, if
+    /// there is room.
     fn write(&mut self, uid: u32, offset: u32, word: Word) -> Result<(), NoMemory>
         requires absent { is_some (page_at self.old.pages uid (offset / 1024)) ≡ false }
         requires segment { has_segment self.old.accounts.nodes uid ≡ true }

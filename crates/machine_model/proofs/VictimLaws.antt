@@ -154,7 +154,8 @@ module _ (s : State) (keeps : Keeps s) (about : ℕ) where
   off_step : (place q : ℕ) → is_off place ≡ true → least_inferior entries place ≡ Some q → is_off q ≡ true
   off_step place q off h = let used = passed_there (λ (e : Entry). not (list_any (λ v. eqb v e.uid) chain))
       (entry_at entries place) off in
-      by used.0.uid (ap uid_in used.1) (sym (ap (λ (e : Option Entry). least_inferior_of entries (uid_in e)) used.1) ∙ h)
+      by used.0.uid (ap uid_in used.1)
+      (sym (ap (λ (e : Option Entry). least_inferior_of entries (uid_in e)) used.1) ∙ h)
     where
       by : (u : ℕ) → uid_at entries place ≡ Some u → position (is_inferior_of u) entries ≡ Some q → is_off q ≡ true
       by u at i = uid_off (entry_at entries q) w.0 w.1 (not_link (is_link chain w.0) refl)

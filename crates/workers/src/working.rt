@@ -23,8 +23,8 @@ const TURNS_FOR_STEP: u32 = 64;
 /// and after the last, at most 1,000,000 steps in a row answer none.
 const MOST_STEPS: u64 = 100_001_000_000;
 
-/// Waits for a lock that isn't free: other threads go first, for longer each time, until a signal asks each processor to
-/// drop something; and after some looks the worker waits for it.
+/// Waits for a lock that isn't free: other threads go first, for longer each time, until a signal asks each processor
+/// to drop something; and after some looks the worker waits for it.
 #[inline(never)]
 fn wait_for<'a, T, R: Wait>(rt: &R, lock: &'a Mutex<T>, bell: &Bell) -> MutexGuard<'a, T> {
     let mut pause = Pause::new();

@@ -15,8 +15,8 @@ returns-then-is_schedule-clause-schedule c = stop_after is_schedule_line c.args.
     (omega arith) c.next_line.ensures.lines c.loop-at.invariant.passed (cc)
 
 pub returns-then-is_schedule-clause-first : goal.returns-then-is_schedule-clause-first
-returns-then-is_schedule-clause-first c = stop_first is_schedule_line c.args.bytes.now c.next_line.result.0.now c.next_line.result.1.now
-    c.loop-at.at c.loop-at.number
+returns-then-is_schedule-clause-first c = stop_first is_schedule_line c.args.bytes.now c.next_line.result.0.now
+    c.next_line.result.1.now c.loop-at.at c.loop-at.number
     (omega arith) c.next_line.ensures.lines c.loop-at.invariant.passed (cc)
 
 pub returns-then-is_schedule-clause-found : goal.returns-then-is_schedule-clause-found
@@ -26,8 +26,8 @@ returns-then-is_schedule-clause-found c = stop_found is_schedule_line c.args.byt
 
 pub loop-at-preserved : goal.loop-at-preserved
 loop-at-preserved c = record {
-  passed = line_passed is_schedule_line c.args.bytes.now c.next_line.result.0.now c.next_line.result.1.now c.loop-at.at c.loop-at.number
-      (omega arith)
+  passed = line_passed is_schedule_line c.args.bytes.now c.next_line.result.0.now
+      c.next_line.result.1.now c.loop-at.at c.loop-at.number (omega arith)
       c.next_line.ensures.lines c.loop-at.invariant.passed c.next_line.ensures.rest c.next_line.ensures.shorter
       c.next_line.ensures.closes (cc);
   within = search rules;

@@ -13,7 +13,7 @@ returns-clause-yes c = λ on.
     ∙ ap (λ (x : Paged). page_at x c.args.uid c.args.page) c.self.view_is)) in
     subst (λ (w : ℕ). Puts c.args.self.now (c.get_mut.follows.lender c.set.new.self).entries c.args.uid c.args.page
     (Some (set (words_in (page_at c.args.self.now c.args.uid c.args.page)) c.args.at w))) word
-    (put_through c.self.inside.pages.entries c.args.self.now (c.get_mut.follows.lender c.set.new.self).entries c.args.uid
-    c.args.page c.args.at c.new_word-word.result c.in-Some.words.now c.set.new.self c.self.view_is there
+    (put_through c.self.inside.pages.entries c.args.self.now (c.get_mut.follows.lender c.set.new.self).entries
+    c.args.uid c.args.page c.args.at c.new_word-word.result c.in-Some.words.now c.set.new.self c.self.view_is there
     c.set.ensures.word
     (λ some. ((c.get_mut.follows.holds c.set.new.self).3 some).0))
