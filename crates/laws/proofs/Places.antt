@@ -109,7 +109,8 @@ sum_of_four (a ∷ b ∷ c ∷ d ∷ e ∷ rest) four = absurd (omega (arith, fo
 pub length_of_four : {X : Type 0} (a b c d : X) (xs : List ℕ) → length xs ≡ 4
     → length (replicate (get_or xs 0 0) a ++ replicate (get_or xs 1 0) b ++ replicate (get_or xs 2 0) c
     ++ replicate (get_or xs 3 0) d) ≡ sum xs
-length_of_four a b c d xs four = let all = sum_of_four xs four in simp (length-append, length-replicate) (omega (arith, all))
+length_of_four a b c d xs four =
+    let all = sum_of_four xs four in simp (length-append, length-replicate) (omega (arith, all))
 
 -- ---- one place of a function
 

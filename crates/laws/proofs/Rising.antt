@@ -24,7 +24,8 @@ place_there (k ∷ ks) u is = elim (or_cases (eqb k u) (stands_in ks u) is) [
 -- the first is less than all others, and so none of them
 pub first_less : (k u : ℕ) (ks : List ℕ) → Rises (k ∷ ks) → stands_in ks u ≡ true → k < u
 first_less k u ks up is =
-    let p = place_there ks u is in let less = up 0 (suc p.0) (omega arith) (omega (arith, p.1)) in omega (arith, less, p.2)
+    let p = place_there ks u is in let less = up 0 (suc p.0) (omega arith) (omega (arith, p.1)) in
+    omega (arith, less, p.2)
 
 pub first_once : (k : ℕ) (ks : List ℕ) → Rises (k ∷ ks) → stands_in ks k ≡ false
 first_once k ks up = elim (cases_Bool (stands_in ks k)) [
