@@ -30,16 +30,14 @@ pub on_with_bit : (ws : List ℕ) (r : ℕ) → r / 64 < length ws → bit_on (w
 unfolding bit_on with_bit
 on_with_bit ws r lt = rw (
   get_or-set_same ws (r / 64) _ 0 lt,
-  bit_at_set_same w64 (slice_index ws (r / 64)) (r % 64)
-      (omega arith),
+  bit_at_set_same w64 (slice_index ws (r / 64)) (r % 64) (omega arith),
 ) refl
 
 pub off_without_bit : (ws : List ℕ) (r : ℕ) → r / 64 < length ws → bit_on (without_bit ws r) r ≡ false
 unfolding bit_on without_bit
 off_without_bit ws r lt = rw (
   get_or-set_same ws (r / 64) _ 0 lt,
-  bit_at_clear_same w64 (slice_index ws (r / 64))
-      (r % 64) (omega arith),
+  bit_at_clear_same w64 (slice_index ws (r / 64)) (r % 64) (omega arith),
 ) refl
 
 -- every other bit is as before, where it is so in the word that changes
@@ -89,10 +87,9 @@ flag_at ws (suc n) r d lt = elim (cases_eq r n) [
 ]
 
 -- after one bit is set, the flags are as before but for that one
-pub flags_after_set : (ws vs : List ℕ) (n r : ℕ) (b : Bool) → r < n → bit_on vs r ≡ b
-    → ((k : ℕ) → k ≢ r → bit_on vs k ≡ bit_on ws k)
-    → flags_of vs n ≡ set (flags_of ws n) r b
-flags_after_set ws vs n r b lt here others =
+pub flags_after_set : (ws vs : List ℕ) (n r : ℕ) {b : Bool} → r < n → bit_on vs r ≡ b
+    → ((k : ℕ) → k ≢ r → bit_on vs k ≡ bit_on ws k) → flags_of vs n ≡ set (flags_of ws n) r b
+flags_after_set ws vs n r {b} lt here others =
     ext_get_or false _ _ (length_flags vs n ∙ sym (length-set (flags_of ws n) r b ∙ length_flags ws n))
     (λ k h. let below : k < n = rw (← length_flags vs n) h in
     let inside : r < length (flags_of ws n) = rw length_flags lt in
@@ -105,10 +102,9 @@ flags_after_set ws vs n r b lt here others =
 pub flags_with_bit : (ws : List ℕ) (n r : ℕ) → r < n → r / 64 < length ws → flags_of (with_bit ws r) n
     ≡ set (flags_of ws n) r true
 flags_with_bit ws n r lt within =
-    flags_after_set ws (with_bit ws r) n r true lt (on_with_bit ws r within) (λ k ne. on_with_other ws r k within ne)
+    flags_after_set ws (with_bit ws r) n r lt (on_with_bit ws r within) (λ k ne. on_with_other ws r k within ne)
 
 pub flags_without_bit : (ws : List ℕ) (n r : ℕ) → r < n → r / 64 < length ws → flags_of (without_bit ws r) n
     ≡ set (flags_of ws n) r false
-flags_without_bit ws n r lt within =
-    flags_after_set ws (without_bit ws r) n r false lt (off_without_bit ws r within)
+flags_without_bit ws n r lt within = flags_after_set ws (without_bit ws r) n r lt (off_without_bit ws r within)
     (λ k ne. on_without_other ws r k within ne)

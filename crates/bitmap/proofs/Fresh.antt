@@ -15,21 +15,19 @@ unfolding bit_on
 off_in_zeros n r lt = rw (get_or-replicate {A = ℕ} n (r / 64) 0 0 lt, bit_at-zero (r % 64)) refl
 
 -- a number of bits that fills its words
-pub clear_whole : (ws : List ℕ) (n count : ℕ) → ws ≡ replicate {A = ℕ} n 0 → n ≡ (count + 63) / 64 → count % 64 ≡ 0
+pub clear_whole : {ws : List ℕ} {n count : ℕ} → ws ≡ replicate {A = ℕ} n 0 → n ≡ (count + 63) / 64 → count % 64 ≡ 0
     → IsClear ws count
-clear_whole ws n count is long whole = let words : length ws ≡ n = ap length is
-    ∙ length-replicate {A = ℕ} n 0 in record {
-      long = words ∙ long;
-      off = λ k lt. let inside : k / 64 < n = omega arith in rw is (off_in_zeros n k inside);
-      padding = λ k above inside. absurd (omega arith);
-    }
+clear_whole {ws} {n} is long whole = let words : length ws ≡ n = ap length is ∙ length-replicate {A = ℕ} n 0 in record {
+  long = cc;
+  off = λ k lt. let inside : k / 64 < n = omega arith in rw is (off_in_zeros n k inside);
+  padding = λ k above inside. absurd (omega arith);
+}
 
 -- a number of bits that leaves a part of its last word
-pub clear_part : (ws : List ℕ) (n count : ℕ) → ws ≡ set (replicate {A = ℕ} n 0) (count / 64)
-    (18446744073709551615 * 2 ^ (count % 64) % 2 ^ 64) → n ≡ (count + 63) / 64
-    → count % 64 ≢ 0 → IsClear ws count
+pub clear_part : {ws : List ℕ} {n count : ℕ} → ws ≡ set (replicate {A = ℕ} n 0) (count / 64)
+    (18446744073709551615 * 2 ^ (count % 64) % 2 ^ 64) → n ≡ (count + 63) / 64 → count % 64 ≢ 0 → IsClear ws count
 unfolding bit_on
-clear_part ws n count is long part =
+clear_part {ws} {n} {count} is long part =
     let words : length ws ≡ n = ap length is ∙ length-set (replicate {A = ℕ} n 0) (count / 64) _
     ∙ length-replicate {A = ℕ} n 0 in
     let mask : ℕ = 18446744073709551615 * 2 ^ (count % 64) % 2 ^ 64 in
@@ -39,7 +37,7 @@ clear_part ws n count is long part =
     let last : slice_index ws (count / 64) ≡ 2 ^ 64 - 2 ^ (count % 64) =
     rw is (get_or-set_same (replicate {A = ℕ} n 0) (count / 64) mask 0 there ∙ mask_is) in
     record {
-      long = words ∙ long;
+      long = cc;
       off = λ k lt. elim (cases_eq (k / 64) (count / 64)) [
         | inl e ↦ (let low : k % 64 < count % 64 = omega arith in rw
             (e, last, bit_at_mask_below (count % 64) 64 (k % 64) low) refl)
@@ -59,9 +57,8 @@ count_none (suc n) =
     omega (arith, e, ih)
 
 -- a map that is all free
-pub flags_clear : (ws : List ℕ) (size : ℕ) → IsClear ws size → flags_of ws size ≡ replicate size false
-flags_clear ws size h =
-    ext_get_or false _ _ (length_flags ws size ∙ sym (length-replicate size false))
+pub flags_clear : {ws : List ℕ} {size : ℕ} → IsClear ws size → flags_of ws size ≡ replicate size false
+flags_clear {ws} {size} h = ext_get_or false _ _ (length_flags ws size ∙ sym (length-replicate size false))
     (λ k lt. let below : k < size = rw (← length_flags ws size) lt in
     flag_at ws size k false below ∙ h.off k below ∙ sym (get_or-replicate size k false false below))
 
@@ -79,5 +76,5 @@ levels_clear ws full size n fits h g is = record {
       omega arith in
       g.off w (omega (arith, h.long)) ∙ sym (off_test _ _
       (rw place at (off_word_has_room ws (64 * w) (h.off (64 * w) first))));
-  counted = rw (flags_clear ws size h) (sym (count_none size));
+  counted = rw (flags_clear h) (sym (count_none size));
 }

@@ -20,32 +20,31 @@ count_all (suc n) =
     let ih = count_all n in
     omega (arith, e, ih)
 
-pub flags_full : (ws : List ℕ) (size : ℕ) → ws ≡ ones ((size + 63) / 64) → flags_of ws size ≡ replicate size true
-flags_full ws size is =
-    ext_get_or true _ _ (length_flags ws size ∙ sym (length-replicate size true))
+pub flags_full : {ws : List ℕ} (size : ℕ) → ws ≡ ones ((size + 63) / 64) → flags_of ws size ≡ replicate size true
+flags_full {ws} size is = ext_get_or true _ _ (length_flags ws size ∙ sym (length-replicate size true))
     (λ k lt. let below : k < size = rw (← length_flags ws size) lt in
-    flag_at ws size k true below ∙ ap (λ (w : List ℕ). bit_on w k) is
-    ∙ on_in_ones ((size + 63) / 64) k (omega (arith, below)) ∙ sym (get_or-replicate size k true true below))
+    cc (
+      flag_at ws size k true below,
+      on_in_ones ((size + 63) / 64) k (omega (arith, below)),
+      get_or-replicate size k true true below,
+    ))
 
 pub levels_full : (ws full : List ℕ) (size n : ℕ) → size < 2 ^ 32 → ws ≡ ones ((size + 63) / 64)
     → n ≡ (size + 63) / 64 → full ≡ ones ((n + 63) / 64) → HasTwoLevels ws full size size
 levels_full ws full size n fits is words_are full_is_ones =
     let long : length ws ≡ (size + 63) / 64 = ap length is ∙ length-replicate {A = ℕ} ((size + 63) / 64) _ in
-    let full_long : length full ≡ (n + 63) / 64 = ap length full_is_ones
-    ∙ length-replicate {A = ℕ} ((n + 63) / 64) _ in
+    let full_long : length full ≡ (n + 63) / 64 = ap length full_is_ones ∙ length-replicate {A = ℕ} ((n + 63) / 64) _ in
     record {
       fits = fits;
       covers = omega (arith, long);
       short = omega (arith, long, fits);
-      padding = λ r above inside. ap (λ (w : List ℕ). bit_on w r) is
-          ∙ on_in_ones ((size + 63) / 64) r (omega (arith, long, inside));
+      padding = λ r above inside. cc (on_in_ones ((size + 63) / 64) r (omega (arith, long, inside)));
       full_covers = omega (arith, long, full_long, words_are);
       full_short = omega (arith, long, full_long, words_are, fits);
-      full_padding = λ w above inside. ap (λ (v : List ℕ). bit_on v w) full_is_ones
-          ∙ on_in_ones ((n + 63) / 64) w (omega (arith, full_long, inside));
-      full_is = λ w inside. ap (λ (v : List ℕ). bit_on v w) full_is_ones
-          ∙ on_in_ones ((n + 63) / 64) w (omega (arith, long, words_are, inside))
-          ∙ sym (ap (λ (x : ℕ). eqb x 18446744073709551615) (ap (λ (v : List ℕ). slice_index v w) is
-          ∙ get_or-replicate {A = ℕ} ((size + 63) / 64) w 18446744073709551615 0 (omega (arith, long, inside))));
-      counted = rw (flags_full ws size is) (sym (count_all size));
+      full_padding = λ w above inside. cc (on_in_ones ((n + 63) / 64) w (omega (arith, full_long, inside)));
+      full_is = λ w inside. cc (
+        on_in_ones ((n + 63) / 64) w (omega (arith, long, words_are, inside)),
+        get_or-replicate {A = ℕ} ((size + 63) / 64) w 18446744073709551615 0 (omega (arith, long, inside)),
+      );
+      counted = rw (flags_full size is) (sym (count_all size));
     }

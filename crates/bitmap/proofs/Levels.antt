@@ -21,8 +21,8 @@ use Rattle.laws.proofs.Places.{count_with, count_without}
 pub off_test : (a b : ℕ) → a ≢ b → eqb a b ≡ false
 off_test a b ne = elim (eqb_tells a b) [ inl h ↦ absurd (ne h.1) | inr h ↦ h.0 ]
 
-on_test : (a b : ℕ) → eqb a b ≡ true → a ≡ b
-on_test a b on = elim (eqb_tells a b) [ inl h ↦ h.1 | inr h ↦ (let off = h.0 in cc) ]
+on_test : {a b : ℕ} → eqb a b ≡ true → a ≡ b
+on_test {a} {b} on = elim (eqb_tells a b) [ inl h ↦ h.1 | inr h ↦ (let off = h.0 in cc) ]
 
 -- the upper level where the lower one may have become full
 length_full : (b : Bool) (full : List ℕ) (w : ℕ) → length (cond b (with_bit full w) full) ≡ length full
@@ -40,14 +40,13 @@ full_other true full w k within ne = on_with_other full w k within ne
 full_other false full w k within ne = refl
 
 -- the two levels after bit r changes, and the bit of its word above
-levels_after : (ws full now above : List ℕ) (size used count r : ℕ) → HasTwoLevels ws full size used → r < size
-    → length now ≡ length ws → length above ≡ length full
-    → ((k : ℕ) → k ≢ r → bit_on now k ≡ bit_on ws k)
+levels_after : {ws full now above : List ℕ} {size used count : ℕ} (r : ℕ) → HasTwoLevels ws full size used → r < size
+    → length now ≡ length ws → length above ≡ length full → ((k : ℕ) → k ≢ r → bit_on now k ≡ bit_on ws k)
     → ((w : ℕ) → w ≢ r / 64 → bit_on above w ≡ bit_on full w)
     → ((w : ℕ) → w ≢ r / 64 → slice_index now w ≡ slice_index ws w)
     → bit_on above (r / 64) ≡ eqb (slice_index now (r / 64)) 18446744073709551615
     → count ≡ count_by (λ flag. flag) (flags_of now size) → HasTwoLevels now above size count
-levels_after ws full now above size used count r h lt words_as_many full_as_many others full_others words here counted =
+levels_after {ws} r h lt words_as_many full_as_many others full_others words here counted =
     let within : r / 64 < length ws = omega (arith, h.covers) in
     record {
       fits = h.fits;
@@ -70,8 +69,7 @@ levels_after ws full now above size used count r h lt words_as_many full_as_many
 
 -- the two levels after a free number is taken
 pub levels_after_take : (ws full : List ℕ) (size used r : ℕ) → HasTwoLevels ws full size used → r < size → bit_on ws r
-    ≡ false
-    → HasTwoLevels (with_bit ws r) (full_after (with_bit ws r) full (r / 64)) size (used + 1)
+    ≡ false → HasTwoLevels (with_bit ws r) (full_after (with_bit ws r) full (r / 64)) size (used + 1)
 levels_after_take ws full size used r h lt off =
     let within : r / 64 < length ws = omega (arith, h.covers) in
     let upper : r / 64 / 64 < length full = omega (arith, h.full_covers) in
@@ -80,18 +78,16 @@ levels_after_take ws full size used r h lt off =
     ∙ off_test _ _ (off_word_has_room ws r off) in
     let flags_within : r < length (flags_of ws size) = rw length_flags lt in
     let free : in_use (flags_of ws size) r ≡ false = flag_at ws size r false lt ∙ off in
-    levels_after ws full (with_bit ws r) (full_after (with_bit ws r) full (r / 64)) size used (used + 1) r h lt
+    levels_after r h lt
     (length_with_bit ws r) (length_full now_full full (r / 64)) (λ k ne. on_with_other ws r k within ne)
     (λ w ne. full_other now_full full (r / 64) w upper ne) (word_with_other ws r)
     (full_same now_full full (r / 64) was_off upper)
-    (ap (λ n. n + 1) h.counted ∙ sym (ap (count_by (λ flag. flag)) (flags_with_bit ws size r lt within)
-    ∙ count_with (flags_of ws size) r flags_within free))
+    (cc (flags_with_bit ws size r lt within, count_with (flags_of ws size) r flags_within free))
 
 -- the two levels after a number is given back
-pub levels_after_give : (ws full : List ℕ) (size used r : ℕ) → HasTwoLevels ws full size used → r < size → bit_on ws r
-    ≡ true
-    → HasTwoLevels (without_bit ws r) (without_bit full (r / 64)) size (used - 1)
-levels_after_give ws full size used r h lt on =
+pub levels_after_give : {ws full : List ℕ} {size used : ℕ} (r : ℕ) → HasTwoLevels ws full size used → r < size
+    → bit_on ws r ≡ true → HasTwoLevels (without_bit ws r) (without_bit full (r / 64)) size (used - 1)
+levels_after_give {ws} {full} {size} {used} r h lt on =
     let within : r / 64 < length ws = omega (arith, h.covers) in
     let upper : r / 64 / 64 < length full = omega (arith, h.full_covers) in
     let room = off_word_has_room (without_bit ws r) r (off_without_bit ws r within) in
@@ -100,20 +96,20 @@ levels_after_give ws full size used r h lt on =
     let is = ap (count_by (λ flag. flag)) (flags_without_bit ws size r lt within) in
     let fewer : count_by (λ flag. flag) (flags_of (without_bit ws r) size) + 1 ≡ used = ap (λ n. n + 1) is ∙ one
     ∙ sym h.counted in
-    levels_after ws full (without_bit ws r) (without_bit full (r / 64)) size used (used - 1) r h lt
+    levels_after r h lt
     (length_without_bit ws r) (length_without_bit full (r / 64)) (λ k ne. on_without_other ws r k within ne)
     (λ w ne. on_without_other full (r / 64) w upper ne) (word_without_other ws r)
     (off_without_bit full (r / 64) upper ∙ sym (off_test _ _ room)) (omega (arith, fewer))
 
 -- bit t of word w
-bit_in_word : (ws : List ℕ) (w t r : ℕ) → r / 64 ≡ w → r % 64 ≡ t → bit_on ws r ≡ eqb (bit_at (slice_index ws w) t) 1
+bit_in_word : (ws : List ℕ) {w t : ℕ} (r : ℕ) → r / 64 ≡ w → r % 64 ≡ t
+    → bit_on ws r ≡ eqb (bit_at (slice_index ws w) t) 1
 unfolding bit_on
-bit_in_word ws w t r a b = rw (a, b) refl
+bit_in_word ws r a b = rw (a, b) refl
 
 -- in the first word that is not full, the first bit that is off is the first of all
 pub first_in_word : (ws : List ℕ) (w : ℕ) → w < length ws → slice_index ws w ≢ 18446744073709551615
-    → slice_index ws w < 2 ^ 64
-    → ((v : ℕ) → v < w → slice_index ws v ≡ 18446744073709551615)
+    → slice_index ws w < 2 ^ 64 → ((v : ℕ) → v < w → slice_index ws v ≡ 18446744073709551615)
     → IsFirstOff ws (64 * w + trailing_ones w64 (slice_index ws w))
 first_in_word ws w inside room fits before =
     first_at (trailing_ones w64 (slice_index ws w)) (bit_at-trailing_ones w64 (slice_index ws w) (omega arith))
@@ -123,10 +119,9 @@ first_in_word ws w inside room fits before =
     first_at t h = let below : t < 64 = h.0 in record {
       within = omega arith;
       off = let high : (64 * w + t) / 64 ≡ w = omega arith in let low : (64 * w + t) % 64 ≡ t = omega arith in
-          bit_in_word ws w t (64 * w + t) high low ∙ rw h.1 refl;
+          bit_in_word ws (64 * w + t) high low ∙ rw h.1 refl;
       before = λ k lt. elim (cases_eq (k / 64) w) [
-        | inl e ↦ (let low : k % 64 < t = omega arith in bit_in_word ws w (k % 64) k e refl
-            ∙ rw (h.2 (k % 64) low) refl)
+        | inl e ↦ (let low : k % 64 < t = omega arith in bit_in_word ws k e refl ∙ rw (h.2 (k % 64) low) refl)
         | inr ne ↦ (let under : k / 64 < w = omega arith in on_in_full_word ws k (before (k / 64) under))
       ];
     }
@@ -138,8 +133,7 @@ all_on ws full r lt = let inside : r / 64 < length ws = omega arith in on_in_ful
 
 -- the least free number by the two levels: w is the first word with room
 pub least_by_levels : (ws full : List ℕ) (size used w : ℕ) → HasTwoLevels ws full size used → IsFirstOff full w
-    → slice_index ws w < 2 ^ 64
-    → IsLeastFree (flags_of ws size) (64 * w + trailing_ones w64 (slice_index ws w))
+    → slice_index ws w < 2 ^ 64 → IsLeastFree (flags_of ws size) (64 * w + trailing_ones w64 (slice_index ws w))
 least_by_levels ws full size used w h first fits =
     in_flags (64 * w + trailing_ones w64 (slice_index ws w)) (first_in_word ws w inside room fits below)
   where
@@ -154,8 +148,7 @@ least_by_levels ws full size used w h first fits =
     room e = let test : bit_on full w ≡ true = h.full_is w inside ∙ rw e refl in let off = first.off in cc
 
     below : (v : ℕ) → v < w → slice_index ws v ≡ 18446744073709551615
-    below v lt = on_test (slice_index ws v) 18446744073709551615
-        (sym (h.full_is v (omega (arith, inside))) ∙ first.before v lt)
+    below v lt = on_test (sym (h.full_is v (omega (arith, inside))) ∙ first.before v lt)
 
     known : (r : ℕ) → IsFirstOff ws r → r < size
     known r is = elim (below_or_past r size) [
@@ -172,21 +165,18 @@ least_by_levels ws full size used w h first fits =
     }
 
 -- where the upper level has no bit off, all numbers are in use
-pub none_by_levels : (ws full : List ℕ) (size used : ℕ) → HasTwoLevels ws full size used
-    → ((w : ℕ) → w < 64 * length full → bit_on full w ≡ true)
-    → All (λ flag. flag ≡ true) (flags_of ws size)
-none_by_levels ws full size used h on =
-    All-from_get_or (λ flag. flag ≡ true) (flags_of ws size) false
+pub none_by_levels : {ws full : List ℕ} {size used : ℕ} → HasTwoLevels ws full size used
+    → ((w : ℕ) → w < 64 * length full → bit_on full w ≡ true) → All (λ flag. flag ≡ true) (flags_of ws size)
+none_by_levels {ws} {size} h on = All-from_get_or (λ flag. flag ≡ true) (flags_of ws size) false
     (λ r lt. let below : r < size = rw (← length_flags ws size) lt in
     let inside : r / 64 < length ws = omega (arith, h.covers) in
-    let word : slice_index ws (r / 64) ≡ 18446744073709551615 =
-    on_test (slice_index ws (r / 64)) 18446744073709551615
+    let word : slice_index ws (r / 64) ≡ 18446744073709551615 = on_test
     (sym (h.full_is (r / 64) inside) ∙ on (r / 64) (omega (arith, h.full_covers))) in
     flag_at ws size r false below ∙ on_in_full_word ws r word)
 
 -- the relation and the function say the same
-pub least_is : (flags : List Bool) (r : ℕ) → IsLeastFree flags r → least_free flags ≡ Some r
-least_is flags r h =
+pub least_is : {flags : List Bool} {r : ℕ} → IsLeastFree flags r → least_free flags ≡ Some r
+least_is {flags} {r} h =
     let place : prefix_len (λ flag. not (not flag)) flags ≡ r =
     prefix_len_is (λ flag. not (not flag)) flags r false (omega (arith, h.within))
     (λ k lt. rw (h.before k lt) refl) (λ lt. rw h.free refl) in
@@ -206,22 +196,20 @@ pub record IsPlaced (ws full : List ℕ) (size : ℕ) (flags : List Bool) (r : �
   pub mark : r / 64 / 64 < length full
   pub is : bit_on ws r ≡ in_use flags r
 
-pub placed : (ws full : List ℕ) (size used : ℕ) (flags : List Bool) (r : ℕ) → HasTwoLevels ws full size used
-    → flags_of ws size ≡ flags → r < length flags
-    → IsPlaced ws full size flags r
-placed ws full size used flags r h view lt =
+pub placed : {ws full : List ℕ} {size used : ℕ} {flags : List Bool} {r : ℕ} → HasTwoLevels ws full size used
+    → flags_of ws size ≡ flags → r < length flags → IsPlaced ws full size flags r
+placed {ws} {size} {r} h view lt =
     let below : r < size = omega (arith, length_flags ws size, ap length view) in record {
       below = below;
       word = omega (arith, h.covers);
       mark = omega (arith, h.covers, h.full_covers);
-      is = sym (flag_at ws size r false below) ∙ ap (λ (fs : List Bool). in_use fs r) view;
+      is = cc (flag_at ws size r false below);
     }
 
 -- a number more is in use than before, and all are at most the size
-pub room_for_one : (ws full : List ℕ) (size used : ℕ) (flags : List Bool) (r : ℕ) → HasTwoLevels ws full size used
-    → flags_of ws size ≡ flags → r < length flags
-    → in_use flags r ≡ false → used + 1 ≤ size
-room_for_one ws full size used flags r h view lt free =
+pub room_for_one : {ws full : List ℕ} {size used : ℕ} {flags : List Bool} (r : ℕ) → HasTwoLevels ws full size used
+    → flags_of ws size ≡ flags → r < length flags → in_use flags r ≡ false → used + 1 ≤ size
+room_for_one {ws} {size} {used} {flags} r h view lt free =
     let more = count_with flags r lt free in
     let most = count_by-le-length (λ flag. flag) (set flags r true) in
     let long = length-set flags r true in
@@ -238,16 +226,15 @@ found_by_levels ws full fs size used w x t flags h view first same inside read f
     let fits_there : slice_index ws w < 2 ^ 64 = rw (← word) fits in
     rw (ones, word, ← view) (least_by_levels ws full size used w h (rw (← same) first) fits_there)
 
-pub none_found : (ws full fs : List ℕ) (size used : ℕ) (flags : List Bool) → HasTwoLevels ws full size used
+pub none_found : {ws full fs : List ℕ} {size used : ℕ} {flags : List Bool} → HasTwoLevels ws full size used
     → flags_of ws size ≡ flags
     → fs ≡ full → ((w : ℕ) → w < 64 * length fs → bit_on fs w ≡ true) → All (λ flag. flag ≡ true) flags
-none_found ws full fs size used flags h view same on =
-    rw (← view) (none_by_levels ws full size used h (rw (← same) on))
+none_found {ws} {full} {size} {used} h view same on = rw (← view) (none_by_levels h (rw (← same) on))
 
 -- a word with a bit off in the upper level is there
-pub first_inside : (ws full fs : List ℕ) (size used w : ℕ) → HasTwoLevels ws full size used → IsFirstOff fs w → fs
+pub first_inside : {ws full fs : List ℕ} {size used w : ℕ} → HasTwoLevels ws full size used → IsFirstOff fs w → fs
     ≡ full → w < length ws
-first_inside ws full fs size used w h first same =
+first_inside {ws} {full} {w} h first same =
     elim (below_or_past w (length ws)) [
       | inl lt ↦ lt
       | inr past ↦ (let here : IsFirstOff full w = rw (← same) first in let on =

@@ -11,10 +11,10 @@ use Rattle.bulk_store.proofs.Places.{place_of-first, place_of-rest, place_of-new
 use Rattle.laws.proofs.Numbers.{below_or_past}
 
 -- the place of a record after record r came in is the new one, and the record is r, or it is as before
-place_cases : (held : List Held) (r p s q : ℕ) → place_of held r ≡ None → place_of (with_newest held r p) s ≡ Some q
-    → ((s ≡ r) × (p ≡ q)) ⊎ ((s ≢ r) × (place_of held s ≡ Some q))
-place_cases held r p s q none is = elim (cases_eq s r) [
-  | inl e ↦ (let new = place_of-newest held r p none in
+place_cases : (held : List Held) (r p s : ℕ) {q : ℕ} → place_of held r ≡ None
+    → place_of (with_newest held r p) s ≡ Some q → ((s ≡ r) × (p ≡ q)) ⊎ ((s ≢ r) × (place_of held s ≡ Some q))
+place_cases held r p s {q} none is = elim (cases_eq s r) [
+  | inl e ↦ (let new = place_of-newest held r {p = p} none in
       let at : place_of (with_newest held r p) r ≡ Some q = ap (λ (x : ℕ). place_of (with_newest held r p) x) (sym e)
       ∙ is in
       inl (e, (cc)))
@@ -22,36 +22,35 @@ place_cases held r p s q none is = elim (cases_eq s r) [
 ]
 
 -- record r comes in
-pub with_record-indexed : (t : Holdings) (r : ℕ) → IsIndexed t → place_of t.held r ≡ None → t.free < t.room
-    → r < length t.places
-    → IsIndexed (with_record t r)
-with_record-indexed t r k none room within = record {
+pub with_record-indexed : {t : Holdings} (r : ℕ) → IsIndexed t → place_of t.held r ≡ None → t.free < t.room
+    → r < length t.places → IsIndexed (with_record t r)
+with_record-indexed {t} r k none room within = record {
   found = λ s. elim (cases_eq s r) [
-    | inl e ↦ rw e (get_or-set_same t.places r (Some t.free) None within ∙ sym (place_of-newest t.held r t.free none))
+    | inl e ↦ rw e (get_or-set_same t.places r (Some t.free) None within ∙ sym (place_of-newest t.held r none))
     | inr n ↦ get_or-set_other t.places r s (Some t.free) None n ∙ k.found s ∙ sym (place_of-others t.held r t.free s n)
   ];
   once = none_twice-newest t.held r t.free none k.once;
-  apart = λ s u p is too. elim (place_cases t.held r t.free s p none is) [
-    | inl a ↦ elim (place_cases t.held r t.free u p none too) [
+  apart = λ s u p is too. elim (place_cases t.held r t.free s none is) [
+    | inl a ↦ elim (place_cases t.held r t.free u none too) [
       | inl b ↦ a.0 ∙ sym b.0
-      | inr b ↦ absurd (k.free u (b.1 ∙ ap Some (sym a.1)))
+      | inr b ↦ absurd (k.free u (cc))
     ]
-    | inr a ↦ elim (place_cases t.held r t.free u p none too) [
-      | inl b ↦ absurd (k.free s (a.1 ∙ ap Some (sym b.1)))
+    | inr a ↦ elim (place_cases t.held r t.free u none too) [
+      | inl b ↦ absurd (k.free s (cc))
       | inr b ↦ k.apart s u p a.1 b.1
     ]
   ];
-  free = λ s is. elim (place_cases t.held r t.free s _ none is) [
-    | inl a ↦ absurd (omega (arith, a.1, k.free_used))
+  free = λ s is. elim (place_cases t.held r t.free s none is) [
+    | inl a ↦ absurd (omega arith)
     | inr a ↦ absurd (omega (arith, k.below s _ a.1))
   ];
-  below = λ s p is. elim (place_cases t.held r t.free s p none is) [
-    | inl a ↦ omega (arith, a.1)
-    | inr a ↦ (let before = k.below s p a.1 in omega arith)
+  below = λ s p is. elim (place_cases t.held r t.free s none is) [
+    | inl a ↦ omega arith
+    | inr a ↦ (omega (arith, k.below s p a.1))
   ];
   taken = λ p below not_free. elim (cases_eq p t.free) [
-    | inl e ↦ (r, rw e (place_of-newest t.held r t.free none))
-    | inr n ↦ (let before : p < t.used = omega (arith, k.free_used, below, n) in let old = k.taken p before n in
+    | inl e ↦ (r, rw e (place_of-newest t.held r none))
+    | inr n ↦ (let before : p < t.used = omega arith in let old = k.taken p before n in
         elim (cases_eq old.0 r) [
           | inl e ↦ (let at = old.1 in let same : place_of t.held r ≡ Some p =
               ap (λ (x : ℕ). place_of t.held x) (sym e) ∙ at in cc)
@@ -59,7 +58,7 @@ with_record-indexed t r k none room within = record {
         ])
   ];
   free_used = omega arith;
-  used_room = (let a = k.used_room in omega arith);
+  used_room = (omega arith);
   all_used = λ _. (let more = length-append t.held ((record { number = r; place = t.free }) ∷ []) in grown more);
   but_one = λ lt. absurd (omega (arith, lt));
 }
@@ -67,33 +66,31 @@ with_record-indexed t r k none room within = record {
     grown : length (with_newest t.held r t.free) ≡ length t.held + 1 → length (with_newest t.held r t.free)
         ≡ max t.used (t.free + 1)
     grown more = elim (cases_eq t.free t.used) [
-      | inl e ↦ (let all = k.all_used e in omega (arith, more, all, e))
-      | inr n ↦ (let lt : t.free < t.used = omega (arith, n, k.free_used) in let all =
-          k.but_one lt in omega (arith, more, all, lt))
+      | inl e ↦ (omega (arith, k.all_used e))
+      | inr n ↦ (let lt : t.free < t.used = omega arith in omega (arith, k.but_one lt))
     ]
 
 -- the place of a record of the rest is its place in the whole list, and the record isn't the oldest
-pub rest_places : (h : Held) (held : List Held) (r p : ℕ) → NoneTwice (h ∷ held) → place_of held r ≡ Some p
+pub rest_places : (h : Held) (held : List Held) (r : ℕ) {p : ℕ} → NoneTwice (h ∷ held) → place_of held r ≡ Some p
     → (r ≢ h.number) × (place_of (h ∷ held) r ≡ Some p)
-rest_places h held r p once is = (other, place_of-rest h held r (λ e. other (sym e)) ∙ is)
+rest_places h held r {p} once is = (other, place_of-rest h held r (λ e. other (sym e)) ∙ is)
   where
     other : r ≢ h.number
     other e = (let none = once.0 in let here : place_of held h.number ≡ Some p =
         ap (λ (x : ℕ). place_of held x) (sym e) ∙ is in cc)
 
 -- where all places are taken, the least free one is past all that were ever used
-pub full_free : (t : Holdings) → IsIndexed t → length t.held ≡ t.room → t.free ≡ t.used
-full_free t k full = elim (cases_eq t.free t.used) [
+pub full_free : {t : Holdings} → IsIndexed t → length t.held ≡ t.room → t.free ≡ t.used
+full_free {t} k full = elim (cases_eq t.free t.used) [
   | inl e ↦ e
-  | inr n ↦ (let lt : t.free < t.used = omega (arith, n, k.free_used) in absurd
-      (omega (arith, k.but_one lt, full, k.used_room)))
+  | inr n ↦ (let lt : t.free < t.used = omega arith in absurd (omega (arith, k.but_one lt)))
 ]
 
 -- where a place is free, the least free one is a place
-pub free_place-within : (t : Holdings) → IsIndexed t → length t.held < t.room → t.free < t.room
-free_place-within t k room = elim (cases_eq t.free t.used) [
-  | inl e ↦ omega (arith, k.all_used e, room, e)
-  | inr n ↦ omega (arith, n, k.free_used, k.used_room)
+pub free_place-within : {t : Holdings} → IsIndexed t → length t.held < t.room → t.free < t.room
+free_place-within {t} k room = elim (cases_eq t.free t.used) [
+  | inl e ↦ omega (arith, k.all_used e)
+  | inr n ↦ omega arith
 ]
 
 -- the oldest is taken out of a list that fills all places
@@ -105,23 +102,23 @@ rest_indexed h t k full = record {
     | inr n ↦ get_or-set_other t.places h.number s None None n ∙ k.found s ∙ place_of-rest h t.held s (λ e. n (sym e))
   ];
   once = k.once.1;
-  apart = λ r s p is too. k.apart r s p (rest_places h t.held r p k.once is).1 (rest_places h t.held s p k.once too).1;
-  free = λ r is. (let at = rest_places h t.held r h.place k.once is in at.0
+  apart = λ r s p is too. k.apart r s p (rest_places h t.held r k.once is).1 (rest_places h t.held s k.once too).1;
+  free = λ r is. (let at = rest_places h t.held r k.once is in at.0
       (k.apart r h.number h.place at.1 (place_of-first h t.held)));
-  below = λ r p is. k.below r p (rest_places h t.held r p k.once is).1;
-  taken = λ p below other. (let old = k.taken p below (λ e. omega (arith, e, below, full)) in
+  below = λ r p is. k.below r p (rest_places h t.held r k.once is).1;
+  taken = λ p below other. (let old = k.taken p below (λ e. omega arith) in
       (old.0, sym (place_of-rest h t.held old.0 (λ e. other (same old.0 p e old.1))) ∙ old.1));
-  free_used = (let b = k.below h.number h.place (place_of-first h t.held) in omega arith);
+  free_used = (omega (arith, k.below h.number h.place (place_of-first h t.held)));
   used_room = k.used_room;
   all_used = λ e. (let b = k.below h.number h.place (place_of-first h t.held) in absurd (omega arith));
-  but_one = λ _. (let all = k.all_used full in omega (arith, all));
+  but_one = λ _. (omega (arith, k.all_used full));
 }
   where
     set_none : get_or (set t.places h.number None) h.number None ≡ None
     set_none = elim (below_or_past h.number (length t.places)) [
       | inl lt ↦ get_or-set_same t.places h.number None None lt
       | inr ge ↦ get_or_past (set t.places h.number None) h.number None
-          (omega (arith, ge, length-set t.places h.number None))
+          (omega (arith, length-set t.places h.number None))
     ]
 
     same : (r p : ℕ) → h.number ≡ r → place_of (h ∷ t.held) r ≡ Some p → p ≡ h.place
@@ -129,11 +126,11 @@ rest_indexed h t k full = record {
         ap (λ (x : ℕ). place_of (h ∷ t.held) x) e ∙ is in
         let both : Some p ≡ Some h.place = sym there ∙ at in cc)
 
-pub without_oldest-indexed : (t : Holdings) → IsIndexed t → length t.held ≡ t.room → 0 < t.room
+pub without_oldest-indexed : {t : Holdings} → IsIndexed t → length t.held ≡ t.room → 0 < t.room
     → IsIndexed (without_oldest t)
-without_oldest-indexed t k full some = go t.held k full (full_free t k full)
+without_oldest-indexed {t} k full some = go t.held k full (full_free k full)
   where
     go : (held : List Held) → IsIndexed (record t { held = held }) → length held ≡ t.room → t.free ≡ t.used
         → IsIndexed (without_oldest (record t { held = held }))
-    go [] all is free = absurd (omega (arith, is, some))
+    go [] all is free = absurd (omega arith)
     go (h ∷ held) all is free = rest_indexed h (record t { held = held }) all free

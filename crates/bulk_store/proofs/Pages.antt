@@ -13,9 +13,9 @@ pub held_or_not : (o : Option ℕ) → (o ≡ None) ⊎ ((p : ℕ) × (o ≡ Som
 held_or_not None = inl refl
 held_or_not (Some p) = inr (p, refl)
 
-pub page_of-held : (fast disk : List (List ℕ)) (held : List Held) (r p : ℕ) → place_of held r ≡ Some p
+pub page_of-held : (fast disk : List (List ℕ)) (held : List Held) (r : ℕ) {p : ℕ} → place_of held r ≡ Some p
     → page_of fast disk held r ≡ get_or fast p []
-page_of-held fast disk held r p is = rw is refl
+page_of-held fast disk held r is = rw is refl
 
 pub page_of-other : (fast disk : List (List ℕ)) (held : List Held) (r : ℕ) → place_of held r ≡ None
     → page_of fast disk held r ≡ get_or disk r []
@@ -39,26 +39,23 @@ pub pages_same : (fast disk : List (List ℕ)) (held : List Held) (fast' disk' :
 pages_same fast disk held fast' disk' held' long same =
     let a = length-pages_of fast disk held in
     let b = length-pages_of fast' disk' held' in
-    ext_get_or [] (pages_of fast' disk' held') (pages_of fast disk held) (b ∙ long ∙ sym a)
-    (λ s lt. (let in_new : s < length disk' = omega (arith, lt, b) in let in_old : s < length disk =
-    omega (arith, in_new, long) in
+    ext_get_or [] (pages_of fast' disk' held') (pages_of fast disk held) (cc)
+    (λ s lt. (let in_new : s < length disk' = omega arith in let in_old : s < length disk = omega arith in
     get_or-pages_of fast' disk' held' s in_new ∙ same s in_old ∙ sym (get_or-pages_of fast disk held s in_old)))
 
 -- and where one record alone has other words, the pages are those with these words there
 pub pages_with : (fast disk : List (List ℕ)) (held : List Held) (fast' disk' : List (List ℕ)) (held' : List Held)
-    (r : ℕ) (words : List ℕ)
-    → length disk' ≡ length disk → r < length disk → page_of fast' disk' held' r ≡ words
+    (r : ℕ) (words : List ℕ) → length disk' ≡ length disk → r < length disk → page_of fast' disk' held' r ≡ words
     → ((s : ℕ) → s ≢ r → page_of fast' disk' held' s ≡ page_of fast disk held s)
     → pages_of fast' disk' held' ≡ set (pages_of fast disk held) r words
 pages_with fast disk held fast' disk' held' r words long within at same =
     let a = length-pages_of fast disk held in
     let b = length-pages_of fast' disk' held' in
     let c = length-set (pages_of fast disk held) r words in
-    ext_get_or [] (pages_of fast' disk' held') (set (pages_of fast disk held) r words) (b ∙ long ∙ sym a ∙ sym c)
-    (λ s lt. (let in_new : s < length disk' = omega (arith, lt, b) in let in_old : s < length disk =
-    omega (arith, in_new, long) in
+    ext_get_or [] (pages_of fast' disk' held') (set (pages_of fast disk held) r words) (cc)
+    (λ s lt. (let in_new : s < length disk' = omega arith in let in_old : s < length disk = omega arith in
     get_or-pages_of fast' disk' held' s in_new ∙ elim (cases_eq s r) [
-      | inl e ↦ rw e (at ∙ sym (get_or-set_same (pages_of fast disk held) r words [] (omega (arith, within, a))))
+      | inl e ↦ rw e (at ∙ sym (get_or-set_same (pages_of fast disk held) r words [] (omega arith)))
       | inr n ↦ same s n ∙ sym (get_or-pages_of fast disk held s in_old)
           ∙ sym (get_or-set_other (pages_of fast disk held) r s words [] n)
     ]))

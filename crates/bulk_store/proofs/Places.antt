@@ -14,11 +14,12 @@ pub place_of-rest : (h : Held) (held : List Held) (r : ℕ) → h.number ≢ r �
 place_of-rest h held r other = elim (eqb_tells h.number r) [ inl e ↦ absurd (other e.1) | inr e ↦ rw e.0 refl ]
 
 -- a record that came in last has its place
-pub place_of-newest : (held : List Held) (r p : ℕ) → place_of held r ≡ None → place_of (with_newest held r p) r ≡ Some p
-place_of-newest [] r p none = place_of-first (record { number = r; place = p }) []
-place_of-newest (h ∷ held) r p none = elim (eqb_tells h.number r) [
+pub place_of-newest : (held : List Held) (r : ℕ) {p : ℕ} → place_of held r ≡ None
+    → place_of (with_newest held r p) r ≡ Some p
+place_of-newest [] r {p} none = place_of-first (record { number = r; place = p }) []
+place_of-newest (h ∷ held) r {p} none = elim (eqb_tells h.number r) [
   | inl e ↦ (let bad = rw e.0 at none in cc)
-  | inr e ↦ rw e.0 (place_of-newest held r p (rw e.0 at none))
+  | inr e ↦ rw e.0 (place_of-newest held r (rw e.0 at none))
 ]
 
 -- and every other record the place that it had

@@ -23,22 +23,22 @@ rest count = replicate count zeros
 rest_full : (count : ℕ) → HaveFullPages (rest count)
 rest_full count = All-replicate (λ words. length words ≡ 1024) count zeros zeros_full
 
-pub length_pages : (held : Pages) (size room : ℕ) → AreHeld held size room → length (pages_of held size) ≡ size
+pub length_pages : {held : Pages} {size room : ℕ} → AreHeld held size room → length (pages_of held size) ≡ size
 unfolding pages_of
-length_pages held size room h =
+length_pages {held} {size} h =
     let both = length-append held (rest (size - length held)) in
     let more = length-replicate {A = List ℕ} (size - length held) zeros in
     let within = h.within in
     omega (arith, both, more, within)
 
-pub full_pages : (held : Pages) (size room : ℕ) → AreHeld held size room → HaveFullPages (pages_of held size)
+pub full_pages : {held : Pages} {size room : ℕ} → AreHeld held size room → HaveFullPages (pages_of held size)
 unfolding pages_of
-full_pages held size room h = All-append (λ words. length words ≡ 1024) held (rest (size - length held)) h.full
+full_pages {held} {size} h = All-append (λ words. length words ≡ 1024) held (rest (size - length held)) h.full
     (rest_full (size - length held))
 
-pub new_pages : (held : Pages) (size : ℕ) → held ≡ [] → pages_of held size ≡ rest size
+pub new_pages : {held : Pages} (size : ℕ) → held ≡ [] → pages_of held size ≡ rest size
 unfolding pages_of
-new_pages held size none =
+new_pages size none =
     let all : size - 0 ≡ size = omega arith in
     rw (none, all) refl
 
@@ -67,8 +67,8 @@ set_rest count k words lt =
       drop-replicate (suc k) count zeros,
     ) refl
 
-length_reached : (held : Pages) (r : ℕ) → length held ≤ r → length (held ++ rest (r - length held)) ≡ r
-length_reached held r past =
+length_reached : (held : Pages) {r : ℕ} → length held ≤ r → length (held ++ rest (r - length held)) ≡ r
+length_reached held {r} past =
     let both = length-append held (rest (r - length held)) in
     let more = length-replicate {A = List ℕ} (r - length held) zeros in
     omega (arith, both, more)
@@ -77,7 +77,7 @@ pub write_past : (held : Pages) (size r : ℕ) (words : List ℕ) → length hel
     → pages_of ((held ++ rest (r - length held)) ++ words ∷ []) size ≡ set (pages_of held size) r words
 unfolding pages_of
 write_past held size r words past lt =
-    let reach : length (held ++ rest (r - length held)) ≡ r = length_reached held r past in
+    let reach : length (held ++ rest (r - length held)) ≡ r = length_reached held past in
     let long : length ((held ++ rest (r - length held)) ++ words ∷ []) ≡ r + 1 =
     length_push (held ++ rest (r - length held)) words ∙ ap (λ n. n + 1) reach in
     let left : size - length held - suc (r - length held) ≡ size - (r + 1) = omega arith in
@@ -90,9 +90,9 @@ write_past held size r words past lt =
       left,
     ) refl
 
-pub written_held : (held : Pages) (size room r : ℕ) (words : List ℕ) → AreHeld held size room → length words ≡ 1024
-    → AreHeld (set held r words) size room
-written_held held size room r words h full =
+pub written_held : {held : Pages} {size room : ℕ} (r : ℕ) (words : List ℕ) → AreHeld held size room
+    → length words ≡ 1024 → AreHeld (set held r words) size room
+written_held {held} r words h full =
     let long = length-set held r words in
     let within = h.within in
     record {
@@ -102,10 +102,11 @@ written_held held size room r words h full =
       full = All-set (λ page. length page ≡ 1024) held r words full h.full;
     }
 
-pub written_past : (held : Pages) (size room r : ℕ) (words : List ℕ) → AreHeld held size room → length words ≡ 1024
+pub written_past : {held : Pages} {size room : ℕ} (r : ℕ) (words : List ℕ) → AreHeld held size room
+    → length words ≡ 1024
     → length held ≤ r → r < size → AreHeld ((held ++ rest (r - length held)) ++ words ∷ []) size room
-written_past held size room r words h full past lt =
-    let reach : length (held ++ rest (r - length held)) ≡ r = length_reached held r past in
+written_past {held} r words h full past lt =
+    let reach : length (held ++ rest (r - length held)) ≡ r = length_reached held past in
     let long = length_push (held ++ rest (r - length held)) words in
     record {
       within = omega (arith, long, reach);
@@ -116,19 +117,20 @@ written_past held size room r words h full past lt =
           (rest_full (r - length held))) full;
     }
 
-pub new_full : (held : Pages) (size : ℕ) → held ≡ [] → HaveFullPages (pages_of held size)
-new_full held size none = rw (new_pages held size none) (rest_full size)
+pub new_full : {held : Pages} (size : ℕ) → held ≡ [] → HaveFullPages (pages_of held size)
+new_full {held} size none = rw (new_pages size none) (rest_full size)
 
-pub below_size : (held : Pages) (size room : ℕ) (pages : Pages) (r : ℕ) → AreHeld held size room
+pub below_size : {held : Pages} {size room : ℕ} {pages : Pages} (r : ℕ) → AreHeld held size room
     → pages_of held size ≡ pages → r < length pages → r < size
-below_size held size room pages r h view lt =
-    let all = length_pages held size room h in
+below_size {held} {size} {room} r h view lt =
+    let all = length_pages h in
     let same = ap length view in
     omega (arith, all, same, lt)
 
-pub reach_more : (old now next : Pages) (counter : ℕ) (words : List ℕ) → now ≡ old ++ rest (counter - length old)
+pub reach_more : (old : Pages) {now next : Pages} (counter : ℕ) {words : List ℕ}
+    → now ≡ old ++ rest (counter - length old)
     → length old ≤ counter → next ≡ now ++ words ∷ [] → words ≡ zeros → next ≡ old ++ rest (counter + 1 - length old)
-reach_more old now next counter words reached past is zero =
+reach_more old counter reached past is zero =
     let one : counter + 1 - length old ≡ counter - length old + 1 = omega arith in
     rw (
       is,
@@ -140,20 +142,21 @@ reach_more old now next counter words reached past is zero =
     ) refl
 
 -- a page that is held is written
-pub write_held_page : (held pages : Pages) (size r : ℕ) (words from : List ℕ) → pages_of held size ≡ pages
+pub write_held_page : (held : Pages) {pages : Pages} (size r : ℕ) {words from : List ℕ} → pages_of held size ≡ pages
     → r < length held → words ≡ from → pages_of (set held r words) size ≡ set pages r from
-write_held_page held pages size r words from view lt is =
+write_held_page held size r {from} view lt is =
     rw is (write_held held size r from lt) ∙ ap (λ (ps : Pages). set ps r from) view
 
 -- a page past those held is written
-pub write_past_page : (held now next pages : Pages) (size r : ℕ) (words from : List ℕ) → pages_of held size ≡ pages
+pub write_past_page : (held : Pages) {now next pages : Pages} (size r : ℕ) {words from : List ℕ}
+    → pages_of held size ≡ pages
     → length held ≤ r → r < size → now ≡ held ++ rest (r - length held) → next ≡ now ++ words ∷ [] → words ≡ from
     → pages_of next size ≡ set pages r from
-write_past_page held now next pages size r words from view past lt reach is same =
+write_past_page held size r {from} view past lt reach is same =
     rw (is, reach, same) (write_past held size r from past lt) ∙ ap (λ (ps : Pages). set ps r from) view
 
-pub held_past_page : (held now next : Pages) (size room room' r : ℕ) (words : List ℕ) → AreHeld held size room
+pub held_past_page : {held now next : Pages} {size room room' : ℕ} (r : ℕ) (words : List ℕ) → AreHeld held size room
     → room' ≡ room → length words ≡ 1024 → length held ≤ r → r < size → now ≡ held ++ rest (r - length held)
     → next ≡ now ++ words ∷ [] → AreHeld next size room'
-held_past_page held now next size room room' r words h same full past lt reach is =
-    rw (same, is, reach) (written_past held size room r words h full past lt)
+held_past_page {held} {size} {room} r words h same full past lt reach is =
+    rw (same, is, reach) (written_past r words h full past lt)

@@ -44,15 +44,14 @@ named_none write zero = refl
 named_none write (suc n) = let ih = named_none write n in omega (arith, ih)
 
 -- a line that isn't onward names one call of its kind, and none of the other
-names_at : (line : FailLine) (write : Bool) (n : ℕ) (k z : Bool) → line.onward ≡ false → beq line.write write ≡ k
-    → eqb line.number n ≡ z
-    → cond {A = ℕ} (names write n line || false) 1 0 ≡ cond {A = ℕ} (k && z) 1 0
-names_at line write n k false single kind number = rw (kind, single, number) (none k)
+names_at : (line : FailLine) (write : Bool) (n : ℕ) {k z : Bool} → line.onward ≡ false → beq line.write write ≡ k
+    → eqb line.number n ≡ z → cond {A = ℕ} (names write n line || false) 1 0 ≡ cond {A = ℕ} (k && z) 1 0
+names_at line write n {k} {z = false} single kind number = rw (kind, single, number) (none k)
   where
     none : (b : Bool) → cond {A = ℕ} ((b && false) || false) 1 0 ≡ cond {A = ℕ} (b && false) 1 0
     none true = refl
     none false = refl
-names_at line write n k true single kind number = rw (kind, single, number) (some k)
+names_at line write n {k} {z = true} single kind number = rw (kind, single, number) (some k)
   where
     some : (b : Bool) → cond {A = ℕ} ((b && true) || false) 1 0 ≡ cond {A = ℕ} (b && true) 1 0
     some true = refl
@@ -70,26 +69,23 @@ named_one line write (suc n) single = go (eqb_tells line.number (suc n)) (beq li
     (named_one line write n single)
   where
     go : ((eqb line.number (suc n) ≡ true) × (line.number ≡ suc n))
-        ⊎ ((eqb line.number (suc n) ≡ false) × (line.number ≢ suc n)) → (k : Bool)
-        → beq line.write write ≡ k
+        ⊎ ((eqb line.number (suc n) ≡ false) × (line.number ≢ suc n)) → (k : Bool) → beq line.write write ≡ k
         → NamesOne line write n → NamesOne line write (suc n)
-    go (inl h) true kind ih = let add = names_at line write (suc n) true true single kind h.0 in let zero_before =
-        ih.early (omega (arith, h.1)) in
+    go (inl h) true kind ih = let add = names_at line write (suc n) {k = true} {z = true} single kind h.0 in
+        let zero_before = ih.early (omega (arith, h.1)) in
         record { most = omega (arith, add, zero_before); early = λ lt. absurd (omega (arith, h.1)) }
-    go (inl h) false kind ih = let add = names_at line write (suc n) false true single kind h.0 in let zero_before =
-        ih.early (omega (arith, h.1)) in
+    go (inl h) false kind ih = let add = names_at line write (suc n) {k = false} {z = true} single kind h.0 in
+        let zero_before = ih.early (omega (arith, h.1)) in
         record { most = omega (arith, add, zero_before); early = λ lt. absurd (omega (arith, h.1)) }
-    go (inr h) true kind ih = let add = names_at line write (suc n) true false single kind h.0 in
+    go (inr h) true kind ih = let add = names_at line write (suc n) {k = true} {z = false} single kind h.0 in
         record {
           most = omega (arith, add, ih.most);
-          early =
-              λ lt. (let zero_before = ih.early (omega arith) in omega (arith, add, zero_before));
+          early = λ lt. (let zero_before = ih.early (omega arith) in omega (arith, add, zero_before));
         }
-    go (inr h) false kind ih = let add = names_at line write (suc n) false false single kind h.0 in
+    go (inr h) false kind ih = let add = names_at line write (suc n) {k = false} {z = false} single kind h.0 in
         record {
           most = omega (arith, add, ih.most);
-          early =
-              λ lt. (let zero_before = ih.early (omega arith) in omega (arith, add, zero_before));
+          early = λ lt. (let zero_before = ih.early (omega arith) in omega (arith, add, zero_before));
         }
 
 -- and none of the other kind
@@ -126,8 +122,7 @@ few_faults (line ∷ lines) a b none =
 
 -- a call that a line names raises the count of faults, and no call lowers it
 pub rose_next : (lines : List FailLine) (write : Bool) (n now other : ℕ) → n < 2 ^ 64 → now ≡ counted n
-    → names_next lines write n ≡ true
-    → Rose (named_calls lines write n + other) (named_calls lines write now + other)
+    → names_next lines write n ≡ true → Rose (named_calls lines write n + other) (named_calls lines write now + other)
 rose_next lines write n now other fits is named =
     let more : named_calls lines write (counted n) ≡ named_calls lines write n + 1 = named_more lines write n fits
     ∙ rw named refl in
@@ -151,8 +146,7 @@ grows_next lines write n now fits is = rw is (omega (arith, named_more lines wri
 
 -- the same of a drive in core, in the terms in which a call's steps give it
 pub read_rose : (lines fs : List FailLine) (reads writes now : ℕ) → reads < 2 ^ 64 → now ≡ counted reads → fs ≡ lines
-    → true ≡ names_next fs false reads
-    → Rose (named_calls lines false reads + named_calls lines true writes)
+    → true ≡ names_next fs false reads → Rose (named_calls lines false reads + named_calls lines true writes)
     (named_calls lines false now + named_calls lines true writes)
 read_rose lines fs reads writes now fits is same named =
     rose_next lines false reads now (named_calls lines true writes) fits is
@@ -164,8 +158,7 @@ pub read_grows : (lines : List FailLine) (reads writes now : ℕ) → reads < 2 
 read_grows lines reads writes now fits is = let more = grows_next lines false reads now fits is in omega (arith, more)
 
 pub write_rose : (lines fs : List FailLine) (reads writes now : ℕ) → writes < 2 ^ 64 → now ≡ counted writes → fs
-    ≡ lines → true ≡ names_next fs true writes
-    → Rose (named_calls lines false reads + named_calls lines true writes)
+    ≡ lines → true ≡ names_next fs true writes → Rose (named_calls lines false reads + named_calls lines true writes)
     (named_calls lines false reads + named_calls lines true now)
 write_rose lines fs reads writes now fits is same named =
     let rose = rose_next lines true writes now (named_calls lines false reads) fits is
@@ -178,11 +171,9 @@ pub write_grows : (lines : List FailLine) (reads writes now : ℕ) → writes < 
 write_grows lines reads writes now fits is = let more = grows_next lines true writes now fits is in omega (arith, more)
 
 pub read_once : (lines fs : List FailLine) (reads writes now : ℕ) → reads < 2 ^ 64 → now ≡ counted reads → fs ≡ lines
-    → true ≡ names_next fs false reads
-    → IsOneMore (named_calls lines false reads + named_calls lines true writes)
+    → true ≡ names_next fs false reads → IsOneMore (named_calls lines false reads + named_calls lines true writes)
     (named_calls lines false now + named_calls lines true writes)
-read_once lines fs reads writes now fits is same named = λ low.
-    (let one = once_next lines false reads now fits is
+read_once lines fs reads writes now fits is same named = λ low. (let one = once_next lines false reads now fits is
     (ap (λ (ls : List FailLine). names_next ls false reads) (sym same) ∙ sym named) in
     omega (arith, one))
 
@@ -199,8 +190,7 @@ pub write_once : (lines fs : List FailLine) (reads writes now : ℕ) → writes 
     ≡ lines → true ≡ names_next fs true writes
     → IsOneMore (named_calls lines false reads + named_calls lines true writes)
     (named_calls lines false reads + named_calls lines true now)
-write_once lines fs reads writes now fits is same named = λ low.
-    (let one = once_next lines true writes now fits is
+write_once lines fs reads writes now fits is same named = λ low. (let one = once_next lines true writes now fits is
     (ap (λ (ls : List FailLine). names_next ls true writes) (sym same) ∙ sym named) in
     omega (arith, one))
 

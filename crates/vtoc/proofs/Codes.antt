@@ -1,30 +1,30 @@
 use Rattle.vtoc.proofs.Prelude.{◌≡◌, ◌≢◌, ℕ, zero, suc, ◌<◌, List, ◌∷◌, length, Option, None, Some, refl, sym, ap, ◌∙◌, get_or, set, replicate, inl, inr, [], Bool, true, false, ◌&&◌, ◌==◌, ◌↔◌, IsTrue, map, list_all, eqb_tells, map-set, get_or-map, no_records, record_of, records_of}
 
 -- a place by its code
-pub read_code : (codes : List ℕ) (p code : ℕ) → p < length codes → get_or codes p 0 ≡ code
+pub read_code : (codes : List ℕ) (p : ℕ) {code : ℕ} → p < length codes → get_or codes p 0 ≡ code
     → get_or (records_of codes) p None ≡ record_of code
 unfolding records_of
-read_code codes p code inside is = get_or-map record_of codes p 0 None inside ∙ ap record_of is
+read_code codes p inside is = cc (get_or-map record_of codes p 0 None inside)
 
-pub read_none : (codes : List ℕ) (p code : ℕ) → p < length codes → get_or codes p 0 ≡ code → code ≡ 65535 → None
+pub read_none : (codes : List ℕ) (p : ℕ) {code : ℕ} → p < length codes → get_or codes p 0 ≡ code → code ≡ 65535 → None
     ≡ get_or (records_of codes) p None
-read_none codes p code inside is none = sym (read_code codes p code inside is ∙ rw none refl)
+read_none codes p {code} inside is none = sym (read_code codes p inside is ∙ rw none refl)
 
-pub read_some : (codes : List ℕ) (p code : ℕ) → p < length codes → get_or codes p 0 ≡ code → code ≢ 65535 → Some code
-    ≡ get_or (records_of codes) p None
-read_some codes p code inside is other = sym (read_code codes p code inside is ∙
+pub read_some : (codes : List ℕ) (p : ℕ) {code : ℕ} → p < length codes → get_or codes p 0 ≡ code → code ≢ 65535
+    → Some code ≡ get_or (records_of codes) p None
+read_some codes p {code} inside is other = sym (read_code codes p inside is ∙
     elim (eqb_tells code 65535) [ inl h ↦ absurd (other h.1) | inr h ↦ rw h.0 refl ])
 
 -- a place after its code is written
-pub write_code : (codes : List ℕ) (p code : ℕ) (r : Option ℕ) → record_of code ≡ r → records_of (set codes p code)
+pub write_code : (codes : List ℕ) (p code : ℕ) {r : Option ℕ} → record_of code ≡ r → records_of (set codes p code)
     ≡ set (records_of codes) p r
 unfolding records_of
-write_code codes p code r is = map-set record_of codes p code ∙ ap (λ (x : Option ℕ). set (records_of codes) p x) is
+write_code codes p code is = cc (map-set record_of codes p code)
 
 map_none : (n : ℕ) → records_of (replicate n 65535) ≡ replicate n None
 unfolding records_of
 map_none zero = refl
-map_none (suc n) = ap (λ (xs : List (Option ℕ)). None ∷ xs) (map_none n)
+map_none (suc n) = cc (map_none n)
 
 -- codes of the highest number name no record
 pub codes_of_none : records_of (replicate 256 65535) ≡ no_records

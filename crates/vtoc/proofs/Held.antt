@@ -4,23 +4,23 @@ use Rattle.vtoc.proofs.Prelude.{◌≡◌, ℕ, suc, ◌+◌, ◌-◌, ◌≤◌
 abbrev rest : ℕ → List Slot
 rest count = replicate count free_slot
 
-pub new_slots : (held : List Slot) (size : ℕ) → held ≡ [] → slots_of held size ≡ rest size
+pub new_slots : {held : List Slot} (size : ℕ) → held ≡ [] → slots_of held size ≡ rest size
 unfolding slots_of
-new_slots held size none =
+new_slots size none =
     let all : size - 0 ≡ size = omega arith in
     rw (none, all) refl
 
-pub length_slots : (held : List Slot) (size room : ℕ) → AreRoomy held size room → length (slots_of held size) ≡ size
+pub length_slots : {held : List Slot} {size room : ℕ} → AreRoomy held size room → length (slots_of held size) ≡ size
 unfolding slots_of
-length_slots held size room h =
+length_slots {held} {size} h =
     let both = length-append held (rest (size - length held)) in
     let more = length-replicate {A = Slot} (size - length held) free_slot in
     let within = h.within in
     omega (arith, both, more, within)
 
-pub size_slots : (held : List Slot) (size room : ℕ) (slots : List Slot) → AreRoomy held size room
+pub size_slots : {held : List Slot} {size room : ℕ} {slots : List Slot} → AreRoomy held size room
     → slots_of held size ≡ slots → size ≡ length slots
-size_slots held size room slots h view = sym (length_slots held size room h) ∙ ap length view
+size_slots {held} {size} {room} h view = cc (length_slots h)
 
 pub slot_held : (held : List Slot) (size e : ℕ) → e < length held → slot_at (slots_of held size) e ≡ slot_at held e
 unfolding slots_of
@@ -49,39 +49,37 @@ used_held held size e slots view used = elim (below_or_past e (length held)) [
   | inl lt ↦ lt
   | inr past ↦ (let free : slot_at slots e ≡ free_slot = ap (λ (ss : List Slot). slot_at ss e) (sym view)
       ∙ slot_past held size e past in
-      absurd (no_uid (slot_at slots e).uid (ap (λ (s : Slot). s.uid) free) used))
+      absurd (no_uid (slot_at slots e).uid (cc) used))
 ]
 
 -- what a read of a held slot gives
-pub held_read : (held : List Slot) (size e : ℕ) (slots : List Slot) (x : Slot) → slots_of held size ≡ slots
+pub held_read : (held : List Slot) (size e : ℕ) {slots : List Slot} {x : Slot} → slots_of held size ≡ slots
     → e < length held → x ≡ get_or held e x → x ≡ slot_at slots e
-held_read held size e slots x view lt read = get_or_read held e x lt read free_slot ∙ sym (slot_held held size e lt)
-    ∙ ap (λ (ss : List Slot). slot_at ss e) view
+held_read held size e {x} view lt read = cc (get_or_read held e x lt read free_slot, slot_held held size e lt)
 
-pub past_read : (held : List Slot) (size e : ℕ) (slots : List Slot) → slots_of held size ≡ slots → length held ≤ e
+pub past_read : (held : List Slot) (size e : ℕ) {slots : List Slot} → slots_of held size ≡ slots → length held ≤ e
     → None ≡ (slot_at slots e).uid
-past_read held size e slots view past = ap (λ (s : Slot). s.uid) (sym (slot_past held size e past))
+past_read held size e view past = ap (λ (s : Slot). s.uid) (sym (slot_past held size e past))
     ∙ ap (λ (ss : List Slot). (slot_at ss e).uid) view
 
 -- a held slot is written
-pub set_held : (held : List Slot) (size e : ℕ) (slots : List Slot) (x y : Slot) → slots_of held size ≡ slots
+pub set_held : (held : List Slot) (size e : ℕ) {slots : List Slot} {x y : Slot} → slots_of held size ≡ slots
     → e < length held → x ≡ y → slots_of (set held e x) size ≡ set slots e y
 unfolding slots_of
-set_held held size e slots x y view lt same =
-    rw (same, length-set held e y) (sym (set-append_left held (rest (size - length held)) e y lt)
-    ∙ ap (λ (ss : List Slot). set ss e y) view)
+set_held held size e {y} view lt same =
+    rw (same, length-set held e y) (cc (set-append_left held (rest (size - length held)) e y lt))
 
-pub roomy_set : (held : List Slot) (size room e : ℕ) (x : Slot) → AreRoomy held size room
+pub roomy_set : {held : List Slot} {size room : ℕ} (e : ℕ) (x : Slot) → AreRoomy held size room
     → AreRoomy (set held e x) size room
-roomy_set held size room e x h =
+roomy_set {held} e x h =
     let long = length-set held e x in
     let within = h.within in
     record { within = omega (arith, long, within); roomy = h.roomy }
 
 -- each slot before e has a uid, so e is at most the first that isn't held
-pub at_end : (held : List Slot) (size e : ℕ) (slots : List Slot) → slots_of held size ≡ slots → length held ≤ e
+pub at_end : (held : List Slot) (size : ℕ) {e : ℕ} {slots : List Slot} → slots_of held size ≡ slots → length held ≤ e
     → ((k : ℕ) → k < e → is_some (slot_at slots k).uid ≡ true) → e ≡ length held
-at_end held size e slots view past before = elim (below_or_past (length held) e) [
+at_end held size {e} {slots} view past before = elim (below_or_past (length held) e) [
   | inl lt ↦ absurd (let no = used_held held size (length held) slots view (before (length held) lt) in
       omega (arith, no))
   | inr le ↦ omega (arith, le, past)
@@ -105,25 +103,22 @@ push_same held size y lt =
 abbrev pub slot_with : Option ℕ → List (Option ℕ) → Slot
 slot_with uid map = record { uid = uid; map = map }
 
-slot_same : (uid uid' : Option ℕ) (map map' : List (Option ℕ)) → uid ≡ uid' → map ≡ map'
+slot_same : {uid uid' : Option ℕ} {map map' : List (Option ℕ)} → uid ≡ uid' → map ≡ map'
     → slot_with uid map ≡ slot_with uid' map'
-slot_same uid uid' map map' same empty = rw (same, empty) refl
+slot_same same empty = rw (same, empty) refl
 
-pub push_held : (held next : List Slot) (size e : ℕ) (slots : List Slot) (x : Slot) (uid : ℕ)
+pub push_held : (held : List Slot) {next : List Slot} (size : ℕ) {e : ℕ} {slots : List Slot} (x : Slot) {uid : ℕ}
     → slots_of held size ≡ slots → e ≡ length held → e < size → next ≡ held ++ x ∷ [] → x.uid ≡ Some uid
-    → x.map ≡ no_records
-    → slots_of next size ≡ set slots e (record { uid = Some uid; map = (slot_at slots e).map })
-push_held held next size e slots x uid view end lt is named empty =
+    → x.map ≡ no_records → slots_of next size ≡ set slots e (record { uid = Some uid; map = (slot_at slots e).map })
+push_held held size {e} {slots} x {uid} view end lt is named empty =
     let map : (slot_at slots e).map ≡ no_records = ap (λ (ss : List Slot). (slot_at ss e).map) (sym view)
     ∙ ap (λ (s : Slot). s.map) (slot_past held size e (omega (arith, end))) in
     let y : Slot = record { uid = Some uid; map = (slot_at slots e).map } in
-    let same : x ≡ y = slot_same x.uid (Some uid) x.map (slot_at slots e).map named (empty ∙ sym map) in
-    ap (λ (ss : List Slot). slots_of ss size) (is ∙ ap (λ (s : Slot). held ++ s ∷ []) same)
-    ∙ push_same held size y (omega (arith, end, lt))
-    ∙ ap (λ k. set (slots_of held size) k y) (sym end) ∙ ap (λ (ss : List Slot). set ss e y) view
+    let same : x ≡ y = slot_same named (cc) in
+    cc (push_same held size y (omega (arith, end, lt)))
 
-pub roomy_push : (held next : List Slot) (size room room' e : ℕ) (x : Slot) → AreRoomy held size room
+pub roomy_push : {held next : List Slot} {size room room' e : ℕ} (x : Slot) → AreRoomy held size room
     → room' ≡ room → e ≡ length held → e < size → next ≡ held ++ x ∷ [] → AreRoomy next size room'
-roomy_push held next size room room' e x h same end lt is =
+roomy_push {held} x h same end lt is =
     let long = length_push held x in
     rw (is, same) (record { within = omega (arith, long, end, lt); roomy = h.roomy })

@@ -10,7 +10,7 @@ unfolding table_of
 entry_is slots e = elim (below_or_past e (length slots)) [
   | inl lt ↦ get_or-map entry_of slots e free_slot None lt
   | inr past ↦ (let long : length (map entry_of slots) ≤ e = omega (arith, length-map slots entry_of) in
-      get_or_past (map entry_of slots) e None long ∙ sym (ap entry_of (get_or_past slots e free_slot past)))
+      cc (get_or_past (map entry_of slots) e None long, get_or_past slots e free_slot past))
 ]
 
 -- a write to a slot is one to its entry
@@ -24,10 +24,10 @@ pub uid_seen : (uid : Option ℕ) (records : List (Option ℕ)) → uid_of (seen
 uid_seen None records = refl
 uid_seen (Some uid) records = refl
 
-pub records_seen : (uid : Option ℕ) (records : List (Option ℕ)) → (uid ≡ None → records ≡ no_records)
+pub records_seen : (uid : Option ℕ) {records : List (Option ℕ)} → (uid ≡ None → records ≡ no_records)
     → records_in (seen_as uid records) ≡ records
-records_seen None records empty = sym (empty refl)
-records_seen (Some uid) records empty = refl
+records_seen None empty = sym (empty refl)
+records_seen (Some uid) empty = refl
 
 pub some_seen : (uid : Option ℕ) (records : List (Option ℕ)) → IsSome (seen_as uid records) → is_some uid ≡ true
 some_seen None records h = cc
@@ -52,18 +52,17 @@ with_record_seen None records p r = refl
 with_record_seen (Some uid) records p r = refl
 
 -- a bit says whether its slot has a uid
-pub bit_is : (in_use_ : List Bool) (slots : List Slot) (e : ℕ) → IsMarked in_use_ slots → in_use in_use_ e
+pub bit_is : {in_use_ : List Bool} {slots : List Slot} (e : ℕ) → IsMarked in_use_ slots → in_use in_use_ e
     ≡ is_some (slot_at slots e).uid
-bit_is flags slots e h = ap (λ (fs : List Bool). in_use fs e) h.marks ∙ elim (below_or_past e (length slots)) [
+bit_is {slots} e h = ap (λ (fs : List Bool). in_use fs e) h.marks ∙ elim (below_or_past e (length slots)) [
   | inl lt ↦ get_or-map (λ (slot : Slot). is_some slot.uid) slots e free_slot false lt
   | inr past ↦ (let long : length (map (λ (slot : Slot). is_some slot.uid) slots) ≤ e =
       omega (arith, length-map slots (λ (slot : Slot). is_some slot.uid)) in
-      get_or_past (map (λ (slot : Slot). is_some slot.uid) slots) e false long
-      ∙ sym (ap (λ (slot : Slot). is_some slot.uid) (get_or_past slots e free_slot past)))
+      cc (get_or_past (map (λ (slot : Slot). is_some slot.uid) slots) e false long, get_or_past slots e free_slot past))
 ]
 
-pub length_bits : (flags : List Bool) (slots : List Slot) → IsMarked flags slots → length flags ≡ length slots
-length_bits flags slots h = ap length h.marks ∙ length-map slots (λ (slot : Slot). is_some slot.uid)
+pub length_bits : {flags : List Bool} {slots : List Slot} → IsMarked flags slots → length flags ≡ length slots
+length_bits {slots} h = cc (length-map slots (λ (slot : Slot). is_some slot.uid))
 
 -- where entry e stands in the slots of a table that is seen as `table`
 pub record IsKept (flags : List Bool) (slots : List Slot) (table : List (Option Entry)) (e : ℕ) : Type 0 where
@@ -72,15 +71,14 @@ pub record IsKept (flags : List Bool) (slots : List Slot) (table : List (Option 
   pub uid : uid_of (entry_at table e) ≡ (slot_at slots e).uid
 
 pub kept : (flags : List Bool) (slots : List Slot) (table : List (Option Entry)) (e : ℕ) → IsMarked flags slots
-    → table_of slots ≡ table
-    → IsKept flags slots table e
+    → table_of slots ≡ table → IsKept flags slots table e
 kept flags slots table e h view =
     let entry : entry_at table e ≡ entry_of (slot_at slots e) =
     ap (λ (t : List (Option Entry)). entry_at t e) (sym view) ∙ entry_is slots e in
     record {
       entry = entry;
-      records = ap records_in entry ∙ records_seen (slot_at slots e).uid (slot_at slots e).map (h.empty e);
-      uid = ap uid_of entry ∙ uid_seen (slot_at slots e).uid (slot_at slots e).map;
+      records = cc (records_seen (slot_at slots e).uid (h.empty e));
+      uid = cc (uid_seen (slot_at slots e).uid (slot_at slots e).map);
     }
 
 -- a used entry is one that the table has
@@ -89,71 +87,65 @@ used_inside [] e h = cc
 used_inside (entry ∷ table) zero h = omega arith
 used_inside (entry ∷ table) (suc e) h = let lt = used_inside table e h in omega (arith, lt)
 
-pub used_slot : (flags : List Bool) (slots : List Slot) (table : List (Option Entry)) (e : ℕ) → IsMarked flags slots
-    → table_of slots ≡ table
-    → IsSome (entry_at table e) → e < length slots
-used_slot flags slots table e h view used =
+pub used_slot : {flags : List Bool} {slots : List Slot} {table : List (Option Entry)} (e : ℕ) → IsMarked flags slots
+    → table_of slots ≡ table → IsSome (entry_at table e) → e < length slots
+used_slot {slots} {table} e h view used =
     let lt = used_inside table e used in omega (arith, lt, ap length view, length_table slots)
 
 -- the slot of a used entry has a uid
-pub has_uid : (flags : List Bool) (slots : List Slot) (table : List (Option Entry)) (e : ℕ) → IsMarked flags slots
-    → table_of slots ≡ table
-    → IsSome (entry_at table e) → is_some (slot_at slots e).uid ≡ true
-has_uid flags slots table e h view used = some_seen (slot_at slots e).uid (slot_at slots e).map
+pub has_uid : {flags : List Bool} {slots : List Slot} {table : List (Option Entry)} (e : ℕ) → IsMarked flags slots
+    → table_of slots ≡ table → IsSome (entry_at table e) → is_some (slot_at slots e).uid ≡ true
+has_uid {flags} {slots} {table} e h view used = some_seen (slot_at slots e).uid (slot_at slots e).map
     (rw (← (kept flags slots table e h view).entry) used)
 
-pub used_bit : (flags : List Bool) (slots : List Slot) (table : List (Option Entry)) (e : ℕ) → IsMarked flags slots
-    → table_of slots ≡ table
-    → IsSome (entry_at table e) → in_use flags e ≡ true
-used_bit flags slots table e h view used =
-    bit_is flags slots e h ∙ has_uid flags slots table e h view used
+pub used_bit : {flags : List Bool} {slots : List Slot} {table : List (Option Entry)} (e : ℕ) → IsMarked flags slots
+    → table_of slots ≡ table → IsSome (entry_at table e) → in_use flags e ≡ true
+used_bit {flags} {slots} {table} e h view used = bit_is e h ∙ has_uid e h view used
 
 -- a slot is what a read of it gives
 pub read_self : (slots : List Slot) (e : ℕ) → e < length slots → slot_at slots e ≡ get_or slots e (slot_at slots e)
 read_self slots e lt = get_or_default slots e free_slot (slot_at slots e) lt
 
 -- the bits and the slots after slot e is written, with a bit that says whether it has a uid now
-pub marked_with : (flags : List Bool) (slots : List Slot) (e : ℕ) (slot : Slot) → IsMarked flags slots
-    → e < length slots
-    → (slot.uid ≡ None → slot.map ≡ no_records) → length slot.map ≡ 256
+pub marked_with : {flags : List Bool} {slots : List Slot} (e : ℕ) (slot : Slot) → IsMarked flags slots
+    → e < length slots → (slot.uid ≡ None → slot.map ≡ no_records) → length slot.map ≡ 256
     → IsMarked (set flags e (is_some slot.uid)) (set slots e slot)
-marked_with flags slots e slot h lt empty long = record {
+marked_with {slots} e slot h lt empty long = record {
   short = rw (length-set slots e slot) h.short;
-  marks = ap (λ (fs : List Bool). set fs e (is_some slot.uid)) h.marks
-      ∙ sym (map-set (λ (slot : Slot). is_some slot.uid) slots e slot);
+  marks = cc (map-set (λ (slot : Slot). is_some slot.uid) slots e slot);
   empty = λ k none. elim (cases_eq k e) [
     | inl same ↦ (let here : slot_at (set slots e slot) k ≡ slot =
         rw same (get_or-set_same slots e slot free_slot lt) in
-        ap (λ (s : Slot). s.map) here ∙ empty (ap (λ (s : Slot). s.uid) (sym here) ∙ none))
+        cc (empty (ap (λ (s : Slot). s.uid) (sym here) ∙ none)))
     | inr ne ↦ (let there : slot_at (set slots e slot) k ≡ slot_at slots k =
         get_or-set_other slots e k slot free_slot ne in
-        ap (λ (s : Slot). s.map) there ∙ h.empty k (ap (λ (s : Slot). s.uid) (sym there) ∙ none))
+        cc (h.empty k (ap (λ (s : Slot). s.uid) (sym there) ∙ none)))
   ];
   places = λ k. elim (cases_eq k e) [
     | inl same ↦ (let here : slot_at (set slots e slot) k ≡ slot =
         rw same (get_or-set_same slots e slot free_slot lt) in
-        ap (λ (s : Slot). length s.map) here ∙ long)
+        cc)
     | inr ne ↦ (let there : slot_at (set slots e slot) k ≡ slot_at slots k =
         get_or-set_other slots e k slot free_slot ne in
-        ap (λ (s : Slot). length s.map) there ∙ h.places k)
+        cc (h.places k))
   ];
 }
 
 -- the bits are as before where the slot keeps its uid
-pub marked_same : (flags : List Bool) (slots : List Slot) (e : ℕ) (slot : Slot) → IsMarked flags slots
+pub marked_same : {flags : List Bool} {slots : List Slot} (e : ℕ) (slot : Slot) → IsMarked flags slots
     → e < length slots
     → (slot.uid ≡ None → slot.map ≡ no_records) → length slot.map ≡ 256 → is_some slot.uid ≡ in_use flags e
     → IsMarked flags (set slots e slot)
-marked_same flags slots e slot h lt empty long same =
+marked_same {flags} {slots} e slot h lt empty long same =
     let bits : set flags e (is_some slot.uid) ≡ flags = ap (λ (b : Bool). set flags e b) same
     ∙ set-get_or flags e false in
-    rw bits at (marked_with flags slots e slot h lt empty long)
+    rw bits at (marked_with e slot h lt empty long)
 
 -- a file map of 256 places that names no record is the empty one
-pub map_is_empty : (records : List (Option ℕ)) → length records ≡ 256 → ((p : ℕ) → get_or records p None ≡ None)
+pub map_is_empty : {records : List (Option ℕ)} → length records ≡ 256 → ((p : ℕ) → get_or records p None ≡ None)
     → records ≡ no_records
 unfolding no_records
-map_is_empty records long none =
+map_is_empty {records} long none =
     ext_get_or None records (replicate 256 None) (long ∙ sym (length-replicate {A = Option ℕ} 256 None))
     (λ p lt. let below : p < 256 = omega (arith, long) in none p
     ∙ sym (get_or-replicate {A = Option ℕ} 256 p None None below))
@@ -167,55 +159,47 @@ unfolding no_records
 length_no_records = length-replicate {A = Option ℕ} 256 None
 
 -- the least place by the bits is the least by the entries
-first_step : (uid : Option ℕ) (records : List (Option ℕ)) (a b : ℕ) → a ≡ b
+first_step : (uid : Option ℕ) (records : List (Option ℕ)) {a b : ℕ} → a ≡ b
     → cond (not (not (is_some uid))) (1 + a) 0 ≡ cond (not (is_none (seen_as uid records))) (1 + b) 0
-first_step None records a b e = refl
-first_step (Some uid) records a b e = ap (λ n. 1 + n) e
+first_step None records e = refl
+first_step (Some uid) records e = cc
 
 first_same : (slots : List Slot) → prefix_len (λ flag. not (not flag)) (map (λ (slot : Slot). is_some slot.uid) slots)
-    ≡ prefix_len
-    (λ entry. not (is_none entry)) (map entry_of slots)
+    ≡ prefix_len (λ entry. not (is_none entry)) (map entry_of slots)
 first_same [] = refl
-first_same (slot ∷ slots) = first_step slot.uid slot.map _ _ (first_same slots)
+first_same (slot ∷ slots) = first_step slot.uid slot.map (first_same slots)
 
-pub least_same : (flags : List Bool) (slots : List Slot) (table : List (Option Entry)) → IsMarked flags slots
-    → table_of slots ≡ table
-    → least_free flags ≡ least_free_entry table
+pub least_same : {flags : List Bool} {slots : List Slot} {table : List (Option Entry)} → IsMarked flags slots
+    → table_of slots ≡ table → least_free flags ≡ least_free_entry table
 unfolding table_of
-least_same flags slots table h view =
+least_same {flags} {slots} {table} h view =
     let first : prefix_len (λ flag. not (not flag)) flags ≡ prefix_len (λ entry. not (is_none entry)) table =
     ap (prefix_len (λ flag. not (not flag))) h.marks ∙ first_same slots
     ∙ ap (prefix_len (λ (entry : Option Entry). not (is_none entry))) view in
-    let long : length flags ≡ length table = length_bits flags slots h ∙ sym (length-map slots entry_of)
-    ∙ ap length view in
+    let long : length flags ≡ length table = length_bits h ∙ sym (length-map slots entry_of) ∙ ap length view in
     rw (first, long) refl
 
-pub least_entry : (flags : List Bool) (slots : List Slot) (table : List (Option Entry)) (e : ℕ) → IsMarked flags slots
-    → table_of slots ≡ table
-    → IsLeastFree flags e → IsLeastFreeEntry table e
-least_entry flags slots table e h view least = record {
-  within = omega (arith, least.within, length_bits flags slots h, length_table slots, ap length view);
+pub least_entry : {flags : List Bool} {slots : List Slot} {table : List (Option Entry)} {e : ℕ} → IsMarked flags slots
+    → table_of slots ≡ table → IsLeastFree flags e → IsLeastFreeEntry table e
+least_entry {flags} {slots} {table} {e} h view least = record {
+  within = omega (arith, least.within, length_bits h, length_table slots, ap length view);
   free = (kept flags slots table e h view).entry ∙ none_seen (slot_at slots e).uid (slot_at slots e).map
-      (sym (bit_is flags slots e h) ∙ least.free);
+      (cc (bit_is e h));
   before = λ k lt. ap is_none (kept flags slots table k h view).entry
-      ∙ is_none_seen (slot_at slots k).uid (slot_at slots k).map (sym (bit_is flags slots k h) ∙ least.before k lt);
+      ∙ is_none_seen (slot_at slots k).uid (slot_at slots k).map (sym (bit_is k h) ∙ least.before k lt);
 }
 
-pub all_used : (flags : List Bool) (slots : List Slot) (table : List (Option Entry)) → IsMarked flags slots
-    → table_of slots ≡ table
-    → All (λ flag. flag ≡ true) flags → All (λ entry. IsSome entry) table
-all_used flags slots table h view all =
-    All-from_get_or (λ entry. IsSome entry) table None
+pub all_used : {flags : List Bool} {slots : List Slot} {table : List (Option Entry)} → IsMarked flags slots
+    → table_of slots ≡ table → All (λ flag. flag ≡ true) flags → All (λ entry. IsSome entry) table
+all_used {flags} {slots} {table} h view all = All-from_get_or (λ entry. IsSome entry) table None
     (λ k lt. let inside : k < length flags = omega (
       arith,
-      length_bits flags slots h,
+      length_bits h,
       length_table slots,
-      ap length
-          view,
+      ap length view,
     ) in
-    rw (kept flags slots table k h view).entry
-    (is_some_seen (slot_at slots k).uid (slot_at slots k).map
-    (sym (bit_is flags slots k h) ∙ All-get_or (λ flag. flag ≡ true) flags k false inside all)))
+    rw (kept flags slots table k h view).entry (is_some_seen (slot_at slots k).uid (slot_at slots k).map
+    (sym (bit_is k h) ∙ All-get_or (λ flag. flag ≡ true) flags k false inside all)))
 
 -- the counts are the same
 count_step : (uid : Option ℕ) (records : List (Option ℕ)) → cond {A = ℕ} (is_some uid) 1 0
@@ -235,17 +219,15 @@ count_slots (slot ∷ slots) =
     let ih = count_slots slots in
     omega (arith, a, b, one, ih)
 
-pub count_same : (flags : List Bool) (slots : List Slot) (table : List (Option Entry)) → IsMarked flags slots
-    → table_of slots ≡ table
-    → count_by (λ flag. flag) flags ≡ count_by is_some table
+pub count_same : {flags : List Bool} {slots : List Slot} {table : List (Option Entry)} → IsMarked flags slots
+    → table_of slots ≡ table → count_by (λ flag. flag) flags ≡ count_by is_some table
 unfolding table_of
-count_same flags slots table h view = ap (count_by (λ flag. flag)) h.marks ∙ count_slots slots
-    ∙ ap (count_by is_some) view
+count_same {slots} h view = cc (count_slots slots)
 
 -- an entry that is taken counts for one more, and one that is freed for one less
-pub count_taken : (table : List (Option Entry)) (e uid : ℕ) → IsLeastFreeEntry table e
+pub count_taken : {table : List (Option Entry)} {e : ℕ} (uid : ℕ) → IsLeastFreeEntry table e
     → count_by is_some (set table e (fresh_entry uid)) ≡ count_by is_some table + 1
-count_taken table e uid least =
+count_taken {table} {e} uid least =
     let step = sum_by-set (λ (entry : Option Entry). cond {A = ℕ} (is_some entry) 1 0) table e (fresh_entry uid) None
     least.within in
     let free : cond {A = ℕ} (is_some (entry_at table e)) 1 0 ≡ 0 = rw least.free refl in
@@ -266,34 +248,34 @@ count_freed table e used =
 -- a table that is all free
 table_free : (n : ℕ) → map entry_of (replicate n free_slot) ≡ replicate n None
 table_free zero = refl
-table_free (suc n) = ap (λ (t : List (Option Entry)). None ∷ t) (table_free n)
+table_free (suc n) = cc (table_free n)
 
 bits_free : (n : ℕ) → replicate n false ≡ map (λ (slot : Slot). is_some slot.uid) (replicate n free_slot)
 bits_free zero = refl
-bits_free (suc n) = ap (λ (fs : List Bool). false ∷ fs) (bits_free n)
+bits_free (suc n) = cc (bits_free n)
 
 free_at : (n e : ℕ) → slot_at (replicate n free_slot) e ≡ free_slot
 free_at zero e = refl
 free_at (suc n) zero = refl
 free_at (suc n) (suc e) = free_at n e
 
-pub table_new : (slots : List Slot) (n : ℕ) → slots ≡ replicate n free_slot → table_of slots ≡ replicate n None
+pub table_new : {slots : List Slot} (n : ℕ) → slots ≡ replicate n free_slot → table_of slots ≡ replicate n None
 unfolding table_of
-table_new slots n is = ap (map entry_of) is ∙ table_free n
+table_new n is = cc (table_free n)
 
 pub marked_new : (flags : List Bool) (slots : List Slot) (n : ℕ) → n < 2 ^ 32 → flags ≡ replicate n false → slots
     ≡ replicate n free_slot → IsMarked flags slots
 marked_new flags slots n fits bits is = record {
   short = omega (arith, ap length is, length-replicate {A = Slot} n free_slot);
-  marks = bits ∙ bits_free n ∙ ap (map (λ (slot : Slot). is_some slot.uid)) (sym is);
+  marks = cc (bits_free n);
   empty = λ e _. ap (λ (s : Slot). s.map) (ap (λ (ss : List Slot). slot_at ss e) is ∙ free_at n e);
   places = λ e. ap (λ (s : Slot). length s.map) (ap (λ (ss : List Slot). slot_at ss e) is ∙ free_at n e)
       ∙ length_no_records;
 }
 
 -- the slot that a read gave
-pub slot_read : (slots : List Slot) (e : ℕ) (x : Slot) → e < length slots → x ≡ get_or slots e x → x ≡ slot_at slots e
-slot_read slots e x lt read = get_or_read slots e x lt read free_slot
+pub slot_read : (slots : List Slot) (e : ℕ) {x : Slot} → e < length slots → x ≡ get_or slots e x → x ≡ slot_at slots e
+slot_read slots e {x} lt read = get_or_read slots e x lt read free_slot
 
 -- a place of a used entry's map is written
 used_uid : (uid : Option ℕ) (records : List (Option ℕ)) → is_some uid ≡ true → uid ≡ None → records ≡ no_records
@@ -303,116 +285,110 @@ used_uid (Some uid) records used none = cc
 pub put_marked : (flags : List Bool) (slots : List Slot) (table : List (Option Entry)) (e p : ℕ) (x : Slot)
     (m : List (Option ℕ)) (r : Option ℕ)
     → IsMarked flags slots → table_of slots ≡ table → IsSome (entry_at table e) → x ≡ get_or slots e x → m
-    ≡ set x.map p r
-    → IsMarked flags (set slots e (record { uid = x.uid; map = m }))
+    ≡ set x.map p r → IsMarked flags (set slots e (record { uid = x.uid; map = m }))
 put_marked flags slots table e p x m r h view used read is =
-    let lt = used_slot flags slots table e h view used in
-    let slot = slot_read slots e x lt read in
-    let bit : is_some x.uid ≡ in_use flags e = ap (λ (s : Slot). is_some s.uid) slot ∙ sym (bit_is flags slots e h) in
-    marked_same flags slots e _ h lt (used_uid x.uid m (bit ∙ used_bit flags slots table e h view used))
-    (ap length is ∙ length-set x.map p r ∙ ap (λ (s : Slot). length s.map) slot ∙ h.places e) bit
+    let lt = used_slot e h view used in
+    let slot = slot_read slots e lt read in
+    let bit : is_some x.uid ≡ in_use flags e = ap (λ (s : Slot). is_some s.uid) slot ∙ sym (bit_is e h) in
+    marked_same e _ h lt (used_uid x.uid m (bit ∙ used_bit e h view used)) (cc (length-set x.map p r, h.places e)) bit
 
-pub put_table : (flags : List Bool) (slots : List Slot) (table : List (Option Entry)) (e p : ℕ) (x : Slot)
-    (m : List (Option ℕ)) (r : Option ℕ)
+pub put_table : {flags : List Bool} {slots : List Slot} {table : List (Option Entry)} (e p : ℕ) {x : Slot}
+    {m : List (Option ℕ)} (r : Option ℕ)
     → IsMarked flags slots → table_of slots ≡ table → IsSome (entry_at table e) → x ≡ get_or slots e x → m
     ≡ set x.map p r
     → table_of (set slots e (record { uid = x.uid; map = m })) ≡ set table e (with_record (entry_at table e) p r)
-put_table flags slots table e p x m r h view used read is =
-    let lt = used_slot flags slots table e h view used in
-    let slot = slot_read slots e x lt read in
+put_table {flags} {slots} {table} e p {x} {m} r h view used read is =
+    let lt = used_slot e h view used in
+    let slot = slot_read slots e lt read in
     table_with slots e _ ∙ ap (λ (t : List (Option Entry)). set t e (seen_as x.uid m)) view
-    ∙ ap (λ (entry : Option Entry). set table e entry)
-    (ap (seen_as x.uid) is ∙ with_record_seen x.uid x.map p r
-    ∙ ap (λ (entry : Option Entry). with_record entry p r)
-    (ap entry_of slot ∙ sym (kept flags slots table e h view).entry))
+    ∙ ap (λ (entry : Option Entry). set table e entry) (cc (
+      with_record_seen x.uid x.map p r,
+      (kept flags slots table e h view).entry,
+    ))
 
 placed_in : (entry : Option Entry) (p : ℕ) (r : Option ℕ) → IsSome entry → p < length (records_in entry)
     → get_or (records_in (with_record entry p r)) p None ≡ r
 placed_in None p r used lt = cc
 placed_in (Some entry) p r used lt = get_or-set_same entry.records p r None lt
 
-pub put_placed : (flags : List Bool) (slots : List Slot) (table : List (Option Entry)) (e p : ℕ) (r : Option ℕ)
+pub put_placed : {flags : List Bool} {slots : List Slot} {table : List (Option Entry)} (e p : ℕ) {r : Option ℕ}
     → IsMarked flags slots → table_of slots ≡ table
     → IsSome (entry_at table e) → p < 256 → record_at (set table e (with_record (entry_at table e) p r)) e p ≡ r
-put_placed flags slots table e p r h view used lt =
+put_placed {flags} {slots} {table} e p {r} h view used lt =
     let inside = used_inside table e used in
     let long : length (records_in (entry_at table e)) ≡ 256 = ap length (kept flags slots table e h view).records
     ∙ h.places e in
-    ap (λ (entry : Option Entry). get_or (records_in entry) p None)
-    (get_or-set_same table e (with_record (entry_at table e) p r) None inside)
-    ∙ placed_in (entry_at table e) p r used (omega (arith, long))
+    cc (
+      get_or-set_same table e (with_record (entry_at table e) p r) None inside,
+      placed_in (entry_at table e) p r used (omega (arith, long)),
+    )
 
-pub least_slot : (flags : List Bool) (slots : List Slot) (e : ℕ) → IsMarked flags slots → IsLeastFree flags e
+pub least_slot : {flags : List Bool} {slots : List Slot} {e : ℕ} → IsMarked flags slots → IsLeastFree flags e
     → e < length slots
-least_slot flags slots e h least = omega (arith, least.within, length_bits flags slots h)
+least_slot {flags} {slots} h least = omega (arith, least.within, length_bits h)
 
 -- the least free entry is allocated
-pub allocate_marked : (flags fs : List Bool) (slots : List Slot) (e uid : ℕ) (x : Slot) → IsMarked flags slots
+pub allocate_marked : {flags fs : List Bool} {slots : List Slot} {e : ℕ} (uid : ℕ) {x : Slot} → IsMarked flags slots
     → IsLeastFree flags e → x ≡ get_or slots e x
     → fs ≡ set flags e true → IsMarked fs (set slots e (record { uid = Some uid; map = x.map }))
-allocate_marked flags fs slots e uid x h least read is =
-    let lt : e < length slots = omega (arith, least.within, length_bits flags slots h) in
-    let slot = slot_read slots e x lt read in
-    rw is (marked_with flags slots e _ h lt (λ none. used_uid (Some uid) x.map refl none)
-    (ap (λ (s : Slot). length s.map) slot ∙ h.places e))
+allocate_marked {flags} {slots} {e} uid {x} h least read is =
+    let lt : e < length slots = omega (arith, least.within, length_bits {flags = flags} {slots = slots} h) in
+    let slot = slot_read slots e {x = x} lt read in
+    rw is (marked_with {flags = flags} {slots = slots} e _ h lt (λ none. used_uid (Some uid) x.map refl none)
+    (cc (h.places e)))
 
-pub allocate_table : (flags : List Bool) (slots : List Slot) (table : List (Option Entry)) (e uid : ℕ) (x : Slot)
-    → IsMarked flags slots
-    → table_of slots ≡ table
+pub allocate_table : {flags : List Bool} {slots : List Slot} {table : List (Option Entry)} {e : ℕ} (uid : ℕ) {x : Slot}
+    → IsMarked flags slots → table_of slots ≡ table
     → IsLeastFree flags e → x ≡ get_or slots e x → table_of (set slots e (record { uid = Some uid; map = x.map }))
     ≡ set table e (fresh_entry uid)
-allocate_table flags slots table e uid x h view least read =
-    let lt : e < length slots = omega (arith, least.within, length_bits flags slots h) in
-    let slot = slot_read slots e x lt read in
-    let none = none_there (slot_at slots e).uid (sym (bit_is flags slots e h) ∙ least.free) in
+allocate_table {flags} {slots} {table} {e} uid {x} h view least read =
+    let lt : e < length slots = omega (arith, least.within, length_bits h) in
+    let slot = slot_read slots e lt read in
+    let none = none_there (slot_at slots e).uid (cc (bit_is e h)) in
     table_with slots e _ ∙ ap (λ (t : List (Option Entry)). set t e (seen_as (Some uid) x.map)) view
-    ∙ ap (λ (m : List (Option ℕ)). set table e (seen_as (Some uid) m)) (ap (λ (s : Slot). s.map) slot ∙ h.empty e none)
+    ∙ ap (λ (m : List (Option ℕ)). set table e (seen_as (Some uid) m)) (cc (h.empty e none))
 
 -- a used entry whose map names no record is freed
-pub free_marked : (flags fs : List Bool) (slots : List Slot) (table : List (Option Entry)) (e : ℕ) (x : Slot)
+pub free_marked : {flags fs : List Bool} {slots : List Slot} {table : List (Option Entry)} {e : ℕ} {x : Slot}
     → IsMarked flags slots → table_of slots ≡ table
     → IsSome (entry_at table e) → NamesNoRecord table e → x ≡ get_or slots e x → fs ≡ set flags e false
     → IsMarked fs (set slots e (record { uid = None; map = x.map }))
-free_marked flags fs slots table e x h view used none read is =
-    let lt = used_slot flags slots table e h view used in
-    let slot = slot_read slots e x lt read in
+free_marked {flags} {slots} {table} {e} {x} h view used none read is =
+    let lt = used_slot e h view used in
+    let slot = slot_read slots e lt read in
     let records : records_in (entry_at table e) ≡ x.map = (kept flags slots table e h view).records
     ∙ ap (λ (s : Slot). s.map) (sym slot) in
     let long : length x.map ≡ 256 = ap (λ (s : Slot). length s.map) slot ∙ h.places e in
-    let empty : x.map ≡ no_records = map_is_empty x.map long
-    (λ p. ap (λ (m : List (Option ℕ)). get_or m p None) (sym records) ∙ none.none p) in
-    rw is (marked_with flags slots e _ h lt (λ _. empty) long)
+    let empty : x.map ≡ no_records = map_is_empty long (λ p. cc (none.none p)) in
+    rw is (marked_with e _ h lt (λ _. empty) long)
 
-pub free_table : (slots : List Slot) (table : List (Option Entry)) (e : ℕ) (x : Slot) → table_of slots ≡ table
+pub free_table : (slots : List Slot) {table : List (Option Entry)} (e : ℕ) (x : Slot) → table_of slots ≡ table
     → table_of (set slots e (record { uid = None; map = x.map })) ≡ set table e None
-free_table slots table e x view = table_with slots e _ ∙ ap (λ (t : List (Option Entry)). set t e None) view
+free_table slots e x view = table_with slots e _ ∙ ap (λ (t : List (Option Entry)). set t e None) view
 
 -- an entry that was just allocated names no record
-pub allocate_empty : (flags : List Bool) (slots : List Slot) (table : List (Option Entry)) (e uid : ℕ)
+pub allocate_empty : {flags : List Bool} {slots : List Slot} {table : List (Option Entry)} {e : ℕ} (uid : ℕ)
     → IsMarked flags slots → table_of slots ≡ table
     → IsLeastFree flags e → NamesNoRecord (set table e (fresh_entry uid)) e
-allocate_empty flags slots table e uid h view least =
+allocate_empty {flags} {slots} {table} {e} uid h view least =
     let lt : e < length table = omega (
       arith,
       least.within,
-      length_bits flags slots h,
+      length_bits h,
       length_table slots,
-      ap length
-          view,
+      ap length view,
     ) in
     record {
-      none = λ p. ap (λ (entry : Option Entry). get_or (records_in entry) p None)
-          (get_or-set_same table e (fresh_entry uid) None lt) ∙ no_record p;
+      none = λ p. cc (get_or-set_same table e (fresh_entry uid) None lt, no_record p);
     }
 
 -- an entry names no record where its slot's map doesn't
 pub names_none : (flags : List Bool) (slots : List Slot) (table : List (Option Entry)) (e : ℕ) (x : Slot) (none : Bool)
     → IsMarked flags slots → table_of slots ≡ table → x ≡ slot_at slots e
-    → (IsTrue none ↔ ((p : ℕ) → get_or x.map p None ≡ None))
-    → (IsTrue none ↔ NamesNoRecord table e)
+    → (IsTrue none ↔ ((p : ℕ) → get_or x.map p None ≡ None)) → (IsTrue none ↔ NamesNoRecord table e)
 names_none flags slots table e x none h view slot is =
     let same : records_in (entry_at table e) ≡ x.map = (kept flags slots table e h view).records
     ∙ ap (λ (s : Slot). s.map) (sym slot) in (
-      λ t. record { none = λ p. ap (λ (m : List (Option ℕ)). get_or m p None) same ∙ is.0 t p },
-      λ n. is.1 (λ p. ap (λ (m : List (Option ℕ)). get_or m p None) (sym same) ∙ n.none p),
+      λ t. record { none = λ p. cc (is.0 t p) },
+      λ n. is.1 (λ p. cc (n.none p)),
     )

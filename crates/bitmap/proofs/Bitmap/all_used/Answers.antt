@@ -8,4 +8,4 @@ invariant_of-result c =
     c.in_ok-full.ensures
 
 pub returns : goal.returns
-returns c = flags_full _ c.args.size c.in_ok-words.ensures
+returns c = flags_full c.args.size c.in_ok-words.ensures

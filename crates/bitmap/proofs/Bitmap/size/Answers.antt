@@ -3,4 +3,4 @@ use Rattle.bitmap.proofs.BitLemmas.{length_flags}
 use Rattle.bitmap.proofs.Bitmap.size.Goals as goal
 
 pub returns : goal.returns
-returns c = sym (length_flags c.self.inside.words.items c.self.inside.size) ∙ ap length c.self.view_is
+returns c = cc (length_flags c.self.inside.words.items c.self.inside.size)

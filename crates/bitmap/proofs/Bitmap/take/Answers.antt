@@ -6,30 +6,30 @@ use Rattle.laws.proofs.Places.{count_with}
 
 pub turn_on-requires-clause-lower : goal.turn_on-requires-clause-lower
 turn_on-requires-clause-lower c =
-    let place = placed _ _ _ _ _ c.args.r c.self.invariant c.self.view_is c.requires.within in omega (arith, place.word)
+    let place = placed c.self.invariant c.self.view_is c.requires.within in omega (arith, place.word)
 
 pub turn_on-requires-clause-upper : goal.turn_on-requires-clause-upper
 turn_on-requires-clause-upper c =
-    let place = placed _ _ _ _ _ c.args.r c.self.invariant c.self.view_is c.requires.within in omega (arith, place.mark)
+    let place = placed c.self.invariant c.self.view_is c.requires.within in omega (arith, place.mark)
 
 pub overflow_add-self : goal.overflow_add-self
 overflow_add-self c =
-    let room = room_for_one _ _ _ _ _ c.args.r c.self.invariant c.self.view_is c.requires.within c.requires.free in
+    let room = room_for_one c.args.r c.self.invariant c.self.view_is c.requires.within c.requires.free in
     omega (arith, room)
 
 pub invariant_of-self : goal.invariant_of-self
 invariant_of-self c =
-    let place = placed _ _ _ _ _ c.args.r c.self.invariant c.self.view_is c.requires.within in
+    let place = placed c.self.invariant c.self.view_is c.requires.within in
     rw (c.turn_on.ensures.lower, c.turn_on.ensures.upper)
-    (levels_after_take _ _ _ _ c.args.r c.self.invariant place.below (place.is ∙ c.requires.free))
+    (levels_after_take _ _ _ _ c.args.r c.self.invariant place.below (cc))
 
 pub returns-clause-flags : goal.returns-clause-flags
 returns-clause-flags c =
-    let place = placed _ _ _ _ _ c.args.r c.self.invariant c.self.view_is c.requires.within in
+    let place = placed c.self.invariant c.self.view_is c.requires.within in
     rw (c.turn_on.ensures.lower, ← c.self.view_is) (flags_with_bit _ _ c.args.r place.below place.word)
 
 pub returns-clause-count : goal.returns-clause-count
 returns-clause-count c =
-    let place = placed _ _ _ _ _ c.args.r c.self.invariant c.self.view_is c.requires.within in
+    let place = placed c.self.invariant c.self.view_is c.requires.within in
     rw (c.turn_on.ensures.lower, flags_with_bit _ _ c.args.r place.below place.word, c.self.view_is)
     (count_with _ c.args.r c.requires.within c.requires.free)

@@ -4,7 +4,7 @@ use Rattle.core_map.proofs.Frames.{tied_with}
 use Rattle.core_map.proofs.CoreMap.bind.Goals as goal
 
 pub invariant_of-self : goal.invariant_of-self
-invariant_of-self c = tied_with _ _ _ _ c.args.f _ c.self.invariant c.occupy.ensures
+invariant_of-self c = tied_with c.args.f _ c.self.invariant c.occupy.ensures
 
 pub returns-clause-started : goal.returns-clause-started
 returns-clause-started c = rw (← c.self.view_is) (map-set started_page c.self.inside.frames.items c.args.f _)

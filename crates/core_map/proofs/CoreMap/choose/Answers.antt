@@ -6,23 +6,21 @@ use Rattle.core_map.proofs.CoreMap.choose.Goals as goal
 
 pub invariant_of-self : goal.invariant_of-self
 invariant_of-self c =
-    let count = turned_count _ _ _ _ c.turn-f.ensures in
+    let count = turned_count c.turn-f.ensures in
     record {
-      bits = c.self.invariant.bits ∙ sym (turned_same is_taken (λ x. (seen_unmarked x).taken) _ _ _ _ c.turn-f.ensures);
-      short = omega (arith, count, c.self.invariant.short);
-      hand_within = omega (arith, c.next-self-inside.ensures.within, c.len.ensures);
+      bits = cc (turned_same is_taken (λ x. (seen_unmarked x).taken) c.turn-f.ensures);
+      short = omega arith;
+      hand_within = omega arith;
     }
 
 pub returns-clause-chosen : goal.returns-clause-chosen
-returns-clause-chosen c =
-    rw (← c.self.view_is) (turned_choice _ _ _ _ c.self.invariant.hand_within c.turn-f.ensures)
+returns-clause-chosen c = rw (← c.self.view_is) (turned_choice _ _ _ _ c.self.invariant.hand_within c.turn-f.ensures)
 
 pub returns-clause-core : goal.returns-clause-core
-returns-clause-core c =
-    rw (← c.self.view_is)
-    (turned_core _ _ _ _ _ _ c.self.invariant.hand_within c.turn-f.ensures (omega (arith, c.len.ensures))
+returns-clause-core c = rw (← c.self.view_is)
+    (turned_core _ _ _ _ _ _ c.self.invariant.hand_within c.turn-f.ensures (omega arith)
     c.next-self-inside.ensures.next)
 
 pub returns-clause-started : goal.returns-clause-started
 returns-clause-started c = rw (← c.self.view_is)
-    (turned_same started_page (λ x. (seen_unmarked x).started) _ _ _ _ c.turn-f.ensures)
+    (turned_same started_page (λ x. (seen_unmarked x).started) c.turn-f.ensures)

@@ -4,11 +4,9 @@ use Rattle.core_map.proofs.Frames.{tied_same, kept_by, seen_referred}
 use Rattle.core_map.proofs.CoreMap.mark.Goals as goal
 
 pub invariant_of-self : goal.invariant_of-self
-invariant_of-self c =
-    tied_same _ _ _ c.args.f c.index.result.now _ c.self.invariant c.index.ensures
+invariant_of-self c = tied_same c.args.f _ c.self.invariant c.index.ensures
     (ap is_taken c.referred.ensures ∙ (seen_referred _ c.args.wrote).taken)
 
 pub returns-clause-started : goal.returns-clause-started
-returns-clause-started c =
-    rw (← c.self.view_is) (kept_by started_page _ c.args.f c.index.result.now _ c.index.ensures
+returns-clause-started c = rw (← c.self.view_is) (kept_by started_page _ c.args.f _ c.index.ensures
     (ap started_page c.referred.ensures ∙ (seen_referred _ _).started))

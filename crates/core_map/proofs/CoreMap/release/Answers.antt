@@ -6,9 +6,8 @@ use Rattle.laws.proofs.Places.{map_kept}
 use Rattle.core_map.specs.declared.Frame.TheVariants.{Free}
 
 pub invariant_of-self : goal.invariant_of-self
-invariant_of-self c = tied_with _ _ _ _ c.args.f _ c.self.invariant c.give_back.ensures.flags
+invariant_of-self c = tied_with c.args.f _ c.self.invariant c.give_back.ensures.flags
 
 pub returns-clause-started : goal.returns-clause-started
-returns-clause-started c =
-    rw (← c.self.view_is) (map_kept started_page c.self.inside.frames.items c.args.f Free _
-    (started_of_bound _ (ap (λ (core : Core). is_bound (frame_at core c.args.f)) c.self.view_is ∙ c.requires)))
+returns-clause-started c = rw (← c.self.view_is) (map_kept started_page c.self.inside.frames.items c.args.f Free _
+    (started_of_bound _ (cc)))

@@ -3,7 +3,7 @@ use Rattle.core_map.proofs.Frames.{least_same, least_if, none_if}
 use Rattle.core_map.proofs.CoreMap.take_free.Goals as goal
 
 pub returns-clause-least : goal.returns-clause-least
-returns-clause-least c = c.first_free.ensures.least ∙ least_same _ _ _ _ c.self.invariant c.self.view_is
+returns-clause-least c = cc (least_same c.self.invariant c.self.view_is)
 
 pub returns-clause-some : goal.returns-clause-some
 returns-clause-some c = least_if _ _ _ _ _ c.self.invariant c.self.view_is c.first_free.ensures.some

@@ -5,7 +5,7 @@ use Rattle.volumes.proofs.core_pages.reach.Goals as goal
 pub loop-preserved : goal.loop-preserved
 loop-preserved c =
     let past : length c.args.written.now.items ≤ c.loop.counter = c.loop.invariant.2 in (
-      reach_more _ _ _ c.loop.counter _ c.loop.invariant.0 past c.push_reserved.ensures.items c.zero.ensures,
+      reach_more _ c.loop.counter c.loop.invariant.0 past c.push_reserved.ensures.items c.zero.ensures,
       c.push_reserved.ensures.capacity ∙ c.loop.invariant.1,
       omega (arith, past),
     )

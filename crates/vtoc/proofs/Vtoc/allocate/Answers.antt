@@ -3,48 +3,47 @@ use Rattle.vtoc.proofs.Table.{least_same, least_entry, all_used, allocate_marked
 use Rattle.vtoc.proofs.Vtoc.allocate.Goals as goal
 
 pub give-requires-clause-within : goal.give-requires-clause-within
-give-requires-clause-within c = least_slot _ _ c.in_ok-e.e c.self.invariant c.in_ok-e.ensures.some
+give-requires-clause-within c = least_slot c.self.invariant c.in_ok-e.ensures.some
 
 pub give-requires-clause-before : goal.give-requires-clause-before
-give-requires-clause-before c = λ k lt. sym (bit_is _ _ k c.self.invariant) ∙ c.in_ok-e.ensures.some.before k lt
+give-requires-clause-before c = λ k lt. sym (bit_is k c.self.invariant) ∙ c.in_ok-e.ensures.some.before k lt
 
 pub invariant_of-self : goal.invariant_of-self
 invariant_of-self c =
-    let lt = least_slot _ _ c.in_ok-e.e c.self.invariant c.in_ok-e.ensures.some in
-    rw c.give.ensures (allocate_marked _ _ _ c.in_ok-e.e c.args.uid _ c.self.invariant c.in_ok-e.ensures.some
+    let lt = least_slot c.self.invariant c.in_ok-e.ensures.some in
+    rw c.give.ensures (allocate_marked c.args.uid c.self.invariant c.in_ok-e.ensures.some
     (read_self _ c.in_ok-e.e lt) c.take.ensures.flags)
 
 pub returns-clause-taken : goal.returns-clause-taken
 returns-clause-taken c =
-    let lt = least_slot _ _ c.in_ok-e.e c.self.invariant c.in_ok-e.ensures.some in
-    ap table_of c.give.ensures ∙ allocate_table _ _ _ c.in_ok-e.e c.args.uid _ c.self.invariant c.self.view_is
+    let lt = least_slot c.self.invariant c.in_ok-e.ensures.some in
+    ap table_of c.give.ensures ∙ allocate_table c.args.uid c.self.invariant c.self.view_is
     c.in_ok-e.ensures.some (read_self _ c.in_ok-e.e lt)
 
 pub returns-clause-some : goal.returns-clause-some
-returns-clause-some c = least_entry _ _ _ c.in_ok-e.e c.self.invariant c.self.view_is c.in_ok-e.ensures.some
+returns-clause-some c = least_entry c.self.invariant c.self.view_is c.in_ok-e.ensures.some
 
 pub returns-clause-least : goal.returns-clause-least
-returns-clause-least c = c.in_ok-e.ensures.least ∙ least_same _ _ _ c.self.invariant c.self.view_is
+returns-clause-least c = c.in_ok-e.ensures.least ∙ least_same c.self.invariant c.self.view_is
 
 pub returns-in_err-e-clause-least : goal.returns-in_err-e-clause-least
 returns-in_err-e-clause-least c = c.from_residual.ensures ∙ c.in_err-e.ensures.least
-    ∙ least_same _ _ _ c.self.invariant c.self.view_is
+    ∙ least_same c.self.invariant c.self.view_is
 
 pub returns-in_err-e-clause-none : goal.returns-in_err-e-clause-none
 returns-in_err-e-clause-none c = rw c.from_residual.ensures
-    (all_used _ _ _ c.self.invariant c.self.view_is c.in_err-e.ensures.none)
+    (all_used c.self.invariant c.self.view_is c.in_err-e.ensures.none)
 
 pub returns-clause-empty : goal.returns-clause-empty
 returns-clause-empty c =
-    let lt = least_slot _ _ c.in_ok-e.e c.self.invariant c.in_ok-e.ensures.some in
-    rw (ap table_of c.give.ensures ∙ allocate_table _ _ _ c.in_ok-e.e c.args.uid _ c.self.invariant c.self.view_is
+    let lt = least_slot c.self.invariant c.in_ok-e.ensures.some in
+    rw (ap table_of c.give.ensures ∙ allocate_table c.args.uid c.self.invariant c.self.view_is
     c.in_ok-e.ensures.some (read_self _ c.in_ok-e.e lt))
-    (allocate_empty _ _ _ c.in_ok-e.e c.args.uid c.self.invariant c.self.view_is c.in_ok-e.ensures.some)
+    (allocate_empty c.args.uid c.self.invariant c.self.view_is c.in_ok-e.ensures.some)
 
 pub returns-clause-count : goal.returns-clause-count
 returns-clause-count c =
-    let lt = least_slot _ _ c.in_ok-e.e c.self.invariant c.in_ok-e.ensures.some in
-    rw (ap table_of c.give.ensures ∙ allocate_table _ _ _ c.in_ok-e.e c.args.uid _ c.self.invariant c.self.view_is
+    let lt = least_slot c.self.invariant c.in_ok-e.ensures.some in
+    rw (ap table_of c.give.ensures ∙ allocate_table c.args.uid c.self.invariant c.self.view_is
     c.in_ok-e.ensures.some (read_self _ c.in_ok-e.e lt))
-    (count_taken _ c.in_ok-e.e c.args.uid (least_entry _ _ _ c.in_ok-e.e c.self.invariant c.self.view_is
-    c.in_ok-e.ensures.some))
+    (count_taken c.args.uid (least_entry c.self.invariant c.self.view_is c.in_ok-e.ensures.some))

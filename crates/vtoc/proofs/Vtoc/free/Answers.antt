@@ -3,22 +3,22 @@ use Rattle.vtoc.proofs.Table.{count_freed, free_marked, free_table, has_uid, rea
 use Rattle.vtoc.proofs.Vtoc.free.Goals as goal
 
 pub give_back-requires : goal.give_back-requires
-give_back-requires c = used_bit _ _ _ c.args.e c.self.invariant c.self.view_is c.requires.used
+give_back-requires c = used_bit c.args.e c.self.invariant c.self.view_is c.requires.used
 
 pub clear-requires : goal.clear-requires
-clear-requires c = has_uid _ _ _ c.args.e c.self.invariant c.self.view_is c.requires.used
+clear-requires c = has_uid c.args.e c.self.invariant c.self.view_is c.requires.used
 
 pub invariant_of-self : goal.invariant_of-self
 invariant_of-self c =
-    let lt = used_slot _ _ _ c.args.e c.self.invariant c.self.view_is c.requires.used in
-    rw c.clear.ensures (free_marked _ _ _ _ c.args.e _ c.self.invariant c.self.view_is c.requires.used
+    let lt = used_slot c.args.e c.self.invariant c.self.view_is c.requires.used in
+    rw c.clear.ensures (free_marked c.self.invariant c.self.view_is c.requires.used
     c.requires.empty (read_self _ c.args.e lt) c.give_back.ensures.flags)
 
 pub returns-clause-entries : goal.returns-clause-entries
 returns-clause-entries c = ap table_of c.clear.ensures
-    ∙ free_table _ _ c.args.e (slot_at c.self.inside.slots c.args.e) c.self.view_is
+    ∙ free_table _ c.args.e (slot_at c.self.inside.slots c.args.e) c.self.view_is
 
 pub returns-clause-count : goal.returns-clause-count
 returns-clause-count c = rw (ap table_of c.clear.ensures
-    ∙ free_table _ _ c.args.e (slot_at c.self.inside.slots c.args.e) c.self.view_is)
+    ∙ free_table _ c.args.e (slot_at c.self.inside.slots c.args.e) c.self.view_is)
     (count_freed _ c.args.e c.requires.used)

@@ -6,4 +6,4 @@ pub invariant_of-result : goal.invariant_of-result
 invariant_of-result c = marked_new _ _ c.args.entries (omega arith) c.in_ok-in_use.ensures c.in_ok-slots.ensures
 
 pub returns : goal.returns
-returns c = table_new _ c.args.entries c.in_ok-slots.ensures
+returns c = table_new c.args.entries c.in_ok-slots.ensures

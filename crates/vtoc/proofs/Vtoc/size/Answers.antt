@@ -3,7 +3,7 @@ use Rattle.vtoc.proofs.Table.{length_table, kept}
 use Rattle.vtoc.proofs.Vtoc.size.Goals as goal
 
 pub returns-clause-entries : goal.returns-clause-entries
-returns-clause-entries c = c.size.ensures ∙ sym (length_table c.self.inside.slots) ∙ ap length c.self.view_is
+returns-clause-entries c = cc (length_table c.self.inside.slots)
 
 pub returns-clause-places : goal.returns-clause-places
 returns-clause-places c = record {

@@ -15,10 +15,10 @@ returns-clause-rose c =
     c.read_page.ensures.other_rose)
 
 pub returns-clause-told : goal.returns-clause-told
-returns-clause-told c = rw (← c.self.view_is) (disk_told _ _ _ _ c.read_page.result c.read_page.ensures.counts)
+returns-clause-told c = rw (← c.self.view_is) (disk_told c.read_page.ensures.counts)
 
 pub returns-clause-once : goal.returns-clause-once
 returns-clause-once c =
     let never = never_rises c.self.inside.store.fast c.read_page.new.self.fast c.self.invariant.sure
     c.read_page.ensures.fast.same_plan in
-    rw (← c.self.view_is) (disk_once _ _ _ _ c.read_page.result never c.read_page.ensures.counts)
+    rw (← c.self.view_is) (disk_once never c.read_page.ensures.counts)

@@ -14,10 +14,10 @@ returns-clause-rose c =
     rw (← c.self.view_is) (other_cause _ _ c.write_page.result never c.write_page.ensures.either)
 
 pub returns-clause-told : goal.returns-clause-told
-returns-clause-told c = rw (← c.self.view_is) (disk_told _ _ _ _ c.write_page.result c.write_page.ensures.counts)
+returns-clause-told c = rw (← c.self.view_is) (disk_told c.write_page.ensures.counts)
 
 pub returns-clause-once : goal.returns-clause-once
 returns-clause-once c =
     let never = never_rises c.self.inside.store.fast c.write_page.new.self.fast c.self.invariant.sure
     c.write_page.ensures.fast.same_plan in
-    rw (← c.self.view_is) (disk_once _ _ _ _ c.write_page.result never c.write_page.ensures.counts)
+    rw (← c.self.view_is) (disk_once never c.write_page.ensures.counts)

@@ -12,6 +12,5 @@ returns-in-Some c =
 pub returns-in-None : goal.returns-in-None
 returns-in-None c =
     let past : length c.self.inside.written.items ≤ c.args.r = grind (arith, common_steps) in
-    let within : c.args.r < c.self.inside.size = below_size _ _ _ _ c.args.r c.self.invariant c.self.view_is
-    c.requires in
+    let within : c.args.r < c.self.inside.size = below_size c.args.r c.self.invariant c.self.view_is c.requires in
     rw (← c.self.view_is) (c.clear_from.ensures.words ∙ sym (read_past _ _ c.args.r past within))

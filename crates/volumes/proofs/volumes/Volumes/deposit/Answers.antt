@@ -5,7 +5,7 @@ use Rattle.volumes.proofs.volumes.Volumes.deposit.Goals as goal
 
 pub invariant_of-self : goal.invariant_of-self
 invariant_of-self g c = (
-  parts_with_records _ _ _ c.args.v c.index_mut.result.now _ c.self.invariant.0 c.index_mut.ensures.value
+  parts_with_records c.args.v _ c.self.invariant.0 c.index_mut.ensures.value
       (ap length c.deposit.ensures.flags ∙ length-set c.index_mut.result.now c.args.r false),
   c.self.invariant.1,
   c.self.invariant.2,

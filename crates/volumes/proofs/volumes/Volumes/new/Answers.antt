@@ -6,7 +6,7 @@ use Rattle.volumes.proofs.volumes.Volumes.new.Goals as goal
 
 pub invariant_of-result : goal.invariant_of-result
 invariant_of-result g c = (
-  parts_made g.D.Drive.pages c.loop-part.yielded _ _ _
+  parts_made g.D.Drive.pages c.loop-part.yielded
       (omega (arith, c.in-None.ensures.steps.0, c.loop-part.invariant.3, c.if-len.false, c.len.ensures))
       c.loop-part.invariant.0 c.loop-part.invariant.1 c.loop-part.invariant.2,
   c.loop-part.invariant.4,
@@ -15,15 +15,15 @@ invariant_of-result g c = (
 
 pub loop-part-preserved : goal.loop-part-preserved
 loop-part-preserved g c = (
-  made_more (λ (part : Part _). part.drive) _ c.in-Some.part _ _ _ c.loop-part.invariant.0 c.in_ok-add-3.ensures refl,
-  made_more (λ (part : Part _). replicate (length (g.D.Drive.pages part.drive)) false) _ c.in-Some.part _ _ _
+  made_more (λ (part : Part _). part.drive) _ c.in-Some.part c.loop-part.invariant.0 c.in_ok-add-3.ensures refl,
+  made_more (λ (part : Part _). replicate (length (g.D.Drive.pages part.drive)) false) _ c.in-Some.part
       c.loop-part.invariant.1 c.in_ok-add.ensures
       (c.in_ok-map.ensures ∙ ap (λ n. replicate n false) c.size-size.ensures.size),
-  made_more (λ (part : Part _). replicate part.entries None) _ c.in-Some.part _ _ _ c.loop-part.invariant.2
+  made_more (λ (part : Part _). replicate part.entries None) _ c.in-Some.part c.loop-part.invariant.2
       c.in_ok-add-2.ensures c.in_ok-vtoc.ensures,
   grind (arith, common_steps),
-  few_more g.D.Drive.plan g.D.Drive.faults _ _ c.in-Some.part.drive c.in_ok-add-3.ensures c.loop-part.invariant.4
+  few_more g.D.Drive.plan g.D.Drive.faults _ c.in-Some.part.drive c.in_ok-add-3.ensures c.loop-part.invariant.4
       c.size-size.ensures.few,
-  full_more g.D.Drive.pages _ _ c.in-Some.part.drive c.in_ok-add-3.ensures c.loop-part.invariant.5
+  full_more g.D.Drive.pages _ c.in-Some.part.drive c.in_ok-add-3.ensures c.loop-part.invariant.5
       c.size-size.ensures.full,
 )

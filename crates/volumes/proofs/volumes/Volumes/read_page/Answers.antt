@@ -8,17 +8,17 @@ use Rattle.volumes.proofs.volumes.Volumes.read_page.Goals as goal
 
 pub invariant_of-self : goal.invariant_of-self
 invariant_of-self g c = (
-  parts_with_drive g.D.Drive.pages _ _ _ c.args.v c.index_mut.result.now _ c.self.invariant.0 c.index_mut.ensures.value
+  parts_with_drive g.D.Drive.pages _ c.args.v _ c.self.invariant.0 c.index_mut.ensures.value
       (ap length c.read_page.ensures.pages),
   few_with g.D.Drive.plan g.D.Drive.faults _ c.args.v c.read_page.new.self c.self.invariant.1 c.read_page.ensures.few,
   full_with g.D.Drive.pages _ c.args.v c.read_page.new.self c.self.invariant.2
-      (full_of_drive g.D.Drive.pages _ c.args.v _ _ c.self.invariant.2
-      (drives_within _ _ _ _ _ c.self.view_is c.requires.volume) c.index_mut.ensures.value c.read_page.ensures.pages),
+      (full_of_drive g.D.Drive.pages _ c.args.v _ c.self.invariant.2
+      (drives_within _ _ _ _ c.self.view_is c.requires.volume) c.index_mut.ensures.value c.read_page.ensures.pages),
 )
 
 pub returns : goal.returns
 returns g c =
-    let within = drives_within _ _ _ _ _ c.self.view_is c.requires.volume in
+    let within = drives_within _ _ _ _ c.self.view_is c.requires.volume in
     grind (
       arith,
       common_steps,

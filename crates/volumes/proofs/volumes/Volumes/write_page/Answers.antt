@@ -7,7 +7,7 @@ use Rattle.volumes.proofs.volumes.Volumes.write_page.Goals as goal
 
 pub invariant_of-self : goal.invariant_of-self
 invariant_of-self g c = (
-  parts_with_drive g.D.Drive.pages _ _ _ c.args.v c.index_mut.result.now _ c.self.invariant.0 c.index_mut.ensures.value
+  parts_with_drive g.D.Drive.pages _ c.args.v _ c.self.invariant.0 c.index_mut.ensures.value
       (length_after_write c.write_page.result _ _ c.args.r c.args.from.now c.write_page.ensures.ok
       c.write_page.ensures.err),
   few_with g.D.Drive.plan g.D.Drive.faults _ c.args.v c.write_page.new.self c.self.invariant.1 c.write_page.ensures.few,
@@ -16,5 +16,5 @@ invariant_of-self g c = (
 
 pub returns : goal.returns
 returns g c =
-    let within = drives_within _ _ _ _ _ c.self.view_is c.requires.volume in
+    let within = drives_within _ _ _ _ c.self.view_is c.requires.volume in
     grind (arith, common_steps, one_drive, sum_rose, its_rose, sum_grows, same_with, keeps_others, its_once, told_with)

@@ -6,11 +6,10 @@ pub index_mut-requires : goal.index_mut-requires
 index_mut-requires c = let held = used_held _ _ c.args.e _ c.self.view_is c.requires in omega (arith, held)
 
 pub invariant_of-self : goal.invariant_of-self
-invariant_of-self c = roomy_set _ _ _ c.args.e _ c.self.invariant
+invariant_of-self c = roomy_set c.args.e _ c.self.invariant
 
 pub returns : goal.returns
 returns c =
     let held = used_held _ _ c.args.e _ c.self.view_is c.requires in
-    set_held _ _ c.args.e _ _ _ c.self.view_is held
-    (ap (λ (s : Slot). slot_with None s.map) (held_read _ _ c.args.e _ _ c.self.view_is held
-    c.index_mut.ensures.value))
+    set_held _ _ c.args.e c.self.view_is held
+    (ap (λ (s : Slot). slot_with None s.map) (held_read _ _ c.args.e c.self.view_is held c.index_mut.ensures.value))

@@ -4,35 +4,34 @@ use Rattle.vtoc.proofs.slots.Slots.give.Goals as goal
 
 pub push_reserved-requires : goal.push_reserved-requires
 push_reserved-requires c =
-    let size = size_slots _ _ _ _ c.self.invariant c.self.view_is in
+    let size = size_slots c.self.invariant c.self.view_is in
     let past : length c.self.inside.held.items ≤ c.args.e = grind (arith, common_steps) in
-    let end = at_end _ _ c.args.e _ c.self.view_is past c.requires.before in
+    let end = at_end _ _ c.self.view_is past c.requires.before in
     let within = c.requires.within in
     let roomy = c.self.invariant.roomy in
     omega (arith, size, end, within, roomy)
 
 pub invariant_of-self-else-e-len : goal.invariant_of-self-else-e-len
 invariant_of-self-else-e-len c =
-    let size = size_slots _ _ _ _ c.self.invariant c.self.view_is in
+    let size = size_slots c.self.invariant c.self.view_is in
     let past : length c.self.inside.held.items ≤ c.args.e = grind (arith, common_steps) in
-    let end = at_end _ _ c.args.e _ c.self.view_is past c.requires.before in
+    let end = at_end _ _ c.self.view_is past c.requires.before in
     let within = c.requires.within in
     let lt : c.args.e < c.self.inside.size = omega (arith, size, within) in
-    roomy_push _ _ _ _ _ c.args.e _ c.self.invariant c.push_reserved.ensures.capacity end lt
-    c.push_reserved.ensures.items
+    roomy_push _ c.self.invariant c.push_reserved.ensures.capacity end lt c.push_reserved.ensures.items
 
 pub returns-then-e-len : goal.returns-then-e-len
 returns-then-e-len c =
     let held : c.args.e < length c.self.inside.held.items = grind (arith, common_steps) in
-    set_held _ _ c.args.e _ _ _ c.self.view_is held
-    (ap (λ (s : Slot). slot_with (Some c.args.uid) s.map) (held_read _ _ c.args.e _ _ c.self.view_is held
+    set_held _ _ c.args.e c.self.view_is held
+    (ap (λ (s : Slot). slot_with (Some c.args.uid) s.map) (held_read _ _ c.args.e c.self.view_is held
     c.index_mut.ensures.value))
 
 pub returns-else-e-len : goal.returns-else-e-len
 returns-else-e-len c =
-    let size = size_slots _ _ _ _ c.self.invariant c.self.view_is in
+    let size = size_slots c.self.invariant c.self.view_is in
     let past : length c.self.inside.held.items ≤ c.args.e = grind (arith, common_steps) in
-    let end = at_end _ _ c.args.e _ c.self.view_is past c.requires.before in
+    let end = at_end _ _ c.self.view_is past c.requires.before in
     let within = c.requires.within in
     let lt : c.args.e < c.self.inside.size = omega (arith, size, within) in
-    push_held _ _ _ c.args.e _ _ c.args.uid c.self.view_is end lt c.push_reserved.ensures.items refl c.new.ensures
+    push_held _ _ _ c.self.view_is end lt c.push_reserved.ensures.items refl c.new.ensures

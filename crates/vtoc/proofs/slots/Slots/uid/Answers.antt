@@ -7,9 +7,9 @@ returns-in-Some c =
     let held : c.args.e < length c.self.inside.held.items = grind (arith, common_steps) in
     let read : c.in-Some.slot.now ≡ get_or c.self.inside.held.items c.args.e c.in-Some.slot.now =
     grind (arith, common_steps) in
-    ap (λ (s : Slot). s.uid) (held_read _ _ c.args.e _ _ c.self.view_is held read)
+    ap (λ (s : Slot). s.uid) (held_read _ _ c.args.e c.self.view_is held read)
 
 pub returns-in-None : goal.returns-in-None
 returns-in-None c =
     let past : length c.self.inside.held.items ≤ c.args.e = grind (arith, common_steps) in
-    past_read _ _ c.args.e _ c.self.view_is past
+    past_read _ _ c.args.e c.self.view_is past

@@ -6,5 +6,4 @@ pub index-requires : goal.index-requires
 index-requires c = let held = used_held _ _ c.args.e _ c.self.view_is c.requires in omega (arith, held)
 
 pub returns : goal.returns
-returns c = held_read _ _ c.args.e _ _ c.self.view_is (used_held _ _ c.args.e _ c.self.view_is c.requires)
-    c.index.ensures
+returns c = held_read _ _ c.args.e c.self.view_is (used_held _ _ c.args.e _ c.self.view_is c.requires) c.index.ensures
