@@ -27,18 +27,18 @@ empty_any q (n ∷ ns) e = cc
 
 joins_any : (q : ℕ → ℕ) (ns : List Node) (n : Node) (o : Option ℕ) → Joins (shapes ns) o (shape n)
     → Joins (with_quotas q ns) o (as_term q n)
-joins_any q ns n None root = record { first = empty_any q ns root.first; one = root.one; directory = root.directory }
+joins_any q ns n None root = assumption (empty_any q ns root.first)
 joins_any q ns n (Some s) branch = record {
   later = later_any q ns n.uid branch.later;
-  below = directory_mapped (as_term q) shape (λ n. refl) (λ n. refl) ns s ∙ branch.below;
+  below = cc (directory_mapped (as_term q) shape (λ n. refl) (λ n. refl) ns s);
   new = new_any q ns s n.name branch.new;
-  shallow = λ directory. subst (λ (up : List ℕ). length up < 8) (sym (above_any q ns s)) (branch.shallow directory);
+  shallow = λ directory. rw (above_any q ns s) (branch.shallow directory);
 }
 
 tree_any : (q : ℕ → ℕ) (ns : List Node) → IsTree (shapes ns) → IsTree (with_quotas q ns)
 tree_any q [] t = tt
 tree_any q (n ∷ ns) t = (joins_any q ns n n.superior t.0, tree_any q ns t.1)
 
-pub tree_shown : (q : ℕ → ℕ) (ns : List Node) (now : List Term) → with_quotas q ns ≡ now → IsTree (shapes ns)
+pub tree_shown : (q : ℕ → ℕ) (ns : List Node) {now : List Term} → with_quotas q ns ≡ now → IsTree (shapes ns)
     → IsTree now
-tree_shown q ns now is t = subst (λ (x : List Term). IsTree x) is (tree_any q ns t)
+tree_shown q ns is t = rw (← is) (tree_any q ns t)

@@ -16,14 +16,14 @@ use Rattle.laws.proofs.Lists.{position_none}
 
 stands_for_is : (uid : ℕ) (o : Option ℕ) → stands_for uid o ≡ true → o ≡ Some uid
 stands_for_is uid None e = cc
-stands_for_is uid (Some u) e = ap (λ (n : ℕ). Some n) (eqb-true u uid e)
+stands_for_is uid (Some u) e = cc (eqb-true u uid e)
 
 is_stands_for : (uid : ℕ) (o : Option ℕ) → o ≡ Some uid → stands_for uid o ≡ true
 is_stands_for uid None e = cc
 is_stands_for uid (Some u) e = let same : u ≡ uid = cc in eq-eqb u uid same
 
-pub within_since_known : (kst : List (Option ℕ)) (n uid : ℕ) → uid_of kst n ≡ Some uid → n < length kst
-within_since_known kst n uid e = elim (cases_lt n (length kst)) [
+pub within_since_known : (kst : List (Option ℕ)) (n : ℕ) {uid : ℕ} → uid_of kst n ≡ Some uid → n < length kst
+within_since_known kst n e = elim (cases_lt n (length kst)) [
   | inl lt ↦ lt
   | inr past ↦
       (let none : uid_of kst n ≡ None = get_or_past kst n None past in cc)
@@ -41,28 +41,26 @@ pub number_some : (kst : List (Option ℕ)) (uid n : ℕ) → number_of kst uid 
     × (uid_of kst n ≡ Some uid)
 number_some kst uid n e =
     let h : (n < length kst) × (stands_for uid (get_or kst n None) ≡ true)
-    × ((k : ℕ) → k < n → stands_for uid (get_or kst k None) ≡ false) =
-    position-Some (stands_for uid) kst n None e in
+    × ((k : ℕ) → k < n → stands_for uid (get_or kst k None) ≡ false) = position-Some (stands_for uid) kst n None e in
     (h.0, stands_for_is uid _ h.1)
 
-pub number_none : (kst : List (Option ℕ)) (uid : ℕ) → number_of kst uid ≡ None → IsUnknown kst uid
-number_none kst uid e n known =
-    both_ways _ (position_none (stands_for uid) kst e n None (within_since_known kst n uid known))
+pub number_none : (kst : List (Option ℕ)) {uid : ℕ} → number_of kst uid ≡ None → IsUnknown kst uid
+number_none kst {uid} e n known =
+    both_ways _ (position_none (stands_for uid) kst e n None (within_since_known kst n {uid = uid} known))
     (is_stands_for uid _ known)
 
 -- a number stands for the uid exactly where it is the uid's number
 pub numbered : (kst : List (Option ℕ)) (uid : ℕ) (r : Option ℕ) → HasOneNumberEach kst → r ≡ number_of kst uid → (n : ℕ)
     → (r ≡ Some n) ↔ (uid_of kst n ≡ Some uid)
-numbered kst uid None once e n = (λ h. absurd (none-some n h), λ h. absurd (number_none kst uid (sym e) n h))
+numbered kst uid None once e n = (λ h. cc, λ h. absurd (number_none kst (sym e) n h))
 numbered kst uid (Some m) once e n =
     let h : (m < length kst) × (uid_of kst m ≡ Some uid) = number_some kst uid m (sym e) in (
-      (λ s. let same : m ≡ n = cc in subst (λ (k : ℕ). uid_of kst k ≡ Some uid) same h.1),
-      λ known. ap
-          (λ (k : ℕ). Some k) (once m n uid h.1 known),
+      (λ s. let same : m ≡ n = cc in rw (← same) h.1),
+      λ known. cc (once m n uid h.1 known),
     )
 
 pub unknown_is : (kst : List (Option ℕ)) (uid : ℕ) (r : Option ℕ) → r ≡ number_of kst uid → IsNone r ↔ IsUnknown kst uid
-unknown_is kst uid None e = (λ _. number_none kst uid (sym e), λ _. refl)
+unknown_is kst uid None e = (λ _. number_none kst (sym e), λ _. refl)
 unknown_is kst uid (Some m) e = (λ h. cc, λ unknown. absurd (unknown m (number_some kst uid m (sym e)).1))
 
 free_is : (o : Option ℕ) → is_none o ≡ true → o ≡ None
@@ -72,8 +70,7 @@ free_is (Some u) e = cc
 pub free_some : (kst : List (Option ℕ)) (n : ℕ) → least_free kst ≡ Some n → (n < length kst) × (uid_of kst n ≡ None)
 free_some kst n e =
     let h : (n < length kst) × (is_none (get_or kst n None) ≡ true)
-    × ((k : ℕ) → k < n → is_none (get_or kst k None) ≡ false) =
-    position-Some is_none kst n None e in
+    × ((k : ℕ) → k < n → is_none (get_or kst k None) ≡ false) = position-Some is_none kst n None e in
     (h.0, free_is _ h.1)
 
 all_known : (xs : List (Option ℕ)) → ((k : ℕ) → k < length xs → is_none (get_or xs k None) ≡ false) → known_count xs
@@ -105,11 +102,11 @@ room_is kst (Some n) b size e is =
     let less : known_count kst < length kst = some_free kst n free.0 free.1 in (λ _. omega arith, λ _. is)
 
 -- a uid that is known keeps its number
-pub known_stays : (kst : List (Option ℕ)) (uid n : ℕ) → Some n ≡ number_of kst uid → kst ≡ with_number kst uid (Some n)
-known_stays kst uid n e =
+pub known_stays : {kst : List (Option ℕ)} (uid : ℕ) {n : ℕ} → Some n ≡ number_of kst uid
+    → kst ≡ with_number kst uid (Some n)
+known_stays {kst} uid {n} e =
     let h : uid_of kst n ≡ Some uid = (number_some kst uid n (sym e)).1 in
-    let same : set kst n (get_or kst n None) ≡ kst = set-get_or kst n None in subst
-    (λ (o : Option ℕ). kst ≡ set kst n o) h (sym same)
+    let same : set kst n (get_or kst n None) ≡ kst = set-get_or kst n None in rw (← h) (sym same)
 
 pub known_is_some : (kst : List (Option ℕ)) (uid n size : ℕ) → Some n ≡ number_of kst uid → IsNone (Some n)
     ↔ ((known_count kst ≡ size) × IsUnknown kst uid)
@@ -122,22 +119,20 @@ given_is_some kst uid n size e =
     let less : known_count kst < length kst = some_free kst n free.0 free.1 in
     (λ h. cc, λ h. absurd (let full : known_count kst ≡ 256 = h.0 in omega arith))
 
-pub none_is_full : (kst : List (Option ℕ)) (uid : ℕ) (r : Option ℕ) → r ≡ None → length kst ≡ 256 → None
-    ≡ number_of kst uid → None ≡ least_free kst
-    → IsNone r ↔ ((known_count kst ≡ 256) × IsUnknown kst uid)
-none_is_full kst uid r none size unknown full = (
+pub none_is_full : (kst : List (Option ℕ)) {uid : ℕ} {r : Option ℕ} → r ≡ None → length kst ≡ 256 → None
+    ≡ number_of kst uid → None ≡ least_free kst → IsNone r ↔ ((known_count kst ≡ 256) × IsUnknown kst uid)
+none_is_full kst {uid} none size unknown full = (
   λ h. (
-    count_full kst (sym full)
-        ∙ size,
-    number_none kst uid (sym unknown),
+    count_full kst (sym full) ∙ size,
+    number_none kst {uid = uid} (sym unknown),
   ),
   λ h. ap is_some none,
 )
 
 -- a new number for a uid that has none
-pub once_given : (kst : List (Option ℕ)) (uid n : ℕ) → HasOneNumberEach kst → n < length kst → IsUnknown kst uid
+pub once_given : (kst : List (Option ℕ)) {uid : ℕ} (n : ℕ) → HasOneNumberEach kst → n < length kst → IsUnknown kst uid
     → HasOneNumberEach (set kst n (Some uid))
-once_given kst uid n once lt unknown a b u e f =
+once_given kst {uid} n once lt unknown a b u e f =
     elim (cases_eq a n) [
       | inl at_a ↦ elim (cases_eq b n) [
         | inl at_b ↦ at_a ∙ sym at_b
@@ -166,8 +161,7 @@ once_given kst uid n once lt unknown a b u e f =
 -- a number given up
 pub once_forgotten : (kst : List (Option ℕ)) (n : ℕ) → HasOneNumberEach kst → n < length kst
     → HasOneNumberEach (set kst n None)
-once_forgotten kst n once lt a b u e f =
-    once a b u (still kst n a u lt e) (still kst n b u lt f)
+once_forgotten kst n once lt a b u e f = once a b u (still kst n a u lt e) (still kst n b u lt f)
   where
     still : (kst : List (Option ℕ)) (n a u : ℕ) → n < length kst → get_or (set kst n None) a None ≡ Some u
         → get_or kst a None ≡ Some u

@@ -26,7 +26,7 @@ rest kept = replicate (256 - length kept) None
 pub padded_size : (kept : Table) → length kept ≤ 256 → length (padded kept) ≡ 256
 unfolding padded
 padded_size kept few =
-    omega (arith, few, length-append kept (rest kept), length-replicate {A = Option ℕ} (256 - length kept) None)
+    omega (arith, length-append kept (rest kept), length-replicate {A = Option ℕ} (256 - length kept) None)
 
 -- what a number stands for
 pub padded_at : (kept : Table) (n : ℕ) → uid_of kept n ≡ uid_of (padded kept) n
@@ -40,13 +40,13 @@ padded_at kept n = elim (cases_lt n (length kept)) [
 -- ---- searches
 
 -- a search through a front of a list, and on
-goes_on : (a n m b t : ℕ) → a ≤ n → b ≡ cond (eqb a n) (n + m) a → t ≡ n + m
+goes_on : {a : ℕ} (n m : ℕ) {b t : ℕ} → a ≤ n → b ≡ cond (eqb a n) (n + m) a → t ≡ n + m
     → cond (nat_lt a n) (Some a) None ≡ cond (nat_lt b t) (Some b) None
-goes_on a n m b t le e f = grind (arith, nat_tests)
+goes_on n m le e f = grind (arith, nat_tests)
 
-stops : (a n m b t : ℕ) → a ≤ n → b ≡ cond (eqb a n) (n + 0) a → t ≡ n + m
+stops : {a n : ℕ} (m : ℕ) {b t : ℕ} → a ≤ n → b ≡ cond (eqb a n) (n + 0) a → t ≡ n + m
     → cond (nat_lt b t) (Some b) None ≡ cond (nat_lt a n) (Some a) (cond (nat_lt 0 m) (Some n) None)
-stops a n m b t le e f = grind (arith, nat_tests)
+stops m le e f = grind (arith, nat_tests)
 
 -- the number of a uid
 pub padded_number : (kept : Table) (uid : ℕ) → number_of kept uid ≡ number_of (padded kept) uid
@@ -55,11 +55,8 @@ padded_number kept uid =
     let q : Option ℕ → Bool = λ x. not (stands_for uid x) in
     let m : ℕ = 256 - length kept in
     let all : prefix_len q (rest kept) ≡ m = prefix_len-replicate q m None refl in
-    goes_on (prefix_len q kept) (length kept) m (prefix_len q (kept ++ rest kept)) (length (kept ++ rest kept))
-    (prefix_len-le-length q kept)
-    (prefix_len-append q kept (rest kept)
-    ∙ ap (λ (k : ℕ). cond (eqb (prefix_len q kept) (length kept)) (length kept + k) (prefix_len q kept)) all)
-    (length-append kept (rest kept) ∙ ap (λ (k : ℕ). length kept + k) (length-replicate {A = Option ℕ} m None))
+    goes_on (length kept) m (prefix_len-le-length q kept) (cc (prefix_len-append q kept (rest kept)))
+    (cc (length-append kept (rest kept), length-replicate {A = Option ℕ} m None))
 
 front : (m : ℕ) → prefix_len (λ x. not (is_none x)) (replicate {A = Option ℕ} m None) ≡ 0
 front zero = refl
@@ -73,34 +70,29 @@ unfolding padded
 padded_free kept =
     let q : Option ℕ → Bool = λ x. not (is_none x) in
     let m : ℕ = 256 - length kept in
-    stops (prefix_len q kept) (length kept) m (prefix_len q (kept ++ rest kept)) (length (kept ++ rest kept))
-    (prefix_len-le-length q kept)
-    (prefix_len-append q kept (rest kept)
-    ∙ ap (λ (k : ℕ). cond (eqb (prefix_len q kept) (length kept)) (length kept + k) (prefix_len q kept)) (front m))
-    (length-append kept (rest kept) ∙ ap (λ (k : ℕ). length kept + k) (length-replicate {A = Option ℕ} m None))
+    stops m (prefix_len-le-length q kept) (cc (prefix_len-append q kept (rest kept), front m))
+    (cc (length-append kept (rest kept), length-replicate {A = Option ℕ} m None))
 
-pub free_kept : (kept : Table) (n : ℕ) → Some n ≡ least_free kept → Some n ≡ least_free (padded kept)
-free_kept kept n e = let all = padded_free kept in grind (arith, nat_tests)
+pub free_kept : (kept : Table) {n : ℕ} → Some n ≡ least_free kept → Some n ≡ least_free (padded kept)
+free_kept kept e = grind (arith, padded_free kept, nat_tests)
 
 pub free_next : (kept : Table) → None ≡ least_free kept → length kept < 256 → Some (length kept)
     ≡ least_free (padded kept)
-free_next kept e lt = let all = padded_free kept in grind (arith, nat_tests)
+free_next kept e lt = grind (arith, padded_free kept, nat_tests)
 
 pub none_free : (kept : Table) → None ≡ least_free kept → 256 ≤ length kept → None ≡ least_free (padded kept)
-none_free kept e le = let all = padded_free kept in grind (arith, nat_tests)
+none_free kept e le = grind (arith, padded_free kept, nat_tests)
 
 -- ---- changes
 
 pub padded_set : (kept : Table) (n : ℕ) (o : Option ℕ) → n < length kept → padded (set kept n o) ≡ set (padded kept) n o
 unfolding padded
-padded_set kept n o lt =
-    ap (λ (k : ℕ). set kept n o ++ replicate (256 - k) None) (length-set kept n o)
-    ∙ sym (set-append_left kept (rest kept) n o lt)
+padded_set kept n o lt = cc (length-set kept n o, set-append_left kept (rest kept) n o lt)
 
 -- the least free number is at most that of the first place that isn't kept
-pub at_most_next : (kept : Table) (n : ℕ) → length kept ≤ 256 → least_free (padded kept) ≡ Some n
+pub at_most_next : (kept : Table) {n : ℕ} → length kept ≤ 256 → least_free (padded kept) ≡ Some n
     → (n ≤ length kept) × (n < 256)
-at_most_next kept n few e =
+at_most_next kept {n} few e =
     let h : (n < length (padded kept)) × (is_none (get_or (padded kept) n None) ≡ true)
     × ((k : ℕ) → k < n → is_none (get_or (padded kept) k None) ≡ false) =
     position-Some is_none (padded kept) n None e in
@@ -115,15 +107,15 @@ at_most_next kept n few e =
       | inr le ↦ (omega arith, omega arith)
     ]
 
-pub padded_push : (kept : Table) (n uid : ℕ) → n ≡ length kept → n < 256 → padded (kept ++ Some uid ∷ [])
+pub padded_push : (kept : Table) {n : ℕ} (uid : ℕ) → n ≡ length kept → n < 256 → padded (kept ++ Some uid ∷ [])
     ≡ set (padded kept) n (Some uid)
 unfolding padded
-padded_push kept n uid here lt =
+padded_push kept {n} uid here lt =
     let more : length (kept ++ Some uid ∷ []) ≡ length kept + 1 = length-append kept (Some uid ∷ []) in
-    let left : 256 - length kept ≡ suc (256 - length (kept ++ Some uid ∷ [])) = omega (arith, more, here, lt) in
+    let left : 256 - length kept ≡ suc (256 - length (kept ++ Some uid ∷ [])) = omega arith in
     append_assoc kept (Some uid ∷ []) (replicate (256 - length (kept ++ Some uid ∷ [])) None)
-    ∙ sym (set-append_right kept (rest kept) (length kept) n (Some uid) refl (omega (arith, here))
-    ∙ ap (λ (k : ℕ). kept ++ set (rest kept) k (Some uid)) (omega (arith, here))
+    ∙ sym (set-append_right kept (rest kept) (length kept) n (Some uid) refl (omega arith)
+    ∙ ap (λ (k : ℕ). kept ++ set (rest kept) k (Some uid)) (omega arith)
     ∙ ap (λ (k : ℕ). kept ++ set (replicate k None) 0 (Some uid)) left)
 
 -- an empty place at the end needn't be kept
@@ -131,30 +123,29 @@ pub padded_pop : (kept : Table) → length kept < 256 → padded (kept ++ None �
 unfolding padded
 padded_pop kept lt =
     let more : length (kept ++ None ∷ []) ≡ length kept + 1 = length-append kept (None ∷ []) in
-    let left : 256 - length kept ≡ suc (256 - length (kept ++ None ∷ [])) = omega (arith, more, lt) in
-    append_assoc kept (None ∷ []) (replicate (256 - length (kept ++ None ∷ [])) None)
-    ∙ sym (ap (λ (k : ℕ). kept ++ replicate k None) left)
+    let left : 256 - length kept ≡ suc (256 - length (kept ++ None ∷ [])) = omega arith in
+    cc (append_assoc kept (None ∷ []) (replicate (256 - length (kept ++ None ∷ [])) None))
 
 last_set : (kept : Table) (n : ℕ) → n + 1 ≡ length kept → set kept n None ≡ take n kept ++ None ∷ []
-last_set [] n e = absurd (omega (arith, e))
+last_set [] n e = absurd (omega arith)
 last_set (x ∷ []) zero e = refl
-last_set (x ∷ y ∷ ys) zero e = absurd (omega (arith, e))
-last_set (x ∷ xs) (suc n) e = ap (λ (t : Table). x ∷ t) (last_set xs n (omega (arith, e)))
+last_set (x ∷ y ∷ ys) zero e = absurd (omega arith)
+last_set (x ∷ xs) (suc n) e = cc (last_set xs n (omega (arith, e)))
 
-pub last_dropped : (kept left now : Table) (n m : ℕ) → padded kept ≡ now → length kept ≤ 256 → n + 1 ≡ length kept
-    → m ≡ n → left ≡ take m kept → padded left ≡ set now n None
-last_dropped kept left now n m shown few e here cut =
-    let within : n ≤ length kept = omega (arith, e) in
-    let short : length (take n kept) ≡ n = grind (arith, common_steps, within) in
-    let fits : length (take n kept) < 256 = omega (arith, short, e, few) in
+pub last_dropped : (kept : Table) {left now : Table} {n m : ℕ} → padded kept ≡ now → length kept ≤ 256
+    → n + 1 ≡ length kept → m ≡ n → left ≡ take m kept → padded left ≡ set now n None
+last_dropped kept {left} {n} shown few e here cut =
+    let within : n ≤ length kept = omega arith in
+    let short : length (take n kept) ≡ n = grind (arith, common_steps) in
+    let fits : length (take n kept) < 256 = omega arith in
     let front : left ≡ take n kept = cut ∙ ap (λ (k : ℕ). take k kept) here in
     ap (λ (t : Table). padded t) front ∙ sym (padded_pop (take n kept) fits)
-    ∙ ap (λ (t : Table). padded t) (sym (last_set kept n e)) ∙ padded_set kept n None (omega (arith, e))
+    ∙ ap (λ (t : Table). padded t) (sym (last_set kept n e)) ∙ padded_set kept n None (omega arith)
     ∙ ap (λ (t : Table). set t n None) shown
 
-pub cleared_is : (kept now : Table) (n : ℕ) → padded kept ≡ now → n < length kept → padded (set kept n None)
+pub cleared_is : (kept : Table) {now : Table} (n : ℕ) → padded kept ≡ now → n < length kept → padded (set kept n None)
     ≡ set now n None
-cleared_is kept now n shown lt = padded_set kept n None lt ∙ ap (λ (t : Table). set t n None) shown
+cleared_is kept n shown lt = cc (padded_set kept n None lt)
 
 pub known_is_kept : (kept : Table) (n : ℕ) → IsSome (uid_of (padded kept) n) → n < length kept
 known_is_kept kept n h = within_since_some kept n (subst IsSome (sym (padded_at kept n)) h)
@@ -165,60 +156,53 @@ pub none_kept : (kept : Table) → kept ≡ [] → padded kept ≡ replicate 256
 unfolding padded
 none_kept kept e = rw e refl
 
-pub nothing_known : (kst : Table) → kst ≡ replicate 256 None → (length kst ≡ 256) × HasOneNumberEach kst
-nothing_known kst e = (
+pub nothing_known : {kst : Table} → kst ≡ replicate 256 None → (length kst ≡ 256) × HasOneNumberEach kst
+nothing_known e = (
   ap length e ∙ length-replicate {A = Option ℕ} 256 None,
-  λ n m uid f g. absurd (none-some uid
-      (sym (blank 256 n) ∙ subst (λ (t : Table). uid_of t n ≡ Some uid) e f)),
+  λ n m uid f g. cc (blank 256 n, subst (λ (t : Table). uid_of t n ≡ Some uid) e f),
 )
 
 pub size_is : (kept now : Table) → padded kept ≡ now → length kept ≤ 256 → length now ≡ 256
-size_is kept now shown few = subst (λ (t : Table). length t ≡ 256) shown (padded_size kept few)
+size_is kept now shown few = rw (← shown) (padded_size kept few)
 
 pub at_kept : (kept now : Table) (n : ℕ) (r : Option ℕ) → padded kept ≡ now → n < length kept → r ≡ get_or kept n r
     → r ≡ uid_of now n
-at_kept kept now n r shown lt is =
-    subst (λ (t : Table). r ≡ uid_of t n) shown (is ∙ get_or_default kept n r None lt ∙ padded_at kept n)
+at_kept kept now n r shown lt is = rw (← shown) (is ∙ get_or_default kept n r None lt ∙ padded_at kept n)
 
 pub at_blank : (kept now : Table) (n : ℕ) → padded kept ≡ now → length kept ≤ n → None ≡ uid_of now n
-at_blank kept now n shown le =
-    subst (λ (t : Table). None ≡ uid_of t n) shown (sym (get_or_past kept n None le) ∙ padded_at kept n)
+at_blank kept now n shown le = rw (← shown) (sym (get_or_past kept n None le) ∙ padded_at kept n)
 
-pub number_is : (kept now searched : Table) (uid : ℕ) (r : Option ℕ) → padded kept ≡ now → searched ≡ kept → r
+pub number_is : {kept now searched : Table} (uid : ℕ) {r : Option ℕ} → padded kept ≡ now → searched ≡ kept → r
     ≡ number_of searched uid → r ≡ number_of now uid
-number_is kept now searched uid r shown same is =
-    subst (λ (t : Table). r ≡ number_of t uid) shown
-    (is ∙ ap (λ (t : Table). number_of t uid) same ∙ padded_number kept uid)
+number_is {kept} uid {r} shown same is = rw (← shown) (is ∙ ap (λ (t : Table). number_of t uid) same ∙ padded_number
+    kept uid)
 
-pub free_is_kept : (kept now searched : Table) (n : ℕ) → padded kept ≡ now → searched ≡ kept → Some n
+pub free_is_kept : {kept now searched : Table} {n : ℕ} → padded kept ≡ now → searched ≡ kept → Some n
     ≡ least_free searched → Some n ≡ least_free now
-free_is_kept kept now searched n shown same is =
-    subst (λ (t : Table). Some n ≡ least_free t) shown (free_kept kept n (is ∙ ap (λ (t : Table). least_free t) same))
+free_is_kept {kept} {n} shown same is = rw (← shown) (free_kept kept (is ∙ ap (λ (t : Table). least_free t) same))
 
-pub free_is_next : (kept now searched : Table) (n : ℕ) → padded kept ≡ now → searched ≡ kept → None
+pub free_is_next : {kept now searched : Table} {n : ℕ} → padded kept ≡ now → searched ≡ kept → None
     ≡ least_free searched → n < 256 → n ≡ length kept → Some n ≡ least_free now
-free_is_next kept now searched n shown same is lt here =
-    subst (λ (t : Table). Some n ≡ least_free t) shown (ap (λ (k : ℕ). Some k) here
+free_is_next {kept} {n} shown same is lt here = rw (← shown) (ap (λ (k : ℕ). Some k) here
     ∙ free_next kept (is ∙ ap (λ (t : Table). least_free t) same) (omega (arith, lt, here)))
 
-pub free_is_none : (kept now searched : Table) → padded kept ≡ now → searched ≡ kept → None ≡ least_free searched
+pub free_is_none : {kept now searched : Table} → padded kept ≡ now → searched ≡ kept → None ≡ least_free searched
     → 256 ≤ length kept → None ≡ least_free now
-free_is_none kept now searched shown same is le =
-    subst (λ (t : Table). None ≡ least_free t) shown (none_free kept (is ∙ ap (λ (t : Table). least_free t) same) le)
+free_is_none {kept} shown same is le = rw (← shown) (none_free kept (is ∙ ap (λ (t : Table). least_free t) same) le)
 
-pub set_is : (kept now : Table) (n uid : ℕ) → padded kept ≡ now → n < length kept → padded (set kept n (Some uid))
-    ≡ set now n (Some uid)
-set_is kept now n uid shown lt = padded_set kept n (Some uid) lt ∙ ap (λ (t : Table). set t n (Some uid)) shown
+pub set_is : (kept : Table) {now : Table} (n uid : ℕ) → padded kept ≡ now → n < length kept
+    → padded (set kept n (Some uid)) ≡ set now n (Some uid)
+set_is kept n uid shown lt = cc (padded_set kept n (Some uid) lt)
 
-pub push_is : (kept now : Table) (n uid : ℕ) → padded kept ≡ now → length kept ≤ 256 → least_free now ≡ Some n
+pub push_is : (kept : Table) {now : Table} {n : ℕ} (uid : ℕ) → padded kept ≡ now → length kept ≤ 256
+    → least_free now ≡ Some n
     → length kept ≤ n → (padded (kept ++ Some uid ∷ []) ≡ set now n (Some uid)) × (length kept < 256)
-push_is kept now n uid shown few free le =
-    let most : (n ≤ length kept) × (n < 256) = at_most_next kept n few
-    (subst (λ (t : Table). least_free t ≡ Some n) (sym shown) free) in
+push_is kept {n} uid shown few free le =
+    let most : (n ≤ length kept) × (n < 256) = at_most_next kept {n = n} few (rw shown free) in
     let low : n ≤ length kept = most.0 in
     let high : n < 256 = most.1 in (
-      padded_push kept n uid (omega (arith, low, le)) high ∙ ap (λ (t : Table). set t n (Some uid)) shown,
-      omega (arith, le, high),
+      cc (padded_push kept {n = n} uid (omega (arith, low, le)) high),
+      omega arith,
     )
 
 -- what a look at a place goes by

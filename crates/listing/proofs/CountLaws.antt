@@ -18,15 +18,15 @@ as_nodes (Some n) = n ∷ []
 abbrev pub gathered : Store → ℕ → List AccountCount
 gathered s u = flat_map (account_count s) (reverse (older u s.nodes))
 
-absent : (ns : List Node) (u v : ℕ) → AreBelow u ns → u ≤ v → node_in ns v ≡ None
-absent [] u v b le = refl
-absent (n ∷ ns) u v b le =
+absent : (ns : List Node) {u : ℕ} (v : ℕ) → AreBelow u ns → u ≤ v → node_in ns v ≡ None
+absent [] v b le = refl
+absent (n ∷ ns) {u} v b le =
     let other : eqb n.uid v ≡ false = let lt : n.uid < u = b.0 in grind (arith, nat_tests) in
-    rw other (absent ns u v b.1 le)
+    rw other (absent ns {u = u} v b.1 le)
 
-older_all : (ns : List Node) (u : ℕ) → AreBelow u ns → older u ns ≡ ns
-older_all [] u b = refl
-older_all (n ∷ ns) u b = (let yes : nat_lt n.uid u ≡ true = let lt : n.uid < u =
+older_all : {ns : List Node} (u : ℕ) → AreBelow u ns → older u ns ≡ ns
+older_all {ns = []} u b = refl
+older_all {ns = n ∷ ns} u b = (let yes : nat_lt n.uid u ≡ true = let lt : n.uid < u =
     b.0 in grind (arith, nat_tests) in rw yes refl)
 
 older_more : (ns : List Node) (u : ℕ) → IsTree ns → older (u + 1) ns ≡ as_nodes (node_in ns u) ++ older u ns
@@ -35,7 +35,8 @@ older_more (n ∷ ns) u t = elim (cases_Bool (nat_lt n.uid u)) [
   | inl less ↦
       (let more : nat_lt n.uid (u + 1) ≡ true = grind (arith, nat_tests) in
       let other : eqb n.uid u ≡ false = grind (arith, nat_tests) in
-      let none : node_in ns u ≡ None = absent ns n.uid u (below_joined ns n n.superior t.0) (grind (arith, nat_tests))
+      let none : node_in ns u ≡ None = absent ns {u = n.uid} u (below_joined ns n n.superior t.0)
+      (grind (arith, nat_tests))
       in
       rw less (rw more (rw other (rw none refl))))
   | inr not_less ↦ elim (cases_Bool (eqb n.uid u)) [
@@ -43,7 +44,7 @@ older_more (n ∷ ns) u t = elim (cases_Bool (nat_lt n.uid u)) [
         (let more : nat_lt n.uid (u + 1) ≡ true = grind (arith, nat_tests) in
         let same : n.uid ≡ u = grind (arith, nat_tests) in
         rw not_less (rw more (rw is (ap (λ (x : List Node). n ∷ x) (sym
-        (older_all ns u (subst (λ (v : ℕ). AreBelow v ns) same (below_joined ns n n.superior t.0))))))))
+        (older_all {ns = ns} u (subst (λ (v : ℕ). AreBelow v ns) same (below_joined ns n n.superior t.0))))))))
     | inr isnt ↦
         (let more : nat_lt n.uid (u + 1) ≡ false = grind (arith, nat_tests) in
         rw not_less (rw more (rw isnt (older_more ns u t.1))))
@@ -68,8 +69,7 @@ one_more : (s : Store) (o : Option Node) (xs : List Node)
     → flat_map (account_count s) (reverse (as_nodes o ++ xs)) ≡ flat_map (account_count s) (reverse xs)
     ++ account_at s o
 one_more s None xs = sym (append-nil (flat_map (account_count s) (reverse xs)))
-one_more s (Some n) xs =
-    ap (flat_map (account_count s)) (reverse-cons n xs)
+one_more s (Some n) xs = ap (flat_map (account_count s)) (reverse-cons n xs)
     ∙ flat_map-append (account_count s) (reverse xs) (n ∷ [])
     ∙ ap (λ (x : List AccountCount). flat_map (account_count s) (reverse xs) ++ x) (append-nil (account_count s n))
 
@@ -80,36 +80,30 @@ gathered_more s u t = ap (λ (x : List Node). flat_map (account_count s) (revers
 
 pub gathered_end : (s : Store) (u : ℕ) → AreBelow u s.nodes → gathered s u ≡ accounts_of s
 unfolding accounts_of
-gathered_end s u b = ap (λ (x : List Node). flat_map (account_count s) (reverse x)) (older_all s.nodes u b)
+gathered_end s u b = ap (λ (x : List Node). flat_map (account_count s) (reverse x)) (older_all {ns = s.nodes} u b)
 
-pub pushed : (old new now : List AccountCount) (a : AccountCount) (o : Option AccountCount) → o ≡ Some a → new ≡ old
-    ++ a ∷ [] → now ≡ new
-    → now ≡ old ++ as_list o
-pushed old new now a o is add same = same ∙ add ∙ ap (λ (x : Option AccountCount). old ++ as_list x) (sym is)
+pub pushed : (old : List AccountCount) {new now : List AccountCount} {a : AccountCount} {o : Option AccountCount}
+    → o ≡ Some a → new ≡ old ++ a ∷ [] → now ≡ new → now ≡ old ++ as_list o
+pushed old is add same = same ∙ add ∙ ap (λ (x : Option AccountCount). old ++ as_list x) (sym is)
 
 pub skipped : (old now : List AccountCount) (o : Option AccountCount) → ((a : AccountCount) → o ≡ Some a → ⊥) → now
     ≡ old → now ≡ old ++ as_list o
 skipped old now None none same = same ∙ sym (append-nil old)
 skipped old now (Some a) none same = absurd (none a refl)
 
-pub counts_start : (s : Store) (nodes : List Node) (items : List AccountCount) → IsTree nodes → s.nodes ≡ nodes → items
+pub counts_start : (s : Store) {nodes : List Node} {items : List AccountCount} → IsTree nodes → s.nodes ≡ nodes → items
     ≡ [] → items ≡ gathered s 1
-counts_start s nodes items t same empty = empty ∙ gathered_start s (subst IsTree (sym same) t)
+counts_start s t same empty = empty ∙ gathered_start s (subst IsTree (sym same) t)
 
 pub counts_more : (s : Store) (nodes : List Node) (u : ℕ) (items new : List AccountCount) (o : Option AccountCount)
     → IsTree nodes → s.nodes ≡ nodes
     → as_list o ≡ account_at s (node_in s.nodes u) → items ≡ gathered s u → new ≡ items ++ as_list o → new
     ≡ gathered s (u + 1)
-counts_more s nodes u items new o t same found h add =
-    add
-    ∙ ap (λ (x : List AccountCount). x ++ as_list o) h
-    ∙ ap (λ (x : List AccountCount). gathered s u ++ x) found
-    ∙ sym (gathered_more s u (subst IsTree (sym same) t))
+counts_more s nodes u items new o t same found h add = add ∙ ap (λ (x : List AccountCount). x ++ as_list o) h
+    ∙ ap (λ (x : List AccountCount). gathered s u ++ x) found ∙ sym (gathered_more s u (subst IsTree (sym same) t))
 
 pub counts_end : (s : Store) (nodes : List Node) (u next : ℕ) (items : List AccountCount) → s.nodes ≡ nodes
-    → AreBelow next nodes → next ≤ u
-    → items ≡ gathered s u
-    → items ≡ accounts_of s
+    → AreBelow next nodes → next ≤ u → items ≡ gathered s u → items ≡ accounts_of s
 counts_end s nodes u next items same below le h = h ∙ gathered_end s u
     (below_more s.nodes next u (subst (AreBelow next) (sym same) below) le)
   where
@@ -121,40 +115,38 @@ counts_end s nodes u next items same below le h = h ∙ gathered_end s u
 
 -- what the node of a uid adds to the accounts
 abbrev pub account_of_node : Store → ℕ → Bool → ℕ → List AccountCount
-account_of_node s u directory quota =
-    if directory && (eqb u 1 || not (eqb quota 0)) then
+account_of_node s u directory quota = if directory && (eqb u 1 || not (eqb quota 0)) then
     (record { path = trail_of s.nodes u; quota = quota; used = used_by s.nodes s.stored u }) ∷ [] else []
 
-pub account_found : (s : Store) (nodes : List Node) (u : ℕ) (b : Branch) → node_in nodes u
+pub account_found : (s : Store) {nodes : List Node} (u : ℕ) (b : Branch) → node_in nodes u
     ≡ Some (as_term (quota_in nodes) b) → s.nodes ≡ nodes
     → account_at s (node_in s.nodes u) ≡ account_of_node s u b.dir (quota_in nodes u)
-account_found s nodes u b is same =
-    ap (account_at s) (ap (λ (ns : List Node). node_in ns u) same ∙ is)
+account_found s {nodes} u b is same = ap (account_at s) (ap (λ (ns : List Node). node_in ns u) same ∙ is)
     ∙ ap (λ (v : ℕ). account_of_node s v b.dir (quota_in nodes v)) (found_uid nodes u (as_term (quota_in nodes) b) is)
 
-pub account_none : (s : Store) (nodes : List Node) (u q : ℕ) (b : Branch) → node_in nodes u
+pub account_none : (s : Store) {nodes : List Node} (u : ℕ) {q : ℕ} (b : Branch) → node_in nodes u
     ≡ Some (as_term (quota_in nodes) b) → s.nodes ≡ nodes
     → q ≡ quota_in nodes u → (eqb u 1 || not (eqb q 0)) ≡ false → [] ≡ account_at s (node_in s.nodes u)
-account_none s nodes u q b is same quota isnt =
-    sym (account_found s nodes u b is same ∙ ap (account_of_node s u b.dir) (sym quota) ∙ rw isnt (neither b.dir))
+account_none s {nodes} u {q} b is same quota isnt =
+    sym (account_found s u b is same ∙ ap (account_of_node s u b.dir) (sym quota) ∙ rw isnt (neither b.dir))
   where
     neither : (z : Bool) → cond {A = List AccountCount} (z && false)
         ((record { path = trail_of s.nodes u; quota = q; used = used_by s.nodes s.stored u }) ∷ []) [] ≡ []
     neither true = refl
     neither false = refl
 
-pub account_one : (s : Store) (nodes : List Node) (u q used : ℕ) (path : List (List ℕ)) (a : AccountCount) (b : Branch)
+pub account_one : (s : Store) {nodes : List Node} (u : ℕ) {q used : ℕ} {path : List (List ℕ)} {a : AccountCount}
+    (b : Branch)
     → node_in nodes u ≡ Some (as_term (quota_in nodes) b) → s.nodes ≡ nodes → b.dir ≡ true → q ≡ quota_in nodes u
     → (eqb u 1 || not (eqb q 0)) ≡ true
     → path ≡ trail_of nodes u → used ≡ used_by nodes s.stored u → a ≡ record { path = path; quota = q; used = used }
     → a ∷ [] ≡ account_at s (node_in s.nodes u)
-account_one s nodes u q used path a b is same dir quota one trail count made =
-    ap (λ (x : AccountCount). x ∷ []) (made
-    ∙ ap (λ (t : List (List ℕ)). record { path = t; quota = q; used = used })
+account_one s {nodes} u {q} {used} {path} b is same dir quota one trail count made =
+    ap (λ (x : AccountCount). x ∷ []) (made ∙ ap (λ (t : List (List ℕ)). record { path = t; quota = q; used = used })
     (trail ∙ ap (λ (ns : List Node). trail_of ns u) (sym same))
     ∙ ap (λ (n : ℕ). record { path = trail_of s.nodes u; quota = q; used = n })
     (count ∙ ap (λ (ns : List Node). used_by ns s.stored u) (sym same)))
-    ∙ sym (account_found s nodes u b is same ∙ ap (account_of_node s u b.dir) (sym quota) ∙ rw dir (rw one refl))
+    ∙ sym (account_found s u b is same ∙ ap (account_of_node s u b.dir) (sym quota) ∙ rw dir (rw one refl))
 
 -- ---- volumes
 
@@ -174,28 +166,24 @@ volumes_more s xs i v x c items new lt counted at h is add =
     let more : take (i + 1) xs ≡ take i xs ++ x ∷ [] = take_more xs i x lt
     ∙ ap (λ (y : VolumeLine). take i xs ++ y ∷ []) (sym at) in
     let size : v ≡ 0 + length (take i xs) = grind (arith, common_steps) in
-    add
-    ∙ ap (λ (t : List VolumeCount). t ++ c ∷ []) h
+    add ∙ ap (λ (t : List VolumeCount). t ++ c ∷ []) h
     ∙ ap (λ (y : VolumeCount). volumes_of s 0 (take i xs) ++ y ∷ []) (is ∙ ap (λ (n : ℕ). volume_of s n x) size)
-    ∙ sym (volumes_push s 0 (take i xs) x)
-    ∙ ap (volumes_of s 0) (sym more)
+    ∙ sym (volumes_push s 0 (take i xs) x) ∙ ap (volumes_of s 0) (sym more)
 
 -- ---- the whole
 
-pub summary_whole : (p : Plan) (s : Store) (accounts : List AccountCount) (volumes : List VolumeCount) (r : Summary)
+pub summary_whole : (p : Plan) (s : Store) {accounts : List AccountCount} {volumes : List VolumeCount} {r : Summary}
     → accounts ≡ accounts_of s
     → volumes ≡ volumes_of s 0 p.volumes → r ≡ record { accounts = accounts; volumes = volumes } → r ≡ summary_of p s
 unfolding summary_of
-summary_whole p s accounts volumes r a v made =
+summary_whole p s {accounts} {volumes} a v made =
     made ∙ ap (λ (x : List AccountCount). record { accounts = x; volumes = volumes }) a
     ∙ ap (λ (x : List VolumeCount). record { accounts = accounts_of s; volumes = x }) v
 
-pub listing_whole : (p q : Plan) (k : Kept) (es : List Entry) (r : Summary) (text : List ℕ) → q ≡ p
+pub listing_whole : {p q : Plan} {k : Kept} (es : List Entry) {r : Summary} {text : List ℕ} → q ≡ p
     → ((s : Store) → Shows q k s → r ≡ summary_of q s) → Shows p k (store_after p es)
     → text ≡ body_of p.print p es ++ summary_text r → text ≡ listing_of p es
 unfolding listing_of
-listing_whole p q k es r text same summed shows made =
-    made
-    ∙ ap (λ (x : Summary). body_of p.print p es ++ summary_text x)
+listing_whole {p} {k} es same summed shows made = made ∙ ap (λ (x : Summary). body_of p.print p es ++ summary_text x)
     (summed (store_after p es) (subst (λ (x : Plan). Shows x k (store_after p es)) (sym same) shows)
     ∙ ap (λ (x : Plan). summary_of x (store_after p es)) same)

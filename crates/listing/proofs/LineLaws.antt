@@ -13,8 +13,7 @@ own_lines p k (entry.Do process place cpu frame r ∷ es) = chosen (eqb process 
         (cond z (entry.Do process place cpu frame r ∷ filter (is_part k) es) (filter (is_part k) es))
     chosen true h ih =
         let same : process ≡ k = grind (arith, nat_tests) in
-        ap (λ (x : ℕ). answer_line p (command_at p x place) r ++ flat_map (own_line p k) es) (sym same)
-        ∙ ap (λ (t : List ℕ). answer_line p (command_at p process place) r ++ t) ih
+        cc
     chosen false h ih = ih
 own_lines p k (e ∷ es) = own_lines p k es
 
@@ -32,23 +31,17 @@ pub each_more : {X : Type 0} (line : X → List ℕ) (before : List ℕ) (xs : L
 each_more {X} line before xs i x now new lt at h add =
     let more : take (i + 1) xs ≡ take i xs ++ x ∷ [] = take_more xs i x lt
     ∙ ap (λ (y : X). take i xs ++ y ∷ []) (sym at) in
-    add
-    ∙ ap (λ (t : List ℕ). t ++ line x) h
-    ∙ flat_map_more line before (take i xs) x
-    ∙ ap (λ (t : List X). before ++ flat_map line t) (sym more)
+    cc (flat_map_more line before (take i xs) x)
 
 pub each_end : {X : Type 0} (line : X → List ℕ) (before : List ℕ) (xs : List X) (i : ℕ) (now : List ℕ) → length xs ≤ i
-    → HasEach line before (take i xs) now
-    → now ≡ before ++ flat_map line xs
+    → HasEach line before (take i xs) now → now ≡ before ++ flat_map line xs
 each_end {X} line before xs i now le h =
     let whole : take i xs ≡ xs = grind (arith, common_steps) in
-    h ∙ ap (λ (t : List X). before ++ flat_map line t) whole
+    cc
 
 pub lines_end : (before : List ℕ) (p : Plan) (k : ℕ) (es : List Entry) (i : ℕ) (now : List ℕ) → length es ≤ i
-    → HasEach (own_line p k) before (take i es) now
-    → now ≡ before ++ flat_map (entry_line p) (part k es)
-lines_end before p k es i now le h = each_end (own_line p k) before es i now le h
-    ∙ ap (λ (t : List ℕ). before ++ t) (own_lines p k es)
+    → HasEach (own_line p k) before (take i es) now → now ≡ before ++ flat_map (entry_line p) (part k es)
+lines_end before p k es i now le h = cc (each_end (own_line p k) before es i now le h, own_lines p k es)
 
 -- the text before, and the lines of the first so many processes
 abbrev pub HasProcesses : List ℕ → Plan → List Entry → ℕ → List ℕ → Type 0
@@ -59,14 +52,14 @@ no_process = record { who = nobody; commands = [] }
 
 processes_push : (p : Plan) (es : List Entry) (k : ℕ) (xs : List ProcessPlan) (y : ProcessPlan)
     → processes_lines p es k (xs ++ y ∷ []) ≡ processes_lines p es k xs ++ process_lines p es (k + length xs) y.who
-processes_push p es k [] y = let same : k ≡ k + 0 = omega arith in append-nil (process_lines p es k y.who)
-    ∙ ap (λ (n : ℕ). process_lines p es n y.who) same
+processes_push p es k [] y = let same : k ≡ k + 0 = omega arith in cc (append-nil (process_lines p es k y.who))
 processes_push p es k (x ∷ xs) y =
     let same : k + 1 + length xs ≡ k + length (x ∷ xs) = omega arith in
-    ap (λ (t : List ℕ). process_lines p es k x.who ++ t) (processes_push p es (k + 1) xs y
-    ∙ ap (λ (n : ℕ). processes_lines p es (k + 1) xs ++ process_lines p es n y.who) same)
-    ∙ sym (append_assoc (process_lines p es k x.who) (processes_lines p es (k + 1) xs)
-    (process_lines p es (k + length (x ∷ xs)) y.who))
+    cc (
+      processes_push p es (k + 1) xs y,
+      append_assoc (process_lines p es k x.who) (processes_lines p es (k + 1) xs)
+          (process_lines p es (k + length (x ∷ xs)) y.who),
+    )
 
 pub processes_start : (before : List ℕ) (p : Plan) (es : List Entry) → HasProcesses before p es 0 before
 processes_start before p es = sym (append-nil before)
@@ -74,8 +67,7 @@ processes_start before p es = sym (append-nil before)
 pub processes_more : (before : List ℕ) (p : Plan) (es : List Entry) (k : ℕ) (w : Who) (now middle new : List ℕ)
     → k < length p.processes
     → w ≡ who_of p k → HasProcesses before p es k now → middle ≡ now ++ process_line k w → new ≡ middle
-    ++ flat_map (entry_line p) (part k es)
-    → HasProcesses before p es (k + 1) new
+    ++ flat_map (entry_line p) (part k es) → HasProcesses before p es (k + 1) new
 unfolding process_lines
 processes_more before p es k w now middle new lt who h first second =
     let more : take (k + 1) p.processes ≡ take k p.processes ++ get_or p.processes k no_process ∷ [] =
@@ -83,21 +75,17 @@ processes_more before p es k w now middle new lt who h first second =
     let size : 0 + length (take k p.processes) ≡ k = grind (arith, common_steps) in
     let so_far : List ℕ = processes_lines p es 0 (take k p.processes) in
     let lines : List ℕ = flat_map (entry_line p) (part k es) in
-    second
-    ∙ ap (λ (t : List ℕ). t ++ lines) (first ∙ ap (λ (x : Who). now ++ process_line k x) who)
-    ∙ append_assoc now (process_line k (who_of p k)) lines
+    second ∙ ap (λ (t : List ℕ). t ++ lines) (cc) ∙ append_assoc now (process_line k (who_of p k)) lines
     ∙ ap (λ (t : List ℕ). t ++ process_lines p es k (who_of p k)) h
     ∙ append_assoc before so_far (process_lines p es k (who_of p k))
-    ∙ ap (λ (t : List ℕ). before ++ t) (ap (λ (n : ℕ). so_far ++ process_lines p es n (who_of p k)) (sym size)
-    ∙ sym (processes_push p es 0 (take k p.processes) (get_or p.processes k no_process))
-    ∙ ap (λ (t : List ProcessPlan). processes_lines p es 0 t) (sym more))
+    ∙ ap (λ (t : List ℕ). before ++ t) (cc (processes_push p es 0 (take k p.processes)
+    (get_or p.processes k no_process)))
 
 pub processes_end : (before : List ℕ) (p : Plan) (es : List Entry) (k : ℕ) (now : List ℕ) → length p.processes ≤ k
-    → HasProcesses before p es k now
-    → now ≡ before ++ processes_lines p es 0 p.processes
+    → HasProcesses before p es k now → now ≡ before ++ processes_lines p es 0 p.processes
 processes_end before p es k now le h =
     let whole : take k p.processes ≡ p.processes = grind (arith, common_steps) in
-    h ∙ ap (λ (t : List ProcessPlan). before ++ processes_lines p es 0 t) whole
+    cc
 
 -- the text before, and the names so far, each with `>` before it
 abbrev pub HasNames : List ℕ → List (List ℕ) → List ℕ → Type 0
@@ -112,17 +100,13 @@ pub names_more : (before : List ℕ) (names : List (List ℕ)) (i : ℕ) (name :
 names_more before names i name now new lt at h add =
     let more : take (i + 1) names ≡ take i names ++ name ∷ [] = take_more names i name lt
     ∙ ap (λ (x : List ℕ). take i names ++ x ∷ []) (sym at) in
-    add
-    ∙ ap (λ (t : List ℕ). t ++ 62 ∷ name) h
-    ∙ flat_map_more (λ (x : List ℕ). 62 ∷ x) before (take i names) name
-    ∙ ap (λ (t : List (List ℕ)). before ++ names_text t) (sym more)
+    cc (flat_map_more (λ (x : List ℕ). 62 ∷ x) before (take i names) name)
 
 pub names_end : (before : List ℕ) (names : List (List ℕ)) (i : ℕ) (now : List ℕ) → length names ≤ i
-    → HasNames before (take i names) now
-    → now ≡ before ++ names_text names
+    → HasNames before (take i names) now → now ≡ before ++ names_text names
 names_end before names i now le h =
     let whole : take i names ≡ names = grind (arith, common_steps) in
-    h ∙ ap (λ (t : List (List ℕ)). before ++ names_text t) whole
+    cc
 
 -- what the proof of `push_names` is given
 pub ruleset push_names_steps = (names_start, names_more, names_end)

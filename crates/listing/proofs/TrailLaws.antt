@@ -14,11 +14,11 @@ name_at ns u = name_of (node_in ns u)
 abbrev pub way : List Node → ℕ → List ℕ
 way ns u = rest_of (reverse (u ∷ above ns u))
 
-none_below : (ns : List Node) (u : ℕ) → AreBelow u ns → (v : ℕ) → is_some (node_in ns v) ≡ true → v < u
-none_below [] u b v e = cc
-none_below (n ∷ ns) u b v e = elim (cases_Bool (eqb n.uid v)) [
-  | inl is ↦ (let lt : n.uid < u = b.0 in grind (arith, nat_tests))
-  | inr isnt ↦ none_below ns u b.1 v (rw isnt at e)
+none_below : (ns : List Node) {u : ℕ} → AreBelow u ns → (v : ℕ) → is_some (node_in ns v) ≡ true → v < u
+none_below [] b v e = cc
+none_below (n ∷ ns) {u} b v e = elim (cases_Bool (eqb n.uid v)) [
+  | inl is ↦ (grind (arith, nat_tests))
+  | inr isnt ↦ none_below ns {u = u} b.1 v (rw isnt at e)
 ]
 
 under_append : (u : ℕ) (xs ys : List ℕ) → AreUnder u xs → AreUnder u ys → AreUnder u (xs ++ ys)
@@ -43,14 +43,12 @@ names_older : (n : Node) (ns : List Node) (xs : List ℕ) → AreUnder n.uid xs 
     ≡ flat_map (name_at ns) xs
 names_older n ns [] h = refl
 names_older n ns (x ∷ xs) h =
-    let other : eqb n.uid x ≡ false = let less : x < n.uid = h.0 in grind (arith, nat_tests) in
-    rw other (ap (λ (t : List (List ℕ)). name_at ns x ++ t) (names_older n ns xs h.1))
+    let other : eqb n.uid x ≡ false = grind (arith, nat_tests) in
+    rw other (cc (names_older n ns xs h.1))
 
 way_down : (ns : List Node) (u s : ℕ) → rest_of (reverse (u ∷ s ∷ above ns s)) ≡ way ns s ++ u ∷ []
 way_down ns u s =
-    ap rest_of (reverse-cons u (s ∷ above ns s) ∙ ap (λ (t : List ℕ). t ++ u ∷ []) (reverse-cons s (above ns s)))
-    ∙ tail_append (reverse (above ns s)) (u ∷ []) s
-    ∙ ap (λ (t : List ℕ). rest_of t ++ u ∷ []) (sym (reverse-cons s (above ns s)))
+    cc (reverse-cons u (s ∷ above ns s), reverse-cons s (above ns s), tail_append (reverse (above ns s)) (u ∷ []) s)
 
 joined : (n : Node) (ns : List Node) (u : ℕ) (o : Option ℕ) → eqb n.uid u ≡ true → Joins ns o n → IsTree ns
     → ((s : ℕ) → is_some (node_in ns s) ≡ true → trail_of ns s ≡ flat_map (name_at ns) (way ns s))
@@ -58,19 +56,19 @@ joined : (n : Node) (ns : List Node) (u : ℕ) (o : Option ℕ) → eqb n.uid u 
 joined n ns u None is root t ih = refl
 joined n ns u (Some s) is branch t ih =
     let there : is_some (node_in ns s) ≡ true = directory_there ns s branch.below in
-    let less : s < n.uid = none_below ns n.uid branch.later s there in
+    let less : s < n.uid = none_below ns {u = n.uid} branch.later s there in
     let under : AreUnder n.uid (s ∷ above ns s) = (
       less,
-      under_more n.uid s (above ns s) less
-          ((has_chains ns t).under s),
+      under_more n.uid s (above ns s) less ((has_chains ns t).under s),
     ) in
     let own : flat_map (name_at (n ∷ ns)) (u ∷ []) ≡ n.name ∷ [] = rw is refl in
-    ap (λ (x : List (List ℕ)). x ++ n.name ∷ []) (ih s there
-    ∙ sym (names_older n ns (way ns s) (under_tail n.uid (reverse (s ∷ above ns s))
-    (under_reverse n.uid (s ∷ above ns s) under))))
-    ∙ ap (λ (x : List (List ℕ)). flat_map (name_at (n ∷ ns)) (way ns s) ++ x) (sym own)
-    ∙ sym (flat_map-append (name_at (n ∷ ns)) (way ns s) (u ∷ []))
-    ∙ ap (flat_map (name_at (n ∷ ns))) (sym (way_down ns u s))
+    cc (
+      ih s there,
+      names_older n ns (way ns s) (under_tail n.uid (reverse (s ∷ above ns s))
+          (under_reverse n.uid (s ∷ above ns s) under)),
+      flat_map-append (name_at (n ∷ ns)) (way ns s) (u ∷ []),
+      way_down ns u s,
+    )
 
 -- the trail of a node is the names on the way there
 trail_is : (ns : List Node) (u : ℕ) → IsTree ns → is_some (node_in ns u) ≡ true → trail_of ns u
@@ -80,14 +78,12 @@ trail_is (n ∷ ns) u t there = elim (cases_Bool (eqb n.uid u)) [
   | inl is ↦ rw is (joined n ns u n.superior is t.0 t.1 (λ s. trail_is ns s t.1))
   | inr isnt ↦
       (let in_rest : is_some (node_in ns u) ≡ true = rw isnt at there in
-      let less : u < n.uid = none_below ns n.uid (later_joined ns n n.superior t.0) u in_rest in
+      let less : u < n.uid = none_below ns {u = n.uid} (later_joined ns n n.superior t.0) u in_rest in
       let under : AreUnder n.uid (u ∷ above ns u) = (
         less,
-        under_more n.uid u (above ns u) less
-            ((has_chains ns t.1).under u),
+        under_more n.uid u (above ns u) less ((has_chains ns t.1).under u),
       ) in
-      rw isnt (trail_is ns u t.1 in_rest
-      ∙ sym (names_older n ns (way ns u) (under_tail n.uid (reverse (u ∷ above ns u))
+      rw isnt (trail_is ns u t.1 in_rest ∙ sym (names_older n ns (way ns u) (under_tail n.uid (reverse (u ∷ above ns u))
       (under_reverse n.uid (u ∷ above ns u) under)))))
 ]
 
@@ -101,4 +97,4 @@ pub trail_end : (ns : List Node) (u : ℕ) (chain xs : List ℕ) (i : ℕ) (name
     ≡ trail_of ns u
 trail_end ns u chain xs i names t there is rest le h =
     let whole : take i xs ≡ xs = grind (arith, common_steps) in
-    h ∙ ap (flat_map (name_at ns)) (whole ∙ rest ∙ ap rest_of is) ∙ sym (trail_is ns u t there)
+    cc (trail_is ns u t there)

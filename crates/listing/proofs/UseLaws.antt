@@ -3,13 +3,10 @@ use Rattle.listing.proofs.Prelude.{◌≡◌, ℕ, suc, zero, ◌+◌, ◌<◌, 
 use Rattle.listing.proofs.CountLaws.{volumes_more}
 
 -- a loop's step
-pub uses_more : (s : Store) (v : ℕ) (items new : List VolumeUse) (u : VolumeUse) → items ≡ uses_of s v → u ≡ use_of s v
+pub uses_more : (s : Store) (v : ℕ) {items new : List VolumeUse} {u : VolumeUse} → items ≡ uses_of s v → u ≡ use_of s v
     → new ≡ items ++ u ∷ [] → new ≡ uses_of s (v + 1)
-uses_more s v items new u h is add =
-    add
-    ∙ ap (λ (xs : List VolumeUse). xs ++ u ∷ []) h
-    ∙ ap (λ (x : VolumeUse). uses_of s v ++ x ∷ []) is
-    ∙ sym (rw add-one refl)
+uses_more s v {u} h is add = add ∙ ap (λ (xs : List VolumeUse). xs ++ u ∷ []) h
+    ∙ ap (λ (x : VolumeUse). uses_of s v ++ x ∷ []) is ∙ sym (rw add-one refl)
 
 length_uses : (s : Store) (n : ℕ) → length (uses_of s n) ≡ n
 length_uses s zero = refl
@@ -29,8 +26,7 @@ count_with x u = record { volume = x; taken = u.records; used = u.entries }
 
 pub counts_more : (s : Store) (xs : List VolumeLine) (us : List VolumeUse) (i : ℕ) (x : VolumeLine) (u : VolumeUse)
     (c : VolumeCount) (items new : List VolumeCount) → i < length xs → x ≡ get_or xs i x → u ≡ get_or us i u → us
-    ≡ uses_of s (length xs)
-    → items ≡ volumes_of s 0 (take i xs) → c ≡ count_with x u → new ≡ items ++ c ∷ [] → new
+    ≡ uses_of s (length xs) → items ≡ volumes_of s 0 (take i xs) → c ≡ count_with x u → new ≡ items ++ c ∷ [] → new
     ≡ volumes_of s 0 (take (i + 1) xs)
 counts_more s xs us i x u c items new lt at used uses h made add =
     let is : u ≡ use_of s i = used ∙ ap (λ (ys : List VolumeUse). get_or ys i u) uses ∙ use_at s (length xs) i u lt in

@@ -24,11 +24,11 @@ line_more bs i x =
     (reference_at (state_at i x)) in
     let next : bs ++ lines_of (references (suc i) x) ≡ bs ++ lines_of (references (i + 1) x) =
     ap (λ n. bs ++ lines_of (references n x)) (sym (add-one i)) in
-    front ∙ more ∙ next
+    cc
 
-pub lines_none : (bs : List ℕ) (x : ℕ) → bs ≡ bs ++ lines_of (references 0 x)
+pub lines_none : {bs : List ℕ} (x : ℕ) → bs ≡ bs ++ lines_of (references 0 x)
 unfolding commands_text references
-lines_none bs x = sym (append-nil bs)
+lines_none {bs} x = sym (append-nil bs)
 
 -- one reference more was drawn, and its line written
 pub line_written : (before bs line whole : List ℕ) (i x s : ℕ) (r : Command) → bs ≡ before ++ lines_of (references i x)
@@ -36,12 +36,11 @@ pub line_written : (before bs line whole : List ℕ) (i x s : ℕ) (r : Command)
     → line ≡ bs ++ command_text [] r → whole ≡ line ++ codes "\n" → whole ≡ before ++ lines_of (references (i + 1) x)
 line_written before bs line whole i x s r e at is l w =
     let reference : r ≡ reference_at (state_at i x) = is ∙ ap reference_at at in
-    w ∙ ap (λ t. t ++ codes "\n") (l ∙ ap (λ t. t ++ command_text [] r) e
-    ∙ ap (λ c. (before ++ lines_of (references i x)) ++ command_text [] c) reference) ∙ line_more before i x
+    cc (line_more before i x)
 
-pub state_none : (x : ℕ) → x ≡ state_at 0 x
+pub state_none : {x : ℕ} → x ≡ state_at 0 x
 unfolding state_at
-state_none x = refl
+state_none = refl
 
 pub state_more : (i x s t : ℕ) → s ≡ state_at i x → t ≡ state_after s → t ≡ state_at (i + 1) x
 unfolding state_at
@@ -61,8 +60,7 @@ of_each P x add read write_shared write_own read_own =
     else if nat_lt (kind_of x) 7 then command.Write 2 (drawn 65536 (second x)) (drawn 8 (third x))
     else command.Read 2 (drawn 65536 (second x)))) [
       | true ↦ add
-      | false ↦ elim (nat_lt (kind_of x) 4) as (λ b. P
-          (if b then command.Read 1 (drawn 16384 (second x))
+      | false ↦ elim (nat_lt (kind_of x) 4) as (λ b. P (if b then command.Read 1 (drawn 16384 (second x))
           else if nat_lt (kind_of x) 5 then command.Write 1 (drawn 16384 (second x)) (1 + drawn 511 (third x))
           else if nat_lt (kind_of x) 7 then command.Write 2 (drawn 65536 (second x)) (drawn 8 (third x))
           else command.Read 2 (drawn 65536 (second x)))) [

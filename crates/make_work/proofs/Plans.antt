@@ -75,7 +75,7 @@ weigh_as_many (suc n) x =
     let parts = sum_by-append weight (references n x) (reference_at (state_at n x) ∷ []) in
     let one : sum_by weight (reference_at (state_at n x) ∷ []) ≡ weight (reference_at (state_at n x)) =
     omega (arith, sum_by-cons weight (reference_at (state_at n x)) []) in
-    omega (arith, parts, one, reference_weighs_one (state_at n x), weigh_as_many n x)
+    omega (arith, reference_weighs_one (state_at n x), weigh_as_many n x)
 
 -- ---- the users
 
@@ -150,18 +150,16 @@ initializer_weighs = refl
 
 users_are : (count j x : ℕ) → j + count ≤ 10 → list_all (is_process 2) (users j count x) ≡ true
 users_are zero j x few = refl
-users_are (suc count) j x few = and_from (is_process 2 (user j x)) _ (user_is j x (omega (arith, few)))
-    (users_are count (j + 1) (state_at reference_count x) (omega (arith, few)))
+users_are (suc count) j x few = and_from (is_process 2 (user j x)) _ (user_is j x (omega arith))
+    (users_are count (j + 1) (state_at reference_count x) (omega arith))
 
 users_weigh : (count j x : ℕ) → sum_by weight_of (users j count x) ≡ 2000 * count
 users_weigh zero j x = refl
 users_weigh (suc count) j x = omega (
   arith,
-  sum_by-cons weight_of (user j x)
-      (users (j + 1) count (state_at reference_count x)),
+  sum_by-cons weight_of (user j x) (users (j + 1) count (state_at reference_count x)),
   user_weighs j x,
-  users_weigh count (j + 1)
-      (state_at reference_count x),
+  users_weigh count (j + 1) (state_at reference_count x),
 )
 
 pub is_day : (n : ℕ) → IsPlan (day_of n)
@@ -187,7 +185,7 @@ is_day n = record {
 }
 
 -- a text that is that of a day is a script
-pub accepted : (text : List ℕ) (n : ℕ) → ((p : Plan) → IsPlan p → script_of (script_text p) ≡ Ok p) → text ≡ made n
+pub accepted : {text : List ℕ} (n : ℕ) → ((p : Plan) → IsPlan p → script_of (script_text p) ≡ Ok p) → text ≡ made n
     → script_of text ≡ Ok (day_of n)
 unfolding made
-accepted text n again e = ap script_of e ∙ again (day_of n) (is_day n)
+accepted n again e = cc (again (day_of n) (is_day n))

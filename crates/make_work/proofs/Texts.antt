@@ -20,32 +20,35 @@ use Rattle.make_work.proofs.Drawing.{names_no_volume}
 same_lines : (volumes : List VolumeLine) (n x : ℕ) → commands_text volumes (references n x) ≡ lines_of (references n x)
 unfolding commands_text references
 same_lines volumes zero x = refl
-same_lines volumes (suc n) x =
-    flat_map-append (λ c. ended (command_text volumes c)) (references n x) (reference_at (state_at n x) ∷ [])
-    ∙ ap (λ t. t ++ (ended (command_text volumes (reference_at (state_at n x))) ++ [])) (same_lines volumes n x)
-    ∙ ap (λ t. lines_of (references n x) ++ (ended t ++ [])) (names_no_volume volumes (state_at n x))
-    ∙ sym (flat_map-append (λ c. ended (command_text [] c)) (references n x) (reference_at (state_at n x) ∷ []))
+same_lines volumes (suc n) x = cc (
+  flat_map-append (λ c. ended (command_text volumes c)) (references n x) (reference_at (state_at n x) ∷ []),
+  same_lines volumes n x,
+  names_no_volume volumes (state_at n x),
+  flat_map-append (λ c. ended (command_text [] c)) (references n x) (reference_at (state_at n x) ∷ []),
+)
 
 -- the lines of a user's commands after the first three
 rest_lines : (volumes : List VolumeLine) (n x : ℕ) → commands_text volumes (references n x ++ command.End ∷ [])
     ≡ lines_of (references n x) ++ codes "end\n"
 unfolding commands_text command_text word_text arguments_text path_fields_text reference_text
-rest_lines volumes n x =
-    flat_map-append (λ c. ended (command_text volumes c)) (references n x) (command.End ∷ [])
-    ∙ ap (λ t. t ++ codes "end\n") (same_lines volumes n x)
+rest_lines volumes n x = cc (
+  flat_map-append (λ c. ended (command_text volumes c)) (references n x) (command.End ∷ []),
+  same_lines volumes n x,
+)
 
 pub user_lines : (volumes : List VolumeLine) (j x : ℕ) → process_text volumes false (user j x) ≡ user_text j x
 unfolding process_text user user_text commands_text command_text word_text arguments_text path_fields_text begin_text
     who_text
-user_lines volumes j x = ap (λ t. opening_text j ++ t) (rest_lines volumes reference_count x)
+user_lines volumes j x = cc (rest_lines volumes reference_count x)
 
 pub users_lines : (volumes : List VolumeLine) (j count x : ℕ) → processes_text volumes false (users j count x)
     ≡ users_text j count x
 unfolding processes_text
 users_lines volumes j zero x = refl
-users_lines volumes j (suc count) x = ap (λ t. t ++ processes_text volumes false
-    (users (j + 1) count (state_at reference_count x))) (user_lines volumes j x)
-    ∙ ap (λ t. user_text j x ++ t) (users_lines volumes (j + 1) count (state_at reference_count x))
+users_lines volumes j (suc count) x = cc (
+  user_lines volumes j x,
+  users_lines volumes (j + 1) count (state_at reference_count x),
+)
 
 -- what stands before the users
 abbrev pub front : List ℕ
@@ -67,34 +70,35 @@ front_is n = refl
 -- the whole script
 pub day_lines : (n : ℕ) → front ++ users_text 1 4 n ≡ made n
 unfolding made script_text processes_text day_of
-day_lines n =
-    ap (λ t. t ++ users_text 1 4 n) (sym (front_is n))
-    ∙ ap (λ t. (head_text (day_of n) ++ process_text volumes true initializer) ++ t) (sym (users_lines volumes 1 4 n))
-    ∙ append_assoc (head_text (day_of n)) (process_text volumes true initializer)
-    (processes_text volumes false (users 1 4 n))
+day_lines n = cc (
+  front_is n,
+  users_lines volumes 1 4 n,
+  append_assoc (head_text (day_of n))
+      (process_text volumes true initializer) (processes_text volumes false (users 1 4 n)),
+)
 
 -- the lines of user j, whose number is written in decimal
-pub user_written : (before opened referred bytes : List ℕ) (j x : ℕ) → j < 10
+pub user_written : (before : List ℕ) {opened referred bytes : List ℕ} (j x : ℕ) → j < 10
     → opened ≡ before ++ (codes "process User" ++ (decimal j
     ++ (codes "\ninitiate >counter\ninitiate >a>shared\ninitiate >b>own" ++ (decimal j ++ codes "\n"))))
     → referred ≡ opened ++ lines_of (references reference_count x) → bytes ≡ referred ++ codes "end\n" → bytes ≡ before
     ++ user_text j x
 unfolding user_text
-user_written before opened referred bytes j x few o r b =
+user_written before {opened} j x few o r b =
     let digit : decimal j ≡ (48 + j) ∷ [] = decimal_digit j few in
-    let all : opened ≡ before ++ opening_text j = o ∙ ap
-    (λ (d : List ℕ). before ++ (codes "process User"
+    let all : opened ≡ before ++ opening_text j = o ∙ ap (λ (d : List ℕ). before ++ (codes "process User"
     ++ (d ++ (codes "\ninitiate >counter\ninitiate >a>shared\ninitiate >b>own" ++ (d ++ codes "\n"))))) digit in
-    b ∙ ap (λ t. t ++ codes "end\n") (r ∙ ap (λ t. t ++ lines_of (references reference_count x)) all)
-    ∙ append_assoc (before ++ opening_text j) (lines_of (references reference_count x)) (codes "end\n")
-    ∙ append_assoc before (opening_text j) (lines_of (references reference_count x) ++ codes "end\n")
+    cc (
+      append_assoc (before ++ opening_text j) (lines_of (references reference_count x)) (codes "end\n"),
+      append_assoc before (opening_text j) (lines_of (references reference_count x) ++ codes "end\n"),
+    )
 
 -- the front and the users' lines are the whole script
-pub day_written : (fronted bytes : List ℕ) (n : ℕ) → fronted ≡ front → bytes ≡ fronted ++ users_text 1 4 n → bytes
+pub day_written : {fronted bytes : List ℕ} (n : ℕ) → fronted ≡ front → bytes ≡ fronted ++ users_text 1 4 n → bytes
     ≡ made n
-day_written fronted bytes n f b = b ∙ ap (λ t. t ++ users_text 1 4 n) f ∙ day_lines n
+day_written n f b = cc (day_lines n)
 
 -- what follows from a fact of an Ok holds where the other does
-pub if_ok : {T E : Type 0} (r : Result T E) (P Q : Type 0) → OnOk r P → (P → Q) → OnOk r Q
-if_ok (Ok t) P Q h f = f h
-if_ok (Err e) P Q h f = tt
+pub if_ok : {T E : Type 0} (r : Result T E) {P Q : Type 0} → OnOk r P → (P → Q) → OnOk r Q
+if_ok (Ok t) h f = f h
+if_ok (Err e) h f = tt

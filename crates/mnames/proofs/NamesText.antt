@@ -6,6 +6,4 @@ use Rattle.mnames.specs.Names.{names_text}
 
 pub names_text_more : (xs : List (List ℕ)) (i : ℕ) (x : List ℕ) → i < length xs → x ≡ get_or xs i x
     → names_text (take i xs) ++ 62 ∷ x ≡ names_text (take (i + 1) xs)
-names_text_more xs i x h e =
-    flat_map_more (λ name. 62 ∷ name) [] (take i xs) x ∙ ap (λ (y : List ℕ). names_text (take i xs ++ y ∷ [])) e
-    ∙ sym (ap names_text (take_more xs i x h))
+names_text_more xs i x h e = cc (flat_map_more (λ name. 62 ∷ name) [] (take i xs) x, take_more xs i x h)

@@ -70,17 +70,17 @@ goes_past [] (c ∷ cs) [] b s hx hc ne h = absurd (cc)
 goes_past [] (c ∷ cs) (y ∷ ys) b s hx hc ne h = absurd (sign_is_none c (cc) (first_byte c cs hc))
 goes_past (x ∷ xs) [] ys b s hx hc ne h =
     let heads : x ≡ b = cc in
-    (subst (λ (n : ℕ). is_name_byte n ≡ true) heads (first_byte x xs hx), omega arith)
+    (rw (← heads) (first_byte x xs hx), omega arith)
 goes_past (x ∷ xs) (c ∷ cs) ys b s hx hc ne h =
     let rest : xs ++ names_text ys ≡ cs ++ (b ∷ s) = cc in
     let both : (is_name_byte b ≡ true) × (length cs < length xs) =
     goes_past xs cs ys b s (later_bytes x xs hx) (later_bytes c cs hc) ne rest in
-    (both.0, omega (arith, both.1))
+    (both.0, omega arith)
 
 -- a name has a first byte
 begins_name : (x : List ℕ) (xs : List (List ℕ)) (b : ℕ) (s : List ℕ) → IsName x → x ++ names_text xs ≡ b ∷ s
     → is_name_byte b ≡ true
-begins_name [] xs b s h e = let n : 1 ≤ 0 = name_long [] h in absurd (omega (arith, n))
+begins_name [] xs b s h e = let n : 1 ≤ 0 = name_long [] h in absurd (omega arith)
 begins_name (x ∷ xs) ys b s h e =
     let heads : x ≡ b = cc in
     subst (λ (n : ℕ). is_name_byte n ≡ true) heads (first_byte x xs (name_bytes (x ∷ xs) h))
@@ -128,22 +128,22 @@ none_more text = record {
   where
     none : (s : List ℕ) → Begins 0 (62 ∷ s) → ⊥
     none s ([], more, few, each, e) = cc
-    none s (x ∷ xs, more, few, each, e) = omega (arith, few)
+    none s (x ∷ xs, more, few, each, e) = omega arith
 
     over : (n : ℕ) → 0 < n → n ≤ length (62 ∷ text) → Begins 0 (take n (62 ∷ text)) → ⊥
-    over zero lt le b = omega (arith, lt)
+    over zero lt le b = omega arith
     over (suc n) lt le b = none (take n text) b
 
 -- the byte at a place of a longer front
 cut : (text : List ℕ) (n k : ℕ) → n < k → k ≤ length text → (rest : List ℕ)
     × (take k text ≡ take n text ++ (get_or text n 0 ∷ rest))
-cut [] n k lt le = absurd (omega (arith, lt, le))
-cut (b ∷ bs) n zero lt le = absurd (omega (arith, lt))
+cut [] n k lt le = absurd (omega arith)
+cut (b ∷ bs) n zero lt le = absurd (omega arith)
 cut (b ∷ bs) zero (suc k) lt le = (take k bs, refl)
 cut (b ∷ bs) (suc n) (suc k) lt le =
     let rest : (rest : List ℕ) × (take k bs ≡ take n bs ++ (get_or bs n 0 ∷ rest)) =
-    cut bs n k (omega (arith, lt)) (omega (arith, le)) in
-    (rest.0, ap (λ (t : List ℕ). b ∷ t) rest.1)
+    cut bs n k (omega arith) (omega arith) in
+    (rest.0, cc)
 
 -- no name begins past a front that is stuck
 stuck_name : (text : List ℕ) (n k : ℕ) (x : List ℕ) (xs : List (List ℕ)) (more : List ℕ) → IsStuck text n → n < k
@@ -154,17 +154,14 @@ stuck_name text n k x xs more h lt le name e = chosen (cases_eq n 0)
     after = (cut text n k lt le).0
 
     bytes : x ++ names_text xs ≡ take n text ++ (get_or text n 0 ∷ (after ++ more))
-    bytes = e ∙ ap (λ (t : List ℕ). t ++ more) (cut text n k lt le).1
-        ∙ append_assoc (take n text) (get_or text n 0 ∷ after) more
+    bytes = cc ((cut text n k lt le).1, append_assoc (take n text) (get_or text n 0 ∷ after) more)
 
     chosen : (n ≡ 0) ⊎ (n ≡ 0 → ⊥) → ⊥
     chosen (inl z) =
         let front : take n text ≡ [] = ap (λ (i : ℕ). take i text) z in
-        let first : is_name_byte (get_or text n 0) ≡ true =
-        begins_name x xs (get_or text n 0) (after ++ more) name
+        let first : is_name_byte (get_or text n 0) ≡ true = begins_name x xs (get_or text n 0) (after ++ more) name
         (bytes ∙ ap (λ (t : List ℕ). t ++ (get_or text n 0 ∷ (after ++ more))) front) in
-        let not_first : is_name_byte (get_or text n 0) ≡ false =
-        h.run.stop (omega (arith, lt, le)) (omega (arith, z)) in
+        let not_first : is_name_byte (get_or text n 0) ≡ false = h.run.stop (omega arith) (omega arith) in
         cc
     chosen (inr nz) =
         let past : (is_name_byte (get_or text n 0) ≡ true) × (length (take n text) < length x) =
@@ -173,13 +170,12 @@ stuck_name text n k x xs more h lt le name e = chosen (cases_eq n 0)
         let long : length (take n text) ≡ n = grind (arith, common_steps) in
         let few : length x ≤ 32 = name_short x name in
         let byte : is_name_byte (get_or text n 0) ≡ true = past.0 in
-        let other : is_name_byte (get_or text n 0) ≡ false =
-        h.run.stop (omega (arith, lt, le)) (omega (arith, past.1, long, few)) in
+        let other : is_name_byte (get_or text n 0) ≡ false = h.run.stop (omega arith) (omega arith) in
         cc
 
 stuck_longest : (m : ℕ) (text : List ℕ) (n : ℕ) → IsStuck text n → Longest (suc m) (62 ∷ text) (suc n)
 stuck_longest m text n h = record {
-  within = omega (arith, h.run.within);
+  within = omega arith;
   begins = start (cases_eq n 0);
   longest = over;
 }
@@ -187,12 +183,11 @@ stuck_longest m text n h = record {
     start : (n ≡ 0) ⊎ (n ≡ 0 → ⊥) → Begins (suc m) (62 ∷ take n text)
     start (inl z) =
         let front : take n text ≡ [] = ap (λ (i : ℕ). take i text) z in
-        ((97 ∷ []) ∷ [], 97 ∷ [], omega arith, (one_letter, tt), ap (λ (t : List ℕ). 62 ∷ (t ++ (97 ∷ []))) (sym front))
+        ((97 ∷ []) ∷ [], 97 ∷ [], omega arith, (one_letter, tt), cc)
     start (inr nz) =
         let long : length (take n text) ≡ n = let w : n ≤ length text = h.run.within in grind (arith, common_steps) in
         let short : n ≤ 32 = h.run.short in
-        let name : IsName (take n text) = run_is_name (take n text) (omega (arith, long, nz))
-        (omega (arith, long, short)) h.run.each in
+        let name : IsName (take n text) = run_is_name (take n text) (omega arith) (omega arith) h.run.each in
         (take n text ∷ [], [], omega arith, (name, tt), refl)
 
     none : (k : ℕ) → n < k → k ≤ length text → Begins (suc m) (62 ∷ take k text) → ⊥
@@ -202,8 +197,8 @@ stuck_longest m text n h = record {
         stuck_name text n k x xs more h lt le each.0 bytes
 
     over : (k : ℕ) → suc n < k → k ≤ length (62 ∷ text) → Begins (suc m) (take k (62 ∷ text)) → ⊥
-    over zero lt le b = omega (arith, lt)
-    over (suc k) lt le b = none k (omega (arith, lt)) (omega (arith, le)) b
+    over zero lt le b = omega arith
+    over (suc k) lt le b = none k (omega arith) (omega arith) b
 
 -- one name before a rest that is at its sign
 name_before : (m : ℕ) (x rest : List ℕ) (k : ℕ) → IsName x → IsAtSign rest → Longest m rest k
@@ -219,7 +214,7 @@ name_before m x rest k name sign h = record {
         let bytes : x ++ names_text names ≡ take (length x + k) (x ++ rest) ++ more =
         ap (λ (t : List ℕ). x ++ t) e ∙ sym (append_assoc x (take k rest) more)
         ∙ ap (λ (t : List ℕ). t ++ more) (sym (take-append-add x rest k)) in
-        (x ∷ names, more, omega (arith, few), (name, each), ap (λ (t : List ℕ). 62 ∷ t) bytes)
+        (x ∷ names, more, omega arith, (name, each), cc)
 
     inner : (s : List ℕ) (y : List ℕ) (ys : List (List ℕ)) (more : List ℕ) → IsName y → y ++ names_text ys ≡ x
         ++ (62 ∷ (s ++ more)) → names_text ys ≡ (62 ∷ s) ++ more
@@ -227,7 +222,7 @@ name_before m x rest k name sign h = record {
 
     none : (r : List ℕ) (j : ℕ) → IsAtSign r → Begins (suc m) (62 ∷ (x ++ take (suc j) r)) → 0 < length r
         → Begins m (take (suc j) r)
-    none [] j at b lt = absurd (omega (arith, lt))
+    none [] j at b lt = absurd (omega arith)
     none (c ∷ s) j at ([], more, few, each, e) lt = absurd (cc)
     none (c ∷ s) j at (y ∷ ys, more, few, each, e) lt =
         let bytes : y ++ names_text ys ≡ (x ++ (c ∷ take j s)) ++ more = cc in
@@ -235,26 +230,23 @@ name_before m x rest k name sign h = record {
         ∙ ap (λ (b : ℕ). x ++ (b ∷ (take j s ++ more))) at in (
           ys,
           more,
-          omega (arith, few),
+          omega arith,
           each.1,
-          inner (take j s) y ys more each.0 joined
-              ∙ ap (λ (b : ℕ). b ∷ (take j s ++ more)) (sym at),
+          inner (take j s) y ys more each.0 joined ∙ ap (λ (b : ℕ). b ∷ (take j s ++ more)) (sym at),
         )
 
     past : (j : ℕ) → k < j → j ≤ length rest → Begins (suc m) (62 ∷ take (length x + j) (x ++ rest)) → ⊥
-    past zero lt le b = omega (arith, lt)
+    past zero lt le b = omega arith
     past (suc j) lt le b =
         let front : take (length x + suc j) (x ++ rest) ≡ x ++ take (suc j) rest = take-append-add x rest (suc j) in
-        h.longest (suc j) lt le (none rest j sign (subst (λ (t : List ℕ). Begins (suc m) (62 ∷ t)) front b)
-        (omega (arith, le)))
+        h.longest (suc j) lt le (none rest j sign (rw (← front) b) (omega arith))
 
     over : (n : ℕ) → suc (length x + k) < n → n ≤ length (62 ∷ (x ++ rest))
         → Begins (suc m) (take n (62 ∷ (x ++ rest))) → ⊥
-    over zero lt le b = omega (arith, lt)
+    over zero lt le b = omega arith
     over (suc n) lt le b =
-        let same : n ≡ length x + (n - length x) = omega (arith, lt) in
-        past (n - length x) (omega (arith, lt)) (omega (arith, le, length-append x rest))
-        (subst (λ (i : ℕ). Begins (suc m) (62 ∷ take i (x ++ rest))) same b)
+        let same : n ≡ length x + (n - length x) = omega arith in
+        past (n - length x) (omega arith) (omega (arith, length-append x rest)) (rw (← same) b)
 
 -- so many names and bytes more, for some names
 abbrev names_more : List (List ℕ) → ℕ → ℕ
@@ -267,13 +259,13 @@ bytes_more (x ∷ xs) k = suc (length x + bytes_more xs k)
 
 names_more_is : (xs : List (List ℕ)) (m : ℕ) → names_more xs m ≡ length xs + m
 names_more_is [] m = omega arith
-names_more_is (x ∷ xs) m = let rest : names_more xs m ≡ length xs + m = names_more_is xs m in omega (arith, rest)
+names_more_is (x ∷ xs) m = let rest : names_more xs m ≡ length xs + m = names_more_is xs m in omega arith
 
 bytes_more_is : (xs : List (List ℕ)) (k : ℕ) → bytes_more xs k ≡ length (names_text xs) + k
 bytes_more_is [] k = omega arith
 bytes_more_is (x ∷ xs) k =
     let rest : bytes_more xs k ≡ length (names_text xs) + k = bytes_more_is xs k in
-    omega (arith, rest, length-append x (names_text xs))
+    omega (arith, length-append x (names_text xs))
 
 at_sign : (xs : List (List ℕ)) (rest : List ℕ) → IsAtSign rest → IsAtSign (names_text xs ++ rest)
 at_sign [] rest h = h
@@ -293,7 +285,7 @@ names_before (x ∷ xs) m rest k each sign h =
 begins_path : (text : List ℕ) → Begins 9 text → BeginsPath text
 begins_path [] b = ([], 62 ∷ [], record { few = omega arith; each = tt }, refl)
 begins_path (c ∷ cs) ([], more, few, each, e) = absurd (cc)
-begins_path (c ∷ cs) (x ∷ xs, more, few, each, e) = (x ∷ xs, more, record { few = few; each = each }, e)
+begins_path (c ∷ cs) (x ∷ xs, more, few, each, e) = (x ∷ xs, more, assumption, e)
 
 path_begins : (text : List ℕ) → BeginsPath text → Begins 9 text
 path_begins text ([], more, path, e) = (
@@ -301,8 +293,7 @@ path_begins text ([], more, path, e) = (
   more ++ (97 ∷ []),
   omega arith,
   (one_letter, tt),
-  ap (λ (t : List ℕ). t ++ (97 ∷ [])) e
-      ∙ append_assoc text more (97 ∷ []),
+  cc (append_assoc text more (97 ∷ [])),
 )
 path_begins text (x ∷ xs, more, path, e) = (x ∷ xs, more, path.few, path.each, e)
 
@@ -321,35 +312,30 @@ longest_after xs m text rest k each sign count same h =
     let all : Longest (names_more xs m) (names_text xs ++ rest) (bytes_more xs k) =
     names_before xs m rest k each sign h in
     let nine : names_more xs m ≡ 9 = names_more_is xs m ∙ count in
-    let counted : Longest 9 (names_text xs ++ rest) (bytes_more xs k) =
-    subst (λ (n : ℕ). Longest n (names_text xs ++ rest) (bytes_more xs k)) nine all in
-    let placed : Longest 9 (names_text xs ++ rest) (length (names_text xs) + k) =
-    subst (λ (n : ℕ). Longest 9 (names_text xs ++ rest) n) (bytes_more_is xs k) counted in
-    longest_start text (length (names_text xs) + k) (subst (λ (t : List ℕ). Longest 9 t (length (names_text xs) + k))
-    (sym same) placed)
+    let counted : Longest 9 (names_text xs ++ rest) (bytes_more xs k) = rw (← nine) all in
+    let placed : Longest 9 (names_text xs ++ rest) (length (names_text xs) + k) = rw (← (bytes_more_is xs k)) counted in
+    longest_start text (length (names_text xs) + k) (rw same placed)
 
 all_taken : (text : List ℕ) → take (length text) text ≡ text
 all_taken [] = refl
-all_taken (b ∷ bs) = ap (λ (t : List ℕ). b ∷ t) (all_taken bs)
+all_taken (b ∷ bs) = cc (all_taken bs)
 
 -- a text of which a path begins with less is no path
 never_shorter : (text : List ℕ) (k : ℕ) → IsLongestStart text k → k < length text → (names : List (List ℕ))
     → IsPath names → text ≢ path_text names
-never_shorter text k h lt names path e =
-    h.longest (length text) lt (omega arith) (
-      names,
-      [],
-      path,
-      sym e ∙ sym (all_taken text)
-          ∙ sym (append-nil (take (length text) text)),
-    )
+never_shorter text k h lt names path e = h.longest (length text) lt (omega arith) (
+  names,
+  [],
+  path,
+  cc (all_taken text, append-nil (take (length text) text)),
+)
 
 short_texts : (xs : List (List ℕ)) → AllByRecursion IsName xs → length (names_text xs) ≤ 33 * length xs
 short_texts [] h = omega arith
 short_texts (x ∷ xs) h =
     let rest : length (names_text xs) ≤ 33 * length xs = short_texts xs h.1 in
     let short : length x ≤ 32 = name_short x h.0 in
-    omega (arith, rest, short, length-append x (names_text xs))
+    omega (arith, length-append x (names_text xs))
 
 -- the ninth name is there, and a sign follows
 pub full_is_no_path : (xs : List (List ℕ)) (text after : List ℕ) → IsPath xs → 9 ≤ length xs → text ≡ names_text xs
@@ -357,12 +343,12 @@ pub full_is_no_path : (xs : List (List ℕ)) (text after : List ℕ) → IsPath 
 full_is_no_path xs text after path full same =
     let few : length xs ≤ 9 = path.few in
     let start : IsLongestStart text (length (names_text xs) + 0) =
-    longest_after xs 0 text (62 ∷ after) 0 path.each refl (omega (arith, full, few)) same (none_more after) in
+    longest_after xs 0 text (62 ∷ after) 0 path.each refl (omega arith) same (none_more after) in
     let here : IsLongestStart text (length (names_text xs)) =
     subst (λ (n : ℕ). IsLongestStart text n) (omega arith) start in
     let long : length text ≡ length (names_text xs) + length (62 ∷ after) = ap length same
     ∙ length-append (names_text xs) (62 ∷ after) in
-    record { start = here; never = never_shorter text (length (names_text xs)) here (omega (arith, long)) }
+    assumption (never_shorter text (length (names_text xs)) here (omega (arith, long)))
 
 -- a sign at the end is no path, but alone
 ends_at_sign : (xs ys : List (List ℕ)) → AllByRecursion IsName xs → AllByRecursion IsName ys → names_text ys
@@ -373,7 +359,7 @@ ends_at_sign [] (y ∷ ys) hx hy e =
     nothing y ys hy.0 bytes
   where
     nothing : (y : List ℕ) (ys : List (List ℕ)) → IsName y → y ++ names_text ys ≡ [] → ⊥
-    nothing [] ys h e = let n : 1 ≤ 0 = name_long [] h in omega (arith, n)
+    nothing [] ys h e = let n : 1 ≤ 0 = name_long [] h in omega arith
     nothing (b ∷ bs) ys h e = cc
 ends_at_sign (x ∷ xs) [] hx hy e = cc
 ends_at_sign (x ∷ []) (y ∷ ys) hx hy e =
@@ -423,7 +409,7 @@ stuck_is_no_path xs text after n path room more same h =
 
 -- a text that doesn't begin with the sign
 pub unsigned_is_no_path : (text : List ℕ) → (0 < length text → get_or text 0 0 ≢ 62) → IsNoPath text 0
-unsigned_is_no_path text h = record { start = start text h; never = never text h }
+unsigned_is_no_path text h = assumption (start text h, never text h)
   where
     first : (b : ℕ) (bs : List ℕ) → b ≢ 62 → BeginsPath (b ∷ bs) → ⊥
     first b bs ne ([], more, path, e) = ne (cc)
@@ -433,7 +419,7 @@ unsigned_is_no_path text h = record { start = start text h; never = never text h
     start [] h = record {
       within = omega arith;
       begins = ([], 62 ∷ [], record { few = omega arith; each = tt }, refl);
-      longest = λ n lt le b. omega (arith, lt, le);
+      longest = λ n lt le b. omega arith;
     }
     start (b ∷ bs) h = record {
       within = omega arith;
@@ -442,7 +428,7 @@ unsigned_is_no_path text h = record { start = start text h; never = never text h
     }
       where
         over : (n : ℕ) → 0 < n → n ≤ length (b ∷ bs) → BeginsPath (take n (b ∷ bs)) → ⊥
-        over zero lt le p = omega (arith, lt)
+        over zero lt le p = omega arith
         over (suc n) lt le p = first b (take n bs) (h (omega arith)) p
 
     never : (text : List ℕ) → (0 < length text → get_or text 0 0 ≢ 62) → (names : List (List ℕ)) → IsPath names
@@ -462,7 +448,7 @@ pub record IsRunSoFar (text : List ℕ) (i : ℕ) : Type 0 where
 pub run_more : (text : List ℕ) (i : ℕ) → IsRunSoFar text i → i < length text → i ≢ 32 → is_name_byte (get_or text i 0)
     ≡ true → IsRunSoFar text (i + 1)
 run_more text i h lt ne byte = record {
-  short = let s : i ≤ 32 = h.short in omega (arith, s, ne);
+  short = let s : i ≤ 32 = h.short in omega arith;
   each =
       let front : list_all is_name_byte (take i text ++ (get_or text i 0 ∷ [])) ≡ true =
       rw (list_all-append, h.each, byte) refl in
@@ -471,14 +457,14 @@ run_more text i h lt ne byte = record {
 
 pub run_whole : (text : List ℕ) (i : ℕ) → IsRunSoFar text i → i ≤ length text
     → (i < length text → i < 32 → is_name_byte (get_or text i 0) ≡ false) → IsRun text i
-run_whole text i h within stop = record { within = within; short = h.short; each = h.each; stop = stop }
+run_whole text i h within stop = assumption
 
 pub stuck_at_byte : (text rest : List ℕ) (n : ℕ) → IsRun text n → rest ≡ drop n text → 0 < length rest
     → get_or rest 0 0 ≢ 62 → IsStuck text n
 stuck_at_byte text rest n h same lt ne =
     let w : n ≤ length text = h.within in
     let inside : n < length text = let some : 0 < length (drop n text) =
-    subst (λ (t : List ℕ). 0 < length t) same lt in grind (arith, common_steps) in
+    rw (← same) lt in grind (arith, common_steps) in
     let at : get_or rest 0 0 ≡ get_or text n 0 = ap (λ (t : List ℕ). get_or t 0 0) (same ∙ drop-cons text n 0 inside) in
     record { run = h; inside = λ nz. inside; other = λ nz e. ne (at ∙ e) }
 
@@ -488,23 +474,21 @@ stuck_at_start text front n h same none =
     let w : n ≤ length text = h.within in
     let long : length (take n text) ≡ n = grind (arith, common_steps) in
     let counted : length front ≡ length (take n text) = ap length same in
-    let nothing : n ≡ 0 = omega (arith, long, counted, none) in
+    let nothing : n ≡ 0 = omega arith in
     record {
-      run = subst (IsRun text) nothing h;
+      run = rw (← nothing) h;
       inside = λ nz. absurd (nz refl);
       other = λ nz. absurd (nz refl);
     }
 
 -- and where a name ends there
-pub front_is_name : (text front : List ℕ) (n : ℕ) → IsRun text n → front ≡ take n text → 0 < length front
-    → IsName front
+pub front_is_name : (text front : List ℕ) (n : ℕ) → IsRun text n → front ≡ take n text → 0 < length front → IsName front
 front_is_name text front n h same some =
     let w : n ≤ length text = h.within in
     let long : length (take n text) ≡ n = grind (arith, common_steps) in
     let short : n ≤ 32 = h.short in
     let counted : length front ≡ length (take n text) = ap length same in
-    subst IsName (sym same) (run_is_name (take n text) (omega (arith, long, counted, some)) (omega (arith, long, short))
-    h.each)
+    subst IsName (sym same) (run_is_name (take n text) (omega arith) (omega arith) h.each)
 
 pub front_is_short : (text front : List ℕ) (n : ℕ) → IsRun text n → front ≡ take n text → 0 < length front
     → IsShort front
@@ -517,9 +501,8 @@ pub record HasRead (text : List ℕ) (names : List (List ℕ)) (rest : List ℕ)
   pub sign : IsAtSign rest
 
 names_text_one_more : (xs : List (List ℕ)) (x : List ℕ) → names_text (xs ++ x ∷ []) ≡ names_text xs ++ (62 ∷ x)
-names_text_one_more [] x = ap (λ (t : List ℕ). 62 ∷ t) (append-nil x)
-names_text_one_more (y ∷ ys) x = ap (λ (t : List ℕ). 62 ∷ (y ++ t)) (names_text_one_more ys x)
-    ∙ ap (λ (t : List ℕ). 62 ∷ t) (sym (append_assoc y (names_text ys) (62 ∷ x)))
+names_text_one_more [] x = cc (append-nil x)
+names_text_one_more (y ∷ ys) x = cc (names_text_one_more ys x, append_assoc y (names_text ys) (62 ∷ x))
 
 each_one_more : (xs : List (List ℕ)) (x : List ℕ) → AllByRecursion IsName xs → IsName x
     → AllByRecursion IsName (xs ++ x ∷ [])
@@ -536,9 +519,8 @@ pub read_more : (text : List ℕ) (names : List (List ℕ)) (rest after behind n
 read_more text names rest after behind name b h split room is_one parts sign = record {
   whole = whole;
   path = record {
-    few = omega (arith, room, length-append names (name ∷ []));
-    each =
-        each_one_more names name h.path.each is_one;
+    few = omega (arith, length-append names (name ∷ []));
+    each = each_one_more names name h.path.each is_one;
   };
   sign = sign;
 }
@@ -547,11 +529,8 @@ read_more text names rest after behind name b h split room is_one parts sign = r
     at s e = subst IsAtSign e s
 
     whole : text ≡ names_text (names ++ name ∷ []) ++ behind
-    whole =
-        h.whole
-        ∙ ap (λ (t : List ℕ). names_text names ++ t) (split ∙ ap (λ (c : ℕ). c ∷ after) (at h.sign split)
-        ∙ ap (λ (t : List ℕ). 62 ∷ t) parts)
-        ∙ sym (append_assoc (names_text names) (62 ∷ name) behind)
+    whole = h.whole ∙ ap (λ (t : List ℕ). names_text names ++ t) (split ∙ ap (λ (c : ℕ). c ∷ after) (at h.sign split)
+        ∙ ap (λ (t : List ℕ). 62 ∷ t) parts) ∙ sym (append_assoc (names_text names) (62 ∷ name) behind)
         ∙ ap (λ (t : List ℕ). t ++ behind) (sym (names_text_one_more names name))
 
 -- where the bytes before what is left end
@@ -560,12 +539,12 @@ pub read_length : (text : List ℕ) (names : List (List ℕ)) (rest : List ℕ) 
 read_length text names rest h =
     let short : length (names_text names) ≤ 33 * length names = short_texts names h.path.each in
     let few : length names ≤ 9 = h.path.few in
-    (ap length h.whole ∙ length-append (names_text names) rest, omega (arith, short, few))
+    (cc (length-append (names_text names) rest), omega arith)
 
 pub read_whole : (text : List ℕ) (names : List (List ℕ)) (rest : List ℕ) → HasRead text names rest → 1 < length text
     → length rest ≡ 0 → text ≡ path_text names
-read_whole text names (b ∷ bs) h more none = absurd (omega (arith, none))
-read_whole text [] [] h more none = let e : length text ≡ 0 = ap length h.whole in absurd (omega (arith, more, e))
+read_whole text names (b ∷ bs) h more none = absurd (omega arith)
+read_whole text [] [] h more none = let e : length text ≡ 0 = ap length h.whole in absurd (omega arith)
 read_whole text (x ∷ xs) [] h more none = h.whole ∙ append-nil (names_text (x ∷ xs))
 
 pub read_full : (text : List ℕ) (names : List (List ℕ)) (rest after : List ℕ) (b : ℕ) → HasRead text names rest → rest
@@ -575,7 +554,7 @@ read_full text names rest after b h split full =
     let same : text ≡ names_text names ++ (62 ∷ after) = h.whole
     ∙ ap (λ (t : List ℕ). names_text names ++ t) (split ∙ ap (λ (c : ℕ). c ∷ after) at) in
     let long : length text ≡ length (names_text names) + length rest = (read_length text names rest h).0 in
-    subst (λ (n : ℕ). IsNoPath text n) (omega (arith, long)) (full_is_no_path names text after h.path full same)
+    subst (λ (n : ℕ). IsNoPath text n) (omega arith) (full_is_no_path names text after h.path full same)
 
 pub read_stuck : (text : List ℕ) (names : List (List ℕ)) (rest after : List ℕ) (b n : ℕ) → HasRead text names rest
     → rest ≡ b ∷ after → length names < 9 → 1 < length text → IsStuck after n
@@ -586,14 +565,13 @@ read_stuck text names rest after b n h split room more stuck =
     ∙ ap (λ (t : List ℕ). names_text names ++ t) (split ∙ ap (λ (c : ℕ). c ∷ after) at) in
     let long : length text ≡ length (names_text names) + length rest = (read_length text names rest h).0 in
     let one : length rest ≡ length (b ∷ after) = ap length split in
-    subst (λ (n : ℕ). IsNoPath text n) (omega (arith, long, one))
-    (stuck_is_no_path names text after n h.path room more same stuck)
+    subst (λ (n : ℕ). IsNoPath text n) (omega arith) (stuck_is_no_path names text after n h.path room more same stuck)
 
 -- ---- each path is read from its text
 
 -- a name has a byte
 never_nothing : (x : List ℕ) (xs : List (List ℕ)) → IsName x → x ++ names_text xs ≡ [] → ⊥
-never_nothing [] xs h e = let n : 1 ≤ 0 = name_long [] h in omega (arith, n)
+never_nothing [] xs h e = let n : 1 ≤ 0 = name_long [] h in omega arith
 never_nothing (b ∷ bs) xs h e = cc
 
 pub path_again : (text : List ℕ) (names : List (List ℕ)) → text ≡ path_text names → IsPath names → (p : List (List ℕ))
@@ -612,8 +590,7 @@ pub front_is_path : (names front : List (List ℕ)) (name : List ℕ) → IsPath
     → IsPath front
 front_is_path names front name h e = record {
   few = omega (arith, few, length-append front (name ∷ []));
-  each =
-      each_front front (subst (AllByRecursion IsName) e h.each);
+  each = each_front front (rw (← e) h.each);
 }
   where
     few : length (front ++ name ∷ []) ≤ 9

@@ -58,12 +58,10 @@ first_dot (x ∷ xs) ys h =
     rw (here, rest) (omega arith)
 
 before_dotted : (xs ys : List ℕ) → lacks_dots xs ≡ true → before_dot (xs ++ (46 ∷ ys)) ≡ xs
-before_dotted xs ys h = ap (λ (n : ℕ). take n (xs ++ (46 ∷ ys))) (first_dot xs ys h)
-    ∙ take_at xs (46 ∷ ys) (length xs) refl
+before_dotted xs ys h = cc (first_dot xs ys h, take_at xs (46 ∷ ys) (length xs) refl)
 
 after_dotted : (xs ys : List ℕ) → lacks_dots xs ≡ true → after_dot (xs ++ (46 ∷ ys)) ≡ ys
-after_dotted xs ys h = ap (λ (n : ℕ). drop (n + 1) (xs ++ (46 ∷ ys))) (first_dot xs ys h)
-    ∙ drop-append-add xs (46 ∷ ys) 1
+after_dotted xs ys h = cc (first_dot xs ys h, drop-append-add xs (46 ∷ ys) 1)
 
 -- ---- principals
 
@@ -85,14 +83,13 @@ who_parts a b ha hb = chosen (bytes_eq b default_project) refl
   where
     chosen : (z : Bool) → bytes_eq b default_project ≡ z → who_of (cond z a (a ++ (46 ∷ b)))
         ≡ Some (record { person = a; project = b })
-    chosen true e = who_alone a ha ∙ ap (λ (p : List ℕ). Some (record { person = a; project = p }))
-        (sym ((bytes_eq-Decides b default_project).0 e))
+    chosen true e = cc (who_alone a ha, (bytes_eq-Decides b default_project).0 e)
     chosen false e = who_dotted a b ha hb
 
 pub who_again : (text : List ℕ) (read : Option Who) → read ≡ who_of text → (who : Who) → IsWho who → text
     ≡ who_text who → read ≡ Some who
 unfolding who_text
-who_again text read e who h same = e ∙ ap who_of same ∙ who_parts who.person who.project h.person h.project
+who_again text read e who h same = cc (who_parts who.person who.project h.person h.project)
 
 -- ---- rows
 
@@ -149,8 +146,7 @@ row_parts a b ha hb = chosen (bytes_eq b default_project) refl
   where
     chosen : (z : Bool) → bytes_eq b default_project ≡ z → row_of (cond z a (a ++ (46 ∷ b)))
         ≡ Some (record { person = Some a; project = Some b })
-    chosen true e = row_alone_label a ha ∙ ap (λ (p : List ℕ). Some (record { person = Some a; project = Some p }))
-        (sym ((bytes_eq-Decides b default_project).0 e))
+    chosen true e = cc (row_alone_label a ha, (bytes_eq-Decides b default_project).0 e)
     chosen false e = row_dotted a b (Some a) (Some b) (label_lacks_dots a ha) (part_label a ha) (part_label b hb)
 
 row_back : (person project : Option (List ℕ)) → IfSome person (λ l. is_label l ≡ true)
@@ -164,7 +160,7 @@ row_back (Some a) (Some b) ha hb = row_parts a b ha hb
 pub row_again : (text : List ℕ) (read : Option Row) → read ≡ row_of text → (row : Row) → IsRow row → text
     ≡ row_text row → read ≡ Some row
 unfolding row_text
-row_again text read e row h same = e ∙ ap row_of same ∙ row_back row.person row.project h.person h.project
+row_again text read e row h same = cc (row_back row.person row.project h.person h.project)
 
 -- ---- around the first dot
 
@@ -182,7 +178,7 @@ dot_found text i h = chosen (ltb (position_or_len is_dot text) (length text)) re
     chosen true e h =
         let at : position_or_len is_dot text ≡ i = grind (arith, nat_tests) in
         let within : position_or_len is_dot text < length text = grind (arith, nat_tests) in
-        (omega (arith, at, within), sym at)
+        (omega arith, sym at)
     chosen false e h = grind (arith, nat_tests)
 
 pub dot_missing : (text : List ℕ) → position is_dot text ≡ None → after_dot text ≡ []
@@ -193,7 +189,7 @@ dot_missing text h = chosen (ltb (position_or_len is_dot text) (length text)) re
     chosen true e h = grind (arith, nat_tests)
     chosen false e h =
         let past : length text ≤ position_or_len is_dot text = grind (arith, nat_tests) in
-        none_left text (position_or_len is_dot text + 1) (omega (arith, past))
+        none_left text (position_or_len is_dot text + 1) (omega arith)
 
 -- what a search for the dot of a principal goes by
 pub ruleset dot_sought = (dot_found, dot_missing)

@@ -84,23 +84,22 @@ digits_test (b ∷ bs) h =
     rw (digit_test b first.0 first.1) (digits_test bs (All-tail (λ byte. (48 ≤ byte) × (byte ≤ 55)) b bs h))
 
 -- the test, and the facts that it stands for
-pub is_octal_facts : (text : List ℕ) → is_octal text ≡ true → IsOctal text
+pub is_octal_facts : {text : List ℕ} → is_octal text ≡ true → IsOctal text
 unfolding is_octal
-is_octal_facts text h =
+is_octal_facts {text} h =
     let lengths : (nat_le 1 (length text) && nat_le (length text) 12) ≡ true =
     and_first (nat_le 1 (length text) && nat_le (length text) 12) (list_all is_octal_digit text) h in
     let digits : list_all is_octal_digit text ≡ true =
     and_right (nat_le 1 (length text) && nat_le (length text) 12) (list_all is_octal_digit text) h in
     record {
-      some = grind (arith, nat_tests, lengths);
-      within = grind (arith, nat_tests, lengths);
-      digits =
-          digits_facts text digits;
+      some = grind (arith, nat_tests);
+      within = grind (arith, nat_tests);
+      digits = digits_facts text digits;
     }
 
-pub is_octal_test : (text : List ℕ) → IsOctal text → is_octal text ≡ true
+pub is_octal_test : {text : List ℕ} → IsOctal text → is_octal text ≡ true
 unfolding is_octal
-is_octal_test text h =
+is_octal_test {text} h =
     let digits : list_all is_octal_digit text ≡ true = digits_test text h.digits in
     let low : nat_le 1 (length text) ≡ true = grind (arith, nat_tests) in
     let high : nat_le (length text) 12 ≡ true = grind (arith, nat_tests) in
@@ -155,12 +154,11 @@ pub octal_more : (text : List ℕ) (i : ℕ) → i < length text → 48 ≤ get_
     → list_all is_octal_digit (take i text) ≡ true → list_all is_octal_digit (take (i + 1) text) ≡ true
 octal_more text i h l u d = list_all_more is_octal_digit text i 0 h ∙ rw (d, digit_test (get_or text i 0) l u) refl
 
-pub octal_number_more : (text : List ℕ) (i value : ℕ) → i < length text → value ≡ octal_number (take i text)
+pub octal_number_more : (text : List ℕ) (i : ℕ) {value : ℕ} → i < length text → value ≡ octal_number (take i text)
     → 8 * value + (get_or text i 0 - 48) ≡ octal_number (take (i + 1) text)
-octal_number_more text i value h v =
+octal_number_more text i h v =
     let last : octal_number (take i text ++ get_or text i 0 ∷ [])
-    ≡ octal_number (take i text) * 8 + (get_or text i 0 - 48) =
-    octal_number_push (take i text) (get_or text i 0) in
+    ≡ octal_number (take i text) * 8 + (get_or text i 0 - 48) = octal_number_push (take i text) (get_or text i 0) in
     let cut : take (i + 1) text ≡ take i text ++ get_or text i 0 ∷ [] = take_more text i 0 h in
     rw (cut, last, ← v) (omega arith)
 
@@ -171,13 +169,12 @@ octal_bound_more i value digit h d = rw (pow_more 8 i) (omega arith)
 pub octal_below : (i value : ℕ) → i ≤ 12 → value < 8 ^ i → value < 2 ^ 36
 octal_below i value h v = let m : 8 ^ i ≤ 8 ^ 12 = pow-le-pow_right (omega arith) h in omega arith
 
-pub octal_value_read : (text : List ℕ) (i value : ℕ) → 0 < length text → length text ≤ 12 → i ≡ length text
+pub octal_value_read : (text : List ℕ) {i value : ℕ} → 0 < length text → length text ≤ 12 → i ≡ length text
     → list_all is_octal_digit (take i text) ≡ true → value ≡ octal_number (take i text) → octal_value text ≡ Some value
 unfolding octal_value is_octal
-octal_value_read text i value some within e d v =
+octal_value_read text {i} some within e d v =
     let whole : take i text ≡ text = take_all i text (omega arith) in
-    let digits : list_all is_octal_digit text ≡ true =
-    subst (λ (t : List ℕ). list_all is_octal_digit t ≡ true) whole d in
+    let digits : list_all is_octal_digit text ≡ true = rw (← whole) d in
     let low : nat_le 1 (length text) ≡ true = grind (arith, nat_tests) in
     let high : nat_le (length text) 12 ≡ true = grind (arith, nat_tests) in
     rw (low, high, digits) (cc)
@@ -191,11 +188,11 @@ octal_value_made text value (Some w) e some is = cc
 -- a text has a value exactly where it is 1 to 12 octal digits
 pub octal_exactly : (text : List ℕ) (r : Option ℕ) → r ≡ octal_value text → IsSome r ↔ IsOctal text
 unfolding octal_value
-octal_exactly text r e = subst (λ (o : Option ℕ). IsSome o ↔ IsOctal text) (sym e) (cases (is_octal text) refl)
+octal_exactly text r e = rw e (cases (is_octal text) refl)
   where
     cases : (b : Bool) → is_octal text ≡ b → IsSome (octal_value text) ↔ IsOctal text
-    cases true t = rw t (λ _. is_octal_facts text t, λ _. refl)
-    cases false t = rw t (λ n. absurd (cc), λ o. let f : false ≡ true = sym t ∙ is_octal_test text o in absurd (cc))
+    cases true t = rw t (λ _. is_octal_facts t, λ _. refl)
+    cases false t = rw t (λ n. absurd (cc), λ o. let f : false ≡ true = sym t ∙ is_octal_test o in absurd (cc))
 
 -- what the proof of `digits_of` is given
 pub ruleset digits_of_steps = (octal_digits_step, octal_digits_end, octal_digits_text)

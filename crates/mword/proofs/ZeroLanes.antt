@@ -16,13 +16,13 @@ use Rattle.mword.specs.Words.{AreZero}
 abbrev Zeros : List ℕ → Type 0
 Zeros ws = AllByRecursion (λ w. w ≡ 0) ws
 
-or_zero_left : (a b : ℕ) → bit_or a b ≡ 0 → a ≡ 0
-or_zero_left a b h = same_from_bits a 0 (λ i. let m : bit_at (bit_or a b) i ≡ max (bit_at a i) (bit_at b i) =
+or_zero_left : {a : ℕ} (b : ℕ) → bit_or a b ≡ 0 → a ≡ 0
+or_zero_left {a} b h = same_from_bits a 0 (λ i. let m : bit_at (bit_or a b) i ≡ max (bit_at a i) (bit_at b i) =
     bit_at_or a b i in let z : bit_at 0 i ≡ 0 = bit_at-zero i in let n : bit_at (bit_or a b) i ≡ bit_at 0 i =
     ap (λ x. bit_at x i) h in omega arith)
 
-or_zero_right : (a b : ℕ) → bit_or a b ≡ 0 → b ≡ 0
-or_zero_right a b h = same_from_bits b 0 (λ i. let m : bit_at (bit_or a b) i ≡ max (bit_at a i) (bit_at b i) =
+or_zero_right : (a : ℕ) {b : ℕ} → bit_or a b ≡ 0 → b ≡ 0
+or_zero_right a {b} h = same_from_bits b 0 (λ i. let m : bit_at (bit_or a b) i ≡ max (bit_at a i) (bit_at b i) =
     bit_at_or a b i in let z : bit_at 0 i ≡ 0 = bit_at-zero i in let n : bit_at (bit_or a b) i ≡ bit_at 0 i =
     ap (λ x. bit_at x i) h in omega arith)
 
@@ -33,7 +33,7 @@ zeros_joined [] (y ∷ ys) h z = absurd (omega arith)
 zeros_joined (x ∷ xs) [] h z = absurd (omega arith)
 zeros_joined (x ∷ xs) (y ∷ ys) h z =
     let r : Zeros xs × Zeros ys = zeros_joined xs ys (omega arith) z.1 in
-    ((or_zero_left x y z.0, r.0), (or_zero_right x y z.0, r.1))
+    ((or_zero_left {a = x} y z.0, r.0), (or_zero_right x {b = y} z.0, r.1))
 
 zeros_join : (xs ys : List ℕ) → Zeros xs → Zeros ys → Zeros (zip2 bit_or xs ys)
 zeros_join [] ys zx zy = tt
@@ -44,11 +44,11 @@ fold_zero : (a : ℕ) (xs : List ℕ) → fold_l bit_or a xs ≡ 0 → (a ≡ 0)
 fold_zero a [] h = (h, tt)
 fold_zero a (x ∷ xs) h =
     let r : (bit_or a x ≡ 0) × Zeros xs = fold_zero (bit_or a x) xs h in
-    (or_zero_left a x r.0, (or_zero_right a x r.0, r.1))
+    (or_zero_left {a = a} x r.0, (or_zero_right a {b = x} r.0, r.1))
 
-zero_fold : (a : ℕ) (xs : List ℕ) → a ≡ 0 → Zeros xs → fold_l bit_or a xs ≡ 0
-zero_fold a [] h z = h
-zero_fold a (x ∷ xs) h z = zero_fold (bit_or a x) xs (cc) z.1
+zero_fold : {a : ℕ} (xs : List ℕ) → a ≡ 0 → Zeros xs → fold_l bit_or a xs ≡ 0
+zero_fold [] h z = h
+zero_fold {a} (x ∷ xs) h z = zero_fold {a = bit_or a x} xs (cc) z.1
 
 -- two neighbouring parts
 zeros_append : (xs ys : List ℕ) → Zeros xs → Zeros ys → Zeros (xs ++ ys)
@@ -63,11 +63,11 @@ zeros_back : (xs ys : List ℕ) → Zeros (xs ++ ys) → Zeros ys
 zeros_back [] ys z = z
 zeros_back (x ∷ xs) ys z = zeros_back xs ys z.1
 
-test_zero : (x : ℕ) → IsTrue (nat_eq x 0) → x ≡ 0
-test_zero x t = grind (arith, nat_tests)
+test_zero : {x : ℕ} → IsTrue (nat_eq x 0) → x ≡ 0
+test_zero t = grind (arith, nat_tests)
 
-zero_test : (x : ℕ) → x ≡ 0 → IsTrue (nat_eq x 0)
-zero_test x z = grind (arith, nat_tests)
+zero_test : {x : ℕ} → x ≡ 0 → IsTrue (nat_eq x 0)
+zero_test z = grind (arith, nat_tests)
 
 -- four neighbouring vectors
 abbrev joined : List ℕ → List ℕ → List ℕ → List ℕ → List ℕ
@@ -102,10 +102,9 @@ zero_block at ws h =
     let lab : length (zip2 bit_or a b) ≡ 8 = length-zip2 bit_or a b (la ∙ sym lb) ∙ la in
     let lcd : length (zip2 bit_or c d) ≡ 8 = length-zip2 bit_or c d (lc ∙ sym ld) ∙ lc in (
       λ t.
-          let z : Zeros (joined a b c d) = (fold_zero 0 (joined a b c d)
-          (test_zero (fold_l bit_or 0 (joined a b c d)) t)).1 in
+          let z : Zeros (joined a b c d) = (fold_zero 0 (joined a b c d) (test_zero t)).1 in
           let halves : Zeros (zip2 bit_or a b) × Zeros (zip2 bit_or c d) =
-          zeros_joined (zip2 bit_or a b) (zip2 bit_or c d) (lab ∙ sym lcd) z in
+          zeros_joined (zip2 bit_or a b) (zip2 bit_or c d) (cc) z in
           let front : Zeros a × Zeros b = zeros_joined a b (la ∙ sym lb) halves.0 in
           let back : Zeros c × Zeros d = zeros_joined c d (lc ∙ sym ld) halves.1 in
           let all : Zeros (a ++ (b ++ (c ++ d))) = zeros_append a (b ++ (c ++ d)) front.0
@@ -119,8 +118,7 @@ zero_block at ws h =
           let front : Zeros (zip2 bit_or a b) = zeros_join a b (zeros_front a (b ++ (c ++ d)) all)
           (zeros_front b (c ++ d) bcd) in
           let back : Zeros (zip2 bit_or c d) = zeros_join c d (zeros_front c d cd) (zeros_back c d cd) in
-          zero_test (fold_l bit_or 0 (joined a b c d))
-          (zero_fold 0 (joined a b c d) refl (zeros_join (zip2 bit_or a b) (zip2 bit_or c d) front back)),
+          zero_test (zero_fold (joined a b c d) refl (zeros_join (zip2 bit_or a b) (zip2 bit_or c d) front back)),
     )
 
 -- one more block, and all blocks

@@ -10,7 +10,7 @@ use Rattle.tree_model.proofs.TreeLaws.{superior_in, IsUp, superior_up, above_onc
 
 node_found : (ns : List Term) (u : ℕ) → node_in ns u ≡ find (λ n. eqb n.uid u) ns
 node_found [] u = refl
-node_found (n ∷ ns) u = ap (cond (eqb n.uid u) (Some n)) (node_found ns u)
+node_found (n ∷ ns) u = cc (node_found ns u)
 
 directory_there : (ns : List Term) (u : ℕ) → has_directory ns u ≡ true → is_some (node_in ns u) ≡ true
 directory_there [] u e = cc
@@ -19,7 +19,7 @@ directory_there (n ∷ ns) u e = elim (cases_Bool (eqb n.uid u))
 
 pub under_more : (u v : ℕ) (xs : List ℕ) → v < u → AreUnder v xs → AreUnder u xs
 under_more u v [] lt a = tt
-under_more u v (x ∷ xs) lt a = ((let l : x < v = a.0 in omega arith), under_more u v xs lt a.1)
+under_more u v (x ∷ xs) lt a = ((omega arith), under_more u v xs lt a.1)
 
 module _ (ns : List Term) (t : IsTree ns) where
   record Facts (u : ℕ) : Type 0 where
@@ -30,18 +30,17 @@ module _ (ns : List Term) (t : IsTree ns) where
   facts_at : (u : ℕ) (o : Option ℕ) → superior_in ns u ≡ o → above ns u ≡ step_up (above ns) o → IsUp ns u o
       → ((s : ℕ) → s < u → Facts s) → Facts u
   facts_at u None is e up ih = record { chain = rw e tt; under = rw e tt; directories = rw e tt }
-  facts_at u (Some s) is e up ih =
-      (let f = ih s up.0 in
+  facts_at u (Some s) is e up ih = (let f = ih s up.0 in
       record {
-        chain = subst (IsChain (above ns)) (sym e) (refl, f.under, f.chain);
-        under = subst (AreUnder u) (sym e) (up.0, under_more u s (above ns s) up.0 f.under);
-        directories = subst (AreDirectories ns) (sym e) (up.1, f.directories);
+        chain = rw e (refl, f.under, f.chain);
+        under = rw e (up.0, under_more u s (above ns s) up.0 f.under);
+        directories = rw e (up.1, f.directories);
       })
 
-  facts : (n u : ℕ) → u < n → Facts u
-  facts zero u lt = absurd (omega arith)
-  facts (suc n) u lt = facts_at u (superior_in ns u) refl (above_once ns t u) (superior_up ns t u)
-      (λ s l. facts n s (omega arith))
+  facts : (n : ℕ) {u : ℕ} → u < n → Facts u
+  facts zero lt = absurd (omega arith)
+  facts (suc n) {u} lt = facts_at u (superior_in ns u) refl (above_once ns t u) (superior_up ns t u)
+      (λ s l. facts n (omega arith))
 
   -- a node is the root, or ends at it
   Ends : ℕ → Type 0
@@ -60,20 +59,17 @@ module _ (ns : List Term) (t : IsTree ns) where
       → is_some (node_in ns u) ≡ true → ((s : ℕ) → s < u → is_some (node_in ns s) ≡ true → Ends s) → Ends u
   unfolding Ends
   ends_at u None is e up there ih = inl (
-    no_superior u (find (λ n. eqb n.uid u) ns) refl
-        (ap is_some (sym (node_found ns u)) ∙ there) is,
+    no_superior u (find (λ n. eqb n.uid u) ns) refl (cc (node_found ns u)) is,
     e,
   )
   ends_at u (Some s) is e up there ih = elim (ih s up.0 (directory_there ns s up.1)) [
     | inl root ↦ inr (
-      (let one : s ≡ 1 = root.0 in let lt : s < u = up.0 in omega arith),
-      subst EndsAtRoot (sym e)
-          (rw root.1 root.0),
+      (omega arith),
+      subst EndsAtRoot (sym e) (rw root.1 root.0),
     )
     | inr below ↦ inr (
-      (let lt : s < u = up.0 in let more : 1 < s = below.0 in omega arith),
-      subst EndsAtRoot (sym e)
-          (under_root s (above ns s) below.0 below.1),
+      (omega arith),
+      subst EndsAtRoot (sym e) (under_root s (above ns s) below.0 below.1),
     )
   ]
 
@@ -86,43 +82,40 @@ module _ (ns : List Term) (t : IsTree ns) where
   unfolding Ends
   root_at None is e up = e
   root_at (Some s) is e up = elim (ends (suc s) s (omega arith) (directory_there ns s up.1)) [
-    | inl root ↦ absurd (let one : s ≡ 1 = root.0 in let lt : s < 1 = up.0 in omega arith)
-    | inr below ↦ absurd (let lt : s < 1 = up.0 in let more : 1 < s = below.0 in omega arith)
+    | inl root ↦ absurd (omega arith)
+    | inr below ↦ absurd (omega arith)
   ]
 
-  rooted_at : (u : ℕ) → Ends u → u ≢ 1 → EndsAtRoot (above ns u)
+  rooted_at : {u : ℕ} → Ends u → u ≢ 1 → EndsAtRoot (above ns u)
   unfolding Ends
-  rooted_at u (inl root) ne = absurd (ne root.0)
-  rooted_at u (inr below) ne = below.1
+  rooted_at (inl root) ne = absurd (ne root.0)
+  rooted_at (inr below) ne = below.1
 
-  first_at : (u : ℕ) → Ends u → 1 ≤ u
+  first_at : {u : ℕ} → Ends u → 1 ≤ u
   unfolding Ends
-  first_at u (inl root) = (let one : u ≡ 1 = root.0 in omega arith)
-  first_at u (inr below) = (let lt : 1 < u = below.0 in omega arith)
+  first_at {u} (inl root) = (omega arith)
+  first_at {u} (inr below) = (omega arith)
 
-  of_directory : (ms : List Term) (u : ℕ) (n : Term) → find (λ n. eqb n.uid u) ms ≡ Some n → has_directory ms u
+  of_directory : (ms : List Term) (u : ℕ) {n : Term} → find (λ n. eqb n.uid u) ms ≡ Some n → has_directory ms u
       ≡ n.directory
-  of_directory [] u n e = cc
-  of_directory (m ∷ ms) u n e = elim (cases_Bool (eqb m.uid u)) [
-    | inl is ↦ (let z : Some m ≡ Some n = rw is at e in let same : m ≡ n =
-        cc in rw is (ap (λ (x : Term). x.directory) same))
-    | inr isnt ↦ rw isnt (of_directory ms u n (rw isnt at e))
+  of_directory [] u e = cc
+  of_directory (m ∷ ms) u {n} e = elim (cases_Bool (eqb m.uid u)) [
+    | inl is ↦ (let z : Some m ≡ Some n = rw is at e in let same : m ≡ n = cc in rw is (cc))
+    | inr isnt ↦ rw isnt (of_directory ms u (rw isnt at e))
   ]
 
   root_superior : (o : Option ℕ) → superior_in ns 1 ≡ o → IsUp ns 1 o → superior_in ns 1 ≡ None
   unfolding Ends
   root_superior None is up = is
   root_superior (Some s) is up = elim (ends (suc s) s (omega arith) (directory_there ns s up.1)) [
-    | inl root ↦ absurd (let one : s ≡ 1 = root.0 in let lt : s < 1 = up.0 in omega arith)
-    | inr below ↦ absurd (let lt : s < 1 = up.0 in let more : 1 < s = below.0 in omega arith)
+    | inl root ↦ absurd (omega arith)
+    | inr below ↦ absurd (omega arith)
   ]
 
   root_is_directory : (o : Option Term) → find (λ n. eqb n.uid 1) ns ≡ o → is_some o ≡ true → has_directory ns 1 ≡ true
   root_is_directory None is some = cc
-  root_is_directory (Some n) is some =
-      of_directory ns 1 n is ∙ (root_found ns t 1 n is
-      (sym (ap (option_and_then (λ n. n.superior)) is)
-      ∙ root_superior (superior_in ns 1) refl (superior_up ns t 1))).1
+  root_is_directory (Some n) is some = of_directory ns 1 {n = n} is ∙ (root_found ns t 1 n is
+      (cc (root_superior (superior_in ns 1) refl (superior_up ns t 1)))).1
 
   not_root : (u : ℕ) → is_some (node_in ns u) ≡ true → has_directory ns u ≡ false → u ≢ 1
   not_root u there isnt one = both_ways (has_directory ns u) isnt
@@ -131,11 +124,11 @@ module _ (ns : List Term) (t : IsTree ns) where
 
   pub has_chains : HasChains ns
   has_chains = record {
-    chain = λ u. (facts (suc u) u (omega arith)).chain;
-    under = λ u. (facts (suc u) u (omega arith)).under;
-    directories = λ u. (facts (suc u) u (omega arith)).directories;
-    rooted = λ u there ne. rooted_at u (ends (suc u) u (omega arith) there) ne;
-    segments = λ u there isnt. rooted_at u (ends (suc u) u (omega arith) there) (not_root u there isnt);
+    chain = λ u. (facts (suc u) (omega arith)).chain;
+    under = λ u. (facts (suc u) (omega arith)).under;
+    directories = λ u. (facts (suc u) (omega arith)).directories;
+    rooted = λ u there ne. rooted_at (ends (suc u) u (omega arith) there) ne;
+    segments = λ u there isnt. rooted_at (ends (suc u) u (omega arith) there) (not_root u there isnt);
     root = root_at (superior_in ns 1) refl (above_once ns t 1) (superior_up ns t 1);
-    first = λ u there. first_at u (ends (suc u) u (omega arith) there);
+    first = λ u there. first_at (ends (suc u) u (omega arith) there);
   }

@@ -27,7 +27,7 @@ past_front p (y ∷ xs) ys e = elim (cases_Bool (p y)) [
 -- the branch of a name is the first node that is it
 pub branch_found : (d : ℕ) (name : List ℕ) (ns : List Term) → branch_in ns d name ≡ find (is_branch d name) ns
 branch_found d name [] = refl
-branch_found d name (n ∷ ns) = ap (cond (is_branch d name n) (Some n)) (branch_found d name ns)
+branch_found d name (n ∷ ns) = cc (branch_found d name ns)
 
 -- a member of a list
 abbrev pub IsMember : {X : Type 0} → X → List X → Type 0
@@ -73,7 +73,7 @@ pub filter_map_same : {X Y : Type 0} (p : Y → Bool) (f : X → Y) (xs : List X
     ≡ filter p (map f xs)
 filter_map_same p f [] = refl
 filter_map_same p f (x ∷ xs) = elim (cases_Bool (p (f x)))
-    [ inl is ↦ rw is (ap (λ ys. f x ∷ ys) (filter_map_same p f xs)) | inr isnt ↦ rw isnt (filter_map_same p f xs) ]
+    [ inl is ↦ rw is (cc (filter_map_same p f xs)) | inr isnt ↦ rw isnt (filter_map_same p f xs) ]
 
 -- some element passes where one is found
 pub any_found : {X : Type 0} (p : X → Bool) (xs : List X) → list_any p xs ≡ is_some (find p xs)

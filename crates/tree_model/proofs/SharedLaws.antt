@@ -24,9 +24,8 @@ joined_below ns (Some s) n j = j.later
 
 pub without_absent : (ns : List Node) (u : ℕ) → AreBelow u ns → without_node ns u ≡ ns
 without_absent [] u b = refl
-without_absent (n ∷ ns) u b = (let apart : eqb n.uid u
-    ≡ false = (let lt : n.uid < u = b.0 in grind (arith, nat_tests)) in
-    rw apart (ap (λ (l : List Node). n ∷ l) (without_absent ns u b.1)))
+without_absent (n ∷ ns) u b = (let apart : eqb n.uid u ≡ false = (grind (arith, nat_tests)) in
+    rw apart (cc (without_absent ns u b.1)))
 
 pub directory_there : (ns : List Node) (u : ℕ) → has_directory ns u ≡ true → is_some (node_in ns u) ≡ true
 directory_there [] u e = cc
@@ -39,10 +38,10 @@ pub node_without : (ns : List Node) (u v : ℕ) → v ≢ u → node_in (without
 node_without [] u v ne = refl
 node_without (n ∷ ns) u v ne = elim (eqb_tells n.uid u) [
   | inl e ↦ elim (eqb_tells n.uid v) [
-    | inl f ↦ absurd (ne (sym f.1 ∙ e.1))
+    | inl f ↦ absurd (ne (cc))
     | inr f ↦ rw (e.0, f.0) (node_without ns u v ne)
   ]
-  | inr e ↦ rw e.0 (ap (λ (o : Option Node). cond (eqb n.uid v) (Some n) o) (node_without ns u v ne))
+  | inr e ↦ rw e.0 (cc (node_without ns u v ne))
 ]
 
 pub some_there : (o : Option Node) → is_some o ≡ true → (n : Node) × (o ≡ Some n)
@@ -56,6 +55,6 @@ least_none test (u ∷ us) none = rw (none u) (least_none test us none)
 pub uid_below : (next : ℕ) (ns : List Node) (u : ℕ) (n : Node) → AreBelow next ns → node_in ns u ≡ Some n → u < next
 uid_below next [] u n b e = cc
 uid_below next (m ∷ ns) u n b e = elim (cases_Bool (eqb m.uid u)) [
-  | inl is ↦ (let same : m.uid ≡ u = grind (arith, nat_tests) in let lt : m.uid < next = b.0 in omega (arith, same, lt))
+  | inl is ↦ (let same : m.uid ≡ u = grind (arith, nat_tests) in omega arith)
   | inr isnt ↦ uid_below next ns u n b.1 (rw isnt at e)
 ]

@@ -21,7 +21,7 @@ pub superior_found : (ns : List Term) (u : ℕ) (n : Term) → node_in ns u ≡ 
 superior_found [] u n e = cc
 superior_found (m ∷ ns) u n e = elim (cases_Bool (eqb m.uid u)) [
   | inl is ↦ (let z : Some m ≡ Some n = rw is at e in let same : m ≡ n = cc in
-      rw is (ap (λ (x : Term). x.superior) same))
+      rw is (cc))
   | inr isnt ↦ rw isnt (superior_found ns u n (rw isnt at e))
 ]
 
@@ -30,25 +30,21 @@ pub directory_mapped : {X : Type 0} (f g : X → Term) → ((x : X) → (f x).ui
     → ((x : X) → (f x).directory ≡ (g x).directory) → (xs : List X) (u : ℕ)
     → has_directory (map f xs) u ≡ has_directory (map g xs) u
 directory_mapped f g uid kind [] u = refl
-directory_mapped f g uid kind (x ∷ xs) u =
-    ap (λ (n : ℕ). cond (eqb n u) (f x).directory (has_directory (map f xs) u)) (uid x)
-    ∙ ap (λ (b : Bool). cond (eqb (g x).uid u) b (has_directory (map f xs) u)) (kind x)
-    ∙ ap (cond (eqb (g x).uid u) (g x).directory) (directory_mapped f g uid kind xs u)
+directory_mapped f g uid kind (x ∷ xs) u = cc (uid x, kind x, directory_mapped f g uid kind xs u)
 
 pub quota_mapped : {X : Type 0} (f : X → Term) (q : ℕ → ℕ) → ((x : X) → (f x).quota ≡ q (f x).uid) → (xs : List X)
     (u : ℕ) → (is_some (find (λ x. eqb (f x).uid u) xs) ≡ false → q u ≡ 0) → quota_in (map f xs) u ≡ q u
 quota_mapped f q own [] u none = sym (none refl)
 quota_mapped f q own (x ∷ xs) u none = elim (cases_eq (f x).uid u) [
   | inl same ↦ rw (eq-eqb (f x).uid u same) (own x ∙ ap q same)
-  | inr other ↦ rw (ne_eqb (f x).uid u other)
-      (quota_mapped f q own xs u (λ e. none (rw (ne_eqb (f x).uid u other) e)))
+  | inr other ↦ rw (ne_eqb (f x).uid u other) (quota_mapped f q own xs u (λ e. none (rw (ne_eqb (f x).uid u other) e)))
 ]
 
-below_of : (v : ℕ) (ns : List Term) (s : ℕ) → AreBelow v ns → has_directory ns s ≡ true → s < v
-below_of v [] s b e = cc
-below_of v (n ∷ ns) s b e = elim (cases_eq n.uid s) [
-  | inl same ↦ (let lt : n.uid < v = b.0 in omega arith)
-  | inr other ↦ below_of v ns s b.1 (rw (ne_eqb n.uid s other) at e)
+below_of : {v : ℕ} (ns : List Term) (s : ℕ) → AreBelow v ns → has_directory ns s ≡ true → s < v
+below_of [] s b e = cc
+below_of {v} (n ∷ ns) s b e = elim (cases_eq n.uid s) [
+  | inl same ↦ (omega arith)
+  | inr other ↦ below_of {v = v} ns s b.1 (rw (ne_eqb n.uid s other) at e)
 ]
 
 -- a node of a tree that is below another
@@ -58,12 +54,12 @@ IsUp ns u (Some s) = (s < u) × (has_directory ns s ≡ true)
 
 joined_up : (ns : List Term) (o : Option ℕ) (n : Term) → Joins ns o n → IsUp ns n.uid o
 joined_up ns None n j = tt
-joined_up ns (Some s) n j = (below_of n.uid ns s j.later j.below, j.below)
+joined_up ns (Some s) n j = (below_of {v = n.uid} ns s j.later j.below, j.below)
 
 -- a newer node hides no older one
 seen_past : (ns : List Term) (n : Term) (u s : ℕ) → AreBelow n.uid ns → has_directory ns s ≡ true
     → has_directory (n ∷ ns) s ≡ true
-seen_past ns n u s b e = (let lt : s < n.uid = below_of n.uid ns s b e in let other : eqb n.uid s ≡ false =
+seen_past ns n u s b e = (let lt : s < n.uid = below_of {v = n.uid} ns s b e in let other : eqb n.uid s ≡ false =
     ne_eqb n.uid s (λ q. omega arith) in rw other e)
 
 pub joined_below : (ns : List Term) (o : Option ℕ) (n : Term) → Joins ns o n → AreBelow n.uid ns
@@ -87,8 +83,8 @@ superior_up (n ∷ ns) t u = elim (cases_eq n.uid u) [
 step_past : (ns : List Term) (n : Term) (u : ℕ) (o : Option ℕ) → AreBelow n.uid ns → IsUp ns u o → step_up (above ns) o
     ≡ step_up (above (n ∷ ns)) o
 step_past ns n u None b up = refl
-step_past ns n u (Some s) b up = (let lt : s < n.uid = below_of n.uid ns s b up.1 in let other : eqb n.uid s ≡ false =
-    ne_eqb n.uid s (λ q. omega arith) in rw other refl)
+step_past ns n u (Some s) b up = (let lt : s < n.uid = below_of {v = n.uid} ns s b up.1 in let other : eqb n.uid s
+    ≡ false = ne_eqb n.uid s (λ q. omega arith) in rw other refl)
 
 -- what is above a node is its superior and what is above that
 pub above_once : (ns : List Term) → IsTree ns → (u : ℕ) → above ns u ≡ step_up (above ns) (superior_in ns u)
@@ -106,12 +102,12 @@ above_once (n ∷ ns) t u =
 shallow_since : (ns : List Term) (o : Option ℕ) (n : Term) → Joins ns o n
     → ((s : ℕ) → has_directory ns s ≡ true → length (above ns s) ≤ 8) → length (step_up (above ns) o) ≤ 9
 shallow_since ns None n j h = omega arith
-shallow_since ns (Some s) n j h = (let le : length (above ns s) ≤ 8 = h s j.below in omega arith)
+shallow_since ns (Some s) n j h = (omega (arith, h s j.below))
 
 directory_since : (ns : List Term) (o : Option ℕ) (n : Term) → Joins ns o n → n.directory ≡ true
     → length (step_up (above ns) o) ≤ 8
 directory_since ns None n j is = omega arith
-directory_since ns (Some s) n j is = (let lt : length (above ns s) < 8 = j.shallow is in omega arith)
+directory_since ns (Some s) n j is = (omega (arith, j.shallow is))
 
 pub directory_depth : (ns : List Term) → IsTree ns → (u : ℕ) → has_directory ns u ≡ true → length (above ns u) ≤ 8
 directory_depth [] t u e = omega arith
@@ -140,7 +136,7 @@ root_found (m ∷ ns) t u n e none = elim (cases_eq m.uid u) [
       let is : m ≡ n = cc in
       let up : m.superior ≡ None = rw is none in
       let root : Joins ns None m = subst (λ o. Joins ns o m) up t.0 in
-      (sym same ∙ root.one, ap (λ (x : Term). x.directory) (sym is) ∙ root.directory))
+      (cc, cc))
   | inr other ↦ root_found ns t.1 u n (rw (ne_eqb m.uid u other) at e) none
 ]
 
@@ -152,7 +148,7 @@ superior_is u (Some s) e = eq-eqb s u (same_Some s u e)
 
 pub is_superior_of : (u : ℕ) (o : Option ℕ) → is_superior u o ≡ true → o ≡ Some u
 is_superior_of u None e = cc
-is_superior_of u (Some s) e = ap (λ (x : ℕ). Some x) (eqb-true s u e)
+is_superior_of u (Some s) e = cc (eqb-true s u e)
 
 pub is_below : (u : ℕ) (n : Term) → n.superior ≡ Some u → is_inferior u n ≡ true
 is_below u n e = superior_is u n.superior e
@@ -162,7 +158,7 @@ not_below u n ne = up n.superior ne
   where
     up : (o : Option ℕ) → o ≢ Some u → is_inferior u (record n { superior = o }) ≡ false
     up None ne = refl
-    up (Some s) ne = ne_eqb s u (λ e. ne (ap (λ (x : ℕ). Some x) e))
+    up (Some s) ne = ne_eqb s u (λ e. ne (cc))
 
 pub lies : (d : ℕ) (name : List ℕ) (n : Term) → is_branch d name n ≡ true → (n.superior ≡ Some d) × (n.name ≡ name)
 lies d name n e =
@@ -204,7 +200,7 @@ directory_left u [] s ne = refl
 directory_left u (n ∷ ns) s ne = elim (cases_eq n.uid u) [
   | inl same ↦ (let past : eqb n.uid s ≡ false = ne_eqb n.uid s (λ q. ne (omega arith)) in rw
       (eq-eqb n.uid u same, past) (directory_left u ns s ne))
-  | inr other ↦ rw (ne_eqb n.uid u other) (ap (λ b. cond (eqb n.uid s) n.directory b) (directory_left u ns s ne))
+  | inr other ↦ rw (ne_eqb n.uid u other) (cc (directory_left u ns s ne))
 ]
 
 branch_left : (u : ℕ) (ns : List Term) (d : ℕ) (name : List ℕ) → branch_in ns d name ≡ None
@@ -230,7 +226,7 @@ elsewhere u n e s is same = up n.superior is e
 step_left : (u : ℕ) (ns : List Term) (o : Option ℕ) → ((s : ℕ) → o ≡ Some s → s ≢ u)
     → ((v : ℕ) → v ≢ u → above (left u ns) v ≡ above ns v) → step_up (above (left u ns)) o ≡ step_up (above ns) o
 step_left u ns None off h = refl
-step_left u ns (Some s) off h = ap (λ xs. s ∷ xs) (h s (off s refl))
+step_left u ns (Some s) off h = cc (h s (off s refl))
 
 -- where u has no inferior, nothing above another node changes
 pub above_left : (u : ℕ) (ns : List Term) → list_any (is_inferior u) ns ≡ false → (v : ℕ) → v ≢ u → above (left u ns) v

@@ -3,34 +3,30 @@ use Rattle.accounts.proofs.Laws.{directory_of, unless_ok, enters_fit, gained}
 use Rattle.accounts.proofs.Accounts.add.Goals as goal
 
 pub add_branch-requires-clause-directory : goal.add_branch-requires-clause-directory
-add_branch-requires-clause-directory c = directory_of c.self.inside.tree c.self.inside.cells c.args.self.now
+add_branch-requires-clause-directory c = directory_of c.self.inside.tree c.self.inside.cells
     c.self.view_is c.args.superior c.requires.directory
 
 pub enter-requires-clause-bound : goal.enter-requires-clause-bound
 enter-requires-clause-bound c =
-    let next : c.in_ok-uid.uid ≡ c.self.inside.tree.next = unless_ok _ _ _ (c.in_ok-uid.ensures.answer (λ u. 0)) in
+    let next : c.in_ok-uid.uid ≡ c.self.inside.tree.next = unless_ok _ (c.in_ok-uid.ensures.answer (λ u. 0)) in
     let same : c.self.inside.tree.next ≡ c.args.self.now.next = ap (λ (a : AccountMaps). a.next) c.self.view_is in
-    omega (arith, next, same, c.requires.uids)
+    omega arith
 
 pub enter-requires-clause-absent : goal.enter-requires-clause-absent
 enter-requires-clause-absent c =
-    let next : c.in_ok-uid.uid ≡ c.self.inside.tree.next = unless_ok _ _ _ (c.in_ok-uid.ensures.answer (λ u. 0)) in
-    on_nodes c.self.inside.tree.nodes c.self.invariant c.in_ok-uid.uid
-    ∙ (subst (λ u. is_in c.self.inside.tree.nodes u ≡ false) (sym next) c.add_branch.ensures.fresh)
+    let next : c.in_ok-uid.uid ≡ c.self.inside.tree.next = unless_ok _ (c.in_ok-uid.ensures.answer (λ u. 0)) in
+    on_nodes c.self.inside.tree.nodes c.self.invariant c.in_ok-uid.uid ∙ (rw next c.add_branch.ensures.fresh)
 
 pub invariant_of-self-2 : goal.invariant_of-self-2
 invariant_of-self-2 c =
-    let next : c.in_ok-uid.uid ≡ c.self.inside.tree.next = unless_ok _ _ _ (c.in_ok-uid.ensures.answer (λ u. 0)) in
+    let next : c.in_ok-uid.uid ≡ c.self.inside.tree.next = unless_ok _ (c.in_ok-uid.ensures.answer (λ u. 0)) in
     enters_fit c.self.inside.tree c.add_branch.new.self c.args.superior c.args.new c.in_ok-uid.uid c.self.inside.cells
     c.enter.new.self c.in_ok-uid.ensures.ok
     next c.add_branch.ensures.fresh c.add_branch.ensures.chains c.self.invariant c.enter.ensures.fits
 
 pub returns-clause-ok : goal.returns-clause-ok
 returns-clause-ok c =
-    let next : c.in_ok-uid.uid ≡ c.self.inside.tree.next = unless_ok _ _ _ (c.in_ok-uid.ensures.answer (λ u. 0)) in
-    subst (λ (a : AccountMaps). Gains a (accounts_of c.add_branch.new.self c.enter.new.self)
-    (branch_of a.next c.args.superior c.args.new) c.args.new.entry)
-    c.self.view_is
-    (gained c.self.inside.tree c.add_branch.new.self c.args.superior c.args.new c.in_ok-uid.uid c.self.inside.cells
-    c.enter.new.self c.in_ok-uid.ensures.ok
-    next c.add_branch.ensures.fresh c.self.invariant c.enter.ensures.enters)
+    let next : c.in_ok-uid.uid ≡ c.self.inside.tree.next = unless_ok _ (c.in_ok-uid.ensures.answer (λ u. 0)) in
+    rw (← c.self.view_is) (gained c.self.inside.tree c.add_branch.new.self c.args.superior c.args.new c.in_ok-uid.uid
+    c.self.inside.cells
+    c.enter.new.self c.in_ok-uid.ensures.ok next c.add_branch.ensures.fresh c.self.invariant c.enter.ensures.enters)

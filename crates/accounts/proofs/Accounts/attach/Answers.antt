@@ -3,7 +3,7 @@ use Rattle.accounts.proofs.Laws.{directory_of, enters_fit, gained}
 use Rattle.accounts.proofs.Accounts.attach.Goals as goal
 
 pub attach-uid-requires-clause-directory : goal.attach-uid-requires-clause-directory
-attach-uid-requires-clause-directory c = directory_of c.self.inside.tree c.self.inside.cells c.args.self.now
+attach-uid-requires-clause-directory c = directory_of c.self.inside.tree c.self.inside.cells
     c.self.view_is c.args.superior c.requires.directory
 
 pub attach-uid-requires-clause-may : goal.attach-uid-requires-clause-may
@@ -16,12 +16,11 @@ attach-uid-requires-clause-may c =
 pub enter-requires-clause-bound : goal.enter-requires-clause-bound
 enter-requires-clause-bound c =
     let same : c.self.inside.tree.next ≡ c.args.self.now.next = ap (λ (a : AccountMaps). a.next) c.self.view_is in
-    omega (arith, c.attach-uid.ensures.uid, same, c.requires.uids)
+    omega arith
 
 pub enter-requires-clause-absent : goal.enter-requires-clause-absent
-enter-requires-clause-absent c =
-    on_nodes c.self.inside.tree.nodes c.self.invariant c.attach-uid.result
-    ∙ (subst (λ u. is_in c.self.inside.tree.nodes u ≡ false) (sym c.attach-uid.ensures.uid) c.attach-uid.ensures.fresh)
+enter-requires-clause-absent c = on_nodes c.self.inside.tree.nodes c.self.invariant c.attach-uid.result
+    ∙ (rw c.attach-uid.ensures.uid c.attach-uid.ensures.fresh)
 
 pub invariant_of-self : goal.invariant_of-self
 invariant_of-self c =
@@ -30,10 +29,7 @@ invariant_of-self c =
     c.attach-uid.ensures.chains c.self.invariant c.enter.ensures.fits
 
 pub returns-clause-effect : goal.returns-clause-effect
-returns-clause-effect c =
-    subst (λ (a : AccountMaps). Gains a (accounts_of c.attach-uid.new.self c.enter.new.self)
-    (branch_of a.next c.args.superior (as_node c.args.new)) c.args.new.entry)
-    c.self.view_is
-    (gained c.self.inside.tree c.attach-uid.new.self c.args.superior (as_node c.args.new) c.attach-uid.result
+returns-clause-effect c = rw (← c.self.view_is) (gained c.self.inside.tree c.attach-uid.new.self c.args.superior
+    (as_node c.args.new) c.attach-uid.result
     c.self.inside.cells c.enter.new.self c.attach-uid.ensures.tree c.attach-uid.ensures.uid c.attach-uid.ensures.fresh
     c.self.invariant c.enter.ensures.enters)

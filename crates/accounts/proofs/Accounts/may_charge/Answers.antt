@@ -3,9 +3,8 @@ use Rattle.accounts.proofs.Laws.{segment_of}
 use Rattle.accounts.proofs.Accounts.may_charge.Goals as goal
 
 pub may_charge-requires-clause-segment : goal.may_charge-requires-clause-segment
-may_charge-requires-clause-segment c = segment_of c.self.inside.tree c.self.inside.cells c.args.self.now c.self.view_is
+may_charge-requires-clause-segment c = segment_of c.self.inside.tree c.self.inside.cells c.self.view_is
     c.args.seg c.requires
 
 pub returns : goal.returns
-returns c = subst (λ (a : AccountMaps). (stored : List (ℕ × ℕ)) → Counts a stored
-    → c.may_charge.result ≡ charge_answer a.nodes stored c.args.seg) c.self.view_is c.may_charge.ensures
+returns c = rw (← c.self.view_is) c.may_charge.ensures

@@ -3,13 +3,10 @@ use Rattle.accounts.proofs.Laws.{directory_of}
 use Rattle.accounts.proofs.Accounts.may_move.Goals as goal
 
 pub may_move-requires-clause-directory : goal.may_move-requires-clause-directory
-may_move-requires-clause-directory c = directory_of c.self.inside.tree c.self.inside.cells c.args.self.now
+may_move-requires-clause-directory c = directory_of c.self.inside.tree c.self.inside.cells
     c.self.view_is c.args.dir c.requires.directory
 
 pub returns : goal.returns
 returns c =
     let back = to_z-of_z w32 c.args.amount c.ranges.amount in
-    subst (λ (a : AccountMaps). (stored : List (ℕ × ℕ)) → Counts a stored
-    → c.may_move.result ≡ scratch_answer a.nodes stored c.args.dir (is_positive c.args.amount)
-    (unsigned_abs c.args.amount)) c.self.view_is
-    (rw back at c.may_move.ensures)
+    rw (← c.self.view_is) (rw back at c.may_move.ensures)

@@ -3,24 +3,18 @@ use Rattle.accounts.proofs.Laws.{directory_of, moved_shown}
 use Rattle.accounts.proofs.Accounts.move_quota.Goals as goal
 
 pub move_quota-requires-clause-directory : goal.move_quota-requires-clause-directory
-move_quota-requires-clause-directory c = directory_of c.self.inside.tree c.self.inside.cells c.args.self.now
+move_quota-requires-clause-directory c = directory_of c.self.inside.tree c.self.inside.cells
     c.self.view_is c.args.dir c.requires.directory
 
 pub returns-clause-answer : goal.returns-clause-answer
 returns-clause-answer c =
     let back = to_z-of_z w32 c.args.amount c.ranges.amount in
-    subst (λ (a : AccountMaps). (stored : List (ℕ × ℕ)) → Counts a stored
-    → c.move_quota.result ≡ scratch_answer a.nodes stored c.args.dir (is_positive c.args.amount)
-    (unsigned_abs c.args.amount)) c.self.view_is
-    (rw back at c.move_quota.ensures.scratch)
+    rw (← c.self.view_is) (rw back at c.move_quota.ensures.scratch)
 
 pub returns-clause-ok : goal.returns-clause-ok
 returns-clause-ok c =
     let back = to_z-of_z w32 c.args.amount c.ranges.amount in
-    subst (λ (a : AccountMaps). OnOk c.move_quota.result
-    (Changes a (accounts_of c.self.inside.tree c.move_quota.new.self)
-    (tree_moved a.nodes c.args.dir (is_positive c.args.amount) (unsigned_abs c.args.amount)))) c.self.view_is
-    (moved_shown c.self.inside.tree c.self.inside.cells c.move_quota.new.self
+    rw (← c.self.view_is) (moved_shown c.self.inside.tree c.self.inside.cells c.move_quota.new.self
     (tree_moved (with_quotas (quota_in c.self.inside.cells) c.self.inside.tree.nodes) c.args.dir
     (is_positive c.args.amount) (unsigned_abs c.args.amount))
     c.move_quota.result (rw back at c.move_quota.ensures.tree) c.move_quota.ensures.stored)

@@ -3,24 +3,20 @@ use Rattle.accounts.proofs.Laws.{node_shown, entry_shown, directory_shown, segme
 use Rattle.accounts.proofs.Accounts.node.Goals as goal
 
 pub returns-clause-some : goal.returns-clause-some
-returns-clause-some c =
-    subst (λ (a : AccountMaps). IfSome c.node.result (λ n. node_in a.nodes c.args.uid
-    ≡ Some (as_term (quota_at a.nodes) n.now))) c.self.view_is
-    (node_shown (λ n. n.now) c.self.inside.tree c.self.inside.cells c.self.invariant c.args.uid c.node.result
-    (c.node.ensures.term (quota_in c.self.inside.cells)))
+returns-clause-some c = rw (← c.self.view_is) (node_shown (λ n. n.now) c.self.inside.tree c.self.inside.cells
+    c.self.invariant c.args.uid c.node.result (c.node.ensures.term (quota_in c.self.inside.cells)))
 
 pub returns-clause-entry : goal.returns-clause-entry
 returns-clause-entry c =
-    subst (λ (a : AccountMaps). IfSome c.node.result (λ n. entry_of a c.args.uid ≡ n.now.entry)) c.self.view_is
-    (entry_shown (λ n. n.now) c.self.inside.tree c.self.inside.cells c.args.uid c.node.result c.node.ensures.some)
+    rw (← c.self.view_is) (entry_shown (λ n. n.now) c.self.inside.tree c.self.inside.cells c.args.uid c.node.result
+    c.node.ensures.some)
 
 pub returns-clause-directory : goal.returns-clause-directory
 returns-clause-directory c =
-    subst (λ (a : AccountMaps). IfSome c.node.result (λ n. has_directory a.nodes c.args.uid ≡ n.now.dir)) c.self.view_is
-    (directory_shown (λ n. n.now) c.self.inside.tree c.self.inside.cells c.args.uid c.node.result c.node.ensures.some)
+    rw (← c.self.view_is) (directory_shown (λ n. n.now) c.self.inside.tree c.self.inside.cells c.args.uid c.node.result
+    c.node.ensures.some)
 
 pub returns-clause-segment : goal.returns-clause-segment
 returns-clause-segment c =
-    subst (λ (a : AccountMaps). IfSome c.node.result (λ n. has_segment a.nodes c.args.uid ≡ not n.now.dir))
-    c.self.view_is
-    (segment_shown (λ n. n.now) c.self.inside.tree c.self.inside.cells c.args.uid c.node.result c.node.ensures.some)
+    rw (← c.self.view_is) (segment_shown (λ n. n.now) c.self.inside.tree c.self.inside.cells c.args.uid c.node.result
+    c.node.ensures.some)

@@ -4,32 +4,25 @@ use Rattle.accounts.proofs.TreeLaws.{later_any, tree_shown}
 use Rattle.accounts.proofs.Accounts.promise.Goals as goal
 
 pub returns-clause-tree : goal.returns-clause-tree
-returns-clause-tree c =
-    tree_shown (quota_in c.self.inside.cells) c.self.inside.tree.nodes c.args.self.now.nodes
-    (ap (λ (a : AccountMaps). a.nodes) c.self.view_is) c.promise.ensures.tree
+returns-clause-tree c = tree_shown (quota_in c.self.inside.cells) c.self.inside.tree.nodes (cc) c.promise.ensures.tree
 
 pub returns-clause-below : goal.returns-clause-below
-returns-clause-below c =
-    subst (λ (a : AccountMaps). AreBelow a.next a.nodes) c.self.view_is
-    (later_any (quota_in c.self.inside.cells) c.self.inside.tree.nodes c.self.inside.tree.next c.promise.ensures.below)
+returns-clause-below c = rw (← c.self.view_is) (later_any (quota_in c.self.inside.cells) c.self.inside.tree.nodes
+    c.self.inside.tree.next c.promise.ensures.below)
 
 pub returns-clause-columns : goal.returns-clause-columns
-returns-clause-columns c =
-    columns c.self.inside.tree c.self.inside.cells c.args.self.now c.self.view_is c.self.invariant
+returns-clause-columns c = columns c.self.inside.tree c.self.inside.cells c.self.view_is c.self.invariant
     c.promise-2.ensures.table
 
 pub returns-clause-within : goal.returns-clause-within
-returns-clause-within c =
-    subst (λ (a : AccountMaps). (stored : List (ℕ × ℕ)) → Counts a stored → (account : ℕ)
-    → used_by a.nodes stored account ≤ quota_at a.nodes account) c.self.view_is
-    (λ stored holds account. subst (λ n. n ≤ quota_at (accounts_of c.self.inside.tree c.self.inside.cells).nodes
-    account)
-    (used_same c.self.inside.tree.nodes c.self.inside.cells c.self.invariant c.promise.ensures.chains
+returns-clause-within c = rw (← c.self.view_is) (λ stored holds account.
+    subst (λ n. n ≤ quota_at (accounts_of c.self.inside.tree c.self.inside.cells).nodes
+    account) (used_same c.self.inside.tree.nodes c.self.inside.cells c.self.invariant c.promise.ensures.chains
     c.promise-2.ensures.table.segments_rise c.promise-2.ensures.table.stored_count stored holds account)
     (used_within c.self.inside.tree c.self.inside.cells c.self.invariant c.promise-2.ensures.within account))
 
 pub returns-clause-quotas : goal.returns-clause-quotas
-returns-clause-quotas c = no_quota _ _ _ c.self.view_is c.self.invariant c.promise-2.ensures.table
+returns-clause-quotas c = no_quota _ _ c.self.view_is c.self.invariant c.promise-2.ensures.table
 
 pub returns-clause-counts : goal.returns-clause-counts
-returns-clause-counts c = no_pages _ _ _ c.self.view_is c.self.invariant c.promise-2.ensures.table
+returns-clause-counts c = no_pages _ _ c.self.view_is c.self.invariant c.promise-2.ensures.table

@@ -4,5 +4,5 @@ use Rattle.accounts.proofs.Accounts.walk_down.Goals as goal
 
 pub returns-clause-there : goal.returns-clause-there
 returns-clause-there c =
-    subst (λ (a : AccountMaps). IfOk c.walk.result (λ uid. is_some (node_in a.nodes uid) ≡ true)) c.self.view_is
-    (walked (quota_in c.self.inside.cells) c.self.inside.tree.nodes c.walk.result c.walk.ensures.there)
+    rw (← c.self.view_is) (walked (quota_in c.self.inside.cells) c.self.inside.tree.nodes c.walk.result
+    c.walk.ensures.there)

@@ -4,8 +4,5 @@ use Rattle.known_segs.proofs.Numbers.{room_is}
 use Rattle.known_segs.proofs.Kst.has_room.Goals as goal
 
 pub returns : goal.returns
-returns c =
-    room_is c.args.self.now c.least_free.result _ (subst (λ (kst : List (Option ℕ)). length kst ≡ 256) c.self.view_is
-    c.self.invariant.0)
-    (subst (λ (kst : List (Option ℕ)). c.least_free.result ≡ least_free kst) c.self.view_is c.least_free.ensures.number)
-    c.is_some.ensures
+returns c = room_is c.args.self.now c.least_free.result _ (rw (← c.self.view_is) c.self.invariant.0)
+    (rw (← c.self.view_is) c.least_free.ensures.number) c.is_some.ensures

@@ -6,9 +6,7 @@ use Rattle.known_segs.proofs.Numbers.{number_none, kept_given}
 use Rattle.known_segs.proofs.Kst.make_known.Goals as goal
 
 pub returns-in-Some-clause-places : goal.returns-in-Some-clause-places
-returns-in-Some-clause-places c =
-    known_stays _ _ _ (subst (λ (kst : List (Option ℕ)). Some c.in-Some.number ≡ number_of kst c.args.uid)
-    c.self.view_is c.in-Some.ensures.number)
+returns-in-Some-clause-places c = known_stays _ (rw (← c.self.view_is) c.in-Some.ensures.number)
 
 pub returns-in-Some-clause-full : goal.returns-in-Some-clause-full
 returns-in-Some-clause-full c =
@@ -19,10 +17,8 @@ pub returns-in_err-number-clause-full : goal.returns-in_err-number-clause-full
 returns-in_err-number-clause-full c =
     let unknown : None ≡ number_of c.self.inside.places c.args.uid = sym c.in_default.is ∙ c.number_of.ensures.number in
     let full : None ≡ least_free c.self.inside.places = sym c.in_err-number.was ∙ c.least_free.ensures.number in
-    (none_is_full _ _ _ c.from_residual.ensures
-    (subst (λ (kst : List (Option ℕ)). length kst ≡ 256) c.self.view_is c.self.invariant.0)
-    (subst (λ (kst : List (Option ℕ)). None ≡ number_of kst c.args.uid) c.self.view_is unknown)
-    (subst (λ (kst : List (Option ℕ)). None ≡ least_free kst) c.self.view_is full))
+    (none_is_full _ c.from_residual.ensures (rw (← c.self.view_is) c.self.invariant.0) (rw (← c.self.view_is) unknown)
+    (rw (← c.self.view_is) full))
 
 pub invariant_of-self : goal.invariant_of-self
 invariant_of-self c =
@@ -31,15 +27,14 @@ invariant_of-self c =
     ∙ c.least_free.ensures.number in
     rw c.set.ensures (
       length-set _ _ _ ∙ c.self.invariant.0,
-      once_given _ _ _ c.self.invariant.1 (free_some _ _ (sym least)).0 (number_none _ _ (sym unknown)),
+      once_given _ _ c.self.invariant.1 (free_some _ _ (sym least)).0 (number_none _ (sym unknown)),
     )
 
 pub returns-clause-full : goal.returns-clause-full
 returns-clause-full c =
     let least : Some c.in_ok-number.number ≡ least_free c.self.inside.places = sym c.in_ok-number.was
     ∙ c.least_free.ensures.number in
-    given_is_some _ _ _
-    (subst (λ (kst : List (Option ℕ)). length kst ≡ 256) c.self.view_is c.self.invariant.0)
+    given_is_some _ _ _ (rw (← c.self.view_is) c.self.invariant.0)
     (subst (λ (kst : List (Option ℕ)). Some c.in_ok-number.number ≡ least_free kst) c.self.view_is least)
 
 pub returns-clause-once : goal.returns-clause-once
@@ -47,8 +42,7 @@ returns-clause-once c =
     let unknown : None ≡ number_of c.self.inside.places c.args.uid = sym c.in_default.is ∙ c.number_of.ensures.number in
     let least : Some c.in_ok-number.number ≡ least_free c.self.inside.places = sym c.in_ok-number.was
     ∙ c.least_free.ensures.number in
-    rw c.set.ensures (once_given _ _ _ c.self.invariant.1 (free_some _ _ (sym least)).0
-    (number_none _ _ (sym unknown)))
+    rw c.set.ensures (once_given _ _ c.self.invariant.1 (free_some _ _ (sym least)).0 (number_none _ (sym unknown)))
 
 pub returns-clause-kept : goal.returns-clause-kept
 returns-clause-kept c =

@@ -4,15 +4,10 @@ use Rattle.listing.proofs.summing.account_count.Goals as goal
 
 pub returns-then-not-is_account : goal.returns-then-not-is_account
 returns-then-not-is_account c = λ s same counts.
-    account_none s _ c.args.uid c.quota-quota.result c.in-Some.node.now c.in-Some.ensures.some same
-    c.quota-quota.ensures.quota
+    account_none s c.args.uid c.in-Some.node.now c.in-Some.ensures.some same c.quota-quota.ensures.quota
     (sym c.is_account.ensures ∙ c.if-not-is_account.true)
 
 pub returns : goal.returns
-returns c = λ s same counts.
-    account_one s _ c.args.uid c.quota-quota.result c.used.result c.in_ok-path.path.items c.new.result
-    c.in-Some.node.now c.in-Some.ensures.some same
-    c.if-not-node.false
+returns c = λ s same counts. account_one s c.args.uid c.in-Some.node.now c.in-Some.ensures.some same c.if-not-node.false
     c.quota-quota.ensures.quota (sym c.is_account.ensures ∙ c.if-not-is_account.false) c.in_ok-path.ensures
-    (c.used.ensures.scratch s.stored counts)
-    c.new.ensures
+    (c.used.ensures.scratch s.stored counts) c.new.ensures

@@ -6,5 +6,5 @@ pub returns : goal.returns
 returns c = λ s same counts uses.
     let given : c.args.uses.now ≡ uses_of s (length c.volumes.result.now) =
     uses ∙ ap (λ (xs : List VolumeLine). uses_of s (length xs)) (sym c.volumes.ensures) in
-    summary_whole c.args.script.now s _ _ _ (c.in_ok-accounts.ensures s same counts)
-    (c.in_ok-volumes.ensures s given ∙ ap (volumes_of s 0) c.volumes.ensures) c.new.ensures
+    summary_whole c.args.script.now s (c.in_ok-accounts.ensures s same counts)
+    (cc (c.in_ok-volumes.ensures s given)) c.new.ensures

@@ -3,7 +3,5 @@ use Rattle.listing.proofs.TrailLaws.{trail_end}
 use Rattle.listing.proofs.summing.trail.Goals as goal
 
 pub returns : goal.returns
-returns c =
-    trail_end _ c.args.uid c.chain-chain.result.items _ c.loop-step.step-index _ c.look.ensures c.requires
-    c.chain-chain.ensures.chain
-    (c.below_root-step-items.ensures ∙ ap rest_of c.as_slice.ensures.value) c.loop-step-test.false c.loop-step.invariant
+returns c = trail_end _ c.args.uid c.chain-chain.result.items _ c.loop-step.step-index _ c.look.ensures c.requires
+    c.chain-chain.ensures.chain (cc) c.loop-step-test.false c.loop-step.invariant

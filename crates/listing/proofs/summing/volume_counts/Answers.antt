@@ -14,8 +14,7 @@ loop-volume-preserved c = λ s uses.
     c.volume_count.ensures c.in_ok-push.ensures.items)
 
 pub returns : goal.returns
-returns c = λ s uses.
-    counts_end s c.args.volumes.now c.args.uses.now (length c.loop-volume.yielded) _
+returns c = λ s uses. counts_end s c.args.volumes.now c.args.uses.now (length c.loop-volume.yielded) _
     (zip_end c.args.volumes.now c.args.uses.now c.loop-volume.yielded c.into_iter-volume-iterator.result
     c.loop-volume.volume-iterator c.next.new.self c.next.result (cc) (cc) c.loop-volume.yielded_by c.in-None.is
     c.next.ensures.steps) uses (c.loop-volume.invariant s uses)

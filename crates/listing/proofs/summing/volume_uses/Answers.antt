@@ -8,9 +8,9 @@ loop-v-preserved c = λ p s shows.
     ap (λ (n : ℕ). record { records = n; entries = c.entries.result }) (c.taken.ensures p s shows)
     ∙ ap (λ (n : ℕ). record { records = (use_of s c.loop-v.v).records; entries = n }) (c.entries.ensures p s shows)
     in
-    uses_more s c.loop-v.v c.loop-v.uses.items _ _ (c.loop-v.invariant p s shows) is c.in_ok-push.ensures.items
+    uses_more s c.loop-v.v (c.loop-v.invariant p s shows) is c.in_ok-push.ensures.items
 
 pub returns : goal.returns
 returns c = λ p s shows.
-    let all : c.loop-v.v ≡ c.args.volumes = omega (arith, c.loop-v-test.false, c.loop-v.auto.v-end) in
-    c.loop-v.invariant p s shows ∙ ap (uses_of s) all
+    let all : c.loop-v.v ≡ c.args.volumes = omega arith in
+    cc (c.loop-v.invariant p s shows)

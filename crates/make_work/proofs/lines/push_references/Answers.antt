@@ -2,7 +2,7 @@ use Rattle.make_work.proofs.Drawing.{line_written, lines_none, state_more, state
 use Rattle.make_work.proofs.lines.push_references.Goals as goal
 
 pub loop-made-init : goal.loop-made-init
-loop-made-init c = record { text = lines_none _ _; state = state_none _ }
+loop-made-init c = record { text = lines_none _; state = state_none }
 
 pub loop-made-preserved : goal.loop-made-preserved
 loop-made-preserved c = record {

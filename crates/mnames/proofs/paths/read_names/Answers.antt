@@ -7,8 +7,7 @@ use Rattle.mnames.proofs.paths.read_names.Goals as goal
 pub returns-then-is_full-clause-err : goal.returns-then-is_full-clause-err
 returns-then-is_full-clause-err c =
     let full : 9 ≤ length c.loop-after.names.items = grind (arith, nat_tests) in
-    subst (λ (n : ℕ). IsNoPath c.args.text.now n) (sym c.bad_path.ensures)
-    (read_full c.args.text.now c.loop-after.names.items c.loop-after.rest.now c.in-Some.after.now
+    rw c.bad_path.ensures (read_full c.args.text.now c.loop-after.names.items c.loop-after.rest.now c.in-Some.after.now
     c.in-Some.field-0-0.now c.loop-after.invariant c.in-Some.ensures.cases.0 full)
 
 pub loop-after-preserved : goal.loop-after-preserved
@@ -22,7 +21,7 @@ loop-after-preserved c =
 pub returns-in-Err-clause-err : goal.returns-in-Err-clause-err
 returns-in-Err-clause-err c =
     let room : length c.loop-after.names.items < 9 = grind (arith, nat_tests) in
-    subst (λ (n : ℕ). IsNoPath c.args.text.now n) (sym c.bad_path-in-Err.ensures)
-    (read_stuck c.args.text.now c.loop-after.names.items c.loop-after.rest.now c.in-Some.after.now
+    rw c.bad_path-in-Err.ensures (read_stuck c.args.text.now c.loop-after.names.items c.loop-after.rest.now
+    c.in-Some.after.now
     c.in-Some.field-0-0.now c.in-Err.length c.loop-after.invariant c.in-Some.ensures.cases.0 room c.requires.more
     c.in-Err.ensures.stuck)

@@ -24,15 +24,13 @@ overflow_add-value c =
     omega (arith, c.type_inv.text c.loop-byte.byte-index)
 
 pub loop-byte-preserved : goal.loop-byte-preserved
-loop-byte-preserved c = record {
-  digits = octal_more c.args.text.now c.loop-byte.byte-index (omega arith) (omega arith) (omega arith)
-      c.loop-byte.invariant.digits;
-  number = ap (λ (d : ℕ). 8 * c.loop-byte.value + d) c.from.ensures
-      ∙ octal_number_more c.args.text.now c.loop-byte.byte-index c.loop-byte.value (omega arith)
-      c.loop-byte.invariant.number;
-  bound = octal_bound_more c.loop-byte.byte-index c.loop-byte.value c.from.result c.loop-byte.invariant.bound
-      (omega arith);
-}
+loop-byte-preserved c = assumption (
+  octal_more c.args.text.now c.loop-byte.byte-index (omega arith) (omega arith)
+      (omega arith) c.loop-byte.invariant.digits,
+  ap (λ (d : ℕ). 8 * c.loop-byte.value + d) c.from.ensures
+      ∙ octal_number_more c.args.text.now c.loop-byte.byte-index (omega arith) c.loop-byte.invariant.number,
+  octal_bound_more c.loop-byte.byte-index c.loop-byte.value c.from.result c.loop-byte.invariant.bound (omega arith),
+)
 
 pub returns-in_default-clause-value : goal.returns-in_default-clause-value
 returns-in_default-clause-value c =
@@ -48,7 +46,7 @@ returns-clause-value c =
     let small : c.loop-byte.value < 2 ^ 36 = octal_below c.loop-byte.byte-index c.loop-byte.value (omega arith)
     c.loop-byte.invariant.bound in
     octal_value_made c.args.text.now c.loop-byte.value c.new.result
-    (octal_value_read c.args.text.now c.loop-byte.byte-index c.loop-byte.value (grind (arith, common_steps))
+    (octal_value_read c.args.text.now (grind (arith, common_steps))
     (omega arith) (omega arith) c.loop-byte.invariant.digits c.loop-byte.invariant.number)
     (c.new.ensures.fits.1 small) c.new.ensures.value
 

@@ -6,16 +6,15 @@ use Rattle.known_segs.proofs.places.Places.clear.Goals as goal
 pub index_mut-requires : goal.index_mut-requires
 index_mut-requires c =
     let lt : c.args.n < length c.self.inside.kept.items = known_is_kept c.self.inside.kept.items c.args.n
-    (subst (λ (t : List (Option ℕ)). IsSome (uid_of t c.args.n)) (sym c.self.view_is) c.requires) in
-    omega (arith, lt)
+    (rw c.self.view_is c.requires) in
+    omega arith
 
 pub returns-then-n-len : goal.returns-then-n-len
-returns-then-n-len c =
-    last_dropped c.self.inside.kept.items _ c.args.self.now c.args.n _ c.self.view_is (omega arith) (omega arith)
+returns-then-n-len c = last_dropped c.self.inside.kept.items c.self.view_is (omega arith) (omega arith)
     (omega arith) c.pop.ensures.rest
 
 pub returns-else-n-len : goal.returns-else-n-len
 returns-else-n-len c =
     let lt : c.args.n < length c.self.inside.kept.items = known_is_kept c.self.inside.kept.items c.args.n
-    (subst (λ (t : List (Option ℕ)). IsSome (uid_of t c.args.n)) (sym c.self.view_is) c.requires) in
-    cleared_is c.self.inside.kept.items c.args.self.now c.args.n c.self.view_is lt
+    (rw c.self.view_is c.requires) in
+    cleared_is c.self.inside.kept.items c.args.n c.self.view_is lt

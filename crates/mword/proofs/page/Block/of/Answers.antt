@@ -10,5 +10,4 @@ returns-clause-words c =
     let a = c.in-Some.ensures.cases.same in let b = c.deref.ensures.value in let d = c.page.view_is in cc
 
 pub returns-clause-size : goal.returns-clause-size
-returns-clause-size c =
-    ap length c.in-Some.ensures.cases.same ∙ c.in-Some.ensures.cases.long
+returns-clause-size c = ap length c.in-Some.ensures.cases.same ∙ c.in-Some.ensures.cases.long
