@@ -52,8 +52,7 @@ plain_by t some short (inr one) = grind (arith, nat_tests)
 
 plain_decimal : (n : ℕ) → n < 2 ^ 32 → is_plain (decimal n) ≡ true
 plain_decimal n h = plain_by (decimal n) (decimal_nonempty n (omega arith))
-    (length-decimal-le 10 n (omega arith) (omega arith) (omega arith))
-    (by_zero (eqb n 0) refl)
+    (length-decimal-le 10 n (omega arith) (omega arith) (omega arith)) (by_zero (eqb n 0) refl)
   where
     by_zero : (z : Bool) → eqb n 0 ≡ z → (48 < get_or (decimal n) 0 0) ⊎ (length (decimal n) ≡ 1)
     by_zero true e = let none : n ≡ 0 = grind (arith, nat_tests) in
@@ -87,7 +86,7 @@ number_only t n h = by_test (is_number t) refl h
     by_test : (z : Bool) → is_number t ≡ z → cond z (Some (digits_value 10 t)) None ≡ Some n → decimal n ≡ t
     by_test true e is = let same : digits_value 10 t ≡ n =
         cc in subst (λ (m : ℕ). decimal m ≡ t) same (number_parts t e)
-    by_test false e is = absurd (let no : None ≡ Some n = is in cc)
+    by_test false e is = cc
 
 -- what no byte of a kind passes, a text of such bytes lacks: digits are no space and no dot
 all_lack : (kind p : ℕ → Bool) → ((b : ℕ) → kind b ≡ true → p b ≡ false) → (t : List ℕ) → list_all kind t ≡ true
@@ -109,14 +108,12 @@ lacks-append : (p : ℕ → Bool) (xs ys : List ℕ) → lacks p xs ≡ true →
 lacks-append p xs ys h g = list_all-append (λ b. not (p b)) xs ys ∙ rw h g
 
 dotted_again : (k i : ℕ) → k < 2 ^ 32 → i < 2 ^ 32 → dotted_of (decimal k ++ (46 ∷ decimal i)) ≡ Some (k, i)
-dotted_again k i hk hi =
-    rw (
-      before_dot (decimal k) (decimal i) (dotless k hk),
-      after_dot (decimal k) (decimal i)
-          (dotless k hk),
-      number_again k hk,
-      number_again i hi,
-    ) refl
+dotted_again k i hk hi = rw (
+  before_dot (decimal k) (decimal i) (dotless k hk),
+  after_dot (decimal k) (decimal i) (dotless k hk),
+  number_again k hk,
+  number_again i hi,
+) refl
 
 -- a word that equals another is the other
 is_word : (w v : List ℕ) → bytes_eq w v ≡ true → w ≡ v
@@ -166,8 +163,7 @@ chained None f Q h = tt
 chained (Some a) f Q h = h
 
 both_each : {A B : Type 0} (a : Option A) (b : Option B) (Q : A × B → Type 0)
-    → ((x : A) (y : B) → a ≡ Some x → b ≡ Some y → Q (x, y))
-    → IfSome (both a b) Q
+    → ((x : A) (y : B) → a ≡ Some x → b ≡ Some y → Q (x, y)) → IfSome (both a b) Q
 both_each None b Q h = tt
 both_each (Some x) None Q h = tt
 both_each (Some x) (Some y) Q h = h x y refl refl
@@ -217,21 +213,19 @@ unfolding word_of octal_value is_octal
 word_only t w h = by_length (length t == 12) refl h
   where
     by_digits : (z : Bool) → length t ≡ 12 → ((nat_le 1 (length t) && nat_le (length t) 12)
-        && list_all is_octal_digit t) ≡ z
-        → cond z (Some (octal_number t)) None ≡ Some w → octal_digits 12 w ≡ t
+        && list_all is_octal_digit t) ≡ z → cond z (Some (octal_number t)) None ≡ Some w → octal_digits 12 w ≡ t
     by_digits true len e is =
         let number : octal_number t ≡ w = cc in
         let all : list_all is_octal_digit t ≡ true = grind (arith, nat_tests) in
         subst (λ (n : ℕ). octal_digits 12 n ≡ t) number (digits_again 12 t len all)
-    by_digits false len e is = absurd (let no : None ≡ Some w = is in cc)
+    by_digits false len e is = cc
 
     by_length : (z : Bool) → (length t == 12) ≡ z → cond z
         (cond ((nat_le 1 (length t) && nat_le (length t) 12) && list_all is_octal_digit t) (Some (octal_number t))
-        None) None ≡ Some w
-        → octal_digits 12 w ≡ t
+        None) None ≡ Some w → octal_digits 12 w ≡ t
     by_length true e is = by_digits ((nat_le 1 (length t) && nat_le (length t) 12) && list_all is_octal_digit t)
         (grind (arith, nat_tests)) refl is
-    by_length false e is = absurd (let no : None ≡ Some w = is in cc)
+    by_length false e is = cc
 
 -- ---- replies
 
@@ -269,64 +263,13 @@ reply_words (reply.DirIs u q n) = codes "dir" ∷ decimal u ∷ codes "quota" �
 join_reply : (x : List ℕ) (r : Reply) → join_with_byte 32 (x ∷ reply_words r) ≡ x ++ (32 ∷ reply_text r)
 unfolding reply_text bare_text
 join_reply x reply.Unknown = refl
-join_reply x reply.Gone = refl
-join_reply x reply.NoAccess = refl
-join_reply x reply.Length = refl
-join_reply x reply.Quota = refl
-join_reply x reply.NoRecord = refl
-join_reply x reply.Device = refl
-join_reply x reply.Done = refl
-join_reply x reply.NoPath = refl
-join_reply x reply.NotDir = refl
-join_reply x reply.IsDir = refl
-join_reply x reply.IsSeg = refl
-join_reply x reply.Exists = refl
-join_reply x reply.Deep = refl
-join_reply x reply.Room = refl
-join_reply x reply.NoEntry = refl
-join_reply x reply.Full = refl
-join_reply x reply.AclFull = refl
-join_reply x reply.Beyond = refl
-join_reply x reply.NotEmpty = refl
-join_reply x reply.HasQuota = refl
-join_reply x reply.Root = refl
-join_reply x reply.TooLittle = refl
-join_reply x (reply.Word w) = refl
-join_reply x (reply.Made u) = refl
-join_reply x (reply.Known n) = refl
-join_reply x (reply.Over u) = refl
-join_reply x (reply.SegIs u l s) = refl
-join_reply x (reply.DirIs u q n) = refl
+join_reply x _ = refl
 
 reply_lacks : (r : Reply) → IsReply r → AllLack is_space (reply_words r)
-reply_lacks reply.Unknown h = (refl, tt)
-reply_lacks reply.Gone h = (refl, tt)
-reply_lacks reply.NoAccess h = (refl, tt)
-reply_lacks reply.Length h = (refl, tt)
-reply_lacks reply.Quota h = (refl, tt)
-reply_lacks reply.NoRecord h = (refl, tt)
-reply_lacks reply.Device h = (refl, tt)
-reply_lacks reply.Done h = (refl, tt)
-reply_lacks reply.NoPath h = (refl, tt)
-reply_lacks reply.NotDir h = (refl, tt)
-reply_lacks reply.IsDir h = (refl, tt)
-reply_lacks reply.IsSeg h = (refl, tt)
-reply_lacks reply.Exists h = (refl, tt)
-reply_lacks reply.Deep h = (refl, tt)
-reply_lacks reply.Room h = (refl, tt)
-reply_lacks reply.NoEntry h = (refl, tt)
-reply_lacks reply.Full h = (refl, tt)
-reply_lacks reply.AclFull h = (refl, tt)
-reply_lacks reply.Beyond h = (refl, tt)
-reply_lacks reply.NotEmpty h = (refl, tt)
-reply_lacks reply.HasQuota h = (refl, tt)
-reply_lacks reply.Root h = (refl, tt)
-reply_lacks reply.TooLittle h = (refl, tt)
 reply_lacks (reply.Word w) h = (
   refl,
   (
-    all_lack is_octal_digit is_space (λ b d. grind (arith, nat_tests)) (octal_digits 12 w)
-        (octal_digits_all 12 w),
+    all_lack is_octal_digit is_space (λ b d. grind (arith, nat_tests)) (octal_digits 12 w) (octal_digits_all 12 w),
     tt,
   ),
 )
@@ -335,41 +278,19 @@ reply_lacks (reply.Known n) h = (refl, (spaceless n h, tt))
 reply_lacks (reply.Over u) h = (refl, (spaceless u h, tt))
 reply_lacks (reply.SegIs u l s) h = (refl, (spaceless u h.0, (refl, (spaceless l h.1, (refl, (spaceless s h.2, tt))))))
 reply_lacks (reply.DirIs u q n) h = (refl, (spaceless u h.0, (refl, (spaceless q h.1, (refl, (spaceless n h.2, tt))))))
+reply_lacks _ h = (refl, tt)
 
 reply_again : (r : Reply) → IsReply r → reply_of (reply_words r) ≡ Some r
 unfolding reply_of named_reply bare_text
-reply_again reply.Unknown h = refl
-reply_again reply.Gone h = refl
-reply_again reply.NoAccess h = refl
-reply_again reply.Length h = refl
-reply_again reply.Quota h = refl
-reply_again reply.NoRecord h = refl
-reply_again reply.Device h = refl
-reply_again reply.Done h = refl
-reply_again reply.NoPath h = refl
-reply_again reply.NotDir h = refl
-reply_again reply.IsDir h = refl
-reply_again reply.IsSeg h = refl
-reply_again reply.Exists h = refl
-reply_again reply.Deep h = refl
-reply_again reply.Room h = refl
-reply_again reply.NoEntry h = refl
-reply_again reply.Full h = refl
-reply_again reply.AclFull h = refl
-reply_again reply.Beyond h = refl
-reply_again reply.NotEmpty h = refl
-reply_again reply.HasQuota h = refl
-reply_again reply.Root h = refl
-reply_again reply.TooLittle h = refl
 reply_again (reply.Word w) h = ap (option_map (λ n. reply.Word n)) (word_again w h)
 reply_again (reply.Made u) h = rw (number_again u h) refl
 reply_again (reply.Known n) h = rw (number_again n h) refl
 reply_again (reply.Over u) h = rw (number_again u h) refl
 reply_again (reply.SegIs u l s) h = rw (number_again u h.0, number_again l h.1, number_again s h.2) refl
 reply_again (reply.DirIs u q n) h = rw (number_again u h.0, number_again q h.1, number_again n h.2) refl
+reply_again _ h = refl
 
-first_left : (rs : List Reply) (k : ℕ) (r : Reply) → k < length rs → r ≡ get_or rs k r → drop k rs
-    ≡ r ∷ drop (k + 1) rs
+first_left : (rs : List Reply) (k : ℕ) (r : Reply) → k < length rs → r ≡ get_or rs k r → drop k rs ≡ r ∷ drop (k + 1) rs
 first_left rs k r lt here = rw (add-one, drop-cons rs k r, ← here) refl
 
 -- each reply of one word has its text alone
@@ -389,8 +310,7 @@ bare_only w = worded_only bare_replies w bare_words
 
 -- the replies are gone through one after another
 pub named_here : (rs : List Reply) (w : List ℕ) (k : ℕ) (r : Reply) (o : Option Reply) → k < length rs → r
-    ≡ get_or rs k r
-    → bytes_eq w (bare_text r) ≡ true → named_reply (drop k rs) w ≡ o → Some r ≡ o
+    ≡ get_or rs k r → bytes_eq w (bare_text r) ≡ true → named_reply (drop k rs) w ≡ o → Some r ≡ o
 unfolding named_reply
 named_here rs w k r o lt here is h =
     sym (ap (λ (xs : List Reply). named_reply xs w) (first_left rs k r lt here) ∙ rw is refl) ∙ h
@@ -458,10 +378,8 @@ status_of_only w a x b y c = by_numbers (triple (number_of a) (number_of b) (num
     by_numbers None h = tt
     by_numbers (Some t) h = status_only w x y a b c t.0 t.1 t.2 h.0 h.1 h.2
 
-pair_only : (w a : List ℕ) → IfSome
-    (cond (bytes_eq w (codes "word")) (option_map (λ n. reply.Word n) (word_of a))
-    (option_and_then (numbered_reply w) (number_of a)))
-    (λ r. reply_words r ≡ w ∷ a ∷ [])
+pair_only : (w a : List ℕ) → IfSome (cond (bytes_eq w (codes "word")) (option_map (λ n. reply.Word n) (word_of a))
+    (option_and_then (numbered_reply w) (number_of a))) (λ r. reply_words r ≡ w ∷ a ∷ [])
 pair_only w a = same w (codes "word") _ _ (λ o. IfSome o (λ r. reply_words r ≡ w ∷ a ∷ []))
     (λ e. mapped (word_of a) (λ n. reply.Word n) (λ r. reply_words r ≡ w ∷ a ∷ [])
     (from_each (word_of a) (λ n. reply_words (reply.Word n) ≡ w ∷ a ∷ []) (λ n f. two (sym e) (word_only a n f))))
@@ -529,26 +447,7 @@ entry_text_is (entry.Do k i c f r) =
     (sym (join_reply (number_text f) r))
 entry_text_is (entry.Signal c w) = ap (λ (t : List ℕ). codes "signal " ++ t) (sym (join_what (decimal c) w))
 entry_text_is (entry.Clear c w) = ap (λ (t : List ℕ). codes "clear " ++ t) (sym (join_what (decimal c) w))
-entry_text_is (entry.Release u p) = refl
-entry_text_is (entry.Fault k) = refl
-entry_text_is (entry.Online c) = refl
-entry_text_is (entry.Load c k) = refl
-entry_text_is (entry.Leave c) = refl
-entry_text_is (entry.Activate u) = refl
-entry_text_is (entry.Deactivate u) = refl
-entry_text_is (entry.Start f u p) = refl
-entry_text_is (entry.Lose f) = refl
-entry_text_is (entry.Here f u p) = refl
-entry_text_is (entry.Connect k n u) = refl
-entry_text_is (entry.Moved k u w) = refl
-entry_text_is (entry.Take f) = refl
-entry_text_is (entry.Cut k n) = refl
-entry_text_is (entry.FillSeg c n) = refl
-entry_text_is (entry.FillPage c f) = refl
-entry_text_is (entry.GonePage f) = refl
-entry_text_is (entry.BackPage f) = refl
-entry_text_is (entry.GoneSeg k n) = refl
-entry_text_is (entry.BackSeg k n) = refl
+entry_text_is _ = refl
 
 optional_lacks : (f : Option ℕ) → IfSome f IsSmall → lacks is_space (number_text f) ≡ true
 unfolding number_text
@@ -632,41 +531,26 @@ four : {A : Type 0} {a b c d e f g h : A} → a ≡ b → c ≡ d → e ≡ f �
 four p q r t = cc
 
 one_only : (w a : List ℕ) (n : ℕ) → decimal n ≡ a → IfSome (of_one w n) (λ x. entry_words x ≡ w ∷ a ∷ [])
-one_only w a n f = same w (codes "online") _ _ (λ o. IfSome o (λ x. entry_words x ≡ w ∷ a ∷ []))
-    (λ e. two (sym e) f)
-    (same w (codes "leave") _ _ (λ o. IfSome o (λ x. entry_words x ≡ w ∷ a ∷ []))
-    (λ e. two (sym e) f)
-    (same w (codes "activate") _ _ (λ o. IfSome o (λ x. entry_words x ≡ w ∷ a ∷ []))
-    (λ e. two (sym e) f)
-    (same w (codes "deactivate") _ _ (λ o. IfSome o (λ x. entry_words x ≡ w ∷ a ∷ []))
-    (λ e. two (sym e) f)
-    (same w (codes "lose") _ _ (λ o. IfSome o (λ x. entry_words x ≡ w ∷ a ∷ []))
-    (λ e. two (sym e) f)
-    (same w (codes "take") _ _ (λ o. IfSome o (λ x. entry_words x ≡ w ∷ a ∷ []))
-    (λ e. two (sym e) f)
-    (tt))))))
+one_only w a n f =
+    let P : Option Entry → Type 0 = λ o. IfSome o (λ x. entry_words x ≡ w ∷ a ∷ []) in
+    same w (codes "online") _ _ P (λ e. two (sym e) f) (same w (codes "leave") _ _ P (λ e. two (sym e) f)
+    (same w (codes "activate") _ _ P (λ e. two (sym e) f) (same w (codes "deactivate") _ _ P (λ e. two (sym e) f)
+    (same w (codes "lose") _ _ P (λ e. two (sym e) f) (same w (codes "take") _ _ P (λ e. two (sym e) f) tt)))))
 
 two_only : (w a b : List ℕ) (n m : ℕ) → decimal n ≡ a → decimal m ≡ b
     → IfSome (of_two w (n, m)) (λ x. entry_words x ≡ w ∷ a ∷ b ∷ [])
-two_only w a b n m f g = same w (codes "load") _ _ (λ o. IfSome o (λ x. entry_words x ≡ w ∷ a ∷ b ∷ []))
-    (λ e. three (sym e) f g)
-    (same w (codes "release") _ _ (λ o. IfSome o (λ x. entry_words x ≡ w ∷ a ∷ b ∷ []))
-    (λ e. three (sym e) f g)
-    (same w (codes "cut") _ _ (λ o. IfSome o (λ x. entry_words x ≡ w ∷ a ∷ b ∷ []))
-    (λ e. three (sym e) f g)
-    (tt)))
+two_only w a b n m f g =
+    let P : Option Entry → Type 0 = λ o. IfSome o (λ x. entry_words x ≡ w ∷ a ∷ b ∷ []) in
+    same w (codes "load") _ _ P (λ e. three (sym e) f g) (same w (codes "release") _ _ P (λ e. three (sym e) f g)
+    (same w (codes "cut") _ _ P (λ e. three (sym e) f g) tt))
 
 three_only : (w a b c : List ℕ) (n m l : ℕ) → decimal n ≡ a → decimal m ≡ b → decimal l ≡ c
     → IfSome (of_three w (n, m, l)) (λ x. entry_words x ≡ w ∷ a ∷ b ∷ c ∷ [])
-three_only w a b c n m l f g h = same w (codes "in") _ _ (λ o. IfSome o (λ x. entry_words x ≡ w ∷ a ∷ b ∷ c ∷ []))
-    (λ e. four (sym e) f g h)
-    (same w (codes "start") _ _ (λ o. IfSome o (λ x. entry_words x ≡ w ∷ a ∷ b ∷ c ∷ []))
-    (λ e. four (sym e) f g h)
-    (same w (codes "connect") _ _ (λ o. IfSome o (λ x. entry_words x ≡ w ∷ a ∷ b ∷ c ∷ []))
-    (λ e. four (sym e) f g h)
-    (same w (codes "moved") _ _ (λ o. IfSome o (λ x. entry_words x ≡ w ∷ a ∷ b ∷ c ∷ []))
-    (λ e. four (sym e) f g h)
-    (tt))))
+three_only w a b c n m l f g h =
+    let P : Option Entry → Type 0 = λ o. IfSome o (λ x. entry_words x ≡ w ∷ a ∷ b ∷ c ∷ []) in
+    same w (codes "in") _ _ P (λ e. four (sym e) f g h) (same w (codes "start") _ _ P (λ e. four (sym e) f g h)
+    (same w (codes "connect") _ _ P (λ e. four (sym e) f g h) (same w (codes "moved") _ _ P (λ e. four (sym e) f g h)
+    tt)))
 
 plain_only : (w : List ℕ) (fields : List (List ℕ)) → IfSome (plain_of w fields) (λ x. entry_words x ≡ w ∷ fields)
 plain_only w [] = tt
@@ -771,12 +655,10 @@ fill_only (a ∷ b ∷ c ∷ d ∷ fields) = tt
 dotted_only : (t : List ℕ) (k i : ℕ) → dotted_of t ≡ Some (k, i) → decimal k ++ (46 ∷ decimal i) ≡ t
 dotted_only t k i h = of_value (dotted_of t) (λ x. decimal x.0 ++ (46 ∷ decimal x.1) ≡ t) (k, i)
     (both_each (number_of (before_first is_dot t)) (number_of (after_first is_dot t))
-    (λ x. decimal x.0 ++ (46 ∷ decimal x.1) ≡ t)
-    (λ n m f g. around n m f g (dot_within t m g))) h
+    (λ x. decimal x.0 ++ (46 ∷ decimal x.1) ≡ t) (λ n m f g. around n m f g (dot_within t m g))) h
   where
     around : (n m : ℕ) → number_of (before_first is_dot t) ≡ Some n → number_of (after_first is_dot t) ≡ Some m
-        → position_or_len is_dot t < length t
-        → decimal n ++ (46 ∷ decimal m) ≡ t
+        → position_or_len is_dot t < length t → decimal n ++ (46 ∷ decimal m) ≡ t
     around n m f g lt =
         let dot : get_or t (position_or_len is_dot t) 0 ≡ 46 = dot_there t lt in
         let front : decimal n ≡ before_first is_dot t = number_only (before_first is_dot t) n f in
@@ -816,8 +698,7 @@ do_only (a ∷ b ∷ c ∷ fields) = by_parts (both (dotted_of a) (both (number_
 
 entry_only : (w : List ℕ) (fields : List (List ℕ)) → IfSome (entry_of w fields) (λ x. entry_words x ≡ w ∷ fields)
 unfolding entry_of
-entry_only w fields =
-    same w (codes "do") _ _ P (λ e. led (codes "do") e (do_of fields) (do_only fields))
+entry_only w fields = same w (codes "do") _ _ P (λ e. led (codes "do") e (do_of fields) (do_only fields))
     (same w (codes "fill") _ _ P (λ e. led (codes "fill") e (fill_of fields) (fill_only fields))
     (same w (codes "signal") _ _ P (λ e. led (codes "signal") e
     (option_map (λ x. entry.Signal x.0 x.1) (dropped_of fields))
@@ -861,12 +742,10 @@ words_only (w ∷ fields) = entry_only w fields
 
 -- what is read of the words of a line has the line as its text
 pub read_only : (line : List ℕ) (ws : List (List ℕ)) (o : Option Entry) → ws ≡ slice_split is_space line → o
-    ≡ entry_of_words ws
-    → IfSome o (λ e. entry_text e ≡ line)
+    ≡ entry_of_words ws → IfSome o (λ e. entry_text e ≡ line)
 read_only line ws o cut read = from_each o (λ e. entry_text e ≡ line) (λ e is.
     entry_text_is e ∙ ap (join_with_byte 32) (of_value (entry_of_words ws) (λ x. entry_words x ≡ ws) e (words_only ws)
-    (sym read ∙ is) ∙ cut)
-    ∙ join_with_byte-slice_split 32 line)
+    (sym read ∙ is) ∙ cut) ∙ join_with_byte-slice_split 32 line)
 
 -- an entry has 1 to 10 words
 pub record HasWords (ws : List (List ℕ)) : Type 0 where
@@ -875,34 +754,7 @@ pub record HasWords (ws : List (List ℕ)) : Type 0 where
 
 reply_has : (r : Reply) → length (reply_words r) ≤ 6
 reply_has reply.Unknown = omega arith
-reply_has reply.Gone = omega arith
-reply_has reply.NoAccess = omega arith
-reply_has reply.Length = omega arith
-reply_has reply.Quota = omega arith
-reply_has reply.NoRecord = omega arith
-reply_has reply.Device = omega arith
-reply_has reply.Done = omega arith
-reply_has reply.NoPath = omega arith
-reply_has reply.NotDir = omega arith
-reply_has reply.IsDir = omega arith
-reply_has reply.IsSeg = omega arith
-reply_has reply.Exists = omega arith
-reply_has reply.Deep = omega arith
-reply_has reply.Room = omega arith
-reply_has reply.NoEntry = omega arith
-reply_has reply.Full = omega arith
-reply_has reply.AclFull = omega arith
-reply_has reply.Beyond = omega arith
-reply_has reply.NotEmpty = omega arith
-reply_has reply.HasQuota = omega arith
-reply_has reply.Root = omega arith
-reply_has reply.TooLittle = omega arith
-reply_has (reply.Word w) = omega arith
-reply_has (reply.Made u) = omega arith
-reply_has (reply.Known n) = omega arith
-reply_has (reply.Over u) = omega arith
-reply_has (reply.SegIs u l s) = omega arith
-reply_has (reply.DirIs u q n) = omega arith
+reply_has _ = omega arith
 
 what_has : (w : What) → length (what_words w) ≤ 2
 what_has what.All = omega arith
@@ -913,36 +765,15 @@ entry_has : (e : Entry) → HasWords (entry_words e)
 entry_has (entry.Do k i c f r) = record { some = omega arith; few = omega (arith, reply_has r) }
 entry_has (entry.Signal c w) = record { some = omega arith; few = omega (arith, what_has w) }
 entry_has (entry.Clear c w) = record { some = omega arith; few = omega (arith, what_has w) }
-entry_has (entry.Release u p) = record { some = omega arith; few = omega arith }
-entry_has (entry.Fault k) = record { some = omega arith; few = omega arith }
-entry_has (entry.Online c) = record { some = omega arith; few = omega arith }
-entry_has (entry.Load c k) = record { some = omega arith; few = omega arith }
-entry_has (entry.Leave c) = record { some = omega arith; few = omega arith }
-entry_has (entry.Activate u) = record { some = omega arith; few = omega arith }
-entry_has (entry.Deactivate u) = record { some = omega arith; few = omega arith }
-entry_has (entry.Start f u p) = record { some = omega arith; few = omega arith }
-entry_has (entry.Lose f) = record { some = omega arith; few = omega arith }
-entry_has (entry.Here f u p) = record { some = omega arith; few = omega arith }
-entry_has (entry.Connect k n u) = record { some = omega arith; few = omega arith }
-entry_has (entry.Moved k u w) = record { some = omega arith; few = omega arith }
-entry_has (entry.Take f) = record { some = omega arith; few = omega arith }
-entry_has (entry.Cut k n) = record { some = omega arith; few = omega arith }
-entry_has (entry.FillSeg c n) = record { some = omega arith; few = omega arith }
-entry_has (entry.FillPage c f) = record { some = omega arith; few = omega arith }
-entry_has (entry.GonePage f) = record { some = omega arith; few = omega arith }
-entry_has (entry.BackPage f) = record { some = omega arith; few = omega arith }
-entry_has (entry.GoneSeg k n) = record { some = omega arith; few = omega arith }
-entry_has (entry.BackSeg k n) = record { some = omega arith; few = omega arith }
+entry_has _ = record { some = omega arith; few = omega arith }
 
 words_again : (line : List ℕ) (e : Entry) → IsEntry e → entry_text e ≡ line → slice_split is_space line ≡ entry_words e
 words_again line e h text = ap (slice_split is_space) (sym text ∙ entry_text_is e)
-    ∙ words_of_join (entry_words e) (entry_has e).some
-    (entry_lacks e h)
+    ∙ words_of_join (entry_words e) (entry_has e).some (entry_lacks e h)
 
 -- an entry is read back from its text
 pub read_again : (line : List ℕ) (ws : List (List ℕ)) (e : Entry) → ws ≡ slice_split is_space line → IsEntry e
-    → entry_text e ≡ line
-    → entry_of_words ws ≡ Some e
+    → entry_text e ≡ line → entry_of_words ws ≡ Some e
 read_again line ws e cut h text = ap entry_of_words (cut ∙ words_again line e h text) ∙ entry_again e h
 
 -- a line of more words than 10 is no entry's

@@ -16,20 +16,16 @@ use Rattle.book.specs.Reading.{is_space, is_dot, number_of, dotted_of, both}
 
 -- the words so far, and those of what is left, are those of the line
 word_added : {A : Type 0} (f : A → List ℕ) (xs : List A) (x : A) (parts more whole : List (List ℕ)) → map f xs
-    ++ parts ≡ whole
-    → parts ≡ f x ∷ more → map f (xs ++ x ∷ []) ++ more ≡ whole
+    ++ parts ≡ whole → parts ≡ f x ∷ more → map f (xs ++ x ∷ []) ++ more ≡ whole
 word_added f xs x parts more whole h e = ap (λ (t : List (List ℕ)). t ++ more) (map-append f xs (x ∷ []))
-    ∙ append_assoc (map f xs) (f x ∷ []) more
-    ∙ ap (λ (t : List (List ℕ)). map f xs ++ t) (sym e) ∙ h
+    ∙ append_assoc (map f xs) (f x ∷ []) more ∙ ap (λ (t : List (List ℕ)). map f xs ++ t) (sym e) ∙ h
 
 last_added : {A : Type 0} (f : A → List ℕ) (xs : List A) (x : A) (parts whole : List (List ℕ)) → map f xs ++ parts
-    ≡ whole → parts ≡ f x ∷ []
-    → map f (xs ++ x ∷ []) ≡ whole
+    ≡ whole → parts ≡ f x ∷ [] → map f (xs ++ x ∷ []) ≡ whole
 last_added f xs x parts whole h e = map-append f xs (x ∷ []) ∙ ap (λ (t : List (List ℕ)). map f xs ++ t) (sym e) ∙ h
 
 too_many : {A : Type 0} (f : A → List ℕ) (xs : List A) (parts whole : List (List ℕ)) → map f xs ++ parts ≡ whole
-    → 10 ≤ length xs
-    → 0 < length parts → 10 < length whole
+    → 10 ≤ length xs → 0 < length parts → 10 < length whole
 too_many f xs parts whole h full some = omega (arith, simp (length-append, length-map) at (ap length h))
 
 -- These words come first in the line, and what follows them begins at `start`; from there no space stands before `i`.
@@ -139,14 +135,12 @@ both_none None = refl
 both_none (Some a) = refl
 
 pub no_dot : (t : List ℕ) → position is_dot t ≡ None → None ≡ dotted_of t
-no_dot t h = sym
-    (ap (λ (r : List ℕ). both (number_of (before_first is_dot t)) (number_of r)) none_after
+no_dot t h = sym (ap (λ (r : List ℕ). both (number_of (before_first is_dot t)) (number_of r)) none_after
     ∙ ap (λ (o : Option ℕ). both (number_of (before_first is_dot t)) o) no_number
     ∙ both_none (number_of (before_first is_dot t)))
   where
     by_test : (z : Bool) → ltb (position_or_len is_dot t) (length t) ≡ z
-        → cond z (Some (position_or_len is_dot t)) None ≡ None
-        → length t ≤ position_or_len is_dot t
+        → cond z (Some (position_or_len is_dot t)) None ≡ None → length t ≤ position_or_len is_dot t
     by_test true e is = absurd (let no : Some (position_or_len is_dot t) ≡ None = is in cc)
     by_test false e is = grind (arith, nat_tests)
 
@@ -172,8 +166,7 @@ pub slice_split-join : (w : List ℕ) (ws : List (List ℕ)) → AllLack is_spac
     → slice_split is_space (join_with_byte 32 (w ∷ ws)) ≡ w ∷ ws
 slice_split-join w [] h = slice_split_none is_space w (lacks_all is_space w h.0)
 slice_split-join w (v ∷ ws) h = slice_split_at is_space w 32 (join_with_byte 32 (v ∷ ws)) (lacks_all is_space w h.0)
-    refl ∙ ap
-    (λ (t : List (List ℕ)). w ∷ t) (slice_split-join v ws h.1)
+    refl ∙ ap (λ (t : List (List ℕ)). w ∷ t) (slice_split-join v ws h.1)
 
 -- the first dot stands behind a word without one
 pub dot_at : (xs ys : List ℕ) → lacks is_dot xs ≡ true → position_or_len is_dot (xs ++ (46 ∷ ys)) ≡ length xs

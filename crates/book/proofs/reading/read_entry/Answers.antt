@@ -6,20 +6,16 @@ use Rattle.book.proofs.reading.read_entry.Goals as goal
 
 -- the words that were cut are those of the line
 cut_of : (lent kept : List (Bor (List ℕ))) (line : List ℕ) → lent ≡ kept → map (λ (w : Bor (List ℕ)). w.now) kept
-    ≡ slice_split is_space line
-    → map (λ (w : Bor (List ℕ)). w.now) lent ≡ slice_split is_space line
+    ≡ slice_split is_space line → map (λ (w : Bor (List ℕ)). w.now) lent ≡ slice_split is_space line
 cut_of lent kept line same cut = ap (map (λ (w : Bor (List ℕ)). w.now)) same ∙ cut
 
 pub returns-then-read_words-clause-some : goal.returns-then-read_words-clause-some
-returns-then-read_words-clause-some c =
-    read_only c.args.line.now _ c.entry_of_words.result
+returns-then-read_words-clause-some c = read_only c.args.line.now _ c.entry_of_words.result
     (cut_of c.deref.result.now c.read_words.new.words.items c.args.line.now c.deref.ensures.0
-    (c.read_words.ensures.yes c.if-read_words.true))
-    c.entry_of_words.ensures
+    (c.read_words.ensures.yes c.if-read_words.true)) c.entry_of_words.ensures
 
 pub returns-then-read_words-clause-back : goal.returns-then-read_words-clause-back
-returns-then-read_words-clause-back c = λ e h text.
-    c.entry_of_words.ensures ∙ read_again c.args.line.now _ e
+returns-then-read_words-clause-back c = λ e h text. c.entry_of_words.ensures ∙ read_again c.args.line.now _ e
     (cut_of c.deref.result.now c.read_words.new.words.items c.args.line.now c.deref.ensures.0
     (c.read_words.ensures.yes c.if-read_words.true)) h text
 
