@@ -8,8 +8,7 @@ store_from-push p s [] e = refl
 store_from-push p s (d ∷ es) e = store_from-push p (after_entry p s d) es e
 
 legal_from_push : (p : Plan) (s : Store) (es : List Entry) (e : Entry) → IsLegalFrom p s es
-    → IsLawful p (store_from p s es) e
-    → IsLegalFrom p s (es ++ e ∷ [])
+    → IsLawful p (store_from p s es) e → IsLegalFrom p s (es ++ e ∷ [])
 unfolding IsLegalFrom store_from
 legal_from_push p s [] e legal lawful = (lawful, tt)
 legal_from_push p s (d ∷ es) e legal lawful = (legal.0, legal_from_push p (after_entry p s d) es e legal.1 lawful)
@@ -51,8 +50,7 @@ last_of-push (d ∷ f ∷ es) e = last_of-push (f ∷ es) e
 
 -- one entry of a legal book
 legal_from_at : (p : Plan) (s : Store) (es : List Entry) (i : ℕ) (e : Entry) → IsLegalFrom p s es → slice_get es i
-    ≡ Some e
-    → IsLawful p (store_from p s (take i es)) e
+    ≡ Some e → IsLawful p (store_from p s (take i es)) e
 unfolding IsLegalFrom store_from
 legal_from_at p s [] i e legal at = absurd cc
 legal_from_at p s (d ∷ es) zero e legal at = let same : d ≡ e = cc in subst (IsLawful p s) same legal.0

@@ -1,45 +1,36 @@
 -- How many stored pages pass a test, once one is stored or is stored no more.
-use Rattle.flat_model.proofs.Prelude.{◌≡◌, ℕ, ◌+◌, ◌-◌, ◌≤◌, Bool, true, false, cond, eqb, ◌||◌, List, [], ◌∷◌, refl, sym, ap, ◌∙◌, arith, inl, inr, count_by, cases_eq, nat_tests, sum_by-cons, Node, volume_in, taken_on, is_page, is_stored, with_stored, without_stored, IsOnce}
+use Rattle.flat_model.proofs.Prelude.{cases_Bool, ◌≡◌, ℕ, ◌+◌, ◌-◌, ◌≤◌, Bool, true, false, cond, eqb, List, [], ◌∷◌, refl, ap, ◌∙◌, arith, inl, inr, count_by, cases_eq, nat_tests, sum_by-cons, Node, volume_in, taken_on, is_page, is_stored, with_stored, without_stored, IsOnce}
+use Rattle.laws.proofs.Bools.{second_false}
+use Rattle.laws.proofs.Numbers.{and_both}
 use Rattle.flat_model.proofs.PageLaws.{without_absent, without_first}
+
+pub count-cons : {X : Type 0} (test : X → Bool) (x : X) (xs : List X)
+    → count_by test (x ∷ xs) ≡ cond {A = ℕ} (test x) 1 0 + count_by test xs
+count-cons test = sum_by-cons (λ y. cond (test y) 1 0)
 
 pub count_with : (test : ℕ × ℕ → Bool) (xs : List (ℕ × ℕ)) (u p : ℕ) → is_stored xs u p ≡ false
     → count_by test (with_stored xs u p) ≡ count_by test xs + cond (test (u, p)) 1 0
 unfolding with_stored
-count_with test xs u p off = rw off (sum_by-cons (λ (y : ℕ × ℕ). cond (test y) 1 0) (u, p) xs ∙ omega arith)
+count_with test xs u p off = rw off (count-cons test (u, p) xs ∙ omega arith)
 
 pub count_without : (test : ℕ × ℕ → Bool) (xs : List (ℕ × ℕ)) (u p : ℕ) → IsOnce xs → is_stored xs u p ≡ true
     → count_by test (without_stored xs u (λ q. eqb q p)) + cond {A = ℕ} (test (u, p)) 1 0 ≡ count_by test xs
 count_without test [] u p once on = absurd cc
-count_without test (x ∷ xs) u p once on = found (is_page u p x) refl (λ rest. count_without test xs u p once.1 rest)
-  where
-    left : List (ℕ × ℕ) → List (ℕ × ℕ)
-    left ys = without_stored ys u (λ q. eqb q p)
-
-    here : count_by test (x ∷ xs) ≡ cond {A = ℕ} (test x) 1 0 + count_by test xs
-    here = sum_by-cons (λ (y : ℕ × ℕ). cond (test y) 1 0) x xs
-
-    found : (z : Bool) → is_page u p x ≡ z → (is_stored xs u p ≡ true
-        → count_by test (left xs) + cond {A = ℕ} (test (u, p)) 1 0 ≡ count_by test xs)
-        → count_by test (left (x ∷ xs)) + cond {A = ℕ} (test (u, p)) 1 0 ≡ count_by test (x ∷ xs)
-    found true e ih =
-        let first : x.0 ≡ u = grind (arith, nat_tests) in
-        let second : x.1 ≡ p = grind (arith, nat_tests) in
-        let gone : is_stored xs u p ≡ false = sym (ap (λ a. is_stored xs a x.1) first
-        ∙ ap (λ b. is_stored xs u b) second) ∙ once.0 in
-        let same : cond {A = ℕ} (test x) 1 0 ≡ cond {A = ℕ} (test (u, p)) 1 0 =
-        ap (λ (a : ℕ). cond {A = ℕ} (test (a, x.1)) 1 0) first
-        ∙ ap (λ (b : ℕ). cond {A = ℕ} (test (u, b)) 1 0) second in
-        ap (λ (t : List (ℕ × ℕ)). count_by test t + cond {A = ℕ} (test (u, p)) 1 0)
-        (without_first x xs u (λ q. eqb q p) true e
-        ∙ without_absent xs u p gone) ∙ omega (arith, here, same)
-    found false e ih =
-        let rest : is_stored xs u p ≡ true = grind (arith, nat_tests) in
-        let less : count_by test (left xs) + cond {A = ℕ} (test (u, p)) 1 0 ≡ count_by test xs = ih rest in
-        let kept : count_by test (x ∷ left xs) ≡ cond {A = ℕ} (test x) 1 0 + count_by test (left xs) =
-        sum_by-cons (λ (y : ℕ × ℕ). cond (test y) 1 0) x (left xs) in
-        ap (λ (t : List (ℕ × ℕ)). count_by test t + cond {A = ℕ} (test (u, p)) 1 0)
-        (without_first x xs u (λ q. eqb q p) false e)
-        ∙ omega (arith, here, less, kept)
+count_without test (x ∷ xs) u p once on = elim (cases_Bool (is_page u p x)) [
+  | inl is ↦
+      (let same = and_both x.0 x.1 u p is in
+      let value : test x ≡ test (u, p) = ap test (λ i. (same.0 i, same.1 i)) in
+      let gone : is_stored xs u p ≡ false = rw (same.0, same.1) at once.0 in
+      rw (without_first x xs u (λ q. eqb q p) true is, without_absent xs u p gone, count-cons test x xs, value)
+      (omega arith))
+  | inr isnt ↦
+      (let rest = count_without test xs u p once.1 (rw isnt at on) in
+      rw (
+        without_first x xs u (λ q. eqb q p) false isnt,
+        count-cons test x (without_stored xs u (λ q. eqb q p)),
+        count-cons test x xs,
+      ) (omega (arith, rest)))
+]
 
 -- a new node changes no count of the pages of others
 pub taken_new : (n : Node) (ns : List Node) (xs : List (ℕ × ℕ)) (v : ℕ) → ((page : ℕ) → is_stored xs n.uid page ≡ false)
@@ -50,16 +41,14 @@ taken_new n ns (x ∷ xs) v none =
     let off : is_stored (x ∷ xs) n.uid x.1 ≡ false = none x.1 in
     let other : eqb n.uid x.0 ≡ false = grind (arith, nat_tests) in
     let same : eqb (volume_in (n ∷ ns) x.0) v ≡ eqb (volume_in ns x.0) v = rw other refl in
-    let rest : (page : ℕ) → is_stored xs n.uid page ≡ false =
-    λ page. later (is_page n.uid page x) (is_stored xs n.uid page) (none page) in
-    sum_by-cons (λ (y : ℕ × ℕ). cond (eqb (volume_in (n ∷ ns) y.0) v) 1 0) x xs
-    ∙ ap (λ (z : Bool). cond {A = ℕ} z 1 0 + count_by (λ y. eqb (volume_in (n ∷ ns) y.0) v) xs) same
-    ∙ ap (λ (c : ℕ). cond {A = ℕ} (eqb (volume_in ns x.0) v) 1 0 + c) (taken_new n ns xs v rest)
-    ∙ sym (sum_by-cons (λ (y : ℕ × ℕ). cond (eqb (volume_in ns y.0) v) 1 0) x xs)
-  where
-    later : (z b : Bool) → (z || b) ≡ false → b ≡ false
-    later true b h = absurd cc
-    later false b h = h
+    let rest = taken_new n ns xs v
+    (λ page. second_false (is_page n.uid page x) (is_stored xs n.uid page) (none page)) in
+    rw (
+      count-cons (λ y. eqb (volume_in (n ∷ ns) y.0) v) x xs,
+      count-cons (λ y. eqb (volume_in ns y.0) v) x xs,
+      same,
+      rest,
+    ) refl
 
 -- a stored page counts
 pub count_some : (xs : List (ℕ × ℕ)) (u q n : ℕ) → n ≡ count_by (λ x. eqb x.0 u) xs → IsOnce xs
@@ -76,8 +65,7 @@ pub counted_less : (c d : ℕ → ℕ) (xs : List (ℕ × ℕ)) (u q : ℕ) → 
     → d s ≡ count_by (λ x. eqb x.0 s) (without_stored xs u (λ r. eqb r q))
 counted_less c d xs u q counts once on down s =
     let less : count_by (λ x. eqb x.0 s) (without_stored xs u (λ r. eqb r q)) + cond {A = ℕ} (eqb u s) 1 0
-    ≡ count_by (λ x. eqb x.0 s) xs =
-    count_without (λ x. eqb x.0 s) xs u q once on in
+    ≡ count_by (λ x. eqb x.0 s) xs = count_without (λ x. eqb x.0 s) xs u q once on in
     let was : c s ≡ count_by (λ x. eqb x.0 s) xs = counts s in
     down s ∙ elim (cases_eq u s) [
       | inl same ↦

@@ -1,5 +1,7 @@
 -- Words that are cut off from an offset on.
-use Rattle.flat_model.proofs.Prelude.{◌≡◌, ◌≢◌, ℕ, suc, zero, ◌+◌, ◌-◌, ◌*◌, ◌/◌, ◌%◌, ◌<◌, ◌≤◌, Bool, true, false, not, cond, eqb, ◌&&◌, ◌||◌, ◌++◌, List, [], ◌∷◌, length, take, replicate, get_or, Ok, Err, All, IsTrue, ◌↔◌, refl, sym, ap, ◌∙◌, arith, inl, inr, nat_le, nat_lt, cases_eq, cases_lt, nat_tests, get_or_past, length-append, length-replicate, length-take, Reply, Node, segment_at, cleared, cut_at, cut_once, without_pages, Words, is_stored, is_zero_page, without_stored, without_words, after_truncate, cut_off, is_lost, truncated, Store, get_or_default_zero, zeros_read}
+use Rattle.flat_model.proofs.Prelude.{cases_Bool, and_parts, ◌≡◌, ◌≢◌, ℕ, suc, zero, ◌+◌, ◌-◌, ◌*◌, ◌/◌, ◌%◌, ◌<◌, ◌≤◌, Bool, true, false, not, cond, eqb, ◌&&◌, ◌||◌, ◌++◌, List, [], ◌∷◌, length, take, replicate, get_or, Ok, Err, All, IsTrue, ◌↔◌, refl, sym, ap, ◌∙◌, arith, inl, inr, nat_le, nat_lt, cases_eq, cases_lt, nat_tests, get_or_past, length-append, length-replicate, length-take, Reply, Node, segment_at, cleared, cut_at, cut_once, without_pages, Words, is_stored, is_zero_page, without_stored, without_words, after_truncate, cut_off, is_lost, truncated, Store, get_or_default_zero, zeros_read}
+use Rattle.laws.proofs.Bools.{or_true}
+use Rattle.laws.proofs.Numbers.{and_both, from_first}
 use Rattle.flat_model.proofs.DropLaws.{stored_fused, stored_same}
 use Rattle.flat_model.proofs.PageLaws.{is_stored-without}
 use Rattle.flat_model.proofs.ZeroLaws.{words_zero, zero_words}
@@ -7,36 +9,16 @@ use Rattle.flat_model.proofs.ZeroLaws.{words_zero, zero_words}
 -- a word of a page that is cut
 pub get_cut : (at i n : ℕ) (ws : List ℕ)
     → get_or (take at ws ++ replicate n 0) i 0 ≡ cond (nat_le at i) 0 (get_or ws i 0)
-get_cut zero i n [] = zeros_read n i ∙ either (nat_le zero i)
-  where
-    either : (z : Bool) → ◌≡◌ {A = ℕ} 0 (cond z 0 0)
-    either true = refl
-    either false = refl
-get_cut zero i n (w ∷ ws) = zeros_read n i ∙ first (nat_le zero i) (grind (arith, nat_tests))
-  where
-    first : (z : Bool) → z ≡ true → ◌≡◌ {A = ℕ} 0 (cond z 0 (get_or (w ∷ ws) i 0))
-    first true e = refl
-    first false e = cc
+get_cut zero i n [] = rw (from_first i) (zeros_read n i)
+get_cut zero i n (w ∷ ws) = rw (from_first i) (zeros_read n i)
 get_cut (suc at) i n [] = zeros_read n i ∙ either (nat_le (suc at) i)
   where
     either : (z : Bool) → ◌≡◌ {A = ℕ} 0 (cond z 0 0)
     either true = refl
     either false = refl
-get_cut (suc at) zero n (w ∷ ws) = later (nat_le (suc at) zero) (grind (arith, nat_tests))
-  where
-    later : (z : Bool) → z ≡ false → w ≡ cond z 0 w
-    later true e = cc
-    later false e = refl
-get_cut (suc at) (suc i) n (w ∷ ws) = get_cut at i n ws
-    ∙ ap (λ (z : Bool). cond z 0 (get_or ws i 0)) (same (nat_le at i) (nat_le (suc at) (suc i)) refl refl)
-  where
-    same : (a b : Bool) → nat_le at i ≡ a → nat_le (suc at) (suc i) ≡ b → a ≡ b
-    same true true e f = refl
-    same false false e f = refl
-    same true false e f = (let le : at ≤ i = grind (arith, nat_tests) in
-        let gt : suc i < suc at = grind (arith, nat_tests) in absurd (omega (arith, le, gt)))
-    same false true e f = (let lt : i < at = grind (arith, nat_tests) in
-        let le : suc at ≤ suc i = grind (arith, nat_tests) in absurd (omega (arith, lt, le)))
+get_cut (suc at) zero n (w ∷ ws) = let off : nat_le (suc at) 0 ≡ false = grind (arith, nat_tests) in rw off refl
+get_cut (suc at) (suc i) n (w ∷ ws) =
+    let same : nat_le (suc at) (suc i) ≡ nat_le at i = grind (arith, nat_tests) in rw same (get_cut at i n ws)
 
 pub cut_size : (at : ℕ) (ws : List ℕ) → length ws ≡ 1024 → at ≤ 1024 → length (cut_at at ws) ≡ 1024
 cut_size at ws size le = length-append (take at ws) (replicate (1024 - at) 0)
@@ -68,62 +50,25 @@ zero_words_told words u q ws r size word told = agree r (is_zero_page words u q)
 
 -- the words of a page that isn't stored are 0 already
 pub cleared_absent : (s : Store) (u q at : ℕ) → ((o : ℕ) → o / 1024 ≡ q → s.words u o ≡ 0) → cleared s u q at ≡ s
-cleared_absent s u q at none =
-    ap (λ (w : Words). record s { words = w }) (λ i. λ v. λ o. word v o (eqb v u) (eqb (o / 1024) q) refl refl i)
+cleared_absent s u q at none = ap (λ (w : Words). record s { words = w }) (λ i. λ v. λ o. word v o i)
   where
-    word : (v o : ℕ) (a b : Bool) → eqb v u ≡ a → eqb (o / 1024) q ≡ b
-        → cond (a && (b && nat_le at (o % 1024))) 0 (s.words v o) ≡ s.words v o
-    word v o true true e f = either (nat_le at (o % 1024)) zero_there
-      where
-        zero_there : s.words v o ≡ 0
-        zero_there =
-            let vu : v ≡ u = grind (arith, nat_tests) in
-            let rq : o / 1024 ≡ q = grind (arith, nat_tests) in
-            ap (λ (x : ℕ). s.words x o) vu ∙ none o rq
-
-        either : (z : Bool) → s.words v o ≡ 0 → cond z 0 (s.words v o) ≡ s.words v o
-        either true e = sym e
-        either false e = refl
-    word v o true false e f = refl
-    word v o false b e f = refl
+    word : (v o : ℕ) → cond (eqb v u && (eqb (o / 1024) q && nat_le at (o % 1024))) 0 (s.words v o) ≡ s.words v o
+    word v o = elim (cases_Bool (eqb v u && (eqb (o / 1024) q && nat_le at (o % 1024)))) [
+      | inl is ↦
+          (let parts = and_parts (eqb v u) (eqb (o / 1024) q && nat_le at (o % 1024)) is in
+          let page = (and_parts (eqb (o / 1024) q) (nat_le at (o % 1024)) parts.1).0 in
+          let same : v ≡ u = (let own = parts.0 in grind (arith, nat_tests)) in
+          let there : o / 1024 ≡ q = grind (arith, nat_tests) in
+          rw is (sym (rw same (none o there))))
+      | inr other ↦ rw other refl
+    ]
 
 -- ---- the whole truncation
 
 past_page : (from o : ℕ)
     → ((eqb (o / 1024) (from / 1024) && nat_le (from % 1024) (o % 1024)) || nat_le (from / 1024 + 1) (o / 1024))
     ≡ nat_le from o
-past_page from o = by_order (nat_le from o) refl
-  where
-    either : (a b c : Bool) → (c ≡ false → (a ≡ true) × (b ≡ true)) → ((a && b) || c) ≡ true
-    either true true c h = refl
-    either true false true h = refl
-    either false b true h = refl
-    either true false false h = (let z : false ≡ true = (h refl).1 in cc)
-    either false b false h = (let z : false ≡ true = (h refl).0 in cc)
-
-    neither : (a b c : Bool) → c ≡ false → (a ≡ true → b ≡ false) → ((a && b) || c) ≡ false
-    neither true b c e h = rw (h refl) e
-    neither false b c e h = e
-
-    by_order : (z : Bool) → nat_le from o ≡ z
-        → ((eqb (o / 1024) (from / 1024) && nat_le (from % 1024) (o % 1024)) || nat_le (from / 1024 + 1) (o / 1024)) ≡ z
-    by_order true e =
-        let le : from ≤ o = grind (arith, nat_tests) in
-        either (eqb (o / 1024) (from / 1024)) (nat_le (from % 1024) (o % 1024)) (nat_le (from / 1024 + 1) (o / 1024))
-        (λ f.
-        let lt : o / 1024 < from / 1024 + 1 = grind (arith, nat_tests) in
-        let same : o / 1024 ≡ from / 1024 = omega (arith, le, lt) in
-        let rest : from % 1024 ≤ o % 1024 = omega (arith, le, same) in
-        (grind (arith, nat_tests), grind (arith, nat_tests)))
-    by_order false e =
-        let lt : o < from = grind (arith, nat_tests) in
-        let below : o / 1024 < from / 1024 + 1 = omega (arith, lt) in
-        neither (eqb (o / 1024) (from / 1024)) (nat_le (from % 1024) (o % 1024)) (nat_le (from / 1024 + 1) (o / 1024))
-        (grind (arith, nat_tests))
-        (λ f.
-        let same : o / 1024 ≡ from / 1024 = grind (arith, nat_tests) in
-        let rest : o % 1024 < from % 1024 = omega (arith, lt, same) in
-        grind (arith, nat_tests))
+past_page from o = grind (arith, nat_tests)
 
 module _ (s : Store) (u from : ℕ) where
   abbrev later_page : ℕ → Bool
@@ -137,17 +82,13 @@ module _ (s : Store) (u from : ℕ) where
 
   -- the store once the cut page's words are these
   abbrev ends : Words → Store
-  ends w = cond (is_stored left u page && is_zero_page w u page)
-      (record s {
-        words = λ v o. cond (eqb v u && eqb (o / 1024) page) 0 (w v o);
-        stored = without_stored left u (λ q. eqb q page);
-      })
-      (record s { words = w; stored = left })
+  ends w = cond (is_stored left u page && is_zero_page w u page) (record s {
+    words = λ v o. cond (eqb v u && eqb (o / 1024) page) 0 (w v o);
+    stored = without_stored left u (λ q. eqb q page);
+  }) (record s { words = w; stored = left })
 
-  words_same : (v o : ℕ)
-      → cond (eqb v u && (eqb (o / 1024) page && nat_le (from % 1024) (o % 1024))) 0
-      (cond (eqb v u && later_page (o / 1024)) 0 (s.words v o)) ≡
-      without_words s.words u from v o
+  words_same : (v o : ℕ) → cond (eqb v u && (eqb (o / 1024) page && nat_le (from % 1024) (o % 1024))) 0
+      (cond (eqb v u && later_page (o / 1024)) 0 (s.words v o)) ≡ without_words s.words u from v o
   words_same v o = both (eqb v u) (eqb (o / 1024) page && nat_le (from % 1024) (o % 1024)) (later_page (o / 1024))
       (nat_le from o) (past_page from o)
     where
@@ -191,77 +132,61 @@ module _ (s : Store) (u from : ℕ) where
       grind (arith, nat_tests)) in
       rw second (start (nat_le from (1024 * page)) refl)
     where
-      start : (z : Bool) → nat_le from (1024 * page) ≡ z
-          → (z || is_zero_page (without_words s.words u from) u page)
+      start : (z : Bool) → nat_le from (1024 * page) ≡ z → (z || is_zero_page (without_words s.words u from) u page)
           ≡ is_zero_page (without_words s.words u from) u page
       start true e = sym (zero_past (grind (arith, nat_tests)))
       start false e = refl
+
+  -- pages other than the cut one
+  side : (q : ℕ) → q ≢ page → later_page q ≡ lost q
+  side q other = elim (cases_Bool (later_page q)) [
+    | inl past ↦ past ∙ sym (beyond q (let lt : page + 1 ≤ q = grind (arith, nat_tests) in omega (arith, lt)))
+    | inr early ↦ early ∙ sym (below q (let lt : q < page + 1 = grind (arith, nat_tests) in omega (arith, lt, other)))
+  ]
 
   -- the cut page goes with the later ones
   gone : is_zero_page (without_words s.words u from) u page ≡ true → (q : ℕ) → is_stored s.stored u q ≡ true
       → (later_page q || eqb q page) ≡ lost q
   gone zero_is q on = elim (cases_eq q page) [
     | inl same ↦ (let here : eqb q page ≡ true = grind (arith, nat_tests) in
-        let all : lost q ≡ true = ap lost same ∙ at_page
-        ∙ zero_is in rw here (last (later_page q) ∙ sym all))
-    | inr other ↦
-        (let here : eqb q page ≡ false = grind (arith, nat_tests) in
-        rw here (by_side (later_page q) refl other))
+        rw here (or_true (later_page q) ∙ sym (ap lost same ∙ at_page ∙ zero_is)))
+    | inr other ↦ (let here : eqb q page ≡ false = grind (arith, nat_tests) in
+        rw here (alone (later_page q) ∙ side q other))
   ]
     where
-      last : (z : Bool) → (z || true) ≡ true
-      last true = refl
-      last false = refl
-
-      by_side : (z : Bool) → later_page q ≡ z → q ≢ page → (z || false) ≡ lost q
-      by_side true e other = sym (beyond q (let lt : page + 1 ≤ q = grind (arith, nat_tests) in omega (arith, lt)))
-      by_side false e other = sym (below q (let lt : q < page + 1 = grind (arith, nat_tests) in
-          omega (arith, lt, other)))
+      alone : (z : Bool) → (z || false) ≡ z
+      alone true = refl
+      alone false = refl
 
   -- the cut page stays, or isn't stored
   stays : (is_stored left u page && is_zero_page (without_words s.words u from) u page) ≡ false → (q : ℕ)
-      → is_stored s.stored u q ≡ true
-      → later_page q ≡ lost q
+      → is_stored s.stored u q ≡ true → later_page q ≡ lost q
   stays none q on = elim (cases_eq q page) [
     | inl same ↦
         (let before : later_page page ≡ false = grind (arith, nat_tests) in
-        let there : is_stored left u page ≡ true = is_stored-without s.stored u later_page u page
-        ∙ rw (before) (own (eqb u u) (is_stored s.stored u page) (ap (is_stored s.stored u) (sym same) ∙ on)) in
-        let words : is_zero_page (without_words s.words u from) u page ≡ false =
-        second (is_stored left u page) (is_zero_page (without_words s.words u from) u page) there none in
+        let there : is_stored left u page ≡ true =
+        rw (is_stored-without s.stored u later_page u page, before) (own (eqb u u) (is_stored s.stored u page)
+        (rw same at on)) in
+        let words : is_zero_page (without_words s.words u from) u page ≡ false = rw there at none in
         ap later_page same ∙ before ∙ sym words ∙ sym at_page ∙ ap lost (sym same))
-    | inr other ↦ by_side (later_page q) refl other
+    | inr other ↦ side q other
   ]
     where
       own : (a b : Bool) → b ≡ true → (not (a && false) && b) ≡ true
       own true b e = e
       own false b e = e
 
-      second : (a b : Bool) → a ≡ true → (a && b) ≡ false → b ≡ false
-      second true b e h = h
-      second false b e h = cc
-
-      by_side : (z : Bool) → later_page q ≡ z → q ≢ page → z ≡ lost q
-      by_side true e other = sym (beyond q (let lt : page + 1 ≤ q = grind (arith, nat_tests) in omega (arith, lt)))
-      by_side false e other = sym (below q (let lt : q < page + 1 = grind (arith, nat_tests) in
-          omega (arith, lt, other)))
-
   -- the words of a page of zeros_read are 0 already
   zero_words_same : is_zero_page (without_words s.words u from) u page ≡ true → (v o : ℕ)
       → cond (eqb v u && eqb (o / 1024) page) 0 (without_words s.words u from v o) ≡ without_words s.words u from v o
-  zero_words_same zero_is v o = here (eqb v u) (eqb (o / 1024) page) refl refl
-    where
-      here : (a b : Bool) → eqb v u ≡ a → eqb (o / 1024) page ≡ b
-          → cond (a && b) 0 (without_words s.words u from v o) ≡ without_words s.words u from v o
-      here true true e f =
-          let vu : v ≡ u = grind (arith, nat_tests) in
-          let place : o / 1024 ≡ page = grind (arith, nat_tests) in
-          let at : 1024 * page + o % 1024 ≡ o = omega (arith, place) in
-          let lt : o % 1024 < 1024 = omega arith in
-          sym (ap (λ (x : ℕ). without_words s.words u from x o) vu ∙ ap (without_words s.words u from u) (sym at)
-          ∙ zero_words (without_words s.words u from) u page (o % 1024) zero_is lt)
-      here true false e f = refl
-      here false b e f = refl
+  zero_words_same zero_is v o = elim (cases_Bool (eqb v u && eqb (o / 1024) page)) [
+    | inl is ↦
+        (let same = and_both v (o / 1024) u page is in
+        let at : 1024 * page + o % 1024 ≡ o = omega (arith, same.1) in
+        rw (is, same.0) (sym (rw at at (zero_words (without_words s.words u from) u page (o % 1024) zero_is
+        (omega arith)))))
+    | inr other ↦ rw other refl
+  ]
 
   ends_cut : ends (without_words s.words u from) ≡ cut_off s u from
   unfolding lost
@@ -270,23 +195,16 @@ module _ (s : Store) (u from : ℕ) where
       by_zero : (z : Bool) → (is_stored left u page && is_zero_page (without_words s.words u from) u page) ≡ z
           → cond z (record s {
             words = λ v o. cond (eqb v u && eqb (o / 1024) page) 0 (without_words s.words u from v o);
-            stored =
-                without_stored left u (λ q. eqb q page);
-          })
-          (record s { words = without_words s.words u from; stored = left }) ≡ cut_off s u from
+            stored = without_stored left u (λ q. eqb q page);
+          }) (record s { words = without_words s.words u from; stored = left }) ≡ cut_off s u from
       by_zero true e =
-          let zero_is = second (is_stored left u page) (is_zero_page (without_words s.words u from) u page) e in
+          let zero_is = (and_parts (is_stored left u page) (is_zero_page (without_words s.words u from) u page) e).1 in
           ap (λ (w : Words). record s { words = w; stored = without_stored left u (λ q. eqb q page) })
           (λ i. λ v. λ o. zero_words_same zero_is v o i)
           ∙ ap (λ (xs : List (ℕ × ℕ)). record s { words = without_words s.words u from; stored = xs })
           (stored_fused s.stored u later_page (λ q. eqb q page)
           ∙ stored_same s.stored u (λ q. later_page q || eqb q page) lost (gone zero_is))
-        where
-          second : (a b : Bool) → (a && b) ≡ true → b ≡ true
-          second true b h = h
-          second false b h = cc
-      by_zero false e =
-          ap (λ (xs : List (ℕ × ℕ)). record s { words = without_words s.words u from; stored = xs })
+      by_zero false e = ap (λ (xs : List (ℕ × ℕ)). record s { words = without_words s.words u from; stored = xs })
           (stored_same s.stored u later_page lost (stays e))
 
   pub whole_cut : cut_once (without_pages s u later_page) u from ≡ cut_off s u from

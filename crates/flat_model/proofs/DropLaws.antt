@@ -1,12 +1,10 @@
 -- Pages of a segment that are stored no more.
 use Rattle.flat_model.proofs.Prelude.{◌≡◌, ℕ, ◌+◌, ◌/◌, ◌<◌, ◌≤◌, Bool, true, false, not, cond, eqb, ◌&&◌, ◌||◌, List, [], ◌∷◌, filter, refl, sym, ap, ◌∙◌, arith, inl, inr, nat_le, nat_lt, cases_eq, nat_tests, without_pages, Words, is_page, is_stored, without_stored, Store}
+use Rattle.laws.proofs.Numbers.{eqb_turned}
 
 -- two tests for the same page
 pub flip_page : (u q v r : ℕ) → is_page v r (u, q) ≡ (eqb v u && eqb r q)
-flip_page u q v r = both (eqb u v) (eqb v u) (eqb q r) (eqb r q) (grind (arith, nat_tests)) (grind (arith, nat_tests))
-  where
-    both : (a b c d : Bool) → a ≡ b → c ≡ d → (a && c) ≡ (b && d)
-    both a b c d e f = rw (e, f) refl
+flip_page u q v r = rw (eqb_turned u v, eqb_turned q r) refl
 
 same_store : (s : Store) (u : ℕ) (t r : ℕ → Bool)
     → ((v o : ℕ) → cond (eqb v u && t (o / 1024)) 0 (s.words v o) ≡ cond (eqb v u && r (o / 1024)) 0 (s.words v o))
@@ -23,8 +21,7 @@ pub stored_same : (xs : List (ℕ × ℕ)) (u : ℕ) (t r : ℕ → Bool) → ((
     → without_stored xs u t ≡ without_stored xs u r
 unfolding without_stored
 stored_same [] u t r agree = refl
-stored_same (x ∷ xs) u t r agree =
-    ap (λ (z : Bool). cond (not z) (x ∷ filter (λ y. not (eqb y.0 u && t y.1)) xs)
+stored_same (x ∷ xs) u t r agree = ap (λ (z : Bool). cond (not z) (x ∷ filter (λ y. not (eqb y.0 u && t y.1)) xs)
     (filter (λ y. not (eqb y.0 u && t y.1)) xs)) (here (eqb x.0 u) refl)
     ∙ ap (λ (ys : List (ℕ × ℕ)). cond (not (eqb x.0 u && r x.1)) (x ∷ ys) ys)
     (stored_same xs u t r (λ q on. agree q (later (is_page u q x) (is_stored xs u q) on)))
@@ -45,8 +42,7 @@ abbrev pub IsBlank : Store → Type 0
 IsBlank s = (u o : ℕ) → is_stored s.stored u (o / 1024) ≡ false → s.words u o ≡ 0
 
 -- where two tests agree on the stored pages of a segment, the stores without those that pass are one
-pub agreed : (s : Store) (u : ℕ) (t r : ℕ → Bool) → IsBlank s
-    → ((q : ℕ) → is_stored s.stored u q ≡ true → t q ≡ r q)
+pub agreed : (s : Store) (u : ℕ) (t r : ℕ → Bool) → IsBlank s → ((q : ℕ) → is_stored s.stored u q ≡ true → t q ≡ r q)
     → without_pages s u t ≡ without_pages s u r
 agreed s u t r blank agree = same_store s u t r words (stored_same s.stored u t r agree)
   where
@@ -70,8 +66,7 @@ agreed s u t r blank agree = same_store s u t r words (stored_same s.stored u t 
 
 -- two removals are one
 fused_step : (u : ℕ) (t r : ℕ → Bool) (a b c : Bool) (x : ℕ × ℕ) (ys zs : List (ℕ × ℕ))
-    → filter (λ y. not (eqb y.0 u && r y.1)) ys ≡ zs → eqb x.0 u ≡ a
-    → t x.1 ≡ b → r x.1 ≡ c
+    → filter (λ y. not (eqb y.0 u && r y.1)) ys ≡ zs → eqb x.0 u ≡ a → t x.1 ≡ b → r x.1 ≡ c
     → filter (λ y. not (eqb y.0 u && r y.1)) (cond (not (a && b)) (x ∷ ys) ys) ≡ cond (not (a && (b || c))) (x ∷ zs) zs
 fused_step u t r true true c x ys zs ih e f g = ih
 fused_step u t r true false true x ys zs ih e f g = rw (e, g) ih
@@ -82,17 +77,13 @@ pub stored_fused : (xs : List (ℕ × ℕ)) (u : ℕ) (t r : ℕ → Bool)
     → without_stored (without_stored xs u t) u r ≡ without_stored xs u (λ q. t q || r q)
 unfolding without_stored
 stored_fused [] u t r = refl
-stored_fused (x ∷ xs) u t r =
-    fused_step u t r (eqb x.0 u) (t x.1) (r x.1) x (filter (λ y. not (eqb y.0 u && t y.1)) xs)
-    (filter (λ y. not (eqb y.0 u && (t y.1 || r y.1))) xs)
-    (stored_fused xs u t r) refl refl refl
+stored_fused (x ∷ xs) u t r = fused_step u t r (eqb x.0 u) (t x.1) (r x.1) x (filter (λ y. not (eqb y.0 u && t y.1)) xs)
+    (filter (λ y. not (eqb y.0 u && (t y.1 || r y.1))) xs) (stored_fused xs u t r) refl refl refl
 
 pub fused : (s : Store) (u : ℕ) (t r : ℕ → Bool)
     → without_pages (without_pages s u t) u r ≡ without_pages s u (λ q. t q || r q)
-fused s u t r =
-    ap (λ (w : Words). record s { words = w; stored = without_stored (without_stored s.stored u t) u r })
-    (λ i. λ v. λ o. words (eqb v u) (t (o / 1024)) (r (o / 1024)) (s.words v o) i)
-    ∙ ap (λ (xs : List (ℕ × ℕ)). record s
+fused s u t r = ap (λ (w : Words). record s { words = w; stored = without_stored (without_stored s.stored u t) u r })
+    (λ i. λ v. λ o. words (eqb v u) (t (o / 1024)) (r (o / 1024)) (s.words v o) i) ∙ ap (λ (xs : List (ℕ × ℕ)). record s
     { words = λ v o. cond (eqb v u && (t (o / 1024) || r (o / 1024))) 0 (s.words v o); stored = xs })
     (stored_fused s.stored u t r)
   where
@@ -124,8 +115,7 @@ none_removed s u t blank off = agreed s u t (λ q. false) blank off ∙ whole
     nothing false w = refl
 
     whole : without_pages s u (λ q. false) ≡ s
-    whole =
-        ap (λ (w : Words). record s { words = w; stored = without_stored s.stored u (λ q. false) })
+    whole = ap (λ (w : Words). record s { words = w; stored = without_stored s.stored u (λ q. false) })
         (λ i. λ v. λ o. nothing (eqb v u) (s.words v o) i)
         ∙ ap (λ (xs : List (ℕ × ℕ)). record s { stored = xs }) (all_stay s.stored u)
 
@@ -158,8 +148,7 @@ more_between s u from page le = fused s u (between from page) (λ q. eqb q page)
     same : (q : ℕ) → ((nat_le from q && nat_lt q page) || eqb q page) ≡ (nat_le from q && nat_lt q (page + 1))
     same q = grind (arith, nat_tests)
 
-pub all_between : (s : Store) (u from page : ℕ) → IsBlank s
-    → ((q : ℕ) → is_stored s.stored u q ≡ true → q < page)
+pub all_between : (s : Store) (u from page : ℕ) → IsBlank s → ((q : ℕ) → is_stored s.stored u q ≡ true → q < page)
     → without_pages s u (between from page) ≡ without_pages s u (λ q. nat_le from q)
 all_between s u from page blank within = agreed s u (between from page) (λ q. nat_le from q) blank same
   where

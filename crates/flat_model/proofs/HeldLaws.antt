@@ -51,10 +51,8 @@ module _ (p : Plan) (s : Store) (k : ℕ) where
   takes_word old (kind.Add w) = refl
 
   chosen : (a b c d e : Bool) (f : Option ℕ) (x : Reply) → takes_effect x ≡ true
-      → ((a && (not b && (c && (not d && e)))) && is_some f) ≡ true
-      → takes_effect (cond (not a) reply.NoAccess
-      (cond b reply.Length (cond c (cond d reply.Quota (cond (e && is_none f)
-      reply.NoRecord x)) x))) ≡ true
+      → ((a && (not b && (c && (not d && e)))) && is_some f) ≡ true → takes_effect (cond (not a) reply.NoAccess
+      (cond b reply.Length (cond c (cond d reply.Quota (cond (e && is_none f) reply.NoRecord x)) x))) ≡ true
   chosen false b c d e f x t h = cc
   chosen true true c d e f x t h = cc
   chosen true false false d e f x t h = t

@@ -98,17 +98,12 @@ tree_advances p s k (command.MkDir path volume) = advance s _ (make_keeps s path
 tree_advances p s k (command.MkSeg path pages volume) = advance s _ (make_keeps s path volume false pages _)
 tree_advances p s k (command.Initiate path) = initiate_advances s k path
 tree_advances p s k (command.Terminate number) = terminate_advances s k number
-tree_advances p s k (command.Read number offset) = advance s s (kept s)
-tree_advances p s k (command.Write number offset word) = advance s s (kept s)
-tree_advances p s k (command.Add number offset word) = advance s s (kept s)
-tree_advances p s k (command.Await number offset word tries) = advance s s (kept s)
 tree_advances p s k (command.Acl path row m) = advance s _ (acl_keeps s path row m)
 tree_advances p s k (command.Length path pages) = advance s _ (length_keeps s path pages)
 tree_advances p s k (command.Truncate path words) = advance s _ (truncate_keeps s path words)
 tree_advances p s k (command.Delete path) = advance s _ (delete_keeps s path)
 tree_advances p s k (command.Move path amount) = advance s _ (move_keeps s path amount)
-tree_advances p s k (command.Status path) = advance s s (kept s)
-tree_advances p s k command.End = advance s s (kept s)
+tree_advances p s k _ = advance s s (kept s)
 
 by_reference : (p : Plan) (s : Store) (k : ℕ) (c : Command) (o : Option Reference) → Advances s (effect_by p s k c o)
 by_reference p s k c (Some r) = reference_advances s k r

@@ -10,13 +10,11 @@ compare a b = elim (leb_tells (suc a) b) [
   | inl l ↦ inl (ap (λ (t : Bool). cond t Less (cond (eqb a b) Equal Greater)) l.0, l.1)
   | inr m ↦ inr (elim (eqb_tells a b) [
     | inl e ↦ inl (
-      ap (λ (t : Bool). cond t Less (cond (eqb a b) Equal Greater)) m.0
-          ∙ ap (λ (t : Bool). cond t Equal Greater) e.0,
+      ap (λ (t : Bool). cond t Less (cond (eqb a b) Equal Greater)) m.0 ∙ ap (λ (t : Bool). cond t Equal Greater) e.0,
       e.1,
     )
     | inr e ↦ inr (
-      ap (λ (t : Bool). cond t Less (cond (eqb a b) Equal Greater)) m.0
-          ∙ ap (λ (t : Bool). cond t Equal Greater) e.0,
+      ap (λ (t : Bool). cond t Less (cond (eqb a b) Equal Greater)) m.0 ∙ ap (λ (t : Bool). cond t Equal Greater) e.0,
       past m.1 e.1,
     )
   ])

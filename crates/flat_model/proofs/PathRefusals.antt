@@ -2,8 +2,7 @@
 use Rattle.flat_model.proofs.Prelude.{◌≡◌, ℕ, Bool, true, false, cond, List, [], ◌∷◌, Option, Some, None, Result, Ok, Err, ap, refl, sym, ◌∙◌, Reply, Node, Walk, LeadsTo, Missing, InSegment, node_in, walk_in, branch_at, directory_at, node_at, only_directory, only_segment, segment_at, there_or, walked, takes_effect}
 use Rattle.book.specs.declared.replies.Reply.TheVariants as reply
 
-module _ {X : Type 0} (says : Reply → X) (x : X) (missing : says reply.NoPath ≡ x)
-    (in_segment : says reply.NotDir ≡ x)
+module _ {X : Type 0} (says : Reply → X) (x : X) (missing : says reply.NoPath ≡ x) (in_segment : says reply.NotDir ≡ x)
   where
     walk_says : (nodes : List Node) (w : Walk) (r : Reply) → walked nodes w ≡ Err r → says r ≡ x
     walk_says nodes (LeadsTo u) r e = there (node_in nodes u) e

@@ -4,21 +4,8 @@ use Rattle.script.specs.declared.commands.Command.TheVariants as command
 
 pub heavy : (volumes : ℕ) (c : Command) → is_command volumes c ≡ true → 1 ≤ weight c
 unfolding is_command
-heavy volumes (command.MkDir path volume) is = omega arith
-heavy volumes (command.MkSeg path pages volume) is = omega arith
-heavy volumes (command.Initiate path) is = omega arith
-heavy volumes (command.Terminate number) is = omega arith
-heavy volumes (command.Read number offset) is = omega arith
-heavy volumes (command.Write number offset word) is = omega arith
-heavy volumes (command.Add number offset word) is = omega arith
 heavy volumes (command.Await number offset word tries) is = grind (arith, nat_tests)
-heavy volumes (command.Acl path row m) is = omega arith
-heavy volumes (command.Length path pages) is = omega arith
-heavy volumes (command.Truncate path words) is = omega arith
-heavy volumes (command.Delete path) is = omega arith
-heavy volumes (command.Move path amount) is = omega arith
-heavy volumes (command.Status path) is = omega arith
-heavy volumes command.End is = omega arith
+heavy volumes _ is = omega arith
 
 commands_weigh : (volumes : ℕ) (cs : List Command) → list_all (is_command volumes) cs ≡ true
     → length cs ≤ sum_by weight cs

@@ -11,8 +11,7 @@ quota_same u change n same = here (eqb n.uid u)
 
 nodes_same : (ns : List Node) (giver getter : ℕ) → with_moved ns giver getter 0 ≡ ns
 nodes_same [] giver getter = refl
-nodes_same (n ∷ ns) giver getter =
-    ap (λ (x : Node). x ∷ with_moved ns giver getter 0)
+nodes_same (n ∷ ns) giver getter = ap (λ (x : Node). x ∷ with_moved ns giver getter 0)
     (quota_same giver (λ q. q - 0) (with_quota_of getter (λ q. q + 0) n) (λ q. omega arith)
     ∙ quota_same getter (λ q. q + 0) n (λ q. omega arith))
     ∙ ap (λ (xs : List Node). n ∷ xs) (nodes_same ns giver getter)
@@ -37,8 +36,7 @@ none_over ns xs within = least_none (is_over ns xs) (map (λ n. n.uid) ns) each
         ∙ both (has_directory ns u) (eqb u 1 || not (eqb (quota_in ns u) 0))
 
 pub move_of_none : (s : Store) (nodes : List Node) (path : List (List ℕ)) (n : Node) (amount : ℤ) → s.nodes ≡ nodes
-    → directory_at nodes path ≡ Ok n
-    → amount ≡ pos 0
+    → directory_at nodes path ≡ Ok n → amount ≡ pos 0
     → ((a : ℕ) → used_by s.nodes s.stored a ≤ quota_in s.nodes a) → reply.Done ≡ move_reply s path amount
 unfolding move_reply
 move_of_none s nodes path n amount same found none within =
@@ -50,7 +48,6 @@ move_of_none s nodes path n amount same found none within =
   where
     first : (z : Bool) → z ≡ false
         → cond z reply.TooLittle (done_or_over (over_in (tree_moved s.nodes n.uid (is_positive (pos 0)) 0) s.stored))
-        ≡ done_or_over
-        (over_in (tree_moved s.nodes n.uid (is_positive (pos 0)) 0) s.stored)
+        ≡ done_or_over (over_in (tree_moved s.nodes n.uid (is_positive (pos 0)) 0) s.stored)
     first true e = cc
     first false e = refl

@@ -1,6 +1,6 @@
 -- The quotas of the tree sum to the same whatever entry is lawful, and what each account is charged for is within its
 -- quota where the counts say so.
-use Rattle.flat_model.proofs.Prelude.{◌≡◌, ◌≢◌, ◌≤◌, ◌<◌, ℕ, suc, ◌+◌, ◌-◌, Bool, true, false, not, cond, eqb, is_some, List, [], ◌∷◌, map, sum, length, Option, Some, None, inl, inr, refl, sym, ap, subst, ◌∙◌, arith, ◌||◌, nat_lt, Result, Ok, Err, ℤ, slice_index, is_positive, unsigned_abs, list_all, list_any, eqb_tells, leb_tells, sum_by-cons, Plan, who_of, Command, Reply, giver_of, tree_moved, with_moved, with_quota_of, Row, Node, Walk, LeadsTo, Missing, InSegment, above, is_inferior, node_in, is_account, quota_in, used_by, walk_in, with_node, without_node, AreBelow, AreDirectories, AreUnder, EndsAtRoot, HasChains, IsTree, Joins, has_chains, IsMember, branch_at, changed, directory_at, node_at, only_directory, only_segment, parts_of, segment_at, there_or, walked, effect_of_tree_command, reply_to_tree_command, takes_effect, after_delete, after_make, delete_of, delete_reply, deleted, made_at, made_of, made_in, owner_row, after_initiate, after_terminate, initiated, after_acl, after_move, move_of, move_reply, moved, after_length, after_truncate, truncated, Store, boot, known_uid, root_of, Entry, alters, new_word, reference_of, command_at, Reference, after_command, effect_by, effect_of, reply_by, reply_to_command, IsAnswer, IsLawful, after_do, after_entry, after_fault, is_within, after_reference, written, written_by, directory_there, found_uid, or_true}
+use Rattle.flat_model.proofs.Prelude.{nat_tests, ◌≡◌, ◌≢◌, ◌≤◌, ◌<◌, ℕ, suc, ◌+◌, ◌-◌, Bool, true, false, not, cond, eqb, is_some, List, [], ◌∷◌, map, sum, length, Option, Some, None, inl, inr, refl, sym, ap, ◌∙◌, arith, ◌||◌, nat_lt, Result, Ok, Err, ℤ, slice_index, is_positive, unsigned_abs, list_all, list_any, eqb_tells, leb_tells, sum_by-cons, Plan, who_of, Command, Reply, giver_of, tree_moved, with_moved, with_quota_of, Row, Node, Walk, LeadsTo, Missing, InSegment, above, is_inferior, node_in, is_account, quota_in, used_by, walk_in, with_node, without_node, AreBelow, AreDirectories, AreUnder, EndsAtRoot, HasChains, IsTree, Joins, has_chains, IsMember, branch_at, changed, directory_at, node_at, only_directory, only_segment, parts_of, segment_at, there_or, walked, effect_of_tree_command, reply_to_tree_command, takes_effect, after_delete, after_make, delete_of, delete_reply, deleted, made_at, made_of, made_in, owner_row, after_initiate, after_terminate, initiated, after_acl, after_move, move_of, move_reply, moved, after_length, after_truncate, truncated, Store, boot, known_uid, root_of, Entry, alters, new_word, reference_of, command_at, Reference, after_command, effect_by, effect_of, reply_by, reply_to_command, IsAnswer, IsLawful, after_do, after_entry, after_fault, is_within, after_reference, written, written_by, directory_there, found_uid, or_true}
 use Rattle.script.specs.declared.commands.Command.TheVariants as command
 use Rattle.book.specs.declared.replies.Reply.TheVariants as reply
 use Rattle.flat_model.proofs.FieldLaws.{field_found}
@@ -10,24 +10,24 @@ use Rattle.book.specs.declared.entries.Entry.TheVariants as entry
 -- ---- the nodes of a tree
 
 pub older : (n m : Node) (ms : List Node) (o : Option ℕ) → Joins ms o m → IsMember n ms → n.uid < m.uid
-older n m ms None j h = absurd (subst (λ (ns : List Node). IsMember n ns) j.first h)
+older n m ms None j h = absurd (rw j.first at h)
 older n m ms (Some s) j h = below ms j.later h
   where
     below : (ns : List Node) → AreBelow m.uid ns → IsMember n ns → n.uid < m.uid
     below [] b h = absurd h
-    below (x ∷ xs) b (inl e) = subst (λ (y : Node). y.uid < m.uid) (sym e) b.0
+    below (x ∷ xs) b (inl e) = rw e b.0
     below (x ∷ xs) b (inr i) = below xs b.1 i
 
 -- the quota of a node of a tree
 pub quota_of_member : (ns : List Node) (n : Node) → IsTree ns → IsMember n ns → quota_in ns n.uid ≡ n.quota
 quota_of_member [] n t h = absurd h
 quota_of_member (m ∷ ms) n t (inl e) = elim (eqb_tells m.uid n.uid) [
-  | inl same ↦ ap (λ (b : Bool). cond b m.quota (quota_in ms n.uid)) same.0 ∙ ap (λ (x : Node). x.quota) (sym e)
+  | inl same ↦ rw same.0 (ap (λ (x : Node). x.quota) (sym e))
   | inr other ↦ absurd (other.1 (ap (λ (x : Node). x.uid) (sym e)))
 ]
 quota_of_member (m ∷ ms) n t (inr h) = elim (eqb_tells m.uid n.uid) [
   | inl same ↦ (let later = older n m ms m.superior t.0 h in let is = same.1 in absurd (omega (arith, later, is)))
-  | inr other ↦ ap (λ (b : Bool). cond b m.quota (quota_in ms n.uid)) other.0 ∙ quota_of_member ms n t.1 h
+  | inr other ↦ rw other.0 (quota_of_member ms n t.1 h)
 ]
 
 all_members : {X : Type 0} (p : X → Bool) (xs : List X) → ((x : X) → IsMember x xs → p x ≡ true) → list_all p xs ≡ true
@@ -35,10 +35,7 @@ all_members p [] h = refl
 all_members p (x ∷ xs) h = rw (h x (inl refl)) (all_members p xs (λ y i. h y (inr i)))
 
 not_less : (a b : ℕ) → b ≤ a → nat_lt a b ≡ false
-not_less a b h = elim (leb_tells (suc a) b) [
-  | inl e ↦ (let less = e.1 in absurd (omega (arith, less, h)))
-  | inr m ↦ m.0
-]
+not_less a b h = grind (arith, nat_tests)
 
 -- each account is within its quota
 pub all_within : (t : Store) → IsTree t.nodes → ((a : ℕ) → used_by t.nodes t.stored a ≤ quota_in t.nodes a)
@@ -75,12 +72,13 @@ left_total : (ns : List Node) (u : ℕ) → ((n : Node) → IsMember n ns → n.
     → total (without_node ns u) ≡ total ns
 left_total [] u none = refl
 left_total (n ∷ ns) u none = elim (eqb_tells n.uid u) [
-  | inl e ↦ ap (λ (b : Bool). total (cond (not b) (n ∷ without_node ns u) (without_node ns u))) e.0
-      ∙ (let rest = left_total ns u (λ m h. none m (inr h)) in let zero = none n (inl refl) e.1 in
-      let all = total_cons n ns in omega (arith, rest, zero, all))
-  | inr m ↦ ap (λ (b : Bool). total (cond (not b) (n ∷ without_node ns u) (without_node ns u))) m.0
-      ∙ (let rest = left_total ns u (λ x h. none x (inr h)) in let all = total_cons n ns in
-      let now = total_cons n (without_node ns u) in omega (arith, rest, all, now))
+  | inl e ↦ rw e.0 (omega (arith, left_total ns u (λ m h. none m (inr h)), none n (inl refl) e.1, total_cons n ns))
+  | inr m ↦ rw m.0 (omega (
+    arith,
+    left_total ns u (λ x h. none x (inr h)),
+    total_cons n ns,
+    total_cons n (without_node ns u),
+  ))
 ]
 
 -- ---- quota is moved
@@ -90,14 +88,14 @@ abbrev share : List Node → ℕ → ℕ → ℕ
 share ns u pages = cond (is_some (node_in ns u)) pages 0
 
 fresh : (n : Node) (ns : List Node) (o : Option ℕ) → Joins ns o n → node_in ns n.uid ≡ None
-fresh n ns None j = subst (λ (ms : List Node). node_in ms n.uid ≡ None) (sym j.first) refl
+fresh n ns None j = rw j.first refl
 fresh n ns (Some s) j = none ns j.later
   where
     none : (ms : List Node) → AreBelow n.uid ms → node_in ms n.uid ≡ None
     none [] b = refl
     none (m ∷ ms) b = elim (eqb_tells m.uid n.uid) [
       | inl e ↦ (let less = b.0 in let same = e.1 in absurd (omega (arith, less, same)))
-      | inr o ↦ ap (λ (z : Bool). cond z (Some m) (node_in ms n.uid)) o.0 ∙ none ms b.1
+      | inr o ↦ rw o.0 (none ms b.1)
     ]
 
 abbrev Holds : ℕ → ℕ → ℕ → List Node → Type 0
@@ -105,8 +103,7 @@ Holds giver getter pages ns =
     total (with_moved ns giver getter pages) + share ns giver pages ≡ total ns + share ns getter pages
 
 moved_total : (ns : List Node) (giver getter pages : ℕ) → IsTree ns → giver ≢ getter
-    → (is_some (node_in ns giver) ≡ true → pages ≤ quota_in ns giver)
-    → Holds giver getter pages ns
+    → (is_some (node_in ns giver) ≡ true → pages ≤ quota_in ns giver) → Holds giver getter pages ns
 moved_total [] giver getter pages t other enough = refl
 moved_total (n ∷ ns) giver getter pages t other enough = elim (eqb_tells n.uid giver) [
   | inl e ↦ giving e (moved_total ns giver getter pages t.1 other (λ h. absurd (let none : true ≡ false =
@@ -118,9 +115,8 @@ moved_total (n ∷ ns) giver getter pages t other enough = elim (eqb_tells n.uid
 ]
   where
     still : eqb n.uid giver ≡ false → is_some (node_in ns giver) ≡ true → pages ≤ quota_in ns giver
-    still m h = let all = enough (ap (λ (b : Bool). is_some (cond b (Some n) (node_in ns giver))) m ∙ h) in
-        let its : quota_in (n ∷ ns) giver ≡ quota_in ns giver =
-        ap (λ (b : Bool). cond b n.quota (quota_in ns giver)) m in omega (arith, all, its)
+    still m h =
+        let its : quota_in (n ∷ ns) giver ≡ quota_in ns giver = rw m refl in omega (arith, enough (rw m h), its)
 
     now : Node
     now = with_quota_of giver (λ q. q - pages) (with_quota_of getter (λ q. q + pages) n)
@@ -132,14 +128,13 @@ moved_total (n ∷ ns) giver getter pages t other enough = elim (eqb_tells n.uid
     was = total_cons n ns
 
     here : (u : ℕ) → eqb n.uid u ≡ true → share (n ∷ ns) u pages ≡ pages
-    here u h = ap (λ (b : Bool). cond (is_some (cond b (Some n) (node_in ns u))) pages 0) h
+    here u h = rw h refl
 
     past : (u : ℕ) → eqb n.uid u ≡ false → share (n ∷ ns) u pages ≡ share ns u pages
-    past u h = ap (λ (b : Bool). cond (is_some (cond b (Some n) (node_in ns u))) pages 0) h
+    past u h = rw h refl
 
     gone : (u : ℕ) → n.uid ≡ u → share ns u pages ≡ 0
-    gone u same = ap (λ (x : Option Node). cond (is_some x) pages 0)
-        (ap (node_in ns) (sym same) ∙ fresh n ns n.superior t.0)
+    gone u same = rw (← same, fresh n ns n.superior t.0) refl
 
     giving : (eqb n.uid giver ≡ true) × (n.uid ≡ giver) → Holds giver getter pages ns
         → Holds giver getter pages (n ∷ ns)
@@ -148,33 +143,32 @@ moved_total (n ∷ ns) giver getter pages t other enough = elim (eqb_tells n.uid
           | inl x ↦ absurd (other (sym e.1 ∙ x.1))
           | inr m ↦ m.0
         ] in
-        let quota : now.quota ≡ n.quota - pages = ap (λ (b : Bool). (with_quota_of giver (λ q. q - pages)
-        (cond b (record n { quota = n.quota + pages }) n)).quota) off
-        ∙ ap (λ (b : Bool). (cond b (record n { quota = n.quota - pages }) n).quota) e.0 in
-        let its : quota_in (n ∷ ns) giver ≡ n.quota = ap (λ (b : Bool). cond b n.quota (quota_in ns giver)) e.0 in
-        let full : pages ≤ quota_in (n ∷ ns) giver =
-        enough (ap (λ (b : Bool). is_some (cond b (Some n) (node_in ns giver))) e.0) in
-        let a = cons in let b = was in let c = here giver e.0 in let d = past getter off in let f = gone giver e.1 in
-        omega (arith, quota, its, full, rest, a, b, c, d, f)
+        let quota : now.quota ≡ n.quota - pages = rw (off, e.0) refl in
+        let its : quota_in (n ∷ ns) giver ≡ n.quota = rw e.0 refl in
+        omega (
+          arith,
+          quota,
+          its,
+          enough (rw e.0 refl),
+          rest,
+          cons,
+          was,
+          here giver e.0,
+          past getter off,
+          gone giver e.1,
+        )
 
     getting : (eqb n.uid giver ≡ false) × (n.uid ≢ giver) → (eqb n.uid getter ≡ true) × (n.uid ≡ getter)
         → Holds giver getter pages ns → Holds giver getter pages (n ∷ ns)
     getting m e rest =
-        let quota : now.quota ≡ n.quota + pages = ap (λ (b : Bool). (with_quota_of giver (λ q. q - pages)
-        (cond b (record n { quota = n.quota + pages }) n)).quota) e.0
-        ∙ ap (λ (b : Bool). (cond b (record n { quota = n.quota + pages - pages })
-        (record n { quota = n.quota + pages })).quota) m.0 in
-        let a = cons in let b = was in let c = past giver m.0 in let d = here getter e.0 in let f = gone getter e.1 in
-        omega (arith, quota, rest, a, b, c, d, f)
+        let quota : now.quota ≡ n.quota + pages = rw (e.0, m.0) refl in
+        omega (arith, quota, rest, cons, was, past giver m.0, here getter e.0, gone getter e.1)
 
     neither : (eqb n.uid giver ≡ false) × (n.uid ≢ giver) → (eqb n.uid getter ≡ false) × (n.uid ≢ getter)
         → Holds giver getter pages ns → Holds giver getter pages (n ∷ ns)
     neither m o rest =
-        let quota : now.quota ≡ n.quota = ap (λ (b : Bool). (with_quota_of giver (λ q. q - pages)
-        (cond b (record n { quota = n.quota + pages }) n)).quota) o.0
-        ∙ ap (λ (b : Bool). (cond b (record n { quota = n.quota - pages }) n).quota) m.0 in
-        let a = cons in let b = was in let c = past giver m.0 in let d = past getter o.0 in
-        omega (arith, quota, rest, a, b, c, d)
+        let quota : now.quota ≡ n.quota = rw (o.0, m.0) refl in
+        omega (arith, quota, rest, cons, was, past giver m.0, past getter o.0)
 
 module _ (ns : List Node) (t : IsTree ns) (d : ℕ) (there : is_some (node_in ns d) ≡ true) (branch : d ≢ 1) where
   chains : HasChains ns
@@ -213,27 +207,26 @@ module _ (ns : List Node) (t : IsTree ns) (d : ℕ) (there : is_some (node_in ns
 -- ---- what a path leads to
 
 pub there_found : (o : Option Node) (n : Node) → there_or o ≡ Ok n → o ≡ Some n
-there_found None n h = absurd (let no : Err reply.NoPath ≡ Ok n = h in cc)
+there_found None n h = cc
 there_found (Some m) n h = let same : m ≡ n = cc in ap (λ (x : Node). Some x) same
 
 walked_found : (ns : List Node) (w : Walk) (n : Node) → walked ns w ≡ Ok n → node_in ns n.uid ≡ Some n
 walked_found ns (LeadsTo u) n h = let at = there_found (node_in ns u) n h in
     ap (node_in ns) (found_uid ns u n at) ∙ at
-walked_found ns Missing n h = absurd (let no : Err reply.NoPath ≡ Ok n = h in cc)
-walked_found ns InSegment n h = absurd (let no : Err reply.NotDir ≡ Ok n = h in cc)
+walked_found ns Missing n h = cc
+walked_found ns InSegment n h = cc
 
-pub node_found : (ns : List Node) (path : List (List ℕ)) (n : Node) → node_at ns path ≡ Ok n
-    → node_in ns n.uid ≡ Some n
+pub node_found : (ns : List Node) (path : List (List ℕ)) (n : Node) → node_at ns path ≡ Ok n → node_in ns n.uid ≡ Some n
 unfolding node_at
 node_found ns path n h = walked_found ns (walk_in ns path) n h
 
 pub only_found : (r : Result Node Reply) (n : Node) → only_segment r ≡ Ok n → (r ≡ Ok n) × (n.directory ≡ false)
-only_found (Err e) n h = absurd (let no : Err e ≡ Ok n = h in cc)
+only_found (Err e) n h = cc
 only_found (Ok m) n h = by m.directory refl h
   where
     by : (b : Bool) → m.directory ≡ b → cond b (Err reply.IsDir) (Ok m) ≡ Ok n
         → (◌≡◌ {A = Result Node Reply} (Ok m) (Ok n)) × (n.directory ≡ false)
-    by true e i = absurd (let no : Err reply.IsDir ≡ Ok n = i in cc)
+    by true e i = cc
     by false e i = let same : m ≡ n = cc in (i, ap (λ (x : Node). x.directory) (sym same) ∙ e)
 
 pub segment_found : (ns : List Node) (path : List (List ℕ)) (n : Node) → segment_at ns path ≡ Ok n
@@ -242,14 +235,8 @@ segment_found ns path n h = let both = only_found (node_at ns path) n h in (node
 
 pub branch_found : (ns : List Node) (path : List (List ℕ)) (n : Node) → branch_at ns path ≡ Ok n
     → (node_at ns path ≡ Ok n) × (eqb (length path) 0 ≡ false)
-branch_found ns [] n h = absurd (let no : Err reply.Root ≡ Ok n = h in cc)
-branch_found ns (name ∷ names) n h = (
-  h,
-  elim (eqb_tells (length (name ∷ names)) 0) [
-    | inl e ↦ (let zero_is = e.1 in absurd (omega (arith, zero_is)))
-    | inr m ↦ m.0
-  ],
-)
+branch_found ns [] n h = cc
+branch_found ns (name ∷ names) n h = (h, grind (arith, nat_tests))
 
 quota_found : (ns : List Node) (u : ℕ) (n : Node) → node_in ns u ≡ Some n → quota_in ns u ≡ n.quota
 quota_found ns u n h = sym (field_found (λ ms. quota_in ms u) (λ x. x.quota) u (λ m ms. refl) ns n h)
@@ -257,12 +244,11 @@ quota_found ns u n h = sym (field_found (λ ms. quota_in ms u) (λ x. x.quota) u
 -- ---- each command
 
 first_of : (b : Bool) (x y : Reply) → takes_effect x ≡ false → takes_effect (cond b x y) ≡ true → b ≡ false
-first_of true x y none h = absurd (let both : false ≡ true = sym none ∙ h in cc)
+first_of true x y none h = cc
 first_of false x y none h = refl
 
-rest_of : (b : Bool) (x y : Reply) → takes_effect x ≡ false → takes_effect (cond b x y) ≡ true
-    → takes_effect y ≡ true
-rest_of true x y none h = absurd (let both : false ≡ true = sym none ∙ h in cc)
+rest_of : (b : Bool) (x y : Reply) → takes_effect x ≡ false → takes_effect (cond b x y) ≡ true → takes_effect y ≡ true
+rest_of true x y none h = cc
 rest_of false x y none h = h
 
 -- a node more, without quota
@@ -277,8 +263,7 @@ module _ (t : Store) where
   made_total volume directory pages rows name (Ok d) =
       grown_total (made_in t volume directory pages rows name d).nodes t.nodes refl refl
 
-  make_total : (volume : ℕ) (directory : Bool) (pages : ℕ) (rows : List Row)
-      (parts : Option (List (List ℕ) × List ℕ))
+  make_total : (volume : ℕ) (directory : Bool) (pages : ℕ) (rows : List Row) (parts : Option (List (List ℕ) × List ℕ))
       → total (made_of t volume directory pages rows parts).nodes ≡ total t.nodes
   make_total volume directory pages rows None = refl
   make_total volume directory pages rows (Some parts) =
@@ -325,15 +310,15 @@ module _ (t : Store) where
         branch = by (branch_at t.nodes path) refl at
           where
             by : (r : Result Node Reply) → branch_at t.nodes path ≡ r → only_directory reply.IsSeg r ≡ Ok n → r ≡ Ok n
-            by (Err e) i g = absurd (let no : Err e ≡ Ok n = g in cc)
+            by (Err e) i g = cc
             by (Ok m) i g = dir m.directory g
               where
                 dir : (b : Bool) → cond b (Ok m) (Err reply.IsSeg) ≡ Ok n → ◌≡◌ {A = Result Node Reply} (Ok m) (Ok n)
                 dir true j = j
-                dir false j = absurd (let no : Err reply.IsSeg ≡ Ok n = j in cc)
+                dir false j = cc
 
         there : is_some (node_in t.nodes n.uid) ≡ true
-        there = ap (λ (x : Option Node). is_some x) (node_found t.nodes path n (branch_found t.nodes path n branch).0)
+        there = rw (node_found t.nodes path n (branch_found t.nodes path n branch).0) refl
 
         apart : n.uid ≢ 1
         apart = let both = branch_found t.nodes path n branch in path_apart t.nodes path n tree both.1 both.0
@@ -366,8 +351,7 @@ unfolding after_reference
 reference_total t k r = each (known_uid t k r.number)
   where
     here : (uid : ℕ) (z : Bool) → total
-        (cond z (written t uid r.offset (new_word (t.words uid r.offset) r.kind)) t).nodes
-        ≡ total t.nodes
+        (cond z (written t uid r.offset (new_word (t.words uid r.offset) r.kind)) t).nodes ≡ total t.nodes
     here uid true = refl
     here uid false = refl
 

@@ -1,5 +1,5 @@
 -- Which stores the commands of a script may come to.
-use Rattle.flat_model.proofs.Prelude.{◌≡◌, ℕ, suc, zero, ◌+◌, ◌<◌, ◌≤◌, Bool, true, false, cond, List, [], ◌∷◌, length, set, get_or, replicate, Option, Some, None, refl, sym, subst, arith, sum_by, list_all, and_parts, sum_by-cons, sum_by-set, IsPlan, is_process, weight_of, Plan, ProcessPlan, command_at, commands_of, nobody, Command, Reply, after_command, effect_of, gone_on, takes_effect, tries_on, after_reference, written_by, Progress, Store, at_first, boot, known_uid, progress_of, with_progress, ArePlaces, IsReached, answered}
+use Rattle.flat_model.proofs.Prelude.{◌≡◌, ℕ, suc, zero, ◌+◌, ◌<◌, ◌≤◌, Bool, true, false, cond, List, [], ◌∷◌, length, set, get_or, replicate, Option, Some, None, refl, arith, sum_by, list_all, and_parts, sum_by-cons, sum_by-set, IsPlan, is_process, weight_of, Plan, ProcessPlan, command_at, commands_of, nobody, Command, Reply, after_command, effect_of, gone_on, takes_effect, tries_on, after_reference, written_by, Progress, Store, at_first, boot, known_uid, progress_of, with_progress, ArePlaces, IsReached, answered}
 use Rattle.script.specs.declared.commands.Command.TheVariants as command
 use Rattle.script.specs.declared.commands.RefKind.TheVariants as kind
 use Rattle.flat_model.proofs.PlaceLaws.{place_within, process_weighs}
@@ -9,8 +9,7 @@ use Rattle.flat_model.proofs.SharedLaws.{going_within}
 -- ---- few uids
 
 places_weigh : (volumes : ℕ) (qs : List Progress) (xs : List ProcessPlan) → ArePlaces qs xs
-    → list_all (is_process volumes) xs ≡ true
-    → sum_by (λ q. q.place) qs ≤ sum_by weight_of xs
+    → list_all (is_process volumes) xs ≡ true → sum_by (λ q. q.place) qs ≤ sum_by weight_of xs
 places_weigh volumes [] xs places are = omega arith
 places_weigh volumes (q ∷ qs) [] places are = absurd places
 places_weigh volumes (q ∷ qs) (x ∷ xs) places are =
@@ -60,8 +59,7 @@ answered_advances p s k c r = here (takes_effect r) (effect_advances p s k c)
     here false a = record { processes = refl; next = omega arith }
 
 pub reached_on : (p : Plan) (s : Store) (k place : ℕ) (c : Command) (r : Reply) → IsReached p s
-    → (progress_of s k).ended ≡ false
-    → (progress_of s k).place ≡ place → command_at p k place ≡ Some c
+    → (progress_of s k).ended ≡ false → (progress_of s k).place ≡ place → command_at p k place ≡ Some c
     → IsReached p (after_command p s k c r)
 unfolding after_command
 reached_on p s k place c r h going at there = record { plan = h.plan; places = places; uids = uids }
@@ -78,9 +76,7 @@ reached_on p s k place c r h going at there = record { plan = h.plan; places = p
     by_tries false e = rw e refl
 
     places : ArePlaces (set (answered p s k c r).processes k (gone_on (progress_of s k) c r)) p.processes
-    places =
-        subst (λ (qs : List Progress). ArePlaces (set qs k (gone_on (progress_of s k) c r)) p.processes)
-        (sym (answered_advances p s k c r).processes)
+    places = rw (answered_advances p s k c r).processes
         (places_set s.processes p.processes k (gone_on (progress_of s k) c r) h.places
         (bound (tries_on (progress_of s k) c r) (by_tries (tries_on (progress_of s k) c r) refl)))
       where
@@ -91,17 +87,13 @@ reached_on p s k place c r h going at there = record { plan = h.plan; places = p
         bound false e = omega (arith, e, at, lt)
 
     total : place_sum (set s.processes k (gone_on (progress_of s k) c r)) + (progress_of s k).place
-        ≡ place_sum s.processes +
-        (gone_on (progress_of s k) c r).place
+        ≡ place_sum s.processes + (gone_on (progress_of s k) c r).place
     total = sum_by-set (λ (x : Progress). x.place) s.processes k (gone_on (progress_of s k) c r)
         (record { place = 0; tries = 0; ended = true; faulted = false }) within
 
     uids : (answered p s k c r).next
         ≤ 2 + place_sum (set (answered p s k c r).processes k (gone_on (progress_of s k) c r))
-    uids =
-        subst (λ (qs : List Progress). (answered p s k c r).next
-        ≤ 2 + place_sum (set qs k (gone_on (progress_of s k) c r)))
-        (sym (answered_advances p s k c r).processes)
+    uids = rw (answered_advances p s k c r).processes
         (bound (tries_on (progress_of s k) c r) refl (by_tries (tries_on (progress_of s k) c r) refl))
       where
         stay : tries_on (progress_of s k) c r ≡ true → (answered p s k c r).next ≡ s.next
@@ -136,8 +128,7 @@ reached_fault p s k h going =
     uids : s.next ≤ 2 + place_sum (set s.processes k (record (progress_of s k) { faulted = true }))
     uids =
         let total : place_sum (set s.processes k (record (progress_of s k) { faulted = true }))
-        + (progress_of s k).place ≡ place_sum s.processes +
-        (progress_of s k).place
+        + (progress_of s k).place ≡ place_sum s.processes + (progress_of s k).place
         = sum_by-set (λ (x : Progress). x.place) s.processes k (record (progress_of s k) { faulted = true })
         (record { place = 0; tries = 0; ended = true; faulted = false }) (going_within s k going) in
         omega (arith, total, h.uids)

@@ -1,8 +1,9 @@
 -- A directory or a segment is taken out.
-use Rattle.flat_model.proofs.Prelude.{◌≡◌, ◌≢◌, ℕ, ◌+◌, ◌/◌, Bool, true, false, cond, eqb, not, ◌&&◌, List, [], ◌∷◌, Some, None, Ok, Err, refl, sym, ap, ◌∙◌, arith, inl, inr, count_by, nat_le, list_any, cases_Bool, or_parts, nat_tests, sum_by-cons, Reply, Node, has_directory, is_inferior, node_in, taken_on, volume_in, without_node, has_segment, branch_at, takes_effect, without_branch, without_pages, after_delete, delete_reply, deleted, Words, is_page, is_stored, without_stored, Store, from_first}
+use Rattle.flat_model.proofs.Prelude.{◌≡◌, ◌≢◌, ℕ, ◌/◌, Bool, true, false, cond, eqb, not, ◌&&◌, List, [], ◌∷◌, Some, None, Ok, Err, refl, sym, ap, ◌∙◌, arith, inl, inr, count_by, nat_le, list_any, cases_Bool, or_parts, nat_tests, sum_by-cons, Reply, Node, has_directory, is_inferior, node_in, taken_on, volume_in, without_node, has_segment, branch_at, takes_effect, without_branch, without_pages, after_delete, delete_reply, deleted, Words, is_page, is_stored, without_stored, Store, from_first}
 use Rattle.book.specs.declared.replies.Reply.TheVariants as reply
-use Rattle.flat_model.proofs.FieldLaws.{field_left}
+use Rattle.flat_model.proofs.FieldLaws.{field_none, field_left}
 use Rattle.flat_model.proofs.TreeReplies.{not_first}
+use Rattle.flat_model.proofs.CountLaws.{count-cons}
 
 -- ---- what is left of the nodes
 
@@ -25,12 +26,8 @@ directory_left ns u v = field_left (λ (xs : List Node). has_directory xs v) (λ
     (λ m xs. refl) ns u
 
 pub directory_gone : (ns : List Node) (u : ℕ) → has_directory (without_node ns u) u ≡ false
-directory_gone [] u = refl
-directory_gone (n ∷ ns) u = elim (cases_Bool (eqb n.uid u)) [
-  | inl here ↦ rw here (directory_gone ns u)
-  | inr there ↦ rw there
-      (rw there (directory_gone ns u))
-]
+directory_gone ns u = field_none (λ xs. has_directory xs u) (λ x. x.directory) u (λ m xs. refl) (without_node ns u)
+    (node_gone ns u)
 
 pub taken_left : (ns : List Node) (xs : List (ℕ × ℕ)) (u v : ℕ) → ((page : ℕ) → is_stored xs u page ≡ false)
     → taken_on (without_node ns u) xs v ≡ taken_on ns xs v
@@ -39,12 +36,13 @@ taken_left ns [] u v none = refl
 taken_left ns (x ∷ xs) u v none =
     let first : (eqb x.0 u && eqb x.1 x.1) ≡ false = (or_parts (is_page u x.1 x) (is_stored xs u x.1) (none x.1)).0 in
     let apart : x.0 ≢ u = grind (arith, nat_tests) in
-    sum_by-cons (λ (y : ℕ × ℕ). cond (eqb (volume_in (without_node ns u) y.0) v) 1 0) x xs
-    ∙ ap (λ (n : ℕ). cond {A = ℕ} (eqb n v) 1 0 + count_by (λ y. eqb (volume_in (without_node ns u) y.0) v) xs)
-    (volume_left ns u x.0 apart)
-    ∙ ap (λ (n : ℕ). cond {A = ℕ} (eqb (volume_in ns x.0) v) 1 0 + n)
-    (taken_left ns xs u v (λ page. (or_parts (is_page u page x) (is_stored xs u page) (none page)).1))
-    ∙ sym (sum_by-cons (λ (y : ℕ × ℕ). cond (eqb (volume_in ns y.0) v) 1 0) x xs)
+    let rest = taken_left ns xs u v (λ page. (or_parts (is_page u page x) (is_stored xs u page) (none page)).1) in
+    rw (
+      count-cons (λ y. eqb (volume_in (without_node ns u) y.0) v) x xs,
+      count-cons (λ y. eqb (volume_in ns y.0) v) x xs,
+      volume_left ns u x.0 apart,
+      rest,
+    ) refl
 
 pub none_counted : (xs : List (ℕ × ℕ)) (u : ℕ) → ((page : ℕ) → is_stored xs u page ≡ false)
     → count_by (λ x. eqb x.0 u) xs ≡ 0
@@ -60,19 +58,15 @@ none_counted (x ∷ xs) u none =
 
 pub deleted_is : (s : Store) (u : ℕ)
     → record (without_pages s u (λ q. nat_le 0 q)) { nodes = without_node s.nodes u } ≡ without_branch s (Some u)
-deleted_is s u =
-    ap (λ (w : Words). record s {
-      nodes = without_node s.nodes u;
-      words = w;
-      stored = without_stored s.stored u (λ q. nat_le 0 q);
-    })
-    (λ i. λ v. λ o. ap (λ (z : Bool). cond (eqb v u && z) 0 (s.words v o)) (from_first (o / 1024)
-    ∙ sym (from_first o)) i)
-    ∙ ap (λ (t : ℕ → Bool). record s {
+deleted_is s u = ap (λ (w : Words). record s {
+  nodes = without_node s.nodes u;
+  words = w;
+  stored = without_stored s.stored u (λ q. nat_le 0 q);
+}) (λ i. λ v. λ o. ap (λ (z : Bool). cond (eqb v u && z) 0 (s.words v o)) (from_first (o / 1024)
+    ∙ sym (from_first o)) i) ∙ ap (λ (t : ℕ → Bool). record s {
       nodes = without_node s.nodes u;
       words = λ v o. cond (eqb v u && nat_le 0 o) 0 (s.words v o);
-      stored =
-          without_stored s.stored u t;
+      stored = without_stored s.stored u t;
     }) (λ i. λ q. from_first q i)
 
 pub delete_refused : (s : Store) (path : List (List ℕ)) (r : Reply) → branch_at s.nodes path ≡ Err r

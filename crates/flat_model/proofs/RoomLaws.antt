@@ -6,8 +6,7 @@ use Rattle.flat_model.proofs.Prelude.{◌≡◌, ◌<◌, ◌≤◌, ℕ, zero, 
 -- none where no number passes
 pub first_none : (test : ℕ → Bool) (n : ℕ) → ((v : ℕ) → v < n → test v ≡ false) → first_below test n ≡ None
 first_none test zero fails = refl
-first_none test (suc n) fails =
-    rw (first_none test n (λ v lt. fails v (omega (arith, lt))), fails n (omega arith)) refl
+first_none test (suc n) fails = rw (first_none test n (λ v lt. fails v (omega (arith, lt))), fails n (omega arith)) refl
 
 -- one that passes, and none below it does
 pub first_is : (test : ℕ → Bool) (n v : ℕ) → v < n → test v ≡ true → ((u : ℕ) → u < v → test u ≡ false)
@@ -36,8 +35,7 @@ no_room p s uid volume none = rw (none, less_none (pages_stored s uid) (taken_on
 
 -- nor has one that the script doesn't have
 pub no_volume : (p : Plan) (s : Store) (uid volume : ℕ) → length p.volumes ≤ volume → has_room p s uid volume ≡ false
-no_volume p s uid volume past = no_room p s uid volume
-    (ap records_in (slice_get_past p.volumes volume past))
+no_volume p s uid volume past = no_room p s uid volume (ap records_in (slice_get_past p.volumes volume past))
 
 -- the first volume that has room is the script's
 pub room_is : (p : Plan) (s : Store) (uid volume : ℕ) → has_room p s uid volume ≡ true

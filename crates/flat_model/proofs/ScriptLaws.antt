@@ -15,8 +15,7 @@ root_there p h = by_volumes p.volumes h.some h.volumes
     by_volumes (v ∷ vs) there are = entries_some v (and_parts _ _ are).0
 
 pub command_of : (volumes : ℕ) (cs : List Command) (place : ℕ) (c : Command) → list_all (is_command volumes) cs ≡ true
-    → slice_get cs place ≡ Some c
-    → is_command volumes c ≡ true
+    → slice_get cs place ≡ Some c → is_command volumes c ≡ true
 command_of volumes [] place c are at = absurd cc
 command_of volumes (d ∷ cs) zero c are at = let same : d ≡ c = cc in let is : is_command volumes d ≡ true =
     (and_parts _ _ are).0 in cc

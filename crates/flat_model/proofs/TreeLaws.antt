@@ -1,5 +1,6 @@
 -- What holds of a tree: no path with a name leads to the root, and a uid is that of one node.
-use Rattle.flat_model.proofs.Prelude.{◌≡◌, ◌≢◌, ℕ, ◌+◌, ◌<◌, Bool, true, false, cond, eqb, List, [], ◌∷◌, length, Option, Some, None, Result, Ok, Err, IfOk, refl, sym, ap, subst, ◌∙◌, arith, inl, inr, count_by, cases_Bool, nat_tests, sum_by-cons, Reply, Node, Walk, LeadsTo, Missing, InSegment, branch_in, entries_on, is_branch, node_in, onward, walk_from, walk_in, without_node, AreBelow, IsBranch, IsTree, Joins, lies, node_at, walked, there_or, without_absent, older, found_uid, Row, made_in, new_branch, Store}
+use Rattle.flat_model.proofs.Prelude.{◌≡◌, ◌≢◌, ℕ, ◌+◌, ◌<◌, Bool, true, false, cond, eqb, List, [], ◌∷◌, length, Option, Some, None, Result, Ok, Err, IfOk, refl, sym, ap, subst, ◌∙◌, arith, inl, inr, cases_Bool, nat_tests, Reply, Node, Walk, LeadsTo, Missing, InSegment, branch_in, entries_on, is_branch, node_in, onward, walk_from, walk_in, without_node, AreBelow, IsBranch, IsTree, Joins, lies, node_at, walked, there_or, without_absent, older, found_uid, Row, made_in, new_branch, Store}
+use Rattle.flat_model.proofs.CountLaws.{count-cons}
 
 -- the oldest node is the root
 above_one : (m : Node) (ms : List Node) (u : ℕ) → IsTree (m ∷ ms) → AreBelow u (m ∷ ms) → 1 < u
@@ -81,32 +82,17 @@ entries_less (m ∷ ms) u n t found v = elim (cases_Bool (eqb m.uid u)) [
       (let z : Some m ≡ Some n = rw is at found in
       let same : m ≡ n = cc in
       let uid : m.uid ≡ u = grind (arith, nat_tests) in
-      let rest : without_node ms u ≡ ms =
-      without_absent ms u (subst (λ (x : ℕ). AreBelow x ms) uid (older ms m m.superior t.0)) in
-      let count : count_by (λ x. eqb x.volume v) (m ∷ ms)
-      ≡ cond {A = ℕ} (eqb m.volume v) 1 0 + count_by (λ x. eqb x.volume v) ms =
-      sum_by-cons (λ (x : Node). cond (eqb x.volume v) 1 0) m ms in
-      let place : cond {A = ℕ} (eqb m.volume v) 1 0 ≡ cond {A = ℕ} (eqb n.volume v) 1 0 =
-      ap (λ (x : Node). cond {A = ℕ} (eqb x.volume v) 1 0) same in
-      rw is (ap (λ (l : List Node). count_by (λ x. eqb x.volume v) l + cond {A = ℕ} (eqb n.volume v) 1 0) rest
-      ∙ omega (arith, count, place)))
+      let rest = without_absent ms u (rw uid at (older ms m m.superior t.0)) in
+      rw (is, rest, count-cons (λ x. eqb x.volume v) m ms, same) (omega arith))
   | inr isnt ↦
-      (let ih : count_by (λ x. eqb x.volume v) (without_node ms u) + cond {A = ℕ} (eqb n.volume v) 1 0
-      ≡ count_by (λ x. eqb x.volume v) ms =
-      entries_less ms u n t.1 (rw isnt at found) v in
-      let count : count_by (λ x. eqb x.volume v) (m ∷ ms)
-      ≡ cond {A = ℕ} (eqb m.volume v) 1 0 + count_by (λ x. eqb x.volume v) ms =
-      sum_by-cons (λ (x : Node). cond (eqb x.volume v) 1 0) m ms in
-      let left : count_by (λ x. eqb x.volume v) (m ∷ without_node ms u)
-      ≡ cond {A = ℕ} (eqb m.volume v) 1 0 + count_by (λ x. eqb x.volume v)
-      (without_node ms u) = sum_by-cons (λ (x : Node). cond (eqb x.volume v) 1 0) m (without_node ms u) in
-      rw isnt (omega (arith, ih, count, left)))
+      (let ih = entries_less ms u n t.1 (rw isnt at found) v in
+      rw (isnt, count-cons (λ x. eqb x.volume v) m (without_node ms u), count-cons (λ x. eqb x.volume v) m ms)
+      (omega (arith, ih)))
 ]
 
 -- what is found, as a node's own uid
 pub apart_shown : {X : Type 0} (ns : List Node) (path : List (List ℕ)) (f : X → Node) (r : Result X Reply) → IsTree ns
-    → eqb (length path) 0 ≡ false
-    → IfOk r (λ x. node_at ns path ≡ Ok (f x)) → IfOk r (λ x. (f x).uid ≢ 1)
+    → eqb (length path) 0 ≡ false → IfOk r (λ x. node_at ns path ≡ Ok (f x)) → IfOk r (λ x. (f x).uid ≢ 1)
 apart_shown ns path f (Ok x) t some found = path_apart ns path (f x) t some found
 apart_shown ns path f (Err e) t some found = tt
 
@@ -115,8 +101,7 @@ pub branch_made : {volume pages : ℕ} {directory : Bool} {rows : List Row} {nam
     (next superior : ℕ) → s.next ≡ next → d.uid ≡ superior
     → record s { nodes = new_branch next superior name directory volume pages rows ∷ s.nodes; next = s.next + 1 }
     ≡ made_in s volume directory pages rows name d
-branch_made {volume} {pages} {directory} {rows} {name} s d next superior at below =
-    ap (λ (u : ℕ).
+branch_made {volume} {pages} {directory} {rows} {name} s d next superior at below = ap (λ (u : ℕ).
     record s { nodes = new_branch u superior name directory volume pages rows ∷ s.nodes; next = s.next + 1 }) (sym at)
     ∙ ap (λ (u : ℕ).
     record s { nodes = new_branch s.next u name directory volume pages rows ∷ s.nodes; next = s.next + 1 }) (sym below)

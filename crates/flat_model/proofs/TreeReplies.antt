@@ -1,14 +1,11 @@
 -- What tree commands are answered, by what the path leads to.
-use Rattle.flat_model.proofs.Prelude.{◌≡◌, ℕ, ℤ, Bool, true, false, cond, eqb, List, [], ◌∷◌, ◌++◌, Some, Result, Ok, Err, refl, sym, ap, ◌∙◌, count_by, nat_lt, is_positive, unsigned_abs, list_any, Named, Plan, Reply, takes_row, giver_of, over_in, tree_moved, Node, above, is_inferior, quota_in, used_by, takes_effect, branch_at, directory_at, node_at, parts_of, before_parts, segment_at, delete_reply, make_in, make_reply, status_reply, is_stored_from, acl_reply, done_or_over, move_reply, length_reply, truncate_reply, Store}
+use Rattle.flat_model.proofs.Prelude.{◌≡◌, ℕ, ℤ, Bool, true, false, cond, eqb, List, [], ◌∷◌, ◌++◌, Some, Ok, Err, refl, sym, ap, ◌∙◌, count_by, nat_lt, is_positive, unsigned_abs, list_any, Named, Plan, Reply, takes_row, giver_of, over_in, tree_moved, Node, above, is_inferior, quota_in, used_by, takes_effect, branch_at, directory_at, node_at, parts_of, before_parts, segment_at, delete_reply, make_in, make_reply, status_reply, is_stored_from, acl_reply, done_or_over, move_reply, length_reply, truncate_reply, Store}
 use Rattle.book.specs.declared.replies.Reply.TheVariants as reply
 
 -- a command that takes effect wasn't refused
 pub not_first : (b : Bool) (x y : Reply) → takes_effect x ≡ false → takes_effect (cond b x y) ≡ true
     → (b ≡ false) × (takes_effect y ≡ true)
-not_first true x y none is = absurd (clash (sym is ∙ none))
-  where
-    clash : true ≡ false → ⊥
-    clash z = cc
+not_first true x y none is = cc
 not_first false x y none is = (refl, is)
 
 -- the way back of a test
@@ -17,83 +14,63 @@ from_false a true back none = sym (back refl) ∙ none
 from_false a false back none = refl
 
 module _ (s : Store) (nodes : List Node) (path : List (List ℕ)) (same : s.nodes ≡ nodes) where
-  segment_is : (r : Result Node Reply) → segment_at nodes path ≡ r → segment_at s.nodes path ≡ r
-  segment_is r e = ap (λ (ns : List Node). segment_at ns path) same ∙ e
-
-  branch_is : (r : Result Node Reply) → branch_at nodes path ≡ r → branch_at s.nodes path ≡ r
-  branch_is r e = ap (λ (ns : List Node). branch_at ns path) same ∙ e
-
-  directory_is : (r : Result Node Reply) → directory_at nodes path ≡ r → directory_at s.nodes path ≡ r
-  directory_is r e = ap (λ (ns : List Node). directory_at ns path) same ∙ e
-
-  node_is : (r : Result Node Reply) → node_at nodes path ≡ r → node_at s.nodes path ≡ r
-  node_is r e = ap (λ (ns : List Node). node_at ns path) same ∙ e
-
   -- access control lists
   pub acl_refused : (row : Named) (r : Reply) → segment_at nodes path ≡ Err r → r ≡ acl_reply s path row
   unfolding acl_reply
-  acl_refused row r e = sym (rw (segment_is (Err r) e) refl)
+  acl_refused row r e = rw (same, e) refl
 
   pub acl_told : (row : Named) (n : Node) (b : Bool) → segment_at nodes path ≡ Ok n
-      → takes_row row.person row.project n.rows ≡ b
-      → cond b reply.Done reply.AclFull ≡ acl_reply s path row
+      → takes_row row.person row.project n.rows ≡ b → cond b reply.Done reply.AclFull ≡ acl_reply s path row
   unfolding acl_reply
-  acl_told row n b e is = sym (rw (segment_is (Ok n) e, is) refl)
+  acl_told row n b e is = rw (same, e, is) refl
 
   -- lengths
   pub length_refused : (pages : ℕ) (r : Reply) → segment_at nodes path ≡ Err r → r ≡ length_reply s path pages
   unfolding length_reply
-  length_refused pages r e = sym (rw (segment_is (Err r) e) refl)
+  length_refused pages r e = rw (same, e) refl
 
   pub length_told : (pages : ℕ) (n : Node) (b : Bool) → segment_at nodes path ≡ Ok n
-      → is_stored_from s.stored n.uid pages ≡ b
-      → cond b reply.Beyond reply.Done ≡ length_reply s path pages
+      → is_stored_from s.stored n.uid pages ≡ b → cond b reply.Beyond reply.Done ≡ length_reply s path pages
   unfolding length_reply
-  length_told pages n b e is = sym (rw (segment_is (Ok n) e, is) refl)
+  length_told pages n b e is = rw (same, e, is) refl
 
   pub truncate_refused : (r : Reply) → segment_at nodes path ≡ Err r → r ≡ truncate_reply s path
   unfolding truncate_reply
-  truncate_refused r e = sym (rw (segment_is (Err r) e) refl)
+  truncate_refused r e = rw (same, e) refl
 
   pub truncate_told : (n : Node) → segment_at nodes path ≡ Ok n → reply.Done ≡ truncate_reply s path
   unfolding truncate_reply
-  truncate_told n e = sym (rw (segment_is (Ok n) e) refl)
+  truncate_told n e = rw (same, e) refl
 
   -- deletions
   pub delete_refused : (r : Reply) → branch_at nodes path ≡ Err r → r ≡ delete_reply s path
   unfolding delete_reply
-  delete_refused r e = sym (rw (branch_is (Err r) e) refl)
+  delete_refused r e = rw (same, e) refl
 
   pub delete_told : (n : Node) (b z : Bool) → branch_at nodes path ≡ Ok n → list_any (is_inferior n.uid) nodes ≡ b
-      → eqb n.quota 0 ≡ z
-      → cond b reply.NotEmpty (cond z reply.Done reply.HasQuota) ≡ delete_reply s path
+      → eqb n.quota 0 ≡ z → cond b reply.NotEmpty (cond z reply.Done reply.HasQuota) ≡ delete_reply s path
   unfolding delete_reply
-  delete_told n b z e is quota = let inferior : list_any (is_inferior n.uid) s.nodes ≡ b =
-      ap (list_any (is_inferior n.uid)) same
-      ∙ is in sym (rw (branch_is (Ok n) e, inferior, quota) refl)
+  delete_told n b z e is quota = rw (same, e, is, quota) refl
 
   -- status
   pub status_refused : (r : Reply) → node_at nodes path ≡ Err r → r ≡ status_reply s path
   unfolding status_reply
-  status_refused r e = sym (rw (node_is (Err r) e) refl)
+  status_refused r e = rw (same, e) refl
 
   pub status_directory : (n : Node) (quota used : ℕ) → node_at nodes path ≡ Ok n → n.directory ≡ true → quota ≡ n.quota
-      → used ≡ used_by s.nodes s.stored n.uid
-      → reply.DirIs n.uid quota used ≡ status_reply s path
+      → used ≡ used_by s.nodes s.stored n.uid → reply.DirIs n.uid quota used ≡ status_reply s path
   unfolding status_reply
-  status_directory n quota used e is q u = ap (λ (x : ℕ). reply.DirIs n.uid x used) q ∙ ap (reply.DirIs n.uid n.quota) u
-      ∙ sym (rw (node_is (Ok n) e, is) refl)
+  status_directory n quota used e is q u = rw (q, u, same, e, is) refl
 
   pub status_segment : (n : Node) (stored : ℕ) → node_at nodes path ≡ Ok n → n.directory ≡ false
-      → stored ≡ count_by (λ x. eqb x.0 n.uid) s.stored
-      → reply.SegIs n.uid n.pages stored ≡ status_reply s path
+      → stored ≡ count_by (λ x. eqb x.0 n.uid) s.stored → reply.SegIs n.uid n.pages stored ≡ status_reply s path
   unfolding status_reply
-  status_segment n stored e is u = ap (reply.SegIs n.uid n.pages) u ∙ sym (rw (node_is (Ok n) e, is) refl)
+  status_segment n stored e is u = rw (u, same, e, is) refl
 
   -- quota
   pub move_refused : (amount : ℤ) (r : Reply) → directory_at nodes path ≡ Err r → r ≡ move_reply s path amount
   unfolding move_reply
-  move_refused amount r e = sym (rw (directory_is (Err r) e) refl)
+  move_refused amount r e = rw (same, e) refl
 
   pub move_told : (amount : ℤ) (n : Node) (given : Reply) → directory_at nodes path ≡ Ok n
       → given ≡ cond (nat_lt (quota_in nodes (giver_of (above nodes) n.uid (is_positive amount))) (unsigned_abs amount))
@@ -101,10 +78,7 @@ module _ (s : Store) (nodes : List Node) (path : List (List ℕ)) (same : s.node
       (over_in (tree_moved nodes n.uid (is_positive amount) (unsigned_abs amount)) s.stored))
       → given ≡ move_reply s path amount
   unfolding move_reply
-  move_told amount n given e is = is ∙ ap (λ (ns : List Node). cond
-      (nat_lt (quota_in ns (giver_of (above ns) n.uid (is_positive amount))) (unsigned_abs amount)) reply.TooLittle
-      (done_or_over (over_in (tree_moved ns n.uid (is_positive amount) (unsigned_abs amount)) s.stored))) (sym same)
-      ∙ sym (rw (directory_is (Ok n) e) refl)
+  move_told amount n given e is = rw (same, e) is
 
 -- ---- making
 
@@ -119,23 +93,21 @@ parts_are path names name is = ap parts_of is ∙ parts_appended names name
 pub make_root : (p : Plan) (s : Store) (path : List (List ℕ)) (volume : ℕ) (dir : Bool) → path ≡ []
     → reply.Exists ≡ make_reply p s path volume dir
 unfolding make_reply
-make_root p s path volume dir is = sym (rw is refl)
+make_root p s path volume dir is = rw is refl
 
 module _ (p : Plan) (s : Store) (nodes : List Node) (path names : List (List ℕ)) (name : List ℕ) (volume : ℕ)
-    (dir : Bool) (same : s.nodes ≡ nodes)
-    (parts : path ≡ names ++ name ∷ []) where
+    (dir : Bool) (same : s.nodes ≡ nodes) (parts : path ≡ names ++ name ∷ []) where
   pub make_refused : (r : Reply) → node_at nodes names ≡ Err r → r ≡ make_reply p s path volume dir
   unfolding make_reply
-  make_refused r e = sym (rw (parts_are path names name parts, node_is s nodes names same (Err r) e) refl)
+  make_refused r e = rw (parts_are path names name parts, same, e) refl
 
   pub make_in_segment : (n : Node) → node_at nodes names ≡ Ok n → n.directory ≡ false
       → reply.NotDir ≡ make_reply p s path volume dir
   unfolding make_reply
-  make_in_segment n e is = sym (rw (parts_are path names name parts, node_is s nodes names same (Ok n) e, is) refl)
+  make_in_segment n e is = rw (parts_are path names name parts, same, e, is) refl
 
   pub make_told : (n : Node) (r : Reply) → node_at nodes names ≡ Ok n → n.directory ≡ true
-      → r ≡ make_in p s volume dir name n
-      → r ≡ make_reply p s path volume dir
+      → r ≡ make_in p s volume dir name n → r ≡ make_reply p s path volume dir
   unfolding make_reply
   make_told n r e is answer = answer
-      ∙ sym (rw (parts_are path names name parts, node_is s nodes names same (Ok n) e, is) refl)
+      ∙ sym (rw (parts_are path names name parts, ap (λ ns. node_at ns names) same ∙ e, is) refl)

@@ -24,6 +24,5 @@ zero_words words u p i h lt =
 pub words_zero : (words : Words) (u p : ℕ) → ((i : ℕ) → i < 1024 → words u (1024 * p + i) ≡ 0) → is_zero_page words u p
     ≡ true
 unfolding is_zero_page
-words_zero words u p each =
-    below_all (λ j. eqb (words u (1024 * p + j)) 0) 1024
+words_zero words u p each = below_all (λ j. eqb (words u (1024 * p + j)) 0) 1024
     (λ i lt. let is : words u (1024 * p + i) ≡ 0 = each i lt in grind (arith, nat_tests))
