@@ -12,13 +12,9 @@ bare_replies =
 
 -- the reply of a code
 abbrev reply_of : ℕ × ℕ × ℕ × ℕ → Reply
-reply_of c =
-    if eqb c.0 7 then reply.Word c.1
-    else if eqb c.0 9 then reply.Made c.2
-    else if eqb c.0 10 then reply.Known c.2
-    else if eqb c.0 26 then reply.Over c.2
-    else if eqb c.0 27 then reply.SegIs c.1 c.2 c.3
-    else if eqb c.0 28 then reply.DirIs c.1 c.2 c.3
+reply_of c = if eqb c.0 7 then reply.Word c.1 else if eqb c.0 9 then reply.Made c.2
+    else if eqb c.0 10 then reply.Known c.2 else if eqb c.0 26 then reply.Over c.2
+    else if eqb c.0 27 then reply.SegIs c.1 c.2 c.3 else if eqb c.0 28 then reply.DirIs c.1 c.2 c.3
     else get_or bare_replies c.0 reply.Done
 
 code_back : (r : Reply) → reply_of (reply_code r) ≡ r
@@ -32,6 +28,5 @@ code_back _ = refl
 
 -- two replies of one code are one
 pub same_code : (r d : Reply) → (reply_code r).0 ≡ (reply_code d).0 → (reply_code r).1 ≡ (reply_code d).1
-    → (reply_code r).2 ≡ (reply_code d).2
-    → (reply_code r).3 ≡ (reply_code d).3 → r ≡ d
+    → (reply_code r).2 ≡ (reply_code d).2 → (reply_code r).3 ≡ (reply_code d).3 → r ≡ d
 same_code r d a b c e = sym (code_back r) ∙ ap reply_of (λ i. (a i, b i, c i, e i)) ∙ code_back d

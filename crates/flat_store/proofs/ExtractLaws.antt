@@ -1,5 +1,5 @@
 -- Entries of a map that lie in a range leave it, one after the other.
-use Rattle.flat_store.proofs.Prelude.{◌≡◌, ℕ, suc, ◌+◌, Bool, true, false, not, cond, List, [], ◌∷◌, ◌++◌, length, take, drop, filter, Option, Some, None, Bor, MutBor, All, refl, sym, ap, subst, ◌∙◌, arith, MatchBool, Ordering, Bound, BTreeMap, keys_of, CalledAtPair, RemovesKey, MatchOption, option_to_list, Yields, ExtractsNext, ExtractsIf, extract_if_rest, ExtractIf, take-append-drop, drop-drop, length-append, filter-append, filter_passes, All-head, All-tail}
+use Rattle.flat_store.proofs.Prelude.{inl, inr, cases_Bool, ◌≡◌, ℕ, suc, ◌+◌, Bool, true, false, not, List, [], ◌∷◌, ◌++◌, length, take, drop, filter, Option, Some, None, Bor, MutBor, All, refl, sym, ap, subst, ◌∙◌, arith, MatchBool, Ordering, Bound, BTreeMap, keys_of, CalledAtPair, RemovesKey, MatchOption, option_to_list, Yields, ExtractsNext, ExtractsIf, extract_if_rest, ExtractIf, take-append-drop, drop-drop, length-append, filter-append, filter_passes, All-head, All-tail}
 use denote.Param.Members.{Mut}
 
 -- ---- what a closure that picks each entry is asked of
@@ -15,10 +15,8 @@ module _ {P K X : Type 0} (C : P → K × X → Bool → P → K × X → Type 0
   next f g [] r kept rest h = (h.0, h.2, h.3)
   next f g (x ∷ xs) r kept rest h = here h.0 (always f x h.0 h.1 h.2 h.3).0 h.4
     where
-      here : (b : Bool) → b ≡ true
-          → MatchBool b ((r ≡ Some h.2) × (g ≡ h.1) × (kept ≡ []) × (rest ≡ xs))
-          ((ks : List (K × X)) × ExtractsNext C h.1 xs r g ks rest × (kept ≡ h.2 ∷ ks))
-          → IsNext (x ∷ xs) r kept rest
+      here : (b : Bool) → b ≡ true → MatchBool b ((r ≡ Some h.2) × (g ≡ h.1) × (kept ≡ []) × (rest ≡ xs))
+          ((ks : List (K × X)) × ExtractsNext C h.1 xs r g ks rest × (kept ≡ h.2 ∷ ks)) → IsNext (x ∷ xs) r kept rest
       here true e m = ((h.2, m.0, (always f x h.0 h.1 h.2 h.3).1), m.2, m.3)
       here false e m = let clash : false ≡ true = e in absurd cc
 
@@ -27,13 +25,10 @@ module _ {P K X : Type 0} (C : P → K × X → Bool → P → K × X → Type 0
 pub length_passing : {K X : Type 0} (p : K → Bool) (es : List (K × X))
     → length (filter (λ e. p e.0) es) ≡ length (filter p (keys_of es))
 length_passing p [] = refl
-length_passing p (e ∷ es) = here (p e.0) (length_passing p es)
-  where
-    here : (b : Bool) → length (filter (λ x. p x.0) es) ≡ length (filter p (keys_of es))
-        → length (cond b (e ∷ filter (λ x. p x.0) es) (filter (λ x. p x.0) es))
-        ≡ length (cond b (e.0 ∷ filter p (keys_of es)) (filter p (keys_of es)))
-    here true ih = ap suc ih
-    here false ih = ih
+length_passing p (e ∷ es) = elim (cases_Bool (p e.0)) [
+  | inl on ↦ rw on (ap suc (length_passing p es))
+  | inr off ↦ rw off (length_passing p es)
+]
 
 -- one entry that passes a test leaves: the others that pass are one less, and those that don't pass are as they were
 pub record Leaves {K X : Type 0} (p : K → Bool) (old new : List (K × X)) : Type 0 where
@@ -45,53 +40,51 @@ module _ {K X : Type 0} (p : K → Bool) where
   one_less : (old new : List (K × X)) (k : K) → RemovesKey (keys_of old) k (keys_of new) → p k ≡ true
       → length (filter (λ e. p e.0) new) + 1 ≡ length (filter (λ e. p e.0) old)
   one_less old new k gone passes =
-      let was : length (filter p (keys_of old)) ≡ length (filter p gone.0) + length (filter p (k ∷ gone.1)) =
-      ap (λ ks. length (filter p ks)) gone.2 ∙ ap length (filter-append p gone.0 (k ∷ gone.1))
-      ∙ length-append (filter p gone.0) (filter p (k ∷ gone.1)) in
       let own : length (filter p (k ∷ gone.1)) ≡ suc (length (filter p gone.1)) = rw passes refl in
-      let is : length (filter p (keys_of new)) ≡ length (filter p gone.0) + length (filter p gone.1) =
-      ap (λ ks. length (filter p ks)) gone.3 ∙ ap length (filter-append p gone.0 gone.1)
-      ∙ length-append (filter p gone.0) (filter p gone.1) in
-      let a = length_passing p old in
-      let b = length_passing p new in
-      omega (arith, was, own, is, a, b)
+      rw (
+        length_passing p old,
+        length_passing p new,
+        gone.2,
+        gone.3,
+        filter-append p gone.0 (k ∷ gone.1),
+        filter-append p gone.0 gone.1,
+        length-append (filter p gone.0) (filter p (k ∷ gone.1)),
+        length-append (filter p gone.0) (filter p gone.1),
+      ) (omega (arith, own))
+
+  -- an entry between others that is left out has it
+  between : (before after : List (K × X)) (y : K × X)
+      → length (filter (λ e. p e.0) (before ++ after)) + 1 ≡ length (filter (λ e. p e.0) (before ++ y ∷ after))
+      → filter (λ e. not (p e.0)) (before ++ after) ≡ filter (λ e. not (p e.0)) (before ++ y ∷ after)
+  between before after y fewer = elim (cases_Bool (p y.0)) [
+    | inl on ↦
+        (let one : filter (λ e. not (p e.0)) (y ∷ after) ≡ filter (λ e. not (p e.0)) after = rw on refl in
+        rw (filter-append (λ e. not (p e.0)) before after, filter-append (λ e. not (p e.0)) before (y ∷ after), one)
+        refl)
+    | inr off ↦
+        (let none : filter (λ e. p e.0) (y ∷ after) ≡ filter (λ e. p e.0) after = rw off refl in
+        let same : length (filter (λ e. p e.0) (before ++ after)) ≡ length (filter (λ e. p e.0) (before ++ y ∷ after)) =
+        rw (filter-append (λ e. p e.0) before after, filter-append (λ e. p e.0) before (y ∷ after), none) refl in
+        absurd (omega (arith, fewer, same)))
+  ]
 
   -- so the entry at the place that is left out has it
   left_out : (old new : List (K × X)) (i : ℕ) → new ≡ take i old ++ drop (i + 1) old
       → length (filter (λ e. p e.0) new) + 1 ≡ length (filter (λ e. p e.0) old) → Leaves p old new
   left_out old new i is fewer = record { others = here (drop i old) refl; fewer = fewer }
     where
-      here : (es : List (K × X)) → drop i old ≡ es
-          → filter (λ e. not (p e.0)) new ≡ filter (λ e. not (p e.0)) old
-      here [] none = ap (λ es. filter (λ e. not (p e.0)) es)
-          (is ∙ ap (λ es. take i old ++ es) (sym (drop-drop 1 i old) ∙ ap (drop 1) none ∙ sym none)
-          ∙ take-append-drop i old)
-      here (y ∷ ys) there = by (p y.0) refl
-        where
-          before : old ≡ take i old ++ y ∷ ys
-          before = sym (take-append-drop i old) ∙ ap (λ es. take i old ++ es) there
+      whole : {es : List (K × X)} → drop i old ≡ es → old ≡ take i old ++ es
+      whole e = sym (take-append-drop i old) ∙ ap (λ es. take i old ++ es) e
 
-          after : new ≡ take i old ++ ys
-          after = is ∙ ap (λ es. take i old ++ es) (sym (drop-drop 1 i old) ∙ ap (drop 1) there)
+      rest : {es : List (K × X)} → drop i old ≡ es → new ≡ take i old ++ drop 1 es
+      rest e = is ∙ ap (λ es. take i old ++ es) (sym (drop-drop 1 i old) ∙ ap (drop 1) e)
 
-          by : (b : Bool) → p y.0 ≡ b → filter (λ e. not (p e.0)) new ≡ filter (λ e. not (p e.0)) old
-          by true e = ap (λ es. filter (λ e. not (p e.0)) es) after
-              ∙ filter-append (λ e. not (p e.0)) (take i old) ys
-              ∙ ap (λ es. filter (λ e. not (p e.0)) (take i old) ++ es) (rw e refl)
-              ∙ sym (filter-append (λ e. not (p e.0)) (take i old) (y ∷ ys))
-              ∙ sym (ap (λ es. filter (λ e. not (p e.0)) es) before)
-          by false e =
-              let a : length (filter (λ e. p e.0) new)
-              ≡ length (filter (λ e. p e.0) (take i old)) + length (filter (λ e. p e.0) ys) =
-              ap (λ es. length (filter (λ e. p e.0) es)) after ∙ ap length (filter-append (λ e. p e.0) (take i old) ys)
-              ∙ length-append (filter (λ e. p e.0) (take i old)) (filter (λ e. p e.0) ys) in
-              let c : length (filter (λ e. p e.0) (y ∷ ys)) ≡ length (filter (λ e. p e.0) ys) = rw e refl in
-              let b : length (filter (λ e. p e.0) old)
-              ≡ length (filter (λ e. p e.0) (take i old)) + length (filter (λ e. p e.0) (y ∷ ys)) =
-              ap (λ es. length (filter (λ e. p e.0) es)) before
-              ∙ ap length (filter-append (λ e. p e.0) (take i old) (y ∷ ys))
-              ∙ length-append (filter (λ e. p e.0) (take i old)) (filter (λ e. p e.0) (y ∷ ys)) in
-              absurd (omega (arith, a, b, c, fewer))
+      here : (es : List (K × X)) → drop i old ≡ es → filter (λ e. not (p e.0)) new ≡ filter (λ e. not (p e.0)) old
+      here [] e = ap (λ es. filter (λ x. not (p x.0)) es) (rest e ∙ sym (whole e))
+      here (y ∷ ys) e = ap (λ es. filter (λ x. not (p x.0)) es) (rest e) ∙ between (take i old) ys y
+          (sym (ap (λ es. length (filter (λ x. p x.0) es) + 1) (rest e)) ∙ fewer
+          ∙ ap (λ es. length (filter (λ x. p x.0) es)) (whole e))
+          ∙ sym (ap (λ es. filter (λ x. not (p x.0)) es) (whole e))
 
 -- ---- the steps
 
@@ -109,12 +102,11 @@ by_option P (Some c) h none some = some c h
 none_step : {K X : Type 0} (r : Option (K × X)) (old left new : List (K × X)) → r ≡ None → new ≡ old → left ≡ []
     → IsStep [] old r left new
 none_step None old left new e same nothing = (refl, nothing, same)
-none_step (Some x) old left new e same nothing = absurd cc
+none_step (Some x) old left new e same nothing = cc
 
 some_step : {K X : Type 0} (rest old left new kept : List (K × X)) (r : Option (K × X)) (i : ℕ)
     → IsNext rest r kept left → (n : ℕ) → n ≡ length (option_to_list r)
-    → new ≡ take i old ++ (kept ++ drop (i + length kept + n) old)
-    → IsStep rest old r left new
+    → new ≡ take i old ++ (kept ++ drop (i + length kept + n) old) → IsStep rest old r left new
 some_step [] old left new kept None i h n is e = (
   refl,
   h.2,
@@ -148,13 +140,10 @@ with_key A B rest old left new (Some x) m h = (h.0, m.0, h.1, h.2)
 -- where none passes, all are those that don't
 none_passes : {X : Type 0} (p : X → Bool) (es : List X) → length (filter p es) ≡ 0 → es ≡ filter (λ e. not (p e)) es
 none_passes p [] h = refl
-none_passes p (e ∷ es) h = here (p e) refl h (none_passes p es)
-  where
-    here : (b : Bool) → p e ≡ b → length (cond b (e ∷ filter p es) (filter p es)) ≡ 0
-        → (length (filter p es) ≡ 0 → es ≡ filter (λ x. not (p x)) es)
-        → e ∷ es ≡ cond (not b) (e ∷ filter (λ x. not (p x)) es) (filter (λ x. not (p x)) es)
-    here true q z ih = absurd (omega (arith, z))
-    here false q z ih = ap (λ xs. e ∷ xs) (ih z)
+none_passes p (e ∷ es) h = elim (cases_Bool (p e)) [
+  | inl on ↦ (let none : suc (length (filter p es)) ≡ 0 = rw on at h in absurd (omega arith))
+  | inr off ↦ rw off (ap (λ xs. e ∷ xs) (none_passes p es (rw off at h)))
+]
 
 module _ {K X F R Z : Type 0} (g : Mut F (Bor K × (MutBor X × Unit {0})) (Bool × (MutBor X × Unit {0})))
     (cmp : K → K → Ordering) (known : R → Type 0) (told : (r : R) → known r) (end : R → Bound K)
@@ -166,8 +155,7 @@ module _ {K X F R Z : Type 0} (g : Mut F (Bor K × (MutBor X × Unit {0})) (Bool
       (by_option (λ o. IsStep (extract_if_rest cmp end (record s { cursor = o })) s.map.now.entries r
       (extract_if_rest cmp end t) t.map.now.entries) s.cursor h.2
       (λ a. none_step r s.map.now.entries (extract_if_rest cmp end t) t.map.now.entries a.0 a.1
-      (ap (λ o. extract_if_rest cmp end (record t { cursor = o })) a.2))
-      (λ c b.
+      (ap (λ o. extract_if_rest cmp end (record t { cursor = o })) a.2)) (λ c b.
       let m = (b (told c.within.range)).1 in
       some_step _ s.map.now.entries (extract_if_rest cmp end t) t.map.now.entries m.0 r _
       (next _ (λ f x z f' y q. (always f x.0 x.1 z y.1 f' q.1, q.0)) _ _ _ r m.0 (extract_if_rest cmp end t) m.1) _

@@ -26,8 +26,7 @@ in_range u from end k = elim (compare u k.0) [
         let below : not (leb end k.1) ≡ ltb k.1 end = grind (arith, nat_tests) in
         ap (λ o. is_le (ordering_then o (nat_cmp from k.1)) && not (is_le (ordering_then o (nat_cmp end k.1)))) s.0
         ∙ ap (λ z. z && not (is_le (nat_cmp end k.1))) (le_is from k.1)
-        ∙ ap (λ z. leb from k.1 && not z) (le_is end k.1)
-        ∙ ap (λ z. leb from k.1 && z) below
+        ∙ ap (λ z. leb from k.1 && not z) (le_is end k.1) ∙ ap (λ z. leb from k.1 && z) below
         ∙ sym (ap (λ z. z && (leb from k.1 && ltb k.1 end)) e))
     | inr g ↦
         (let more = g.1 in let e : eqb k.0 u ≡ false = grind (arith, nat_tests) in

@@ -1,14 +1,12 @@
 -- What the program of the flat store keeps, and which flat store that shows (own).
-use Rattle.std.specs.Prelude.{sum_by, ◌≡◌, ◌≢◌, ◌<◌, ◌≤◌, ℕ, ◌+◌, ◌/◌, ◌%◌, Bool, true, false, ◌==◌}
+use Rattle.std.specs.Prelude.{◌≡◌, ◌≢◌, ◌<◌, ℕ, ◌+◌, ◌/◌, ◌%◌, Bool, true, false, ◌==◌}
 use Rattle.std.specs.Prelude.{if◌then◌else◌, is_some, length, replicate, ◌-◌, slice_index_or, List, [], ◌∷◌}
 use Rattle.std.specs.Prelude.{◌&&◌, ◌||◌, not, count_by, Option, Some, None, Result, Ok, Err}
 use Rattle.std.specs.Ordering.{nat_cmp, ordering_then}
 use Rattle.std.specs.Map.{lookup}
 use Rattle.std.specs.BTreeMap.{is_at}
 use Rattle.accounts.specs.Maps.{AccountMaps, Counts}
-use Rattle.script.specs.Plans.{Plan, ProcessPlan}
-use Rattle.script.specs.Forms.{IsPlan}
-use Rattle.script.specs.declared.commands.Command.{Command}
+use Rattle.script.specs.Plans.{Plan}
 use Rattle.script.specs.declared.plan.VolumeLine.{VolumeLine}
 use Rattle.script.specs.declared.commands.RefKind.{RefKind}
 use Rattle.book.specs.declared.replies.Reply.{Reply}
@@ -18,7 +16,6 @@ use Rattle.dir_tree.specs.Nodes.{has_inferior}
 use Rattle.tree_model.specs.Trees.{has_segment}
 use Rattle.flat_model.specs.Pages.{Words, is_page, is_stored, IsOnce}
 use Rattle.flat_model.specs.Cuts.{cut_at}
-use Rattle.flat_model.specs.Commands.{effect_of, takes_effect}
 use Rattle.flat_model.specs.References.{is_used_up, is_volume_full, stores_page, room_reply, word_reply}
 pub use Rattle.flat_model.specs.Reached.{ArePlaces, IsReached, answered}
 use Rattle.flat_model.specs.Store.{Store, Progress, records_of, entries_of}

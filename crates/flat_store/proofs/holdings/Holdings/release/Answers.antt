@@ -1,7 +1,5 @@
-use Rattle.flat_store.proofs.Prelude.{subst, Store, Holds}
 use Rattle.flat_store.proofs.ReleaseLaws.{released_is}
 use Rattle.flat_store.proofs.holdings.Holdings.release.Goals as goal
 
 pub returns : goal.returns
-returns c = λ p s h may. subst (λ (x : Store). Holds p c.drop_page.new.self x)
-    (released_is s c.args.uid c.args.page may) (c.drop_page.ensures p s h)
+returns c = λ p s h may. rw (← released_is s c.args.uid c.args.page may) (c.drop_page.ensures p s h)

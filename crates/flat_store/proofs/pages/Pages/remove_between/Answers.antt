@@ -14,8 +14,7 @@ left c = extracted _ by_both _ (λ r. tt) (λ r. Excluded r.end) (λ f k v b w f
     (ap (λ s. s.map.ghost_name) c.into_iter-iterator.ensures.into_iter_gives ∙ c.extract_if-items.ensures.same_map)
     c.self-1.given.1
     (ap (λ s. extract_if_rest by_both (λ r. Excluded r.end) s) c.into_iter-iterator.ensures.into_iter_gives
-    ∙ c.extract_if-items.ensures.rest tt)
-    c.loop.yielded_by c.in-None.ensures.steps
+    ∙ c.extract_if-items.ensures.rest tt) c.loop.yielded_by c.in-None.ensures.steps
 
 pub overflow_sub-result : goal.overflow_sub-result
 overflow_sub-result c =
@@ -38,7 +37,6 @@ returns c =
     let before = c.len-before.ensures.len in
     let after = c.len.ensures.len in
     subst (λ (m : Paged). Sheds m c.self-1.given.0.entries c.args.uid (between c.args.from c.args.end)
-    (c.len-before.result - c.len.result))
-    c.self.view_is
+    (c.len-before.result - c.len.result)) c.self.view_is
     (sheds c.args.uid c.args.from c.args.end c.self.inside.pages.entries c.self-1.given.0.entries (left c)
     c.len-before.ensures.ordered _ (omega (arith, before, after)))

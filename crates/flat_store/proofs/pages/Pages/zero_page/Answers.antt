@@ -8,10 +8,7 @@ returns-then-is_zero-clause-some c =
     c.loop-key.key-iterator
     c.next.new.self c.next.result (search rules) c.loop-key.yielded_by (c.in-Some.key, c.in-Some.words)
     c.in-Some.is c.next.ensures.steps in
-    found_zero c.self.inside.pages.entries c.args.self.now c.in-Some.key.now.0 c.in-Some.key.now.1
-    c.in-Some.words.now c.is_zero.result
-    c.self.view_is
+    found_zero c.in-Some.key.now.0 c.in-Some.key.now.1 c.self.view_is
     (all_at (λ e. page_at c.self.inside.pages.entries e.0.0 e.0.1 ≡ Some e.1) c.self.inside.pages.entries
-    (length c.loop-key.yielded)
-    (c.in-Some.key.now, c.in-Some.words.now) turn.1 c.iter-key-items.ensures.found)
+    (length c.loop-key.yielded) (c.in-Some.key.now, c.in-Some.words.now) turn.1 c.iter-key-items.ensures.found)
     c.is_zero.ensures.zero c.if-is_zero.true

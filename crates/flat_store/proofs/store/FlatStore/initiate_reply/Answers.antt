@@ -1,31 +1,29 @@
-use Rattle.flat_store.proofs.Prelude.{ℕ, List, Option, Some, None, sym, ap, subst, ◌∙◌, ◌≡◌, quota_in, as_term, Kept, IsShown, numbers_at, number_for, Plan, Store, initiate_reply, known_or_full}
-use Rattle.flat_store.specs.contracts.store.FlatStore.{the_view}
-use Rattle.flat_store.proofs.StoreLaws.{initiate_refused, initiate_told}
+use Rattle.flat_store.proofs.Prelude.{◌≡◌, ℕ, Option, Ok, Err, refl, sym, ap, Plan, Node, quota_in, as_term, number_for, segment_at, initiate_reply, known_or_full, Store, IsShown, numbers_at}
 use Rattle.flat_store.proofs.store.FlatStore.initiate_reply.Goals.{After-deref}
 use Rattle.flat_store.proofs.store.FlatStore.initiate_reply.Goals as goal
 
--- the reply, by the number of the segment
-told : (c : After-deref) (p : Plan) (s : Store) → IsShown p c.args.self.now s → (number : Option ℕ)
+-- the number of the segment, if there is one, and the reply by it
+told : (c : After-deref) (s : Store) {p : Plan} → IsShown p c.args.self.now s → {number : Option ℕ}
     → number ≡ number_for (numbers_at c.deref.result.now c.args.process) c.in-Ok.node.now.uid
     → known_or_full number ≡ initiate_reply s c.args.process c.args.path.now
-told c p s h number is =
-    let shown = subst (λ (k : Kept). IsShown p k s) (sym c.self.view_is) h in
-    let numbers = ap (λ (known : List (List (Option ℕ))). number_for (numbers_at known c.args.process)
-    c.in-Ok.node.now.uid) c.deref.ensures.value in
-    initiate_told p (the_view c.self.inside) s shown c.tree.result.now c.tree.ensures c.args.process c.args.path.now
-    (as_term (quota_in c.tree.result.now.nodes) c.in-Ok.node.now) number c.in-Ok.ensures.ok
-    (is ∙ numbers)
+unfolding initiate_reply
+told c s h is =
+    let shown = rw (← c.self.view_is) at h in
+    let n : Node = as_term (quota_in c.tree.result.now.nodes) c.in-Ok.node.now in
+    let found : segment_at s.nodes c.args.path.now ≡ Ok n =
+    rw (shown.holds.nodes, ap (λ a. a.nodes) (sym c.tree.ensures)) c.in-Ok.ensures.ok in
+    rw (found, shown.known, ← c.deref.ensures.value, ← is) refl
 
 pub returns-in-Some : goal.returns-in-Some
-returns-in-Some c = λ p s h.
-    told (goal.at.returns-in-Some c).After-deref p s h (Some c.in-Some.number) c.in-Some.ensures
+returns-in-Some c = λ p s h. told (goal.at.returns-in-Some c).After-deref s h c.in-Some.ensures
 
 pub returns-in-None : goal.returns-in-None
-returns-in-None c = λ p s h. told (goal.at.returns-in-None c).After-deref p s h None c.in-None.ensures
+returns-in-None c = λ p s h. told (goal.at.returns-in-None c).After-deref s h c.in-None.ensures
 
 pub returns-in-Err : goal.returns-in-Err
+unfolding initiate_reply
 returns-in-Err c = λ p s h.
-    let inside : Kept = the_view c.self.inside in
-    let shown = subst (λ (k : Kept). IsShown p k s) (sym c.self.view_is) h in
-    initiate_refused p inside s shown c.tree.result.now c.tree.ensures c.args.process c.args.path.now
-    c.in-Err.reply c.in-Err.ensures.err
+    let shown = rw (← c.self.view_is) at h in
+    let found : segment_at s.nodes c.args.path.now ≡ Err c.in-Err.reply =
+    rw (shown.holds.nodes, ap (λ a. a.nodes) (sym c.tree.ensures)) c.in-Err.ensures.err in
+    rw found refl

@@ -1,45 +1,35 @@
-use Rattle.flat_store.proofs.Prelude.{◌∷◌, [], true, false, List, ap, subst, ◌∙◌, Who, who_of, Row, after_make, owner_row, Holds, make_keeps, acl_keeps, length_keeps, truncate_keeps, delete_keeps}
+use Rattle.flat_store.proofs.Prelude.{true, false, [], ◌∷◌, who_of, owner_row, make_keeps, acl_keeps, length_keeps, truncate_keeps, delete_keeps}
 use Rattle.flat_store.proofs.StoreLaws.{effect_done}
 use Rattle.flat_store.proofs.store.FlatStore.tree_effect.Goals as goal
 
 pub returns-in-MkDir : goal.returns-in-MkDir
-returns-in-MkDir c = λ s h few effect.
-    effect_done c.args.script.now s c.self.view_is c.make.new.self c.args.process c.in-MkDir.is h effect
-    (λ holds asked. subst (λ (rows : List Row). Holds c.args.script.now c.make.new.self
-    (after_make s c.in-MkDir.path c.in-MkDir.volume true 0 rows)) c.none.ensures
-    (c.make.ensures c.args.script.now s holds few asked))
+returns-in-MkDir c = λ s h few effect. effect_done c.self.view_is c.args.process c.in-MkDir.is h effect
+    (λ holds asked. rw (← c.none.ensures) (c.make.ensures c.args.script.now s holds few asked))
     (make_keeps s c.in-MkDir.path c.in-MkDir.volume true 0 [])
 
 pub returns-in-MkSeg : goal.returns-in-MkSeg
-returns-in-MkSeg c = λ s h few effect.
-    effect_done c.args.script.now s c.self-in-MkSeg.view_is c.make-in-MkSeg.new.self c.args.process c.in-MkSeg.is h
-    effect
-    (λ holds asked. subst (λ (rows : List Row). Holds c.args.script.now c.make-in-MkSeg.new.self
-    (after_make s c.in-MkSeg.path c.in-MkSeg.volume false c.in-MkSeg.pages rows))
-    (c.of-acl.ensures ∙ ap (λ (w : Who). owner_row w ∷ []) (c.copied.ensures ∙ c.who.ensures))
+returns-in-MkSeg c = λ s h few effect. effect_done c.self-in-MkSeg.view_is c.args.process c.in-MkSeg.is h effect
+    (λ holds asked. rw (← c.who.ensures, ← c.copied.ensures, ← c.of-acl.ensures)
     (c.make-in-MkSeg.ensures c.args.script.now s holds few asked))
     (make_keeps s c.in-MkSeg.path c.in-MkSeg.volume false c.in-MkSeg.pages
     (owner_row (who_of c.args.script.now c.args.process) ∷ []))
 
 pub returns-in-Acl : goal.returns-in-Acl
 returns-in-Acl c = λ s h few effect.
-    effect_done c.args.script.now s c.self-in-Acl.view_is c.set_row.new.self c.args.process c.in-Acl.is h effect
-    (λ holds asked. c.set_row.ensures c.args.script.now s holds asked)
+    effect_done c.self-in-Acl.view_is c.args.process c.in-Acl.is h effect (c.set_row.ensures c.args.script.now s)
     (acl_keeps s c.in-Acl.path c.in-Acl.row c.in-Acl.mode)
 
 pub returns-in-Length : goal.returns-in-Length
-returns-in-Length c = λ s h few effect.
-    effect_done c.args.script.now s c.self-in-Length.view_is c.set_length.new.self c.args.process c.in-Length.is h
-    effect (λ holds asked. c.set_length.ensures c.args.script.now s holds asked)
-    (length_keeps s c.in-Length.path c.in-Length.pages)
+returns-in-Length c = λ s h few effect. effect_done c.self-in-Length.view_is c.args.process c.in-Length.is h effect
+    (c.set_length.ensures c.args.script.now s) (length_keeps s c.in-Length.path c.in-Length.pages)
 
 pub returns-in-Truncate : goal.returns-in-Truncate
 returns-in-Truncate c = λ s h few effect.
-    effect_done c.args.script.now s c.self-in-Truncate.view_is c.truncate.new.self c.args.process c.in-Truncate.is h
-    effect (λ holds asked. c.truncate.ensures c.args.script.now s holds)
+    effect_done c.self-in-Truncate.view_is c.args.process c.in-Truncate.is h effect
+    (λ holds asked. c.truncate.ensures c.args.script.now s holds)
     (truncate_keeps s c.in-Truncate.path c.in-Truncate.words)
 
 pub returns-in-Delete : goal.returns-in-Delete
 returns-in-Delete c = λ s h few effect.
-    effect_done c.args.script.now s c.self-in-Delete.view_is c.delete.new.self c.args.process c.in-Delete.is h effect
-    (λ holds asked. c.delete.ensures c.args.script.now s holds asked) (delete_keeps s c.in-Delete.path)
+    effect_done c.self-in-Delete.view_is c.args.process c.in-Delete.is h effect (c.delete.ensures c.args.script.now s)
+    (delete_keeps s c.in-Delete.path)
