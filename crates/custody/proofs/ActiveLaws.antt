@@ -1,5 +1,5 @@
 -- How many of a pool are active, counted among the nodes or among the active segments.
-use Rattle.custody.proofs.Prelude.{◌≡◌, ◌≢◌, ◌<◌, ℕ, suc, zero, Bool, true, false, cond, eqb, ◌&&◌, List, [], ◌∷◌, Option, Some, None, length, set, refl, sym, ap, subst, ◌∙◌, inl, inr, arith, sum_by, is_some, IsSomeAnd, Decides, unwrap_or, eqb_tells, get_or-set_same, get_or-set_other, sum_by-set, sum_by-cons, Plan, Store, Node, node_in, pool_of, MayActivate, MayJoin, pool_size, Tables, AreNodes, CanJoin, IsAsActivated, active_at, custody_of, is_in_pool, use_in, ActiveUse, eqb_self}
+use Rattle.custody.proofs.Prelude.{◌≡◌, ◌≢◌, ◌<◌, ℕ, suc, zero, Bool, true, false, cond, eqb, ◌&&◌, List, [], ◌∷◌, Option, Some, None, length, set, refl, sym, ap, ◌∙◌, inl, inr, arith, sum_by, is_some, IsSomeAnd, Decides, eqb_tells, get_or-set_same, get_or-set_other, sum_by-set, sum_by-cons, Plan, Store, Node, node_in, pool_of, MayActivate, Tables, AreNodes, CanJoin, IsAsActivated, active_at, custody_of, is_in_pool, use_in, ActiveUse, eqb_self}
 
 -- ---- nodes
 
@@ -8,11 +8,11 @@ others : (n : Node) (ns : List Node) (u : ℕ) (P : Node → Type 0) → n.uid �
     → IsSomeAnd (node_in ns u) P
 others n ns u P apart h = elim (eqb_tells n.uid u) [
   | inl e ↦ absurd (apart e.1)
-  | inr e ↦ subst (λ (b : Bool). IsSomeAnd (cond b (Some n) (node_in ns u)) P) e.0 h
+  | inr e ↦ rw e.0 at h
 ]
 
 first : (n : Node) (ns : List Node) (P : Node → Type 0) → IsSomeAnd (node_in (n ∷ ns) n.uid) P → P n
-first n ns P h = subst (λ (b : Bool). IsSomeAnd (cond b (Some n) (node_in ns n.uid)) P) (eqb_self n.uid) h
+first n ns P h = rw (eqb_self n.uid) at h
 
 -- one that is active no more changes no other node
 unchanged : (uses : List (Option ActiveUse)) (v q : ℕ) (ns : List Node) → node_in ns v ≡ None
@@ -20,10 +20,9 @@ unchanged : (uses : List (Option ActiveUse)) (v q : ℕ) (ns : List Node) → no
     ≡ sum_by (λ n. cond (is_some (active_at uses n.uid) && eqb (pool_of n) q) 1 0) ns
 unchanged uses v q [] h = refl
 unchanged uses v q (n ∷ ns) h = elim (eqb_tells n.uid v) [
-  | inl e ↦ (let z : Some n ≡ None = sym (ap (λ (b : Bool). cond b (Some n) (node_in ns v)) e.0) ∙ h in let no : ⊥ =
-      cc in absurd no)
+  | inl e ↦ (let clash : Some n ≡ None = rw e.0 at h in cc)
   | inr e ↦
-      (let rest = unchanged uses v q ns (sym (ap (λ (b : Bool). cond b (Some n) (node_in ns v)) e.0) ∙ h) in
+      (let rest = unchanged uses v q ns (rw e.0 at h) in
       let here : active_at (set uses v None) n.uid ≡ active_at uses n.uid =
       get_or-set_other uses v n.uid None None e.1 in
       let f : Node → ℕ = λ m. cond (is_some (active_at (set uses v None) m.uid) && eqb (pool_of m) q) 1 0 in
@@ -35,7 +34,7 @@ unchanged uses v q (n ∷ ns) h = elim (eqb_tells n.uid v) [
 ]
 
 pub some_none : (a : ActiveUse) → ◌≢◌ {A = Option ActiveUse} None (Some a)
-some_none a = λ e. cc
+some_none a e = cc
 
 zeros : (f : Option ActiveUse → ℕ) → f None ≡ 0 → (uses : List (Option ActiveUse))
     → ((u : ℕ) → active_at uses u ≡ None) → sum_by f uses ≡ 0
@@ -62,8 +61,7 @@ by_pool q a n e = ap (λ (p : ℕ). cond (eqb p q) 1 0) e
 count_more : (n : Node) (ns : List Node) (uses : List (Option ActiveUse)) (q : ℕ) → AreNodes (n ∷ ns) uses
     → ((us : List (Option ActiveUse)) → AreNodes ns us
     → sum_by (λ m. cond (is_some (active_at us m.uid) && eqb (pool_of m) q) 1 0) ns
-    ≡ sum_by (λ x. cond (is_in_pool q x) 1 0) us)
-    → (o : Option ActiveUse) → active_at uses n.uid ≡ o
+    ≡ sum_by (λ x. cond (is_in_pool q x) 1 0) us) → (o : Option ActiveUse) → active_at uses n.uid ≡ o
     → sum_by (λ m. cond (is_some (active_at uses m.uid) && eqb (pool_of m) q) 1 0) (n ∷ ns)
     ≡ sum_by (λ x. cond (is_in_pool q x) 1 0) uses
 count_more n ns uses q t rest None e =
@@ -97,8 +95,7 @@ count_more n ns uses q t rest (Some b) e =
     omega (arith, a, here, change, was, gone, r, s)
   where
     away : (u : ℕ) (c : ActiveUse) → active_at (set uses n.uid None) u ≡ Some c → active_at (set uses n.uid None) n.uid
-        ≡ None
-        → IsSomeAnd (node_in ns u) (IsAsActivated c)
+        ≡ None → IsSomeAnd (node_in ns u) (IsAsActivated c)
     away u c h removed = elim (eqb_tells u n.uid) [
       | inl s ↦ absurd (some_none c (sym removed ∙ ap (λ (v : ℕ). active_at (set uses n.uid None) v) (sym s.1) ∙ h))
       | inr s ↦
@@ -116,8 +113,7 @@ count_active (n ∷ ns) uses q t = count_more n ns uses q t (λ us r. count_acti
 -- ---- whether one may become active
 
 pub activates : (p : Plan) (s : Store) (t : Tables) (u : ℕ) (a : ActiveUse) (found : Option ActiveUse) (r : Bool)
-    → found ≡ use_in (node_in s.nodes u)
-    → found ≡ Some a
+    → found ≡ use_in (node_in s.nodes u) → found ≡ Some a
     → AreNodes s.nodes t.active → is_some (active_at t.active u) ≡ false → Decides r (CanJoin p t a)
     → Decides r (MayActivate p s (custody_of t) u)
 activates p s t u a found r is some nodes inactive h = by (node_in s.nodes u) refl (sym is ∙ some)
@@ -126,29 +122,20 @@ activates p s t u a found r is some nodes inactive h = by (node_in s.nodes u) re
     by None e k = absurd (some_none a k)
     by (Some n) e k =
         let coming : ActiveUse = record { superior = n.superior; pool = pool_of n } in
-        let d : Decides r (CanJoin p t coming) =
-        subst (λ (x : ActiveUse). Decides r (CanJoin p t x))
-        (sym (ap (λ (x : Option ActiveUse). unwrap_or x coming) k)) h in
+        let same : coming ≡ a = cc in
+        let d : Decides r (CanJoin p t coming) = rw same h in
         let c : sum_by (λ m. cond (is_some (active_at t.active m.uid) && eqb (pool_of m) (pool_of n)) 1 0) s.nodes
-        ≡ sum_by (λ x. cond (is_in_pool
-        (pool_of n) x) 1 0) t.active =
+        ≡ sum_by (λ x. cond (is_in_pool (pool_of n) x) 1 0) t.active =
         count_active s.nodes t.active (pool_of n) nodes in (
           λ q. record {
             inactive = inactive;
-            node = subst (λ (x : Option Node). IsSomeAnd x (MayJoin p s (custody_of t))) (sym e) (record {
-              superior = (d.0 q).superior;
-              room = subst (λ (x : ℕ). x < pool_size p (pool_of n)) (sym c) (d.0 q).room;
-            });
+            node = rw e (record { superior = (d.0 q).superior; room = rw c (d.0 q).room });
           },
           λ m.
-              let j : MayJoin p s (custody_of t) n = subst
-              (λ (x : Option Node). IsSomeAnd x (MayJoin p s (custody_of t))) e m.node in
-              d.1 (record { superior = j.superior; room = subst (λ (x : ℕ). x < pool_size p (pool_of n)) c j.room }),
+              let j = rw e at m.node in
+              d.1 (record { superior = j.superior; room = rw (← c) j.room }),
         )
 
 pub is_active : (p : Plan) (s : Store) (t : Tables) (u : ℕ) → is_some (active_at t.active u) ≡ true
     → Decides false (MayActivate p s (custody_of t) u)
-is_active p s t u e = (
-  λ q. let z : false ≡ true = q in let no : ⊥ = cc in absurd no,
-  λ m. let z : true ≡ false = sym e ∙ m.inactive in let no : ⊥ = cc in absurd no,
-)
+is_active p s t u e = (λ q. cc, λ m. let inactive = m.inactive in let clash : true ≡ false = sym e ∙ inactive in cc)

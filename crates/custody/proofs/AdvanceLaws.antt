@@ -10,9 +10,9 @@ use Rattle.custody.proofs.PutLaws.{grown_at, place_there}
 -- what is not as it is past the end is there
 pub there : {X : Type 0} (test : X → Bool) (d : X) → test d ≡ false → (xs : List X) (i : ℕ) → test (get_or xs i d)
     ≡ true → i < length xs
-there test d e [] i h = let z : false ≡ true = sym e ∙ h in let no : ⊥ = cc in absurd no
+there test d e [] i h = cc
 there test d e (x ∷ xs) zero h = omega arith
-there test d e (x ∷ xs) (suc i) h = let r = there test d e xs i h in omega (arith, r)
+there test d e (x ∷ xs) (suc i) h = omega (arith, there test d e xs i h)
 
 -- ---- one place of a table
 
@@ -32,8 +32,7 @@ pub seat_put : (t : Tables) (d : ℕ) (s : Seat) → d < length t.seats → cust
 seat_put t d s l = λ i. record (custody_of t) { seat = λ e. put_cases t.seats d e s offline l i }
 
 row_put : (rows : List (List DescriptorUse)) (k n j m : ℕ) (x : DescriptorUse) → k < length rows
-    → n < length (row_at rows k)
-    → descriptor_at (row_at (set rows k (set (row_at rows k) n x)) j) m
+    → n < length (row_at rows k) → descriptor_at (row_at (set rows k (set (row_at rows k) n x)) j) m
     ≡ cond (eqb j k && eqb m n) x (descriptor_at (row_at rows j) m)
 row_put rows k n j m x kl nl = elim (eqb_tells j k) [
   | inl e ↦ rw e.0 (rw e.1
@@ -44,8 +43,7 @@ row_put rows k n j m x kl nl = elim (eqb_tells j k) [
 ]
 
 pub descriptor_put : (t : Tables) (k n : ℕ) (x : DescriptorUse) → k < length t.descriptors
-    → n < length (row_at t.descriptors k)
-    → custody_of (put_descriptor t k n x) ≡ with_descriptor (custody_of t) k n x
+    → n < length (row_at t.descriptors k) → custody_of (put_descriptor t k n x) ≡ with_descriptor (custody_of t) k n x
 descriptor_put t k n x kl nl = λ i. record (custody_of t)
     { descriptor = λ j m. row_put t.descriptors k n j m x kl nl i }
 
@@ -53,8 +51,7 @@ descriptor_put t k n x kl nl = λ i. record (custody_of t)
 
 pub active_put_at : (uses : List (Option ActiveUse)) (u v : ℕ) (a : Option ActiveUse)
     → active_at (put_active uses u a) v ≡ cond (eqb v u) a (active_at uses v)
-active_put_at uses u v a =
-    put_cases (with_place uses u) u v a None (place_there uses u)
+active_put_at uses u v a = put_cases (with_place uses u) u v a None (place_there uses u)
     ∙ ap (λ (o : Option ActiveUse). cond (eqb v u) a o) (grown_at uses (u + 1 - length uses) v)
 
 some_cond : (b : Bool) (a o : Option ActiveUse) → is_some (cond b a o) ≡ cond b (is_some a) (is_some o)
@@ -122,8 +119,7 @@ signal_is t d w l =
   where
     each : d < length (warn_from d w 0 t.seats) → (e : ℕ)
         → seat_at (set (warn_from d w 0 t.seats) d (dropped t.frames t.descriptors w
-        (seat_at (warn_from d w 0 t.seats) d))) e
-        ≡ told (custody_of t) d w e (seat_at t.seats e)
+        (seat_at (warn_from d w 0 t.seats) d))) e ≡ told (custody_of t) d w e (seat_at t.seats e)
     each r e = put_cases (warn_from d w 0 t.seats) d e
         (dropped t.frames t.descriptors w (seat_at (warn_from d w 0 t.seats) d)) offline r ∙ by e
       where
@@ -134,12 +130,10 @@ signal_is t d w l =
             ∙ ap (λ (b : Bool). cond b (seat_at t.seats d) (warned w (seat_at t.seats d))) ((Decides-eqb d d).1 refl)
 
         by : (e : ℕ) → cond (eqb e d) (dropped t.frames t.descriptors w (seat_at (warn_from d w 0 t.seats) d))
-            (seat_at (warn_from d w 0 t.seats) e)
-            ≡ told (custody_of t) d w e (seat_at t.seats e)
+            (seat_at (warn_from d w 0 t.seats) e) ≡ told (custody_of t) d w e (seat_at t.seats e)
         by e = elim (eqb_tells e d) [
           | inl h ↦ rw h.0 (rw h.1 (ap (λ (s : Seat). dropped t.frames t.descriptors w s) here
               ∙ dropped_is t w (seat_at t.seats d)))
-          | inr h ↦ rw h.0
-              (warn_at d 0 e w t.seats ∙ ap (λ (n : ℕ). cond (eqb n d) (seat_at t.seats e)
+          | inr h ↦ rw h.0 (warn_at d 0 e w t.seats ∙ ap (λ (n : ℕ). cond (eqb n d) (seat_at t.seats e)
               (warned w (seat_at t.seats e))) (zero_plus e) ∙ rw h.0 refl)
         ]

@@ -6,10 +6,8 @@ use Rattle.custody_model.specs.declared.DescriptorUse.TheVariants as descriptor
 pub none_counted : {X : Type 0} (f : X → ℕ) (d : X) (n : ℕ) → f d ≡ 0 → sum_by f (replicate n d) ≡ 0
 none_counted f d zero e = refl
 none_counted f d (suc n) e =
-    let c =
-    sum_by-cons f d (replicate n d) in let r =
-    none_counted f d n e in let w : sum_by f (replicate (suc n) d) ≡ f d + sum_by f (replicate n d) =
-    c in omega (arith, w, r, e)
+    let all : sum_by f (replicate (suc n) d) ≡ f d + sum_by f (replicate n d) = sum_by-cons f d (replicate n d) in
+    omega (arith, all, none_counted f d n e, e)
 
 pub frames_free : (n : ℕ) → n ≤ 1024 → AreFrames (replicate n frame.Free)
     (record { uids = []; going = []; kinds = [] }) [] []
@@ -47,14 +45,8 @@ booted p t f d s a fs ds r ss = λ i. record {
 }
 
 pub frames_made : (n : ℕ) (uses : List FrameUse) (c : UseCounted) (p s : Counted) → uses ≡ replicate n frame.Free
-    → c ≡ record { uids = []; going = []; kinds = [] } → p ≡ [] → s ≡ []
-    → n ≤ 1024 → AreFrames uses c p s
-frames_made n uses c p s u e f g few =
-    subst (λ (z : Counted). AreFrames uses c p z) (sym g)
-    (subst (λ (q : Counted). AreFrames uses c q []) (sym f)
-    (subst (λ (d : UseCounted). AreFrames uses d [] []) (sym e)
-    (subst (λ (xs : List FrameUse). AreFrames xs (record { uids = []; going = []; kinds = [] })
-    [] []) (sym u) (frames_free n few))))
+    → c ≡ record { uids = []; going = []; kinds = [] } → p ≡ [] → s ≡ [] → n ≤ 1024 → AreFrames uses c p s
+frames_made n uses c p s u e f g few = rw (u, e, f, g) (frames_free n few)
 
 pub range_more : (n : ℕ) (xs ys : List ℕ) → xs ≡ range 0 n → ys ≡ xs ++ n ∷ [] → ys ≡ range 0 (n + 1)
 range_more n xs ys e f =
@@ -65,7 +57,7 @@ range_more n xs ys e f =
 
 -- the tables are those of the script
 row_size : (d k : ℕ) → k < d → length (row_at (replicate d (replicate 256 descriptor.Free)) k) ≡ 256
-row_size zero k l = let z : ⊥ = omega (arith, l) in absurd z
+row_size zero k l = absurd (omega (arith, l))
 row_size (suc d) zero l = length-replicate 256 descriptor.Free
 row_size (suc d) (suc k) l = row_size d k (omega (arith, l))
 

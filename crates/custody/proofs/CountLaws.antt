@@ -53,7 +53,7 @@ left c k n l is x = elim (eqb_tells x k) [
 
 past : (c : Counted) (x : ℕ) → length c ≤ x → count_at c x ≡ 0
 past [] x l = refl
-past (y ∷ ys) zero l = let no : ⊥ = omega (arith, l) in absurd no
+past (y ∷ ys) zero l = absurd (omega (arith, l))
 past (y ∷ ys) (suc x) l = past ys x (omega (arith, l))
 
 pub left_past : (c : Counted) (k : ℕ) → length c ≤ k → Shifts c c (Some k) None

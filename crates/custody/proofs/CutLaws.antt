@@ -1,29 +1,28 @@
 -- Which pages a truncation takes, and whether one of them is in a frame.
-use Rattle.custody.proofs.Prelude.{◌≡◌, ◌≢◌, ◌<◌, ◌*◌, ℕ, ◌+◌, Bool, true, false, not, List, Option, Some, None, refl, ap, subst, inl, inr, ◌⊎◌, arith, nat_le, nat_lt, Decides, eqb_tells, leb_tells, nat_tests, list_any, unwrap_or, page_of, uid_of_page, FrameUse, Words, is_zero_page, without_words, is_lost, Store, LosesNoPage, Tables, AreKept, custody_of, frame_at, is_page, is_page_from, not_both}
+use Rattle.custody.proofs.Prelude.{◌≡◌, ◌≢◌, ◌<◌, ℕ, Bool, true, not, List, Option, Some, None, refl, ap, inl, inr, arith, Decides, eqb_tells, leb_tells, list_any, unwrap_or, page_of, uid_of_page, FrameUse, without_words, Store, LosesNoPage, Tables, AreKept, custody_of, frame_at, is_page, is_page_from, not_both}
 use Rattle.custody_model.specs.declared.FrameUse.TheVariants as frame
 use Rattle.custody.proofs.ScanLaws.{scan_decides}
 
 -- ---- a page, and pages below a number
 
 page_is : (u q : ℕ) (o : Option (ℕ × ℕ)) → Decides (not (is_page u q o)) (o ≢ Some (u, q))
-page_is u q None = (λ t e. let z : None ≡ Some (u, q) = e in cc, λ n. refl)
+page_is u q None = (λ t e. cc, λ n. refl)
 page_is u q (Some p) = elim (eqb_tells p.0 u) [
   | inl e ↦ elim (eqb_tells p.1 q) [
-    | inl f ↦ rw e.0 (rw f.0 (λ t. absurd (not_both t refl), λ n. absurd (n (λ i. Some (e.1 i, f.1 i)))))
-    | inr f ↦ rw e.0 (rw f.0 (λ t g. f.1 (ap (λ (o : Option (ℕ × ℕ)). (unwrap_or o (0, 0)).1) g), λ n. refl))
+    | inl f ↦ rw (e.0, f.0) (λ t. absurd (not_both t refl), λ n. absurd (n (λ i. Some (e.1 i, f.1 i))))
+    | inr f ↦ rw (e.0, f.0) (λ t g. f.1 (ap (λ (o : Option (ℕ × ℕ)). (unwrap_or o (0, 0)).1) g), λ n. refl)
   ]
   | inr e ↦ rw e.0 (λ t g. e.1 (ap (λ (o : Option (ℕ × ℕ)). (unwrap_or o (0, 0)).0) g), λ n. refl)
 ]
 
 -- what a look at all frames decides of a page
-pub nowhere_decides : (frames : List FrameUse) (u q : ℕ) (r : Bool)
-    → r ≡ list_any (λ x. is_page u q (page_of x)) frames
+pub nowhere_decides : (frames : List FrameUse) (u q : ℕ) (r : Bool) → r ≡ list_any (λ x. is_page u q (page_of x)) frames
     → Decides (not r) ((f : ℕ) → page_of (frame_at frames f) ≢ Some (u, q))
 nowhere_decides frames u q r is = scan_decides (λ x. is_page u q (page_of x)) (λ x. page_of x ≢ Some (u, q)) frame.Free
     refl (λ x. page_is u q (page_of x)) frames r is
 
 from_is : (u k : ℕ) (o : Option (ℕ × ℕ)) → Decides (not (is_page_from u k o)) ((q : ℕ) → o ≡ Some (u, q) → q < k)
-from_is u k None = (λ t q e. let z : None ≡ Some (u, q) = e in cc, λ h. refl)
+from_is u k None = (λ t q e. cc, λ h. refl)
 from_is u k (Some p) = elim (eqb_tells p.0 u) [
   | inl e ↦ elim (leb_tells k p.1) [
     | inl l ↦ rw e.0 (rw l.0 (
@@ -51,28 +50,16 @@ below_decides frames u k r is = scan_decides (λ x. is_page_from u k (page_of x)
     (λ x. (q : ℕ) → page_of x ≡ Some (u, q) → q < k) frame.Free refl (λ x. from_is u k (page_of x)) frames r is
 
 -- a segment without a page in a frame has none from a number on there
-pub none_from : (frames : List FrameUse) (u k : ℕ)
-    → ((f : ℕ) → uid_of_page (page_of (frame_at frames f)) ≢ Some u)
+pub none_from : (frames : List FrameUse) (u k : ℕ) → ((f : ℕ) → uid_of_page (page_of (frame_at frames f)) ≢ Some u)
     → Decides true ((f q : ℕ) → page_of (frame_at frames f) ≡ Some (u, q) → q < k)
 none_from frames u k none = (λ t f q is. absurd (none f (ap uid_of_page is)), λ h. refl)
 
 -- ---- which pages are lost
-
-cut_at : (words : Words) (u from q : ℕ) → 1024 * q < from → from < 1024 * q + 1024 → is_lost words u from q
-    ≡ is_zero_page words u q
-cut_at words u from q h g =
-    let a : nat_le from (1024 * q) ≡ false = grind (arith, nat_tests) in
-    let b : nat_lt from (1024 * q + 1024) ≡ true = grind (arith, nat_tests) in
-    rw a (rw b refl)
-
-order : (a b : ℕ) → (a < b) ⊎ ((a ≡ b) ⊎ (b < a))
-order a b = grind (arith, nat_tests)
 
 pub loses_decides : (s : Store) (t : Tables) (u from k : ℕ) (frames : List FrameUse) (r : Bool) → frames ≡ t.frames
     → AreKept (without_words s.words u from) u from k
     → Decides r ((f q : ℕ) → page_of (frame_at frames f) ≡ Some (u, q) → q < k)
     → Decides r (LosesNoPage s (custody_of t) u from)
 loses_decides s t u from k frames r is kept h =
-    let d : Decides r ((f q : ℕ) → page_of (frame_at t.frames f) ≡ Some (u, q) → q < k) =
-    subst (λ (xs : List FrameUse). Decides r ((f q : ℕ) → page_of (frame_at xs f) ≡ Some (u, q) → q < k)) is h in
+    let d = rw is at h in
     (λ e f q at. (kept q).0 (d.0 e f q at), λ l. d.1 (λ f q at. (kept q).1 (l f q at)))

@@ -1,6 +1,6 @@
 -- What an entry that is allowed makes of the tables is the custody after it; their sizes stay, and what is active is
 -- in the tree.
-use Rattle.custody.proofs.Prelude.{◌≡◌, ◌<◌, ◌+◌, ◌⊎◌, ℕ, Bool, true, false, List, [], ◌++◌, Option, Some, None, length, drop, set, refl, sym, ap, subst, ◌∙◌, inl, inr, arith, length-set, is_some, IsSomeAnd, eqb_tells, get_or-set_same, get_or-set_other, What, Plan, Entry, Node, node_in, uid_of, after_entry, Store, known_uid, IsAllowed, next_command, Seat, offline, is_current_descriptor, is_current_frame, is_going_descriptor, is_going_frame, is_started, custody_next, is_try, queued, released_by, with_active, with_seat, FrameUse, DescriptorUse, frame_at, descriptor_at, AreNodes, AreTablesOf, Tables, active_at, custody_of, row_at, seat_at, use_in, Advances, put_descriptor, put_frame, warn_from, ActiveUse, Kept, Shows}
+use Rattle.custody.proofs.Prelude.{◌≡◌, ◌<◌, ◌+◌, ◌⊎◌, ℕ, Bool, true, false, List, [], ◌++◌, Option, Some, None, length, drop, set, refl, ap, subst, ◌∙◌, inl, inr, arith, length-set, is_some, IsSomeAnd, eqb_tells, get_or-set_same, get_or-set_other, What, Plan, Entry, Node, node_in, uid_of, after_entry, Store, known_uid, IsAllowed, next_command, Seat, offline, is_current_descriptor, is_current_frame, is_going_descriptor, is_going_frame, is_started, custody_next, is_try, queued, released_by, with_active, with_seat, FrameUse, DescriptorUse, frame_at, descriptor_at, AreNodes, AreTablesOf, Tables, active_at, custody_of, row_at, seat_at, use_in, Advances, put_descriptor, put_frame, warn_from, Kept, Shows}
 use Rattle.book.specs.declared.entries.Entry.TheVariants as entry
 use Rattle.custody_model.specs.declared.FrameUse.TheVariants as frame
 use Rattle.custody_model.specs.declared.DescriptorUse.TheVariants as descriptor
@@ -58,16 +58,14 @@ known_there s k n u h = there (λ (row : List (Option ℕ)). is_some (uid_of row
 -- ---- the custody after an entry
 
 pub custody_advanced : (p : Plan) (k : Kept) (s : Store) (t v : Tables) (e : Entry) → Shows p k s → AreTablesOf p t
-    → IsAllowed p s (custody_of t) e
-    → Advances p s t v e → custody_of v ≡ custody_next p s (custody_of t) e
+    → IsAllowed p s (custody_of t) e → Advances p s t v e → custody_of v ≡ custody_next p s (custody_of t) e
 unfolding custody_next
 custody_advanced p kept s t v (entry.Do k i d f r) shows of may a =
     let command = next_command p s k in
     let l = runs_there t d (ap (λ (o : Option ℕ). is_some o) may.process) in
     let seat : Seat = record (seat_at t.seats d) {
       count = (seat_at t.seats d).count + 1;
-      tried =
-          is_try s k command r;
+      tried = is_try s k command r;
     } in
     ap custody_of a ∙ (λ i. record (seat_put t d seat l i) { ready = t.ready ++ released_by p k command })
 custody_advanced p kept s t v (entry.Release u q) shows of may a = ap custody_of a
@@ -116,8 +114,7 @@ custody_advanced p kept s t v (entry.Cut k n) shows of may a =
     let l = descriptor_there is_current_descriptor refl t k n may in ap custody_of a ∙ descriptor_put t k n _ l.0 l.1
 custody_advanced p kept s t v (entry.Signal d w) shows of may a = ap custody_of a
     ∙ signal_is t d w (online_there t d may.online)
-custody_advanced p kept s t v (entry.Clear d w) shows of may a =
-    ap custody_of a ∙ seat_put t d _ (due_there t d w may)
+custody_advanced p kept s t v (entry.Clear d w) shows of may a = ap custody_of a ∙ seat_put t d _ (due_there t d w may)
     ∙ ap (λ (x : Seat). with_seat (custody_of t) d (record x { due = None })) (dropped_is t w (seat_at t.seats d))
 custody_advanced p kept s t v (entry.FillSeg d n) shows of may a = ap custody_of a
     ∙ seat_put t d _ (runs_there t d (some_and (seat_at t.seats d).process _ may))
@@ -137,13 +134,7 @@ custody_advanced p kept s t v (entry.BackSeg k n) shows of may a =
 -- ---- the sizes of the tables
 
 of_frame : (p : Plan) (t : Tables) (f : ℕ) (x : FrameUse) → AreTablesOf p t → AreTablesOf p (put_frame t f x)
-of_frame p t f x of = record {
-  frames = length-set t.frames f x ∙ of.frames;
-  processes = of.processes;
-  numbers =
-      of.numbers;
-  processors = of.processors;
-}
+of_frame p t f x of = let frames = length-set t.frames f x ∙ of.frames in assumption
 
 of_descriptor : (p : Plan) (t : Tables) (k n : ℕ) (x : DescriptorUse) → AreTablesOf p t
     → AreTablesOf p (put_descriptor t k n x)
@@ -168,60 +159,37 @@ of_descriptor p t k n x of = record {
 }
 
 of_seats : (p : Plan) (t : Tables) (seats : List Seat) (ready : List ℕ) → length seats ≡ length t.seats
-    → AreTablesOf p t
-    → AreTablesOf p (record t { seats = seats; ready = ready })
-of_seats p t seats ready e of = record {
-  frames = of.frames;
-  processes = of.processes;
-  numbers =
-      of.numbers;
-  processors = e ∙ of.processors;
-}
-
-of_use : (p : Plan) (t : Tables) (uses : List (Option ActiveUse)) → AreTablesOf p t
-    → AreTablesOf p (record t { active = uses })
-of_use p t uses of = record {
-  frames = of.frames;
-  processes = of.processes;
-  numbers = of.numbers;
-  processors =
-      of.processors;
-}
+    → AreTablesOf p t → AreTablesOf p (record t { seats = seats; ready = ready })
+of_seats p t seats ready e of = let processors = e ∙ of.processors in assumption
 
 pub of_advanced : (p : Plan) (s : Store) (t v : Tables) (e : Entry) → AreTablesOf p t → Advances p s t v e
     → AreTablesOf p v
-of_advanced p s t v (entry.Do k i d f r) of a = rw a (of_seats p t _ _ (length-set t.seats d _) of)
 of_advanced p s t v (entry.Release u q) of a = rw a of
 of_advanced p s t v (entry.Fault k) of a = rw a of
 of_advanced p s t v (entry.Moved k u w) of a = rw a of
-of_advanced p s t v (entry.Online d) of a = rw a (of_seats p t _ _ (length-set t.seats d _) of)
-of_advanced p s t v (entry.Load d k) of a = rw a (of_seats p t _ _ (length-set t.seats d _) of)
-of_advanced p s t v (entry.Leave d) of a = rw a (of_seats p t _ _ (length-set t.seats d _) of)
-of_advanced p s t v (entry.Activate u) of a = rw a (of_use p t _ of)
-of_advanced p s t v (entry.Deactivate u) of a = rw a (of_use p t _ of)
+of_advanced p s t v (entry.Activate u) of a = rw a assumption
+of_advanced p s t v (entry.Deactivate u) of a = rw a assumption
 of_advanced p s t v (entry.Start f u q) of a = rw a (of_frame p t f _ of)
 of_advanced p s t v (entry.Lose f) of a = rw a (of_frame p t f _ of)
 of_advanced p s t v (entry.Here f u q) of a = rw a (of_frame p t f _ of)
-of_advanced p s t v (entry.Connect k n u) of a = rw a.0 (of_descriptor p t k n _ of)
 of_advanced p s t v (entry.Take f) of a = rw a (of_frame p t f _ of)
+of_advanced p s t v (entry.GonePage f) of a = rw a (of_frame p t f _ of)
+of_advanced p s t v (entry.BackPage f) of a = rw a (of_frame p t f _ of)
+of_advanced p s t v (entry.Connect k n u) of a = rw a.0 (of_descriptor p t k n _ of)
 of_advanced p s t v (entry.Cut k n) of a = rw a (of_descriptor p t k n _ of)
+of_advanced p s t v (entry.GoneSeg k n) of a = rw a (of_descriptor p t k n _ of)
+of_advanced p s t v (entry.BackSeg k n) of a = rw a (of_descriptor p t k n _ of)
 of_advanced p s t v (entry.Signal d w) of a =
     rw a (of_seats p t _ _ (length-set (warn_from d w 0 t.seats) d _ ∙ warn_length d 0 w t.seats) of)
+of_advanced p s t v (entry.Do k i d f r) of a = rw a (of_seats p t _ _ (length-set t.seats d _) of)
+of_advanced p s t v (entry.Online d) of a = rw a (of_seats p t _ _ (length-set t.seats d _) of)
+of_advanced p s t v (entry.Load d k) of a = rw a (of_seats p t _ _ (length-set t.seats d _) of)
+of_advanced p s t v (entry.Leave d) of a = rw a (of_seats p t _ _ (length-set t.seats d _) of)
 of_advanced p s t v (entry.Clear d w) of a = rw a (of_seats p t _ _ (length-set t.seats d _) of)
 of_advanced p s t v (entry.FillSeg d n) of a = rw a (of_seats p t _ _ (length-set t.seats d _) of)
 of_advanced p s t v (entry.FillPage d f) of a = rw a (of_seats p t _ _ (length-set t.seats d _) of)
-of_advanced p s t v (entry.GonePage f) of a = rw a (of_frame p t f _ of)
-of_advanced p s t v (entry.BackPage f) of a = rw a (of_frame p t f _ of)
-of_advanced p s t v (entry.GoneSeg k n) of a = rw a (of_descriptor p t k n _ of)
-of_advanced p s t v (entry.BackSeg k n) of a = rw a (of_descriptor p t k n _ of)
 
 -- ---- the active segments in the tree
-
-same_active : (p : Plan) (s : Store) (t v : Tables) (e : Entry) → v.active ≡ t.active
-    → AreNodes (after_entry p s e).nodes t.active
-    → AreNodes (after_entry p s e).nodes v.active
-same_active p s t v e same nodes = subst (λ (uses : List (Option ActiveUse)). AreNodes (after_entry p s e).nodes uses)
-    (sym same) nodes
 
 -- which active segments an entry leaves
 pub active_advanced : (p : Plan) (s : Store) (t v : Tables) (e : Entry) → Advances p s t v e → AreNodes s.nodes t.active
@@ -231,49 +199,8 @@ active_advanced p s t v (entry.Activate u) a old nodes =
     nodes_put s.nodes t.active v.active u (use_in (node_in s.nodes u)) old
     (λ w. ap (λ (x : Tables). active_at x.active w) a ∙ active_put_at t.active u w (use_in (node_in s.nodes u)))
     (λ x e. use_as (node_in s.nodes u) x e)
-active_advanced p s t v (entry.Deactivate u) a old nodes =
-    nodes_put s.nodes t.active v.active u None old
+active_advanced p s t v (entry.Deactivate u) a old nodes = nodes_put s.nodes t.active v.active u None old
     (λ w. ap (λ (x : Tables). active_at x.active w) a ∙ active_put_at t.active u w None)
     (λ x e. let no : ⊥ = cc in absurd no)
-active_advanced p s t v (entry.Connect k n u) a old nodes =
-    same_active p s t v (entry.Connect k n u) (ap (λ (x : Tables). x.active) a.0) nodes
-active_advanced p s t v (entry.Do k i d f r) a old nodes =
-    same_active p s t v (entry.Do k i d f r) (ap (λ (x : Tables). x.active) a) nodes
-active_advanced p s t v (entry.Release u q) a old nodes =
-    same_active p s t v (entry.Release u q) (ap (λ (x : Tables). x.active) a) nodes
-active_advanced p s t v (entry.Fault k) a old nodes = same_active p s t v (entry.Fault k)
-    (ap (λ (x : Tables). x.active) a) nodes
-active_advanced p s t v (entry.Moved k u w) a old nodes =
-    same_active p s t v (entry.Moved k u w) (ap (λ (x : Tables). x.active) a) nodes
-active_advanced p s t v (entry.Online d) a old nodes =
-    same_active p s t v (entry.Online d) (ap (λ (x : Tables). x.active) a) nodes
-active_advanced p s t v (entry.Load d k) a old nodes =
-    same_active p s t v (entry.Load d k) (ap (λ (x : Tables). x.active) a) nodes
-active_advanced p s t v (entry.Leave d) a old nodes = same_active p s t v (entry.Leave d)
-    (ap (λ (x : Tables). x.active) a) nodes
-active_advanced p s t v (entry.Start f u q) a old nodes =
-    same_active p s t v (entry.Start f u q) (ap (λ (x : Tables). x.active) a) nodes
-active_advanced p s t v (entry.Lose f) a old nodes = same_active p s t v (entry.Lose f)
-    (ap (λ (x : Tables). x.active) a) nodes
-active_advanced p s t v (entry.Here f u q) a old nodes =
-    same_active p s t v (entry.Here f u q) (ap (λ (x : Tables). x.active) a) nodes
-active_advanced p s t v (entry.Take f) a old nodes = same_active p s t v (entry.Take f)
-    (ap (λ (x : Tables). x.active) a) nodes
-active_advanced p s t v (entry.Cut k n) a old nodes = same_active p s t v (entry.Cut k n)
-    (ap (λ (x : Tables). x.active) a) nodes
-active_advanced p s t v (entry.Signal d w) a old nodes =
-    same_active p s t v (entry.Signal d w) (ap (λ (x : Tables). x.active) a) nodes
-active_advanced p s t v (entry.Clear d w) a old nodes =
-    same_active p s t v (entry.Clear d w) (ap (λ (x : Tables). x.active) a) nodes
-active_advanced p s t v (entry.FillSeg d n) a old nodes =
-    same_active p s t v (entry.FillSeg d n) (ap (λ (x : Tables). x.active) a) nodes
-active_advanced p s t v (entry.FillPage d f) a old nodes =
-    same_active p s t v (entry.FillPage d f) (ap (λ (x : Tables). x.active) a) nodes
-active_advanced p s t v (entry.GonePage f) a old nodes =
-    same_active p s t v (entry.GonePage f) (ap (λ (x : Tables). x.active) a) nodes
-active_advanced p s t v (entry.BackPage f) a old nodes =
-    same_active p s t v (entry.BackPage f) (ap (λ (x : Tables). x.active) a) nodes
-active_advanced p s t v (entry.GoneSeg k n) a old nodes =
-    same_active p s t v (entry.GoneSeg k n) (ap (λ (x : Tables). x.active) a) nodes
-active_advanced p s t v (entry.BackSeg k n) a old nodes =
-    same_active p s t v (entry.BackSeg k n) (ap (λ (x : Tables). x.active) a) nodes
+active_advanced p s t v (entry.Connect k n u) a old nodes = rw a.0 nodes
+active_advanced p s t v _ a old nodes = rw a nodes

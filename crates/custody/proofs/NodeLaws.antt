@@ -1,27 +1,25 @@
 -- A fact of the node that a path leads to, by its uid.
-use Rattle.custody.proofs.Prelude.{◌≡◌, ℕ, Bool, true, Option, Some, None, Result, Ok, Err, refl, sym, ap, subst, ◌∙◌, Decides, unwrap_or, Reply, Node, OfNode, uid_at, pool_at, superior_at, use_in}
+use Rattle.custody.proofs.Prelude.{◌≡◌, ℕ, Bool, true, Option, Some, None, Result, Ok, Err, refl, sym, ap, ◌∙◌, Decides, unwrap_or, Reply, Node, OfNode, uid_at, pool_at, superior_at, use_in}
 
 pub node_decides : (P : ℕ → Type 0) (o : Result Node Reply) (found : Option ℕ) (u : ℕ) (r : Bool) → found ≡ uid_at o
-    → found ≡ Some u → Decides r (P u)
-    → Decides r (OfNode (λ n. P n.uid) o)
-node_decides P (Ok n) found u r is some d = subst (λ (v : ℕ). Decides r (P v))
-    (ap (λ (x : Option ℕ). unwrap_or x u) (sym some ∙ is)) d
-node_decides P (Err e) found u r is some d = let z : Some u ≡ None = sym some ∙ is in let no : ⊥ = cc in absurd no
+    → found ≡ Some u → Decides r (P u) → Decides r (OfNode (λ n. P n.uid) o)
+node_decides P (Ok n) found u r is some d = let clash : Some u ≡ Some n.uid = sym some ∙ is in
+    let same : u ≡ n.uid = cc in rw (← same) d
+node_decides P (Err e) found u r is some d = cc
 
 pub no_node_decides : (P : ℕ → Type 0) (o : Result Node Reply) (found : Option ℕ) → found ≡ uid_at o → found ≡ None
     → Decides true (OfNode (λ n. P n.uid) o)
-no_node_decides P (Ok n) found is none = let z : None ≡ Some n.uid = sym none ∙ is in let no : ⊥ = cc in absurd no
+no_node_decides P (Ok n) found is none = cc
 no_node_decides P (Err e) found is none = (λ q. tt, λ q. refl)
 
 -- what the looks at its superior and its pool tell of a node
 pub node_found : (o : Option Node) (superior pool : Option ℕ) (p : ℕ) → superior ≡ superior_at o → pool ≡ pool_at o
-    → pool ≡ Some p
-    → Some (record { superior = superior; pool = p }) ≡ use_in o
-node_found None superior pool p e f g = let z : Some p ≡ None = sym g ∙ f in let no : ⊥ = cc in absurd no
+    → pool ≡ Some p → Some (record { superior = superior; pool = p }) ≡ use_in o
+node_found None superior pool p e f g = cc
 node_found (Some n) superior pool p e f g =
     let same : p ≡ unwrap_or (pool_at (Some n)) p = ap (λ (x : Option ℕ). unwrap_or x p) (sym g ∙ f) in
     λ i. Some (record { superior = e i; pool = same i })
 
 pub no_node : (o : Option Node) (pool : Option ℕ) → pool ≡ pool_at o → pool ≡ None → None ≡ use_in o
 no_node None pool f g = refl
-no_node (Some n) pool f g = let z : None ≡ pool_at (Some n) = sym g ∙ f in let no : ⊥ = cc in absurd no
+no_node (Some n) pool f g = let clash : None ≡ pool_at (Some n) = sym g ∙ f in cc

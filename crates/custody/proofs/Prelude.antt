@@ -1,7 +1,7 @@
 -- The names that the proofs of this crate take from elsewhere.
-pub use Rattle.std.proofs.Common.{Bool, Err, List, None, Ok, Option, Result, Some, [], ap, append-nil, append_assoc, arith, cond, drop, eqb, ext_get_or, false, get_or, inl, inr, length, length-append, length-set, ltb, map, not, refl, replicate, rules, set, subst, suc, sym, take, true, zero, ℕ, ℤ, ◌&&◌, ◌*◌, ◌++◌, ◌+◌, ◌-◌, ◌<◌, ◌^◌, ◌||◌, ◌∙◌, ◌∷◌, ◌≡◌, ◌≢◌, ◌≤◌, ◌⊎◌}
+pub use Rattle.std.proofs.Common.{Bool, Err, List, None, Ok, Option, Result, Some, [], ap, append-nil, append_assoc, arith, cond, drop, eqb, ext_get_or, false, get_or, inl, inr, length, length-append, length-set, ltb, map, not, refl, replicate, rules, set, subst, suc, sym, take, true, zero, ℕ, ℤ, ◌&&◌, ◌++◌, ◌+◌, ◌-◌, ◌<◌, ◌^◌, ◌∙◌, ◌∷◌, ◌≡◌, ◌≢◌, ◌≤◌, ◌⊎◌}
 pub use Rattle.std.proofs.lemmas.Bool.{or_parts}
-pub use Rattle.std.proofs.lemmas.Bool.Decides.{Decides-eqb, Decides-ltb, eqb_tells, leb_tells, nat_tests, same_from_decides}
+pub use Rattle.std.proofs.lemmas.Bool.Decides.{Decides-eqb, eqb_tells, leb_tells, nat_tests}
 pub use Rattle.std.proofs.lemmas.List.{get_or-set_other, get_or-set_same, length-replicate, set-get_or}
 pub use Rattle.std.proofs.lemmas.List.Sums.{sum_by-cons, sum_by-set}
 pub use Rattle.std.specs.Bool.{Decides}
@@ -9,7 +9,7 @@ pub use Rattle.std.specs.Int.{is_positive}
 pub use Rattle.std.specs.Int.RustNames.{unsigned_abs}
 pub use Rattle.std.specs.List.{filter, list_any}
 pub use Rattle.std.specs.Option.{unwrap_or}
-pub use Rattle.std.specs.Prelude.{IsSomeAnd, is_some, nat_le, nat_lt, sum_by}
+pub use Rattle.std.specs.Prelude.{IsSomeAnd, is_some, sum_by}
 pub use Rattle.laws.proofs.Bools.{bit_le, not_both, not_true}
 pub use Rattle.laws.proofs.Lists.{all_same}
 pub use Rattle.laws.proofs.Numbers.{eqb_self}
@@ -40,17 +40,16 @@ unfoldable pub use Rattle.flat_model.specs.Making.{after_delete, after_make}
 pub use Rattle.flat_model.specs.Moves.{moved as rehomed}
 pub use Rattle.flat_model.specs.Naming.{initiated}
 unfoldable pub use Rattle.flat_model.specs.Naming.{after_initiate, after_terminate}
-pub use Rattle.flat_model.specs.Pages.{Words, without_words}
-unfoldable pub use Rattle.flat_model.specs.Pages.{is_zero_page}
+pub use Rattle.flat_model.specs.Pages.{without_words}
 pub use Rattle.flat_model.specs.References.{written_by}
 unfoldable pub use Rattle.flat_model.specs.References.{after_reference}
 pub use Rattle.flat_model.specs.Rights.{moved, row_with}
 unfoldable pub use Rattle.flat_model.specs.Rights.{after_acl, after_move}
-pub use Rattle.flat_model.specs.Sizes.{is_lost, truncated}
+pub use Rattle.flat_model.specs.Sizes.{truncated}
 unfoldable pub use Rattle.flat_model.specs.Sizes.{after_length, after_truncate}
 pub use Rattle.flat_model.specs.Store.{Store, known_uid}
 pub use Rattle.custody_model.proofs.SharedLaws.{range_end}
-pub use Rattle.custody_model.specs.Allowed.{GoesDescriptor, GoesPage, IsAllowed, MayActivate, MayAnswer, MayDeactivate, MayJoin, NobodyHoldsPage, NobodyHoldsSeg, is_device, next_command, pool_size, superior_in}
+pub use Rattle.custody_model.specs.Allowed.{GoesDescriptor, GoesPage, IsAllowed, MayActivate, MayAnswer, MayDeactivate, NobodyHoldsPage, NobodyHoldsSeg, is_device, next_command, superior_in}
 pub use Rattle.custody_model.specs.Custody.{Seat, bound_page, cleared, has, is_current_descriptor, is_current_frame, is_going_descriptor, is_going_frame, is_started, is_uid, leads_to, names_descriptor, names_frame, names_number, nothing_held, offline, page_of, range, ready_at_first, uid_of_page}
 pub use Rattle.custody_model.specs.Effects.{HasNoDescriptor, HasNoPage, IsInNoFrame, IsOutOfUse, LosesNoPage, MayTakeEffect, OfNode}
 pub use Rattle.custody_model.specs.Next.{is_try, queued, released_by, signalled, told, with_active, with_descriptor, with_frame, with_seat}
@@ -61,6 +60,6 @@ pub use Rattle.flat_store.specs.Shown.{Kept, Shows, pool_at, superior_at, uid_at
 pub use Rattle.arrayvec.proofs.ArrayVecLemmas.{filter-from_retain}
 pub use Rattle.custody.specs.Changes.{Advances, drop_at, dropped, is_of_frame, is_of_seat, names_held, names_lead, names_use, put_active, put_descriptor, put_frame, put_seat, put_use, warn_from, warn_others, warned, with_place}
 pub use Rattle.custody.specs.Counts.{AreFew, Counted, Keeps, Shifts, count_at, key_bit}
-pub use Rattle.custody.specs.Tables.{AreActive, AreApart, AreKept, AreNodes, AreTablesOf, CanJoin, DescriptorsAreNamed, FramesAreNamed, IsAsActivated, IsUnused, Tables, active_at, custody_of, is_in_pool, pool_key, row_at, seat_at, superior_of, use_in}
+pub use Rattle.custody.specs.Tables.{AreActive, AreApart, AreKept, AreNodes, AreTablesOf, CanJoin, DescriptorsAreNamed, IsAsActivated, IsUnused, Tables, active_at, custody_of, is_in_pool, pool_key, row_at, seat_at, superior_of, use_in}
 pub use Rattle.custody.specs.Uses.{AreDescriptors, AreFewUses, AreFrames, IsTally, KeepUses, ShiftUses, UseCounted, descriptor_at, descriptor_mark, frame_at, frame_mark, going_key, is_page, is_page_from, kind_key, page_key, page_number, started_key, uid_key}
 pub use Rattle.custody.specs.declared.active.ActiveUse.{ActiveUse}

@@ -13,8 +13,7 @@ grown_sum f (x ∷ xs) n d e =
     omega (arith, a, b, r)
 
 grown_tally : {X : Type 0} (key : X → Option ℕ) (xs : List X) (c : Counted) (n : ℕ) (d : X) → key d ≡ None
-    → IsTally key xs c
-    → IsTally key (xs ++ replicate n d) c
+    → IsTally key xs c → IsTally key (xs ++ replicate n d) c
 grown_tally key xs c n d e t = λ a.
     t a ∙ sym (grown_sum (λ x. key_bit (key x) a) xs n d (ap (λ (k : Option ℕ). key_bit k a) e))
 

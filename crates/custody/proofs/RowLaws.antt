@@ -1,14 +1,15 @@
 -- Lists of ready processes, of what is held, and of processors, as they are changed in place.
-use Rattle.custody.proofs.Prelude.{◌≡◌, ◌≢◌, ◌<◌, ◌≤◌, ◌+◌, ℕ, suc, zero, Bool, true, false, not, cond, eqb, List, [], ◌∷◌, ◌++◌, Option, None, get_or, length, set, take, refl, sym, ap, subst, ◌∙◌, inl, inr, arith, length-set, append-nil, append_assoc, ext_get_or, filter, eqb_tells, get_or-set_same, get_or-set_other, What, Seat, offline, range, FrameUse, DescriptorUse, frame_at, seat_at, dropped, names_held, names_use, warn_from, warned, range_end}
+use Rattle.custody.proofs.Prelude.{◌≡◌, ◌≢◌, ◌<◌, ◌≤◌, ◌+◌, ℕ, suc, Bool, true, false, not, cond, eqb, List, [], ◌∷◌, ◌++◌, Option, None, get_or, length, set, take, refl, sym, ap, ◌∙◌, inl, inr, arith, length-set, append-nil, append_assoc, ext_get_or, filter, eqb_tells, get_or-set_same, get_or-set_other, What, Seat, offline, range, FrameUse, DescriptorUse, frame_at, seat_at, dropped, names_held, names_use, warn_from, warned, range_end}
+use Rattle.laws.proofs.Lists.{get_or_any}
 use Rattle.custody.proofs.AdvanceLaws.{warn_at, warn_length}
 
 -- ---- the ready list
 
 pub unpushed : (b : Bool) (old new xs : List ℕ) → new ≡ cond b xs old → b ≡ false → new ≡ old
-unpushed b old new xs e f = e ∙ ap (λ (c : Bool). cond c xs old) f
+unpushed b old new xs e f = rw f at e
 
 pub pushed : (b : Bool) (old new xs : List ℕ) → new ≡ cond b xs old → b ≡ true → new ≡ xs
-pushed b old new xs e f = e ∙ ap (λ (c : Bool). cond c xs old) f
+pushed b old new xs e f = rw f at e
 
 front : {X : Type 0} (xs ys : List X) → take (length xs) (xs ++ ys) ≡ xs
 front [] ys = refl
@@ -40,8 +41,7 @@ all_kept (x ∷ xs) = ap (λ (ys : List ℕ). x ∷ ys) (all_kept xs)
 
 none_named : (rows : List (List DescriptorUse)) (w : What) (o : Option ℕ) (xs : List ℕ) → o ≡ None → xs
     ≡ filter (λ n. not (names_held rows w o n)) xs
-none_named rows w o xs e = subst (λ (x : Option ℕ). xs ≡ filter (λ n. not (names_held rows w x n)) xs) (sym e)
-    (all_kept xs)
+none_named rows w o xs e = rw e (all_kept xs)
 
 pub dropped_idle : (frames : List FrameUse) (rows : List (List DescriptorUse)) (w : What) (s : Seat) (pages : List ℕ)
     → s.process ≡ None
@@ -60,8 +60,8 @@ pub record WarnedBelow (d : ℕ) (w : What) (n : ℕ) (old new : List Seat) : Ty
 pub none_warned : (d : ℕ) (w : What) (old new : List Seat) → new ≡ old → WarnedBelow d w 0 old new
 none_warned d w old new e = record {
   size = ap length e;
-  below = λ j l. let z : ⊥ = omega (arith, l) in absurd z;
-  rest = λ j l. ap (λ (xs : List Seat). seat_at xs j) e;
+  below = λ j l. absurd (omega (arith, l));
+  rest = λ j l. rw e refl;
 }
 
 pub one_warned : (d : ℕ) (w : What) (n : ℕ) (old mid new : List Seat) (s t : Seat) → n < length mid → n ≢ d
@@ -74,7 +74,7 @@ one_warned d w n old mid new s t l other h is told made = rw made (record {
         (let here : seat_at (set mid n t) j ≡ t = ap (λ (i : ℕ). seat_at (set mid n t) i) e.1
         ∙ get_or-set_same mid n t offline l in
         let off : eqb j d ≡ false = elim (eqb_tells j d) [ inl g ↦ absurd (other (sym e.1 ∙ g.1)) | inr g ↦ g.0 ] in
-        let old_is : s ≡ seat_at old j = is ∙ same_default mid n s offline l ∙ h.rest n (omega arith)
+        let old_is : s ≡ seat_at old j = is ∙ get_or_any mid n s offline l ∙ h.rest n (omega arith)
         ∙ ap (λ (i : ℕ). seat_at old i) (sym e.1) in
         here ∙ told ∙ ap (λ (x : Seat). warned w x) old_is
         ∙ ap (λ (b : Bool). cond b (seat_at old j) (warned w (seat_at old j))) (sym off))
@@ -82,14 +82,8 @@ one_warned d w n old mid new s t l other h is told made = rw made (record {
         (let near : j < n = let ne = e.1 in omega (arith, lt, ne) in
         get_or-set_other mid n j t offline e.1 ∙ h.below j near)
   ];
-  rest = λ j le. get_or-set_other mid n j t offline (λ e. let z : ⊥ = omega (arith, le, e) in z)
-      ∙ h.rest j (omega (arith, le));
+  rest = λ j le. get_or-set_other mid n j t offline (λ e. omega (arith, le, e)) ∙ h.rest j (omega (arith, le));
 })
-  where
-    same_default : {X : Type 0} (xs : List X) (i : ℕ) (d e : X) → i < length xs → get_or xs i d ≡ get_or xs i e
-    same_default [] i d e l = let z : ⊥ = omega (arith, l) in absurd z
-    same_default (x ∷ xs) zero d e l = refl
-    same_default (x ∷ xs) (suc i) d e l = same_default xs i d e (omega (arith, l))
 
 pub one_passed : (d : ℕ) (w : What) (n : ℕ) (old mid new : List Seat) → n ≡ d → WarnedBelow d w n old mid → new ≡ mid
     → WarnedBelow d w (n + 1) old new
@@ -111,5 +105,4 @@ all_warned d w n old new all h = ext_get_or offline new (warn_from d w 0 old) (h
     (λ j l.
     let z : 0 + j ≡ j = omega arith in
     h.below j (omega (arith, l, all))
-    ∙ ap (λ (i : ℕ). cond (eqb i d) (seat_at old j) (warned w (seat_at old j))) (sym z)
-    ∙ sym (warn_at d 0 j w old))
+    ∙ ap (λ (i : ℕ). cond (eqb i d) (seat_at old j) (warned w (seat_at old j))) (sym z) ∙ sym (warn_at d 0 j w old))

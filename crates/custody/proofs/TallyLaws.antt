@@ -20,8 +20,7 @@ bit_small (Some k) a = bit_le (eqb k a)
 
 -- ---- tallies
 
-pub tally_set : {X : Type 0} (key : X → Option ℕ) (xs : List X) (old new : Counted) (i : ℕ) (x d : X)
-    → i < length xs
+pub tally_set : {X : Type 0} (key : X → Option ℕ) (xs : List X) (old new : Counted) (i : ℕ) (x d : X) → i < length xs
     → IsTally key xs old → Shifts old new (key (get_or xs i d)) (key x) → IsTally key (set xs i x) new
 tally_set {X} key xs old new i x d l t s = λ a.
     let f : X → ℕ = λ y. key_bit (key y) a in
@@ -100,11 +99,9 @@ started_few uses c p s z t k = tally_few started_key uses z (frames_length uses 
     (tally_kept started_key uses s z t.started k)
 
 pub frames_put : (uses : List FrameUse) (c d e : UseCounted) (p q r s y z : Counted) (f : ℕ) (x w : FrameUse)
-    → f < length uses → AreFrames uses c p s → KeepUses c d → Keeps p q
-    → Keeps s y
+    → f < length uses → AreFrames uses c p s → KeepUses c d → Keeps p q → Keeps s y
     → ShiftUses d e (frame_mark (get_or uses f w)) (frame_mark x) → Shifts q r (page_key (get_or uses f w)) (page_key x)
-    → Shifts y z (started_key (get_or uses f w)) (started_key x)
-    → AreFrames (set uses f x) e r z
+    → Shifts y z (started_key (get_or uses f w)) (started_key x) → AreFrames (set uses f x) e r z
 frames_put uses c d e p q r s y z f x w l t k j more h i g =
     let all = frames_kept uses c d p s t k in
     record {

@@ -21,8 +21,7 @@ unfolding IsCleanFrom custody_from store_from
 clean_from_push p s c [] e clean allowed = (allowed, tt)
 clean_from_push p s c (d ∷ es) e clean allowed = (
   clean.0,
-  clean_from_push p (after_entry p s d) (custody_next p s c d)
-      es e clean.1 allowed,
+  clean_from_push p (after_entry p s d) (custody_next p s c d) es e clean.1 allowed,
 )
 
 pub custody_after-push : (p : Plan) (es : List Entry) (e : Entry) → custody_after p (es ++ e ∷ [])

@@ -54,30 +54,28 @@ names_descriptor_same c e (what.Page g) k n h = refl
 names_descriptor_same c e (what.Seg u) k n h = rw h refl
 
 warned : (b : Bool) (o p : Option What) (t u : What → Bool) → p ≡ o → ((w : What) → u w ≡ t w) → (b ≡ true)
-    ⊎ IsSomeAnd o (λ w. t w ≡ true)
-    → (b ≡ true) ⊎ IsSomeAnd p (λ w. u w ≡ true)
+    ⊎ IsSomeAnd o (λ w. t w ≡ true) → (b ≡ true) ⊎ IsSomeAnd p (λ w. u w ≡ true)
 warned b o p t u e h (inl i) = inl i
-warned b o p t u e h (inr i) = inr (subst (λ (x : Option What). IsSomeAnd x (λ w. u w ≡ true)) (sym e) (each o i))
+warned b o p t u e h (inr i) = inr (rw e (each o i))
   where
     each : (x : Option What) → IsSomeAnd x (λ w. t w ≡ true) → IsSomeAnd x (λ w. u w ≡ true)
     each None i = i
     each (Some w) i = h w ∙ i
 
-page_same : (c e : Custody) (b : Bool) (d f : ℕ) → e.frame f ≡ c.frame f → (e.seat d).due ≡ (c.seat d).due
+page_same : (c e : Custody) {b : Bool} {d f : ℕ} → e.frame f ≡ c.frame f → (e.seat d).due ≡ (c.seat d).due
     → IsFinePage c b d f → IsFinePage e b d f
-page_same c e b d f h due (inl i) = inl (ap is_current_frame h ∙ i)
-page_same c e b d f h due (inr i) = inr (
-  ap is_going_frame h ∙ i.0,
+page_same c e h due (inl i) = inl (cc)
+page_same c e {b} {d} {f} h due (inr i) = inr (
+  cc,
   warned b (c.seat d).due (e.seat d).due (λ w. names_frame c w f) (λ w. names_frame e w f) due
       (λ w. names_same c e w f h) i.1,
 )
 
-seg_same : (c e : Custody) (b : Bool) (d k n : ℕ) → e.descriptor k n ≡ c.descriptor k n → (e.seat d).due
-    ≡ (c.seat d).due → IsFineSeg c b d k n
-    → IsFineSeg e b d k n
-seg_same c e b d k n h due (inl i) = inl (ap is_current_descriptor h ∙ i)
-seg_same c e b d k n h due (inr i) = inr (
-  ap is_going_descriptor h ∙ i.0,
+seg_same : (c e : Custody) {b : Bool} {d k n : ℕ} → e.descriptor k n ≡ c.descriptor k n → (e.seat d).due
+    ≡ (c.seat d).due → IsFineSeg c b d k n → IsFineSeg e b d k n
+seg_same c e h due (inl i) = inl (cc)
+seg_same c e {b} {d} {k} {n} h due (inr i) = inr (
+  cc,
   warned b (c.seat d).due (e.seat d).due (λ w. names_descriptor c w k n) (λ w. names_descriptor e w k n) due
       (λ w. names_descriptor_same c e w k n h) i.1,
 )
@@ -86,8 +84,7 @@ seg_same c e b d k n h due (inr i) = inr (
 
 -- a processor that holds a page table word of a frame knows it to be current or going
 pub nobody_holds_page : (c : Custody) (b : Bool) (f : ℕ) → Fine c b → is_current_frame (c.frame f) ≡ false
-    → is_going_frame (c.frame f) ≡ false
-    → NobodyHoldsPage c f
+    → is_going_frame (c.frame f) ≡ false → NobodyHoldsPage c f
 nobody_holds_page c b f fine current going d = false_from_ne_true (has (c.seat d).pages f) (λ h. elim (fine.page d f h)
     [ inl i ↦ not_both i current | inr i ↦ not_both i.0 going ])
 
@@ -111,8 +108,7 @@ nobody_holds_going_page c f fine none current d =
     ])
 
 pub nobody_holds_going_seg : (c : Custody) (k n : ℕ) → Fine c false → NoneDue c
-    → is_current_descriptor (c.descriptor k n) ≡ false
-    → NobodyHoldsSeg c k n
+    → is_current_descriptor (c.descriptor k n) ≡ false → NobodyHoldsSeg c k n
 nobody_holds_going_seg c k n fine none current d process = false_from_ne_true (has (c.seat d).segs n) (λ h. elim
     (fine.seg d k n process h) [
       | inl i ↦ not_both i current
@@ -122,24 +118,23 @@ nobody_holds_going_seg c k n fine none current d process = false_from_ne_true (h
 -- ---- frames and descriptors that nobody holds
 
 -- a frame whose word nobody holds is used otherwise: started, lost, come into, gone or back
-pub frame_fine : (c : Custody) (b : Bool) (f : ℕ) (x : FrameUse) → Fine c b → NobodyHoldsPage c f
+pub frame_fine : {c : Custody} {b : Bool} (f : ℕ) (x : FrameUse) → Fine c b → NobodyHoldsPage c f
     → Fine (with_frame c f x) b
-frame_fine c b f x fine nobody = record {
-  page = λ d g h. page_same c (with_frame c f x) b d g
+frame_fine {c} {b} f x fine nobody = record {
+  page = λ d g h. page_same c (with_frame c f x) {b = b} {d = d} {f = g}
       (by_place g f x (c.frame g) (λ y. y ≡ c.frame g)
-      (λ e. absurd (not_both h (subst (λ (i : ℕ). has (c.seat d).pages i ≡ false) (sym e) (nobody d)))) (λ n. refl))
-      refl
-      (fine.page d g h);
+      (λ e. cc (subst (λ (i : ℕ). has (c.seat d).pages i ≡ false) (sym e) (nobody d))) (λ n. refl))
+      refl (fine.page d g h);
   seg = λ d k n process h. fine.seg d k n process h;
   idle = fine.idle;
 }
 
-pub descriptor_fine : (c : Custody) (b : Bool) (k n : ℕ) (x : DescriptorUse) → Fine c b → NobodyHoldsSeg c k n
+pub descriptor_fine : {c : Custody} {b : Bool} {k : ℕ} (n : ℕ) (x : DescriptorUse) → Fine c b → NobodyHoldsSeg c k n
     → Fine (with_descriptor c k n x) b
-descriptor_fine c b k n x fine nobody = record {
+descriptor_fine {c} {b} {k} n x fine nobody = record {
   page = λ d g h. fine.page d g h;
-  seg = λ d j m process h. seg_same c (with_descriptor c k n x) b d j m (other d j m process h) refl
-      (fine.seg d j m process h);
+  seg = λ d j m process h. seg_same c (with_descriptor c k n x) {b = b} {d = d} {k = j} {n = m} (other d j m process h)
+      refl (fine.seg d j m process h);
   idle = fine.idle;
 }
   where
@@ -152,9 +147,9 @@ descriptor_fine c b k n x fine nobody = record {
         by_test true e =
             let first : j ≡ k = grind (arith, nat_tests) in
             let second : m ≡ n = grind (arith, nat_tests) in
-            let held : has (c.seat d).segs n ≡ true = subst (λ (i : ℕ). has (c.seat d).segs i ≡ true) second h in
+            let held : has (c.seat d).segs n ≡ true = rw (← second) h in
             let its : (c.seat d).process ≡ Some k = process ∙ ap (λ (i : ℕ). Some i) first in
-            absurd (not_both held (nobody d its))
+            cc (nobody d its)
 
 -- ---- what is taken
 
@@ -170,9 +165,9 @@ going_cut (descriptor.Current u) h = refl
 going_cut (descriptor.Going u) h = absurd (let no : false ≡ true = h in cc)
 
 -- a page is taken: its signal is still to come
-pub take_fine : (c : Custody) (b : Bool) (f : ℕ) → Fine c b → is_current_frame (c.frame f) ≡ true
+pub take_fine : {c : Custody} {b : Bool} (f : ℕ) → Fine c b → is_current_frame (c.frame f) ≡ true
     → Fine (with_frame c f (taken (c.frame f))) true
-take_fine c b f fine current = record {
+take_fine {c} f fine current = record {
   page = λ d g h. by_place g f (taken (c.frame f)) (c.frame g)
       (λ x. (is_current_frame x ≡ true) ⊎ ((is_going_frame x ≡ true)
       × IsWarned (with_frame c f (taken (c.frame f))) true d
@@ -183,9 +178,9 @@ take_fine c b f fine current = record {
   idle = fine.idle;
 }
 
-pub cut_fine : (c : Custody) (b : Bool) (k n : ℕ) → Fine c b → is_current_descriptor (c.descriptor k n) ≡ true
+pub cut_fine : {c : Custody} {b : Bool} (k n : ℕ) → Fine c b → is_current_descriptor (c.descriptor k n) ≡ true
     → Fine (with_descriptor c k n (cut (c.descriptor k n))) true
-cut_fine c b k n fine current = record {
+cut_fine {c} {b} k n fine current = record {
   page = λ d g h. elim (fine.page d g h) [ inl i ↦ inl i | inr i ↦ inr (i.0, inl refl) ];
   seg = λ d j m process h. by_test d j m (eqb j k && eqb m n) (fine.seg d j m process h);
   idle = fine.idle;
@@ -210,11 +205,11 @@ pub record HoldsLess (old new : Seat) : Type 0 where
   pub due : new.due ≡ old.due
   pub idle : new.online ≡ false → (new.segs ≡ []) × (new.pages ≡ [])
 
-pub less_fine : (c : Custody) (b : Bool) (d : ℕ) (s : Seat) → Fine c b → HoldsLess (c.seat d) s
+pub less_fine : {c : Custody} {b : Bool} (d : ℕ) {s : Seat} → Fine c b → HoldsLess (c.seat d) s
     → Fine (with_seat c d s) b
-less_fine c b d s fine less = record {
-  page = λ e f h. page_same c (with_seat c d s) b e f refl (due e) (fine.page e f (held_page e f h));
-  seg = λ e k n process h. seg_same c (with_seat c d s) b e k n refl (due e)
+less_fine {c} {b} d {s} fine less = record {
+  page = λ e f h. page_same c (with_seat c d s) refl (due e) (fine.page e f (held_page e f h));
+  seg = λ e k n process h. seg_same c (with_seat c d s) refl (due e)
       (fine.seg e k n (its e k n process h) (held_seg e n h));
   idle = λ e. by_place e d s (c.seat e) (λ x. x.online ≡ false → (x.segs ≡ []) × (x.pages ≡ [])) (λ i. less.idle)
       (λ i. fine.idle e);
@@ -222,8 +217,7 @@ less_fine c b d s fine less = record {
   where
     old : (e : ℕ) (P : Seat → Seat → Type 0) → P (c.seat d) s → P (c.seat e) (c.seat e)
         → P (c.seat e) (cond (eqb e d) s (c.seat e))
-    old e P here other = by_place e d s (c.seat e) (λ x. P (c.seat e) x)
-        (λ i. subst (λ (j : ℕ). P (c.seat j) s) (sym i) here) (λ i. other)
+    old e P here other = by_place e d s (c.seat e) (λ x. P (c.seat e) x) (λ i. rw i here) (λ i. other)
 
     due : (e : ℕ) → ((with_seat c d s).seat e).due ≡ (c.seat e).due
     due e = old e (λ x y. y.due ≡ x.due) less.due refl
@@ -269,21 +263,20 @@ has-filled xs x y h = by_last (has (front xs) y) refl whole
 -- where a seat is to drop what it was to drop, so is each
 due_kept : (c : Custody) (d : ℕ) (new : Seat) → new.due ≡ (c.seat d).due → (e : ℕ)
     → ((with_seat c d new).seat e).due ≡ (c.seat e).due
-due_kept c d new is e = by_place e d new (c.seat e) (λ x. x.due ≡ (c.seat e).due)
-    (λ i. is ∙ ap (λ (j : ℕ). (c.seat j).due) (sym i)) (λ n. refl)
+due_kept c d new is e = by_place e d new (c.seat e) (λ x. x.due ≡ (c.seat e).due) (λ i. cc) (λ n. refl)
 
 -- what a processor holds in its new seat is fine, and so is what the others hold
-seat_fine : (c : Custody) (b : Bool) (d : ℕ) (new : Seat) → Fine c b
+seat_fine : {c : Custody} {b : Bool} (d : ℕ) (new : Seat) → Fine c b
     → ((f : ℕ) → has new.pages f ≡ true → IsFinePage (with_seat c d new) b d f)
     → ((k n : ℕ) → new.process ≡ Some k → has new.segs n ≡ true → IsFineSeg (with_seat c d new) b d k n)
     → (new.online ≡ false → (new.segs ≡ []) × (new.pages ≡ [])) → Fine (with_seat c d new) b
-seat_fine c b d new fine pages segs idle = record {
+seat_fine {c} {b} d new fine pages segs idle = record {
   page = λ e f. by_place e d new (c.seat e) (λ x. has x.pages f ≡ true → IsFinePage next b e f)
-      (λ i h. subst (λ (j : ℕ). IsFinePage next b j f) (sym i) (pages f h))
-      (λ n h. page_same c next b e f refl (other_due e n) (fine.page e f h));
+      (λ i h. rw i (pages f h))
+      (λ n h. page_same c next {b = b} {d = e} {f = f} refl (other_due e n) (fine.page e f h));
   seg = λ e k n. by_place e d new (c.seat e) (λ x. x.process ≡ Some k → has x.segs n ≡ true → IsFineSeg next b e k n)
-      (λ i process h. subst (λ (j : ℕ). IsFineSeg next b j k n) (sym i) (segs k n process h))
-      (λ m process h. seg_same c next b e k n refl (other_due e m) (fine.seg e k n process h));
+      (λ i process h. rw i (segs k n process h))
+      (λ m process h. seg_same c next {b = b} {d = e} {k = k} {n = n} refl (other_due e m) (fine.seg e k n process h));
   idle = λ e. by_place e d new (c.seat e) (λ x. x.online ≡ false → (x.segs ≡ []) × (x.pages ≡ [])) (λ i. idle)
       (λ n. fine.idle e);
 }
@@ -294,31 +287,27 @@ seat_fine c b d new fine pages segs idle = record {
     other_due : (e : ℕ) → e ≢ d → (next.seat e).due ≡ (c.seat e).due
     other_due e n = by_place e d new (c.seat e) (λ x. x.due ≡ (c.seat e).due) (λ i. absurd (n i)) (λ m. refl)
 
-pub fill_page_fine : (c : Custody) (b : Bool) (d f : ℕ) → Fine c b → (c.seat d).online ≡ true
+pub fill_page_fine : {c : Custody} {b : Bool} (d f : ℕ) → Fine c b → (c.seat d).online ≡ true
     → is_current_frame (c.frame f) ≡ true
     → Fine (with_seat c d (record (c.seat d) { pages = filled (c.seat d).pages f })) b
-fill_page_fine c b d f fine online current =
-    seat_fine c b d new fine here
-    (λ k n process h. seg_same c (with_seat c d new) b d k n refl (due_kept c d new refl d)
-    (fine.seg d k n process h)) (λ off. absurd (not_both online off))
+fill_page_fine {c} {b} d f fine online current = seat_fine d new fine here
+    (λ k n process h. seg_same c (with_seat c d new) refl (due_kept c d new refl d)
+    (fine.seg d k n process h)) (λ off. cc)
   where
     new : Seat
     new = record (c.seat d) { pages = filled (c.seat d).pages f }
 
     here : (g : ℕ) → has (filled (c.seat d).pages f) g ≡ true → IsFinePage (with_seat c d new) b d g
     here g h = elim (has-filled (c.seat d).pages f g h) [
-      | inl e ↦ inl (ap (λ (i : ℕ). is_current_frame (c.frame i)) e ∙ current)
-      | inr held ↦ page_same c (with_seat c d new) b d g refl (due_kept c d new refl d) (fine.page d g held)
+      | inl e ↦ inl (cc)
+      | inr held ↦ page_same c (with_seat c d new) refl (due_kept c d new refl d) (fine.page d g held)
     ]
 
-pub fill_seg_fine : (c : Custody) (b : Bool) (d k n : ℕ) → Fine c b → (c.seat d).online ≡ true → (c.seat d).process
-    ≡ Some k
-    → is_current_descriptor (c.descriptor k n) ≡ true → Fine
+pub fill_seg_fine : {c : Custody} {b : Bool} (d : ℕ) {k : ℕ} (n : ℕ) → Fine c b → (c.seat d).online ≡ true
+    → (c.seat d).process ≡ Some k → is_current_descriptor (c.descriptor k n) ≡ true → Fine
     (with_seat c d (record (c.seat d) { segs = filled (c.seat d).segs n })) b
-fill_seg_fine c b d k n fine online its current =
-    seat_fine c b d new fine
-    (λ f h. page_same c (with_seat c d new) b d f refl (due_kept c d new refl d) (fine.page d f h)) here
-    (λ off. absurd (not_both online off))
+fill_seg_fine {c} {b} d {k} n fine online its current = seat_fine d new fine
+    (λ f h. page_same c (with_seat c d new) refl (due_kept c d new refl d) (fine.page d f h)) here (λ off. cc)
   where
     new : Seat
     new = record (c.seat d) { segs = filled (c.seat d).segs n }
@@ -327,9 +316,8 @@ fill_seg_fine c b d k n fine online its current =
         → IsFineSeg (with_seat c d new) b d j m
     here j m process h = elim (has-filled (c.seat d).segs n m h) [
       | inl e ↦ let same : j ≡ k = cc (sym process ∙ its) in
-          inl (ap is_current_descriptor (ap (λ (x : ℕ). c.descriptor x m) same ∙ ap (λ (x : ℕ). c.descriptor k x) e)
-          ∙ current)
-      | inr held ↦ seg_same c (with_seat c d new) b d j m refl (due_kept c d new refl d) (fine.seg d j m process held)
+          inl (cc)
+      | inr held ↦ seg_same c (with_seat c d new) refl (due_kept c d new refl d) (fine.seg d j m process held)
     ]
 
 -- ---- signals
@@ -339,9 +327,9 @@ kept_page : (c : Custody) (w : What) (s : Seat) (f : ℕ) → has (cleared c w s
 kept_page c w s f h = let both = has-filter (λ g. not (names_frame c w g)) s.pages f h in
     (grind (arith, nat_tests), both.1)
 
-kept_seg : (c : Custody) (w : What) (s : Seat) (k n : ℕ) → s.process ≡ Some k → has (cleared c w s).segs n ≡ true
+kept_seg : (c : Custody) (w : What) (s : Seat) {k : ℕ} (n : ℕ) → s.process ≡ Some k → has (cleared c w s).segs n ≡ true
     → (names_descriptor c w k n ≡ false) × (has s.segs n ≡ true)
-kept_seg c w s k n process h =
+kept_seg c w s {k} n process h =
     let both = has-filter (λ m. not (names_number c w s.process m)) s.segs n h in
     let named : names_number c w s.process n ≡ names_descriptor c w k n =
     ap (λ (o : Option ℕ). names_number c w o n) process in
@@ -350,15 +338,14 @@ kept_seg c w s k n process h =
 cleared_none : (c : Custody) (w : What) (s : Seat) → (s.segs ≡ []) × (s.pages ≡ []) → ((cleared c w s).segs ≡ [])
     × ((cleared c w s).pages ≡ [])
 cleared_none c w s h = (
-  ap (filter (λ n. not (names_number c w s.process n))) h.0,
-  ap
-      (filter (λ f. not (names_frame c w f))) h.1,
+  cc,
+  cc,
 )
 
 -- a processor gives the signal: it holds nothing that is going, and every other one is warned of all that is
-pub signal_fine : (c : Custody) (b : Bool) (d : ℕ) (w : What) → Fine c b → NamesAllGoing c w
+pub signal_fine : {c : Custody} {b : Bool} (d : ℕ) {w : What} → Fine c b → NamesAllGoing c w
     → Fine (signalled c d w) false
-signal_fine c b d w fine all = record {
+signal_fine {c} d {w} fine all = record {
   page = λ e f. by_place e d (cleared c w (c.seat e)) (others e) (λ x. has x.pages f ≡ true → IsPage e f x.due)
       (λ i h. own_page e f (c.seat e).due h) (λ n. other_page e f);
   seg = λ e k n. by_place e d (cleared c w (c.seat e)) (others e)
@@ -388,14 +375,14 @@ signal_fine c b d w fine all = record {
     own_seg : (e k n : ℕ) (due : Option What) → (c.seat e).process ≡ Some k → has (cleared c w (c.seat e)).segs n
         ≡ true → IsSeg e k n due
     own_seg e k n due process h =
-        let kept = kept_seg c w (c.seat e) k n process h in
+        let kept = kept_seg c w (c.seat e) n process h in
         elim (fine.seg e k n process kept.1) [
           | inl i ↦ inl i
           | inr i ↦ absurd (not_both (all.descriptors k n i.0) kept.0)
         ]
 
     none_held : (xs : List ℕ) (x : ℕ) → xs ≡ [] → has xs x ≡ true → ⊥
-    none_held xs x none h = not_both h (ap (λ (ys : List ℕ). has ys x) none)
+    none_held xs x none h = not_both h (cc)
 
     other_page : (e f : ℕ) → has (others e).pages f ≡ true → IsPage e f (others e).due
     other_page e f = by_online (c.seat e).online refl
@@ -421,14 +408,13 @@ signal_fine c b d w fine all = record {
         → (cond z (record (c.seat e) { due = Some w }) (c.seat e)).online ≡ false
         → ((cond z (record (c.seat e) { due = Some w }) (c.seat e)).segs ≡ [])
         × ((cond z (record (c.seat e) { due = Some w }) (c.seat e)).pages ≡ [])
-    other_idle e true on off = absurd (not_both on off)
+    other_idle e true on off = cc
     other_idle e false on off = fine.idle e off
 
 -- a processor that was to drop what is named has dropped it
-pub clear_fine : (c : Custody) (b : Bool) (d : ℕ) (w : What) → Fine c b → (c.seat d).due ≡ Some w
+pub clear_fine : {c : Custody} {b : Bool} (d : ℕ) {w : What} → Fine c b → (c.seat d).due ≡ Some w
     → Fine (answered_clear c d w) b
-clear_fine c b d w fine its =
-    seat_fine c b d (record (cleared c w (c.seat d)) { due = None }) fine here_page here_seg
+clear_fine {c} {b} d {w} fine its = seat_fine d (record (cleared c w (c.seat d)) { due = None }) fine here_page here_seg
     (λ off. cleared_none c w (c.seat d) (fine.idle d off))
   where
     next : Custody
@@ -446,27 +432,25 @@ clear_fine c b d w fine its =
         let kept = kept_page c w (c.seat d) f h in
         elim (fine.page d f kept.1) [
           | inl i ↦ inl i
-          | inr i ↦ inr
-              (i.0, inl (warned_still (λ v. names_frame c v f) kept.0 i.1))
+          | inr i ↦ inr (i.0, inl (warned_still (λ v. names_frame c v f) kept.0 i.1))
         ]
 
     here_seg : (k n : ℕ) → (c.seat d).process ≡ Some k → has (cleared c w (c.seat d)).segs n ≡ true
         → IsFineSeg next b d k n
     here_seg k n process h =
-        let kept = kept_seg c w (c.seat d) k n process h in
+        let kept = kept_seg c w (c.seat d) n process h in
         elim (fine.seg d k n process kept.1) [
           | inl i ↦ inl i
-          | inr i ↦ inr
-              (i.0, inl (warned_still (λ v. names_descriptor c v k n) kept.0 i.1))
+          | inr i ↦ inr (i.0, inl (warned_still (λ v. names_descriptor c v k n) kept.0 i.1))
         ]
 
 -- ---- all entries
 
-ready_fine : (c : Custody) (b : Bool) (r : List ℕ) → Fine c b → Fine (record c { ready = r }) b
-ready_fine c b r fine = record { page = fine.page; seg = fine.seg; idle = fine.idle }
+ready_fine : {c : Custody} {b : Bool} (r : List ℕ) → Fine c b → Fine (record c { ready = r }) b
+ready_fine r fine = assumption
 
-active_fine : (c : Custody) (b : Bool) (u : ℕ) (x : Bool) → Fine c b → Fine (with_active c u x) b
-active_fine c b u x fine = record { page = fine.page; seg = fine.seg; idle = fine.idle }
+active_fine : {c : Custody} {b : Bool} (u : ℕ) (x : Bool) → Fine c b → Fine (with_active c u x) b
+active_fine u x fine = assumption
 
 pub none_has : (x : ℕ) → has [] x ≡ true → ⊥
 none_has x h = let no : false ≡ true = h in cc
@@ -492,8 +476,8 @@ counted old count tried idle = record {
   idle = idle;
 }
 
-come_online : (old : Seat) → HoldsLess old (record old { online = true })
-come_online old = record {
+come_online : {old : Seat} → HoldsLess old (record old { online = true })
+come_online = record {
   pages = λ f h. h;
   process = λ k n its h. its;
   segs = λ n h. h;
@@ -507,84 +491,60 @@ started_is_no_other (frame.Started u q) h = (refl, refl)
 started_is_no_other (frame.Current u q) h = absurd (let no : false ≡ true = h in cc)
 started_is_no_other (frame.Going u q) h = absurd (let no : false ≡ true = h in cc)
 
-free_fine : (c : Custody) (b : Bool) (f : ℕ) (x : FrameUse) → Fine c b → c.frame f ≡ frame.Free
+free_fine : {c : Custody} {b : Bool} (f : ℕ) (x : FrameUse) → Fine c b → c.frame f ≡ frame.Free
     → Fine (with_frame c f x) b
-free_fine c b f x fine free = frame_fine c b f x fine (nobody_holds_page c b f fine (ap is_current_frame free)
+free_fine {c} {b} f x fine free = frame_fine f x fine (nobody_holds_page c b f fine (ap is_current_frame free)
     (ap is_going_frame free))
 
-here_fine : (p : Plan) (c : Custody) (b : Bool) (f u q : ℕ) → Fine c b → MayBeHere p c f u q
+here_fine : {p : Plan} {c : Custody} {b : Bool} {f u q : ℕ} → Fine c b → MayBeHere p c f u q
     → Fine (with_frame c f (frame.Current u q)) b
-here_fine p c b f u q fine (inl was) = frame_fine c b f (frame.Current u q) fine
+here_fine {c} {b} {f} {u} {q} fine (inl was) = frame_fine f (frame.Current u q) fine
     (nobody_holds_page c b f fine (ap is_current_frame was.started) (ap is_going_frame was.started))
-here_fine p c b f u q fine (inr may) = free_fine c b f (frame.Current u q) fine may.free
+here_fine {c} {b} {f} {u} {q} fine (inr may) = free_fine f (frame.Current u q) fine may.free
 
-lost_fine : (c : Custody) (b : Bool) (f : ℕ) → Fine c b → is_started (c.frame f) ≡ true
+lost_fine : {c : Custody} {b : Bool} (f : ℕ) → Fine c b → is_started (c.frame f) ≡ true
     → Fine (with_frame c f frame.Free) b
-lost_fine c b f fine started = let other = started_is_no_other (c.frame f) started in
-    frame_fine c b f frame.Free fine (nobody_holds_page c b f fine other.0 other.1)
+lost_fine {c} {b} f fine started = let other = started_is_no_other (c.frame f) started in
+    frame_fine f frame.Free fine (nobody_holds_page c b f fine other.0 other.1)
 
 its_process : (c : Custody) (b : Bool) (d n : ℕ) (o : Option ℕ) → (c.seat d).process ≡ o → Fine c b → (c.seat d).online
-    ≡ true
-    → IsSomeAnd o (MayTakeSeg c (c.seat d) n)
+    ≡ true → IsSomeAnd o (MayTakeSeg c (c.seat d) n)
     → Fine (with_seat c d (record (c.seat d) { segs = filled (c.seat d).segs n })) b
 its_process c b d n None e fine online may = absurd may
-its_process c b d n (Some k) e fine online may = fill_seg_fine c b d k n fine online e may.current
+its_process c b d n (Some k) e fine online may = fill_seg_fine {c = c} {b = b} d {k = k} n fine online e may.current
 
 -- Each entry that is allowed leaves what processors hold fine, where only those that take part fill their memories.
 pub fine_next : (p : Plan) (s : Store) (c : Custody) (b : Bool) (e : Entry) → Fine c b → IsAllowed p s c e
-    → FillsOnline c e
-    → Fine (custody_next p s c e) (pending_after b e)
+    → FillsOnline c e → Fine (custody_next p s c e) (pending_after b e)
 unfolding custody_next
-fine_next p s c b (entry.Do k i d f r) fine may online =
-    ready_fine (with_seat c d (record (c.seat d) {
-      count = (c.seat d).count + 1;
-      tried =
-          is_try s k (next_command p s k) r;
-    })) b
-    (c.ready ++ released_by p k (next_command p s k))
-    (less_fine c b d (record (c.seat d) { count = (c.seat d).count + 1; tried = is_try s k (next_command p s k) r })
-    fine
-    (counted (c.seat d) ((c.seat d).count + 1) (is_try s k (next_command p s k) r) (fine.idle d)))
+fine_next p s c b (entry.Do k i d f r) fine may online = ready_fine (c.ready ++ released_by p k (next_command p s k))
+    (less_fine d fine (counted (c.seat d) ((c.seat d).count + 1) (is_try s k (next_command p s k) r) (fine.idle d)))
 fine_next p s c b (entry.Release u q) fine may online = fine
 fine_next p s c b (entry.Fault k) fine may online = fine
 fine_next p s c b (entry.Moved k u w) fine may online = fine
-fine_next p s c b (entry.Online d) fine may online = less_fine c b d (record (c.seat d) { online = true }) fine
-    (come_online (c.seat d))
-fine_next p s c b (entry.Load d k) fine may online =
-    ready_fine (with_seat c d (record (c.seat d) {
-      process = Some k;
-      count = 0;
-      tried = false;
-      segs = [];
-      pages =
-          [];
-    })) b (drop 1 c.ready)
-    (less_fine c b d (record (c.seat d) { process = Some k; count = 0; tried = false; segs = []; pages = [] }) fine
+fine_next p s c b (entry.Online d) fine may online = less_fine d fine (come_online)
+fine_next p s c b (entry.Load d k) fine may online = ready_fine (drop 1 c.ready) (less_fine d fine
     (emptied (c.seat d) (Some k) 0 false))
-fine_next p s c b (entry.Leave d) fine may online =
-    ready_fine (with_seat c d (record (c.seat d) { process = None; segs = []; pages = [] })) b
-    (queued s c.ready (c.seat d).process)
-    (less_fine c b d (record (c.seat d) { process = None; segs = []; pages = [] }) fine
+fine_next p s c b (entry.Leave d) fine may online = ready_fine (queued s c.ready (c.seat d).process) (less_fine d fine
     (emptied (c.seat d) None (c.seat d).count (c.seat d).tried))
-fine_next p s c b (entry.Activate u) fine may online = active_fine c b u true fine
-fine_next p s c b (entry.Deactivate u) fine may online = active_fine c b u false fine
-fine_next p s c b (entry.Start f u q) fine may online = free_fine c b f (frame.Started u q) fine may.free
-fine_next p s c b (entry.Lose f) fine may online = lost_fine c b f fine may
-fine_next p s c b (entry.Here f u q) fine may online = here_fine p c b f u q fine may
-fine_next p s c b (entry.Connect k n u) fine may online =
-    descriptor_fine c b k n (descriptor.Current u) fine
+fine_next p s c b (entry.Activate u) fine may online = active_fine u true fine
+fine_next p s c b (entry.Deactivate u) fine may online = active_fine u false fine
+fine_next p s c b (entry.Start f u q) fine may online = free_fine f (frame.Started u q) fine may.free
+fine_next p s c b (entry.Lose f) fine may online = lost_fine f fine may
+fine_next p s c b (entry.Here f u q) fine may online = here_fine fine may
+fine_next p s c b (entry.Connect k n u) fine may online = descriptor_fine n (descriptor.Current u) fine
     (nobody_holds_seg c b k n fine (ap is_current_descriptor may.free) (ap is_going_descriptor may.free))
-fine_next p s c b (entry.Take f) fine may online = take_fine c b f fine may
-fine_next p s c b (entry.Cut k n) fine may online = cut_fine c b k n fine may
-fine_next p s c b (entry.Signal d w) fine may online = signal_fine c b d w fine may.all
-fine_next p s c b (entry.Clear d w) fine may online = clear_fine c b d w fine may
+fine_next p s c b (entry.Take f) fine may online = take_fine f fine may
+fine_next p s c b (entry.Cut k n) fine may online = cut_fine k n fine may
+fine_next p s c b (entry.Signal d w) fine may online = signal_fine d fine may.all
+fine_next p s c b (entry.Clear d w) fine may online = clear_fine d fine may
 fine_next p s c b (entry.FillSeg d n) fine may online = its_process c b d n (c.seat d).process refl fine online may
-fine_next p s c b (entry.FillPage d f) fine may online = fill_page_fine c b d f fine online may.current
-fine_next p s c b (entry.GonePage f) fine may online = frame_fine c b f frame.Free fine may.nobody
-fine_next p s c b (entry.BackPage f) fine may online = frame_fine c b f (given_back (c.frame f)) fine may.nobody
-fine_next p s c b (entry.GoneSeg k n) fine may online = descriptor_fine c b k n descriptor.Free fine may.nobody
+fine_next p s c b (entry.FillPage d f) fine may online = fill_page_fine d f fine online may.current
+fine_next p s c b (entry.GonePage f) fine may online = frame_fine f frame.Free fine may.nobody
+fine_next p s c b (entry.BackPage f) fine may online = frame_fine f (given_back (c.frame f)) fine may.nobody
+fine_next p s c b (entry.GoneSeg k n) fine may online = descriptor_fine n descriptor.Free fine may.nobody
 fine_next p s c b (entry.BackSeg k n) fine may online =
-    descriptor_fine c b k n (reconnected (c.descriptor k n)) fine may.nobody
+    descriptor_fine n (reconnected (c.descriptor k n)) fine may.nobody
 
 -- at first nobody holds anything
 pub fine_first : (p : Plan) → Fine (nothing_held p) false

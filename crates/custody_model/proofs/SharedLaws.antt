@@ -20,7 +20,7 @@ any_turned (x ∷ xs) q h = elim (eqb_tells q x) [
     | inl i ↦ ap (λ (b : Bool). b || has xs q) i.0
     | inr n ↦ absurd (n.1 (sym e.1))
   ]
-  | inr n ↦ or_last (eqb x q) (any_turned xs q (sym (ap (λ (b : Bool). b || list_any (eqb q) xs) n.0) ∙ h))
+  | inr n ↦ or_last (eqb x q) (any_turned xs q (cc))
 ]
   where
     or_last : (a : Bool) → has xs q ≡ true → (a || has xs q) ≡ true
@@ -38,8 +38,8 @@ pub has_append : (xs ys : List ℕ) (j : ℕ) → has (xs ++ ys) j ≡ (has xs j
 has_append xs ys j = list_any-append (λ y. eqb y j) xs ys
 
 pub range_end : (from n : ℕ) → range from (suc n) ≡ range from n ++ (from + n) ∷ []
-range_end from zero = let e : from ≡ from + 0 = omega arith in ap (λ (x : ℕ). x ∷ []) e
+range_end from zero = let e : from ≡ from + 0 = omega arith in cc
 range_end from (suc n) =
     let r = range_end (from + 1) n in
     let e : from + 1 + n ≡ from + suc n = omega arith in
-    ap (λ (xs : List ℕ). from ∷ xs) (r ∙ ap (λ (x : ℕ). range (from + 1) n ++ x ∷ []) e)
+    cc

@@ -16,10 +16,10 @@ put_count c d i x h = elim (eqb_tells d i) [
   | inl e ↦
       (let a : (at_put c.seat i x d).count ≡ x.count = ap (λ (b : Bool). (cond b x (c.seat d)).count) e.0 in
       let b : (c.seat d).count ≡ (c.seat i).count = ap (λ v. (c.seat v).count) e.1 in
-      omega (arith, a, b, h))
+      omega arith)
   | inr e ↦
       (let a : (at_put c.seat i x d).count ≡ (c.seat d).count = ap (λ (b : Bool). (cond b x (c.seat d)).count) e.0 in
-      omega (arith, a))
+      omega arith)
 ]
 
 told_count : (c : Custody) (i : ℕ) (w : What) (d : ℕ) → (told c i w d (c.seat d)).count ≡ (c.seat d).count
@@ -38,7 +38,7 @@ count_next p s c (entry.Do k i j f r) d = put_count c d j _ (omega arith)
 count_next p s c (entry.Online j) d = put_count c d j _ (omega arith)
 count_next p s c (entry.Load j k) d = put_count c d j _ (omega arith)
 count_next p s c (entry.Leave j) d = put_count c d j _ (omega arith)
-count_next p s c (entry.Signal j w) d = let same = told_count c j w d in omega (arith, same)
+count_next p s c (entry.Signal j w) d = omega (arith, told_count c j w d)
 count_next p s c (entry.Clear j w) d = put_count c d j _ (omega arith)
 count_next p s c (entry.FillSeg j n) d = put_count c d j _ (omega arith)
 count_next p s c (entry.FillPage j f) d = put_count c d j _ (omega arith)

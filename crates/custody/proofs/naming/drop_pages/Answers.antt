@@ -3,5 +3,4 @@ use Rattle.custody.proofs.naming.drop_pages.Goals as goal
 
 pub returns : goal.returns
 returns c = filter-from_retain _ (λ f. not (names_use c.args.what f (frame_at c.args.frames.now f))) _
-    (λ x b f' y called. search rules) _ _
-    c.retain.ensures.filtered
+    (λ x b f' y called. search rules) _ _ c.retain.ensures.filtered

@@ -2,6 +2,4 @@ use Rattle.custody.proofs.LookLaws.{pool_count}
 use Rattle.custody.proofs.active.Active.in_pool.Goals as goal
 
 pub returns : goal.returns
-returns c = pool_count c.self.inside.uses.items c.args.self.now c.self.inside.pools c.self.inside.inferiors
-    c.self.view_is c.self.invariant
-    c.at-count.result c.args.pool c.at-count.ensures
+returns c = pool_count c.self.view_is c.self.invariant c.args.pool c.at-count.ensures

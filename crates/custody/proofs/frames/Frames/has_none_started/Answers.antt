@@ -2,5 +2,4 @@ use Rattle.custody.proofs.LookLaws.{started_decides}
 use Rattle.custody.proofs.frames.Frames.has_none_started.Goals as goal
 
 pub returns : goal.returns
-returns c = started_decides c.self.inside.uses.items c.args.self.now c.self.inside.counts c.self.inside.pages
-    c.self.inside.started c.self.view_is c.self.invariant c.at-count.result c.args.uid c.at-count.ensures
+returns c = started_decides c.self.view_is c.self.invariant c.args.uid c.at-count.ensures

@@ -3,11 +3,8 @@ use Rattle.custody.proofs.LookLaws.{page_nowhere}
 use Rattle.custody.proofs.frames.Frames.is_in_none.Goals as goal
 
 pub returns-then-count-eq0 : goal.returns-then-count-eq0
-returns-then-count-eq0 c = page_nowhere c.self.inside.uses.items c.args.self.now c.self.inside.counts
-    c.self.inside.pages
-    c.self.inside.started c.self.view_is c.self.invariant c.at-count.result
-    c.args.uid c.args.page c.page_number.result c.page_number.ensures c.at-count.ensures c.if-count-eq0.true
+returns-then-count-eq0 c = page_nowhere c.self.view_is c.self.invariant c.args.uid c.args.page c.page_number.result
+    c.page_number.ensures c.at-count.ensures c.if-count-eq0.true
 
 pub returns : goal.returns
-returns c = nowhere_decides c.args.self.now c.args.uid c.args.page c.is_in_some-some.result
-    c.is_in_some-some.ensures
+returns c = nowhere_decides c.args.self.now c.args.uid c.args.page c.is_in_some-some.result c.is_in_some-some.ensures

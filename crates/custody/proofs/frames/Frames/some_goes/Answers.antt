@@ -2,7 +2,4 @@ use Rattle.custody.proofs.LookLaws.{frames_go_decide}
 use Rattle.custody.proofs.frames.Frames.some_goes.Goals as goal
 
 pub returns : goal.returns
-returns c =
-    frames_go_decide c.self.inside.uses.items c.args.self.now c.self.inside.counts c.self.inside.pages
-    c.self.inside.started c.self.view_is c.self.invariant
-    c.going-count.result c.going-count.ensures
+returns c = frames_go_decide c.self.view_is c.self.invariant c.going-count.ensures

@@ -5,13 +5,11 @@ use Rattle.custody.proofs.tables.Custody.advance.Goals as goal
 
 -- the entries that are of a frame, and those of a processor alone
 of_frame : (c : In-Start) → is_of_frame c.args.e ≡ true
-of_frame c =
-    any_of_six c.in-Start.is (λ x. ap is_of_frame x.3) (λ x. ap is_of_frame x.3) (λ x. ap is_of_frame x.1)
+of_frame c = any_of_six c.in-Start.is (λ x. ap is_of_frame x.3) (λ x. ap is_of_frame x.3) (λ x. ap is_of_frame x.1)
     (λ x. ap is_of_frame x.1) (λ x. ap is_of_frame x.1) (λ x. ap is_of_frame x.1)
 
 of_seat : (c : In-Online) → is_of_seat c.args.e ≡ true
-of_seat c =
-    any_of_six c.in-Online.is (λ x. ap is_of_seat x.1) (λ x. ap is_of_seat x.2) (λ x. ap is_of_seat x.2)
+of_seat c = any_of_six c.in-Online.is (λ x. ap is_of_seat x.1) (λ x. ap is_of_seat x.2) (λ x. ap is_of_seat x.2)
     (λ x. ap is_of_seat x.2) (λ x. ap is_of_seat x.2) (λ x. ap is_of_seat x.2)
 
 pub returns-in-Start-clause-ok : goal.returns-in-Start-clause-ok

@@ -6,8 +6,7 @@ use Rattle.custody.proofs.tables.Custody.follow.Goals as goal
 pub returns-clause-custody : goal.returns-clause-custody
 returns-clause-custody c = on_ok c.advance.result _ _ (λ advances s shows nodes.
     custody_advanced c.args.script.now c.args.store.now s c.args.self.now c.advance.new.self c.args.e shows
-    c.requires.tables
-    (c.requires.allowed s shows nodes) (advances s shows)) c.advance.ensures.ok
+    c.requires.tables (c.requires.allowed s shows nodes) (advances s shows)) c.advance.ensures.ok
 
 pub returns-clause-nodes : goal.returns-clause-nodes
 returns-clause-nodes c = on_ok c.advance.result _ _ (λ advances s shows nodes lawful.
