@@ -23,7 +23,7 @@ unfolding boot
 after_boot p k c shows active held tables = record {
   stand = record { entries = tt; legal = legal_nil p; clean = clean_nil p };
   shown = subst (Shows p k) (sym (store_after-nil p)) shows;
-  nodes = subst (λ (s : Store). AreNodes s.nodes c.active) (sym (store_after-nil p)) (record {
+  nodes = rw (store_after-nil p) (record {
     apart = (refl, tt);
     there = λ u a is. let none : None ≡ Some a = sym (ap (λ xs. get_or xs u None) active) ∙ is in cc;
   });
@@ -43,8 +43,7 @@ entries_push [] e all here = (here, tt)
 entries_push (d ∷ es) e all here = (all.0, entries_push es e all.1 here)
 
 pub after_next : (old new : Judged) (es : List Entry) (e : Entry) → IsAfter old es → IsEntry e → Allows old e
-    → new.script ≡ old.script
-    → new.entries ≡ old.entries + 1
+    → new.script ≡ old.script → new.entries ≡ old.entries + 1
     → ((s : Store) → Shows old.script old.store s → AreNodes s.nodes old.custody.active
     → custody_of new.custody ≡ custody_next old.script s (custody_of old.custody) e)
     → ((s : Store) → Shows old.script old.store s → AreNodes s.nodes old.custody.active → IsLawful old.script s e
@@ -70,7 +69,7 @@ after_next old new es e is entry allows same more custody nodes store tables tre
     may = allows s is.shown is.nodes
 
     allowed : IsAllowed p s c e
-    allowed = subst (λ (x : Custody). IsAllowed p s x e) is.custody may.1
+    allowed = rw is.custody at may.1
 
     later : store_after p (es ++ e ∷ []) ≡ after_entry p s e
     later = store_after-push p es e
@@ -90,7 +89,7 @@ after_next old new es e is entry allows same more custody nodes store tables tre
         clean = clean_push p es e is.stand.clean allowed;
       };
       shown = subst (Shows p new.store) (sym later) (store s is.shown may.0);
-      nodes = subst (λ (x : Store). AreNodes x.nodes new.custody.active) (sym later) (nodes s is.shown is.nodes may.0);
+      nodes = rw later (nodes s is.shown is.nodes may.0);
       custody = custody s is.shown is.nodes ∙ ap (λ (x : Custody). custody_next p s x e) is.custody ∙ sym held;
       tables = tables s is.shown;
       count = omega (arith, more, is.count, longer);
@@ -112,23 +111,17 @@ unfolding Takes
 no_entry old new line none es is = λ e text. let clash : None ≡ Some e = none e text.entry text.text in cc
 
 broken_by : (p : Plan) (es : List Entry) (line : List ℕ) (e : Entry) (r : Rule) → IsTextOf e line
-    → Breaks p (store_after p es) (custody_after p es) e r
-    → BreaksEntry p es line r
+    → Breaks p (store_after p es) (custody_after p es) e r → BreaksEntry p es line r
 broken_by p es line e rule.NotLegal text h = (e, text, h)
 broken_by p es line e rule.NotClean text h = (e, text, h.0, h.1)
-broken_by p es line e rule.NoEntry text h = absurd h
-broken_by p es line e rule.Incomplete text h = absurd h
-broken_by p es line e rule.ZeroPage text h = absurd h
-broken_by p es line e rule.WrongSum text h = absurd h
+broken_by p es line e _ text h = absurd h
 
 pub broken : (old new : Judged) (line : List ℕ) (e : Entry) (r : Rule) → IsEntry e → entry_text e ≡ line
-    → Forbids old e r
-    → Takes old new line (Err (fault.Broken r))
+    → Forbids old e r → Takes old new line (Err (fault.Broken r))
 unfolding Takes Forbids
 broken old new line e r entry text forbids es is =
     broken_by old.script es line e r (record { entry = entry; text = text })
-    (subst (λ (x : Custody). Breaks old.script (store_after old.script es) x e r) is.custody
-    (forbids (store_after old.script es) is.shown is.nodes))
+    (rw is.custody at (forbids (store_after old.script es) is.shown is.nodes))
 
 pub taken : (old new : Judged) (line : List ℕ) (e : Entry) → IsEntry e → entry_text e ≡ line → Allows old e
     → new.script ≡ old.script
@@ -140,7 +133,7 @@ taken old new line e entry text allows same after es is =
       entry = e;
       text = record { entry = entry; text = text };
       lawful = may.0;
-      allowed = subst (λ (x : Custody). IsAllowed old.script (store_after old.script es) x e) is.custody may.1;
+      allowed = rw is.custody at may.1;
       after = after es is;
       script = same;
     }
@@ -173,15 +166,12 @@ module _ (p : Plan) (k : Kept) (t : Tables) (n : ℕ) (j : Judged) (e : Entry)
 
   pub not_clean : (r q : Bool) → ((s : Store) → Shows p k s → IsTrue r ↔ IsLawful p s e)
       → ((s : Store) → Shows p k s → AreNodes s.nodes t.active → Decides q (IsAllowed p s (custody_of t) e)) → r ≡ true
-      → q ≡ false
-      → Forbids j e rule.NotClean
+      → q ≡ false → Forbids j e rule.NotClean
   unfolding Forbids
-  not_clean r q told also yes_ no_ = subst (λ (x : Judged). Forbids x e rule.NotClean) is
-      (λ s shown nodes. (
-        (told s shown).0 yes_,
-        λ allowed. let clash : false ≡ true = sym no_
-            ∙ (also s shown nodes).1 allowed in cc,
-      ))
+  not_clean r q told also yes_ no_ = subst (λ (x : Judged). Forbids x e rule.NotClean) is (λ s shown nodes. (
+    (told s shown).0 yes_,
+    λ allowed. let clash : false ≡ true = sym no_ ∙ (also s shown nodes).1 allowed in cc,
+  ))
 
   pub both_allow : (r q : Bool) → ((s : Store) → Shows p k s → IsTrue r ↔ IsLawful p s e)
       → ((s : Store) → Shows p k s → AreNodes s.nodes t.active → Decides q (IsAllowed p s (custody_of t) e)) → r ≡ true

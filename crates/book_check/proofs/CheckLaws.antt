@@ -7,8 +7,7 @@ use Rattle.book_check.proofs.VerdictLaws.{end_only, end_there}
 
 -- the summary decides
 pub closed : (j : Judged) (n : ℕ) (all left : List (List ℕ)) (given : Result ℕ CheckFault) → IsReached j n all left
-    → entry_lines left ≡ [] → Closes j n left given
-    → OrMemory (IsOneVerdict j.script n all) given
+    → entry_lines left ≡ [] → Closes j n left given → OrMemory (IsOneVerdict j.script n all) given
 unfolding Closes IsOneVerdict
 closed j n all left given is ended closes = each given (closes is.entries is.after)
   where
@@ -29,8 +28,7 @@ closed j n all left given is ended closes = each given (closes is.entries is.aft
     each (Err fault.Memory) h = tt
 
 pub closed_told : (p : Plan) (j : Judged) (n : ℕ) (all left : List (List ℕ)) (given : Result ℕ CheckFault) → j.script
-    ≡ p → IsReached j n all left
-    → entry_lines left ≡ [] → Closes j n left given → OrMemory (IsOneVerdict p n all) given
+    ≡ p → IsReached j n all left → entry_lines left ≡ [] → Closes j n left given → OrMemory (IsOneVerdict p n all) given
 closed_told p j n all left given same is ended closes =
     subst (λ (q : Plan). OrMemory (IsOneVerdict q n all) given) same (closed j n all left given is ended closes)
 
@@ -41,8 +39,7 @@ unfolding script_of script_of_lines
 script_by_lines bytes lines e = ap script_of_lines e
 
 module _ (bytes script listing : List ℕ) (n : ℕ) (head : lines_of script ≡ script_lines (lines_of bytes))
-    (tail : lines_of listing ≡ listing_lines (lines_of bytes))
-    (first : n ≡ first_number (lines_of bytes))
+    (tail : lines_of listing ≡ listing_lines (lines_of bytes)) (first : n ≡ first_number (lines_of bytes))
   where
     script_is : script_of script ≡ script_of_lines (script_lines (lines_of bytes))
     script_is = script_by_lines script (script_lines (lines_of bytes)) head
@@ -56,8 +53,7 @@ module _ (bytes script listing : List ℕ) (n : ℕ) (head : lines_of script ≡
         (λ h. subst (λ (T : Type 0). T) same h, λ e. subst (λ (T : Type 0). T) (sym same) e)
 
     pub listing_judged : (p : Plan) (given : Result ℕ CheckFault) → script_of script ≡ Ok p
-        → OrMemory (IsOneVerdict p n (lines_of listing)) given
-        → OrMemory (IsTheVerdict bytes) given
+        → OrMemory (IsOneVerdict p n (lines_of listing)) given → OrMemory (IsTheVerdict bytes) given
     unfolding IsTheVerdict AreJudged IsOneVerdict
     listing_judged p given read judged = each given judged
       where
@@ -68,8 +64,7 @@ module _ (bytes script listing : List ℕ) (n : ℕ) (head : lines_of script ≡
             → (v : Result ℕ CheckFault)
             → IsJudgedBy (script_of_lines (script_lines (lines_of bytes))) (first_number (lines_of bytes))
             (listing_lines (lines_of bytes)) v ↔ (v ≡ g)
-        one g h v =
-            subst (λ (x : Result Plan Refusal). IsJudgedBy x (first_number (lines_of bytes))
+        one g h v = subst (λ (x : Result Plan Refusal). IsJudgedBy x (first_number (lines_of bytes))
             (listing_lines (lines_of bytes)) v ↔ (v ≡ g)) (sym why)
             (subst (λ (m : ℕ). IsJudged p m (listing_lines (lines_of bytes)) v ↔ (v ≡ g)) first
             (subst (λ (xs : List (List ℕ)). IsJudged p n xs v ↔ (v ≡ g)) tail (h v)))

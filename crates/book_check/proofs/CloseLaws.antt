@@ -24,8 +24,7 @@ no_zeros s none u q there = elim (cases_Bool (is_zero_page s.words u q)) [
 ]
 
 module _ (p : Plan) (k : Kept) (t : Tables) (n : ℕ) (j : Judged)
-    (is : record { script = p; store = k; custody = t; entries = n } ≡ j) (first : ℕ)
-    (summary : List (List ℕ))
+    (is : record { script = p; store = k; custody = t; entries = n } ≡ j) (first : ℕ) (summary : List (List ℕ))
   where
     -- the same of the parts of what is kept
     to_parts : (v : Result ℕ CheckFault) → Closes (record { script = p; store = k; custody = t; entries = n }) first
@@ -96,8 +95,7 @@ module _ (p : Plan) (k : Kept) (t : Tables) (n : ℕ) (j : Judged)
             ))
 
             pub closed_wrong : (same : ℕ) (f : CheckFault) → same ≡ same_lines summary (lines_of text)
-                → summary ≢ lines_of text
-                → f ≡ fault.Refused (record { line = first + n + same; rule = rule.WrongSum })
+                → summary ≢ lines_of text → f ≡ fault.Refused (record { line = first + n + same; rule = rule.WrongSum })
                 → Closes j first summary (Err f)
             unfolding Closes
             closed_wrong same f count other is_f = subst (λ (x : CheckFault). Closes j first summary (Err x)) (sym is_f)

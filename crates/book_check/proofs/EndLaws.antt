@@ -10,28 +10,13 @@ ended_by : (q : Progress) (c : Command) (r : Reply) → q.ended ≡ false
 ended_by q c r going = each (tries_on q c r) refl
   where
     tried : (x : Command) → tries_on q x r ≡ true → Some x ≡ Some command.End → ⊥
-    tried x t e = let is : x ≡ command.End = cc in let no : tries_on q command.End r ≡ true =
-        subst (λ (y : Command). tries_on q y r ≡ true) is t in cc
+    tried x t e = let is : x ≡ command.End = cc in let no : tries_on q command.End r ≡ true = rw is at t in cc
 
     by_end : (x : Command) → Decides (is_end x) (Some x ≡ Some command.End)
     by_end command.End = (λ e. refl, λ e. refl)
-    by_end (command.MkDir path volume) = (λ e. cc, λ e. cc)
-    by_end (command.MkSeg path pages volume) = (λ e. cc, λ e. cc)
-    by_end (command.Initiate path) = (λ e. cc, λ e. cc)
-    by_end (command.Terminate number) = (λ e. cc, λ e. cc)
-    by_end (command.Read number offset) = (λ e. cc, λ e. cc)
-    by_end (command.Write number offset word) = (λ e. cc, λ e. cc)
-    by_end (command.Add number offset word) = (λ e. cc, λ e. cc)
-    by_end (command.Await number offset word tries) = (λ e. cc, λ e. cc)
-    by_end (command.Acl path row m) = (λ e. cc, λ e. cc)
-    by_end (command.Length path pages) = (λ e. cc, λ e. cc)
-    by_end (command.Truncate path words) = (λ e. cc, λ e. cc)
-    by_end (command.Delete path) = (λ e. cc, λ e. cc)
-    by_end (command.Move path amount) = (λ e. cc, λ e. cc)
-    by_end (command.Status path) = (λ e. cc, λ e. cc)
+    by_end _ = (λ e. cc, λ e. cc)
 
-    each : (z : Bool) → tries_on q c r ≡ z
-        → Decides (cond z (record q { tries = q.tries + 1; faulted = false })
+    each : (z : Bool) → tries_on q c r ≡ z → Decides (cond z (record q { tries = q.tries + 1; faulted = false })
         (record { place = q.place + 1; tries = 0; ended = is_end c; faulted = false })).ended
         (Some c ≡ Some command.End)
     each true t = (λ e. absurd (let clash : false ≡ true = sym going ∙ e in cc), λ e. absurd (tried c t e))
@@ -48,8 +33,7 @@ module _ (p : Plan) (es : List Entry) (k : ℕ) (agree : Decides (progress_of (s
       ap (λ (s : Store). (progress_of s k).ended) (store_after-push p es e) ∙ same in
       let last : last_of (part k (es ++ e ∷ [])) ≡ last_of (part k es) = ap last_of (part-skip k es e other) in (
         λ is. subst (IsEnd p k) (sym last) (agree.0 (sym ended ∙ is)),
-        λ end. ended
-            ∙ agree.1 (subst (IsEnd p k) last end),
+        λ end. ended ∙ agree.1 (subst (IsEnd p k) last end),
       )
 
   -- a command of this process, or of another one
@@ -78,8 +62,7 @@ module _ (p : Plan) (es : List Entry) (k : ℕ) (agree : Decides (progress_of (s
           progress_after p s j k c r there ∙ rw me refl in
           let told = ended_by (progress_of s j) c r lawful.going in (
             λ ended. at ∙ told.0 (sym (ap (λ (q : Progress). q.ended) now) ∙ ended),
-            λ end. ap
-                (λ (q : Progress). q.ended) now ∙ told.1 (sym at ∙ end),
+            λ end. ap (λ (q : Progress). q.ended) now ∙ told.1 (sym at ∙ end),
           )
 
       others : (o : Option Command) → IsAnswer p s j o r → eqb j k ≡ false → (progress_of (after_do p s j o r) k).ended
@@ -133,32 +116,11 @@ module _ (p : Plan) (es : List Entry) (k : ℕ) (agree : Decides (progress_of (s
       → Decides (progress_of (store_after p (es ++ e ∷ [])) k).ended (IsEnd p k (last_of (part k (es ++ e ∷ []))))
   unfolding IsLawful after_entry
   end_pushed (entry.Do j place cpu f r) lt lawful = answered j place cpu f r lt lawful
-  end_pushed (entry.Release u q) lt lawful = kept (entry.Release u q) refl refl
   end_pushed (entry.Fault o) lt lawful = kept (entry.Fault o) refl (failed o lawful)
-  end_pushed (entry.Moved j u w) lt lawful = kept (entry.Moved j u w) refl refl
-  end_pushed (entry.Online c) lt lawful = kept (entry.Online c) refl refl
-  end_pushed (entry.Load c j) lt lawful = kept (entry.Load c j) refl refl
-  end_pushed (entry.Leave c) lt lawful = kept (entry.Leave c) refl refl
-  end_pushed (entry.Activate u) lt lawful = kept (entry.Activate u) refl refl
-  end_pushed (entry.Deactivate u) lt lawful = kept (entry.Deactivate u) refl refl
-  end_pushed (entry.Start f u q) lt lawful = kept (entry.Start f u q) refl refl
-  end_pushed (entry.Lose f) lt lawful = kept (entry.Lose f) refl refl
-  end_pushed (entry.Here f u q) lt lawful = kept (entry.Here f u q) refl refl
-  end_pushed (entry.Connect j n u) lt lawful = kept (entry.Connect j n u) refl refl
-  end_pushed (entry.Take f) lt lawful = kept (entry.Take f) refl refl
-  end_pushed (entry.Cut j n) lt lawful = kept (entry.Cut j n) refl refl
-  end_pushed (entry.Signal c w) lt lawful = kept (entry.Signal c w) refl refl
-  end_pushed (entry.Clear c w) lt lawful = kept (entry.Clear c w) refl refl
-  end_pushed (entry.FillSeg c n) lt lawful = kept (entry.FillSeg c n) refl refl
-  end_pushed (entry.FillPage c f) lt lawful = kept (entry.FillPage c f) refl refl
-  end_pushed (entry.GonePage f) lt lawful = kept (entry.GonePage f) refl refl
-  end_pushed (entry.BackPage f) lt lawful = kept (entry.BackPage f) refl refl
-  end_pushed (entry.GoneSeg j n) lt lawful = kept (entry.GoneSeg j n) refl refl
-  end_pushed (entry.BackSeg j n) lt lawful = kept (entry.BackSeg j n) refl refl
+  end_pushed e lt lawful = kept e refl refl
 
 pub ends_push : (p : Plan) (es : List Entry) (e : Entry) → length (store_after p es).processes ≡ length p.processes
-    → EndsAgree p es
-    → IsLawful p (store_after p es) e → EndsAgree p (es ++ e ∷ [])
+    → EndsAgree p es → IsLawful p (store_after p es) e → EndsAgree p (es ++ e ∷ [])
 ends_push p es e size agree lawful k lt = end_pushed p es k (agree k lt) e (subst (λ (n : ℕ). k < n) (sym size) lt)
     lawful
 

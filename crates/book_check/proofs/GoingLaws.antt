@@ -45,10 +45,8 @@ reached_next old new n all left more line is cut before one takes =
         script = p;
         store = new.store;
         custody = new.custody;
-        entries =
-            new.entries;
-      })
-          (is.entries ++ next.entry ∷ [])) next.script next.after;
+        entries = new.entries;
+      }) (is.entries ++ next.entry ∷ [])) next.script next.after;
       same = λ v. (forth v, back v);
     }
 
@@ -67,8 +65,7 @@ reached_fault old new n line_number all left more line r is cut before one takes
     same = omega (arith, place, is.after.count)
 
     forth : IsJudged old.script n all v → v ≡ Err (fault.Refused (record { line = line_number; rule = r }))
-    forth h =
-        fault_only old.script n is.entries line more v before one r is.after.stand breaks
+    forth h = fault_only old.script n is.entries line more v before one r is.after.stand breaks
         (subst (λ (xs : List (List ℕ)). IsJudgedFrom old.script n is.entries xs v) cut ((is.same v).0 h))
         ∙ ap (λ (l : ℕ). Err (fault.Refused (record { line = l; rule = r }))) same
 

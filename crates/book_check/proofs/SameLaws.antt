@@ -23,8 +23,7 @@ module _ (all due left wanted : List (List ℕ)) (n : ℕ) (is : AreSame all due
         let same : line ≡ due_line = (bytes_eq-Decides line due_line).0 e in
         let step : same_lines left wanted ≡ 1 + same_lines more due_more =
         ap (λ (t : List (List ℕ)). same_lines t wanted) cut
-        ∙ ap (λ (t : List (List ℕ)). same_lines (line ∷ more) t) due_cut
-        ∙ both_same line due_line more due_more e in
+        ∙ ap (λ (t : List (List ℕ)). same_lines (line ∷ more) t) due_cut ∙ both_same line due_line more due_more e in
         record {
           count = omega (arith, is.count, step);
           forth = λ f. let whole : line ∷ more ≡ due_line ∷ due_more = sym cut ∙ is.forth f ∙ due_cut in cc;
@@ -34,10 +33,8 @@ module _ (all due left wanted : List (List ℕ)) (n : ℕ) (is : AreSame all due
 
     pub other_line : bytes_eq line due_line ≡ false → (all ≢ due) × (n ≡ same_lines all due)
     other_line e =
-        let step : same_lines left wanted ≡ 0 =
-        ap (λ (t : List (List ℕ)). same_lines t wanted) cut
-        ∙ ap (λ (t : List (List ℕ)). same_lines (line ∷ more) t) due_cut
-        ∙ both_other line due_line more due_more e in (
+        let step : same_lines left wanted ≡ 0 = ap (λ (t : List (List ℕ)). same_lines t wanted) cut
+        ∙ ap (λ (t : List (List ℕ)). same_lines (line ∷ more) t) due_cut ∙ both_other line due_line more due_more e in (
           λ f.
               let whole : line ∷ more ≡ due_line ∷ due_more = sym cut ∙ is.forth f ∙ due_cut in
               let same : line ≡ due_line = cc in

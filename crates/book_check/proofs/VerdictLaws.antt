@@ -42,9 +42,7 @@ breaks_not p es line e rule.NotLegal one text lawful allowed (f, is, not_lawful)
     not_lawful (subst (IsLawful p (store_after p es)) (one e f text is) lawful)
 breaks_not p es line e rule.NotClean one text lawful allowed (f, is, may, not_allowed) =
     not_allowed (subst (IsAllowed p (store_after p es) (custody_after p es)) (one e f text is) allowed)
-breaks_not p es line e rule.Incomplete one text lawful allowed h = absurd h
-breaks_not p es line e rule.ZeroPage one text lawful allowed h = absurd h
-breaks_not p es line e rule.WrongSum one text lawful allowed h = absurd h
+breaks_not p es line e _ one text lawful allowed h = absurd h
 
 -- a line breaks one rule
 one_rule : (p : Plan) (es : List Entry) (line : List ℕ) (r q : Rule) → OnlyOne line → BreaksEntry p es line r
@@ -64,16 +62,13 @@ one_rule p es line rule.NotClean rule.NotClean one h k = refl
 one_rule p es line rule.Incomplete q one h k = absurd h
 one_rule p es line rule.ZeroPage q one h k = absurd h
 one_rule p es line rule.WrongSum q one h k = absurd h
-one_rule p es line r rule.Incomplete one h k = absurd k
-one_rule p es line r rule.ZeroPage one h k = absurd k
-one_rule p es line r rule.WrongSum one h k = absurd k
+one_rule p es line r _ one h k = absurd k
 
 -- ---- a summary
 
 -- a summary breaks one rule, at one line
 one_break : (p : Plan) (es : List Entry) (n : ℕ) (summary : List (List ℕ)) (l m : ℕ) (r q : Rule)
-    → BreaksEnd p es n summary l r → BreaksEnd p es n summary m q
-    → (l ≡ m) × (r ≡ q)
+    → BreaksEnd p es n summary l r → BreaksEnd p es n summary m q → (l ≡ m) × (r ≡ q)
 one_break p es n summary l m rule.Incomplete rule.Incomplete h k = (h.0 ∙ sym k.0, refl)
 one_break p es n summary l m rule.Incomplete rule.ZeroPage h k = absurd (h.1 k.1)
 one_break p es n summary l m rule.Incomplete rule.WrongSum h k = absurd (h.1 k.1.complete)
@@ -86,20 +81,15 @@ one_break p es n summary l m rule.WrongSum rule.WrongSum h k = (h.0 ∙ sym k.0,
 one_break p es n summary l m rule.NoEntry q h k = absurd h
 one_break p es n summary l m rule.NotLegal q h k = absurd h
 one_break p es n summary l m rule.NotClean q h k = absurd h
-one_break p es n summary l m r rule.NoEntry h k = absurd k
-one_break p es n summary l m r rule.NotLegal h k = absurd k
-one_break p es n summary l m r rule.NotClean h k = absurd k
+one_break p es n summary l m r _ h k = absurd k
 
 -- a summary that is due breaks nothing
 whole_not : (p : Plan) (es : List Entry) (n : ℕ) (summary : List (List ℕ)) (l : ℕ) (r : Rule) → IsWhole p es → summary
-    ≡ due_lines p es
-    → BreaksEnd p es n summary l r → ⊥
+    ≡ due_lines p es → BreaksEnd p es n summary l r → ⊥
 whole_not p es n summary l rule.Incomplete whole is h = h.1 whole.complete
 whole_not p es n summary l rule.ZeroPage whole is h = whole.zeros h.2
 whole_not p es n summary l rule.WrongSum whole is h = h.2 is
-whole_not p es n summary l rule.NoEntry whole is h = absurd h
-whole_not p es n summary l rule.NotLegal whole is h = absurd h
-whole_not p es n summary l rule.NotClean whole is h = absurd h
+whole_not p es n summary l _ whole is h = absurd h
 
 same_offence : (o q : Offence) → o.line ≡ q.line → o.rule ≡ q.rule → o ≡ q
 same_offence o q e f = ap (λ (l : ℕ). record { line = l; rule = o.rule }) e
@@ -137,8 +127,7 @@ back : (p : Plan) (es fs : List Entry) (e : Entry) → MayStand p ((es ++ e ∷ 
 back p es fs e h = subst (MayStand p) (append_assoc es (e ∷ []) fs) h
 
 module _ (p : Plan) (n : ℕ) (es : List Entry) (line : List ℕ) (more : List (List ℕ)) (v : Result ℕ CheckFault)
-    (before : is_summary line ≡ false)
-    (one : OnlyOne line)
+    (before : is_summary line ≡ false) (one : OnlyOne line)
   where
     -- what comes first among the entries is this line's
     first_text : (fs : List Entry) (f : Entry) (left : List (List ℕ)) → entry_lines (line ∷ more)
@@ -158,19 +147,11 @@ module _ (p : Plan) (n : ℕ) (es : List Entry) (line : List ℕ) (more : List (
           where
             here : (w : Result ℕ CheckFault) (left : List (List ℕ)) → line ∷ entry_lines more ≡ left
                 → Finds p n (es ++ []) left (summary_lines (line ∷ more)) w → ⊥
-            here (Ok count) [] texts finds = cc
-            here (Ok count) (l ∷ ls) texts finds = finds
-            here (Err (fault.Refused o)) [] texts finds = cc
+            here w [] texts finds = cc
             here (Err (fault.Refused o)) (l ∷ ls) texts finds =
                 let same : line ≡ l = (one_line line l (entry_lines more) ls texts).0 in
-                let now : BreaksEntry p es l o.rule = subst (λ (xs : List Entry). BreaksEntry p xs l o.rule)
-                (append-nil es) finds.1 in
-                breaks_not p es line e o.rule one text lawful allowed
-                (subst (λ (x : List ℕ). BreaksEntry p es x o.rule) (sym same) now)
-            here (Err (fault.Script r)) [] texts finds = cc
-            here (Err (fault.Script r)) (l ∷ ls) texts finds = finds
-            here (Err fault.Memory) [] texts finds = cc
-            here (Err fault.Memory) (l ∷ ls) texts finds = finds
+                breaks_not p es line e o.rule one text lawful allowed (rw (append-nil es, ← same) at finds.1)
+            here _ (l ∷ ls) texts finds = finds
 
             each : (w : Result ℕ CheckFault) (fs : List Entry) (left : List (List ℕ)) → entry_lines (line ∷ more)
                 ≡ map entry_text fs ++ left
@@ -215,23 +196,14 @@ module _ (p : Plan) (n : ℕ) (es : List Entry) (line : List ℕ) (more : List (
       fault_only h = each v h.entries h.left h.texts h.stand h.finds
         where
           here : (w : Result ℕ CheckFault) (left : List (List ℕ)) → line ∷ entry_lines more ≡ left
-              → Finds p n (es ++ []) left (summary_lines (line ∷ more)) w
-              → w ≡ Err (fault.Refused offence)
-          here (Ok count) [] texts finds = cc
-          here (Ok count) (l ∷ ls) texts finds = absurd finds
-          here (Err (fault.Refused o)) [] texts finds = cc
+              → Finds p n (es ++ []) left (summary_lines (line ∷ more)) w → w ≡ Err (fault.Refused offence)
+          here w [] texts finds = cc
           here (Err (fault.Refused o)) (l ∷ ls) texts finds =
               let same : line ≡ l = (one_line line l (entry_lines more) ls texts).0 in
-              let now : BreaksEntry p es l o.rule = subst (λ (xs : List Entry). BreaksEntry p xs l o.rule)
-              (append-nil es) finds.1 in
               let place : o.line ≡ n + length es = finds.0 ∙ ap (λ (xs : List Entry). n + length xs) (append-nil es) in
-              let rules_ : o.rule ≡ r = one_rule p es line o.rule r one
-              (subst (λ (x : List ℕ). BreaksEntry p es x o.rule) (sym same) now) breaks in
+              let rules_ = one_rule p es line o.rule r one (rw (append-nil es, ← same) at finds.1) breaks in
               ap (λ (x : Offence). Err (fault.Refused x)) (same_offence o offence place rules_)
-          here (Err (fault.Script q)) [] texts finds = cc
-          here (Err (fault.Script q)) (l ∷ ls) texts finds = absurd finds
-          here (Err fault.Memory) [] texts finds = cc
-          here (Err fault.Memory) (l ∷ ls) texts finds = absurd finds
+          here _ (l ∷ ls) texts finds = absurd finds
 
           each : (w : Result ℕ CheckFault) (fs : List Entry) (left : List (List ℕ)) → entry_lines (line ∷ more)
               ≡ map entry_text fs ++ left
@@ -251,8 +223,7 @@ module _ (p : Plan) (n : ℕ) (es : List Entry) (line : List ℕ) (more : List (
         stand = subst (MayStand p) (sym (append-nil es)) stand;
         finds = (
           ap (λ (xs : List Entry). n + length xs) (sym (append-nil es)),
-          subst
-              (λ (xs : List Entry). BreaksEntry p xs line r) (sym (append-nil es)) breaks,
+          subst (λ (xs : List Entry). BreaksEntry p xs line r) (sym (append-nil es)) breaks,
         );
       })
 
@@ -266,8 +237,7 @@ module _ (p : Plan) (n : ℕ) (es : List Entry) (lines : List (List ℕ)) (given
     end_only h = each h.entries h.left h.texts h.finds
       where
         each : (fs : List Entry) (left : List (List ℕ)) → entry_lines lines ≡ map entry_text fs ++ left
-            → Finds p n (es ++ fs) left (summary_lines lines) v
-            → v ≡ given
+            → Finds p n (es ++ fs) left (summary_lines lines) v → v ≡ given
         each [] [] texts finds = one_end p n es (summary_lines lines) v given
             (subst (λ (xs : List Entry). Finds p n xs [] (summary_lines lines) v) (append-nil es) finds) found
         each [] (l ∷ left) texts finds = let clash : [] ≡ l ∷ left = sym none ∙ texts in cc

@@ -6,5 +6,4 @@ returns-clause-tree c = λ p s h. subst IsTree (sym (c.accounts.ensures.nodes p 
 
 pub returns-clause-within : goal.returns-clause-within
 returns-clause-within c = λ p s h a. subst (λ (ns : List Node). used_by ns s.stored a ≤ quota_in ns a)
-    (sym (c.accounts.ensures.nodes p s h))
-    (c.promise.ensures.within s.stored (c.accounts.ensures.counts p s h) a)
+    (sym (c.accounts.ensures.nodes p s h)) (c.promise.ensures.within s.stored (c.accounts.ensures.counts p s h) a)

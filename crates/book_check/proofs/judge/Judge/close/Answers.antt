@@ -17,25 +17,20 @@ returns-then-has_zero_page c = closed_zeros c.self.inside.script c.self.inside.s
 
 pub returns-in-Err : goal.returns-in-Err
 returns-in-Err c = closed_short c.self.inside.script c.self.inside.store c.self.inside.custody c.self.inside.entries
-    c.args.self.now
-    c.self.view_is c.args.first (lines_of c.args.rest.now)
+    c.args.self.now c.self.view_is c.args.first (lines_of c.args.rest.now)
 
 pub returns-in-None : goal.returns-in-None
 returns-in-None c = closed_well c.self.inside.script c.self.inside.store c.self.inside.custody c.self.inside.entries
-    c.args.self.now
-    c.self.view_is c.args.first (lines_of c.args.rest.now) c.have_ended.result c.have_ended.ensures (cc)
-    c.has_zero_page.result c.has_zero_page.ensures (cc)
-    (string_bytes c.in-Ok.due) c.in-Ok.ensures
+    c.args.self.now c.self.view_is c.args.first (lines_of c.args.rest.now) c.have_ended.result c.have_ended.ensures (cc)
+    c.has_zero_page.result c.has_zero_page.ensures (cc) (string_bytes c.in-Ok.due) c.in-Ok.ensures
     (λ s. c.accounts_promise.ensures.tree c.self.inside.script s)
     (λ s. c.accounts_promise.ensures.within c.self.inside.script s)
     (c.in-None.ensures.same ∙ ap lines_of c.as_bytes.ensures.value)
 
 pub returns : goal.returns
 returns c = closed_wrong c.self.inside.script c.self.inside.store c.self.inside.custody c.self.inside.entries
-    c.args.self.now
-    c.self.view_is c.args.first (lines_of c.args.rest.now) c.have_ended.result c.have_ended.ensures (cc)
-    c.has_zero_page.result c.has_zero_page.ensures (cc)
-    (string_bytes c.in-Ok.due) c.in-Ok.ensures
+    c.args.self.now c.self.view_is c.args.first (lines_of c.args.rest.now) c.have_ended.result c.have_ended.ensures (cc)
+    c.has_zero_page.result c.has_zero_page.ensures (cc) (string_bytes c.in-Ok.due) c.in-Ok.ensures
     (λ s. c.accounts_promise.ensures.tree c.self.inside.script s)
     (λ s. c.accounts_promise.ensures.within c.self.inside.script s) c.in-Some.agreeing c.refused-in-Some.result
     (c.in-Some.ensures.count ∙ ap (λ (t : List ℕ). same_lines (lines_of c.args.rest.now) (lines_of t))
