@@ -1,36 +1,36 @@
 -- What a new branch leaves of the tables behind a tree.
-use Rattle.dir_tree.proofs.Prelude.{◌≡◌, ◌≢◌, ℕ, ◌+◌, ◌-◌, ◌<◌, ◌≤◌, true, eqb, if◌then◌else◌, List, [], ◌∷◌, ◌++◌, length, take, Option, Some, None, refl, sym, ap, subst, ◌∙◌, arith, get_or, inl, inr, ◌⊎◌, ◌↔◌, cases_eq, cases_lt, eq-eqb, ne_eqb, length-map, length_push, get_or_append_left, get_or_push, get_or-take, length-take-le, Node, Entry, Places, HasPlace, IsSorted, IsOrdered, AreWithin, key_hash, key_of, key_at, node_at, is_directory, add_fault_of, shape, shapes, IsBranch, IsTree, Joins, no_entry, entry_at, newest, place_for, IsNamed, IsPlace, IsKept, directory_shape, branch_in}
+use Rattle.dir_tree.proofs.Prelude.{◌≡◌, ◌≢◌, ℕ, ◌+◌, ◌-◌, ◌<◌, ◌≤◌, true, eqb, if◌then◌else◌, List, [], ◌∷◌, ◌++◌, length, take, Option, Some, None, refl, sym, ap, ◌∙◌, arith, get_or, inl, inr, ◌⊎◌, ◌↔◌, cases_eq, cases_lt, eq-eqb, ne_eqb, length-map, length_push, get_or_append_left, get_or_push, get_or-take, length-take-le, Node, Entry, Places, HasPlace, IsOrdered, AreWithin, key_of, key_at, node_at, is_directory, add_fault_of, shape, shapes, IsBranch, no_entry, entry_at, newest, place_for, IsNamed, IsPlace, IsKept, directory_shape, branch_in, subst, Joins}
 use Rattle.dir_tree.proofs.EditLemmas.{each_pushed}
 use Rattle.dir_tree.proofs.NewestLemmas.{node_of_entry, newest_same, newest_push, length_newest}
 use Rattle.dir_tree.proofs.KeptLemmas.{MayAdd, no_fault, below_newest, no_place, places_within}
 use Rattle.dir_tree.proofs.IndexLemmas.{key_branch}
 
+-- where a new node stands: behind all others, or in the last free place
+data Placed (nodes : List Node) (free : List ℕ) (place : ℕ) : Type 0 where
+  Behind : length free ≡ 0 → place ≡ length nodes → Placed nodes free place
+  Reused : 0 < length free → place ≡ get_or free (length free - 1) 0 → Placed nodes free place
+
+placed : (nodes : List Node) (free : List ℕ) (place : ℕ) → place ≡ place_for nodes free → Placed nodes free place
+placed nodes free place is = elim (cases_eq (length free) 0) [
+  | inl none ↦ Behind none (rw (eq-eqb (length free) 0 none) at is)
+  | inr some ↦ Reused (omega arith) (rw (ne_eqb (length free) 0 some) at is)
+]
+
 module _ {nodes : List Node} {es : List Entry} {free : List ℕ} {index : Places} {next : ℕ}
-    (k : IsKept nodes es free index next) (place : ℕ)
-    (is_place : place ≡ place_for nodes free) where
+    (k : IsKept nodes es free index next) (place : ℕ) (is_place : place ≡ place_for nodes free) where
   -- the place of a new node is no entry's
   pub place_unused : (j : ℕ) → j < length es → (entry_at es j).place ≢ place
-  place_unused j lt e = elim (cases_eq (length free) 0) [
-    | inl none ↦
-        (let at_end : place ≡ length nodes = rw (eq-eqb (length free) 0 none) at is_place in
-        let within : (entry_at es j).place < length nodes = k.within j lt in
-        omega arith)
-    | inr some ↦
-        (let last : place ≡ get_or free (length free - 1) 0 = rw (ne_eqb (length free) 0 some) at is_place in
-        k.unused (length free - 1) j (omega arith) lt (sym (e ∙ last)))
+  place_unused j lt e = elim (placed nodes free place is_place) [
+    | Behind none at_end ↦ (let within = k.within j lt in omega arith)
+    | Reused some last ↦ k.unused (length free - 1) j (omega arith) lt (sym (e ∙ last))
   ]
 
   pub place_room : length es < 4097 → place < 4097
-  place_room room = elim (cases_eq (length free) 0) [
-    | inl none ↦
-        (let at_end : place ≡ length nodes = rw (eq-eqb (length free) 0 none) at is_place in
-        let c : length nodes ≡ length es + length free = k.count in
-        omega arith)
-    | inr some ↦
-        (let last : place ≡ get_or free (length free - 1) 0 = rw (ne_eqb (length free) 0 some) at is_place in
-        let within : get_or free (length free - 1) 0 < length nodes = k.free_within (length free - 1) (omega arith) in
-        let few : length nodes ≤ 4097 = k.few in
-        omega arith)
+  place_room room = elim (placed nodes free place is_place) [
+    | Behind none at_end ↦ (let c : length nodes ≡ length es + length free = k.count in omega arith)
+    | Reused some last ↦
+        (let within = k.free_within (length free - 1) (omega arith) in
+        let few : length nodes ≤ 4097 = k.few in omega arith)
   ]
 
   pub no_place_yet : HasPlace index.places place → ⊥
@@ -43,39 +43,28 @@ module _ {nodes : List Node} {es : List Entry} {free : List ℕ} {index : Places
     old_key i lt = ap key_of (others (get_or index.places i 0)
         (λ e. no_place_yet (record { at = i; within = lt; is = e })))
 
-    sorted_still : IsSorted nodes' index.places
-    sorted_still i j lt in_j = rw (old_key i (omega arith), old_key j in_j) (k.order.sorted i j lt in_j)
-
-    ordered_still : IsOrdered nodes' index.places index.hashes
-    ordered_still = record {
-      sorted = sorted_still;
-      hashed = λ p there. k.order.hashed p there ∙ ap (λ (n : Node). key_hash (key_of n))
-          (sym (others p (λ e. no_place_yet (subst (HasPlace index.places) e there))));
-      slots = k.order.slots;
-    }
-
-    within_more : (p : ℕ) → p < length nodes → p < length nodes'
-    within_more p lt = elim (cases_eq (length free) 0) [
-      | inl none ↦
-          (let g : length nodes' ≡ length nodes + 1 = rw (eq-eqb (length free) 0 none) at grown in omega arith)
-      | inr some ↦ (let g : length nodes' ≡ length nodes = rw (ne_eqb (length free) 0 some) at grown in omega arith)
+    longer : length nodes ≤ length nodes'
+    longer = elim (cases_eq (length free) 0) [
+      | inl none ↦ (let g = rw (eq-eqb (length free) 0 none) at grown in omega arith)
+      | inr some ↦ (let g = rw (ne_eqb (length free) 0 some) at grown in omega arith)
     ]
 
-    within_still : AreWithin nodes' index.places
-    within_still i lt = within_more (get_or index.places i 0) (places_within k i lt)
-
     new_within : place < length nodes'
-    new_within = elim (cases_eq (length free) 0) [
-      | inl none ↦
-          (let g : length nodes' ≡ length nodes + 1 = rw (eq-eqb (length free) 0 none) at grown in
-          let at_end : place ≡ length nodes = rw (eq-eqb (length free) 0 none) at is_place in omega arith)
-      | inr some ↦
-          (let last : place ≡ get_or free (length free - 1) 0 = rw (ne_eqb (length free) 0 some) at is_place in
-          within_more place (rw last (k.free_within (length free - 1) (omega arith))))
+    new_within = elim (placed nodes free place is_place) [
+      | Behind none at_end ↦ (let g = rw (eq-eqb (length free) 0 none) at grown in omega arith)
+      | Reused some last ↦ (let l = longer in let within = k.free_within (length free - 1) (omega arith) in omega arith)
     ]
 
     pub asked : IsOrdered nodes' index.places index.hashes × AreWithin nodes' index.places × (place < length nodes')
-    asked = (ordered_still, within_still, new_within)
+    asked = (
+      record {
+        sorted = λ i j lt in_j. rw (old_key i (omega arith), old_key j in_j) (k.order.sorted i j lt in_j);
+        hashed = λ p there. rw (others p (λ e. no_place_yet (rw e at there))) (k.order.hashed p there);
+        slots = k.order.slots;
+      },
+      λ i lt. (let within = places_within k i lt in let l = longer in omega arith),
+      new_within,
+    )
 
     -- no branch that is there has its key
     pub new_key : (s : ℕ) (n : Node) → node_at nodes' place ≡ n → n.superior ≡ Some s
@@ -90,15 +79,13 @@ module _ {nodes : List Node} {es : List Entry} {free : List ℕ} {index : Places
 module _ {nodes : List Node} {es : List Entry} {free : List ℕ} {index : Places} {next : ℕ}
     (k : IsKept nodes es free index next) (s : ℕ) (n : Node)
     (nodes' : List Node) (free' : List ℕ) (index' : Places) (place : ℕ)
-    (n_uid : n.uid ≡ next) (n_superior : n.superior ≡ Some s)
-    (directory : is_directory (newest nodes es) s ≡ true)
+    (n_uid : n.uid ≡ next) (n_superior : n.superior ≡ Some s) (directory : is_directory (newest nodes es) s ≡ true)
     (may : add_fault_of (shapes (newest nodes es)) s n.name n.dir ≡ None)
     (is_place : place ≡ place_for nodes free) (here : node_at nodes' place ≡ n)
-    (others : (p : ℕ) → p ≢ place → node_at nodes' p ≡ node_at nodes p)
-    (rest : free' ≡ take (length free - 1) free) (grown : length nodes'
-    ≡ (if eqb (length free) 0 then length nodes + 1 else length nodes))
-    (order : IsOrdered nodes' index'.places index'.hashes) (places : (p : ℕ) → HasPlace index'.places p
-    ↔ (HasPlace index.places p ⊎ (p ≡ place)))
+    (others : (p : ℕ) → p ≢ place → node_at nodes' p ≡ node_at nodes p) (rest : free' ≡ take (length free - 1) free)
+    (grown : length nodes' ≡ (if eqb (length free) 0 then length nodes + 1 else length nodes))
+    (order : IsOrdered nodes' index'.places index'.hashes)
+    (places : (p : ℕ) → HasPlace index'.places p ↔ (HasPlace index.places p ⊎ (p ≡ place)))
     (count : length index'.places ≡ length index.places + 1) (room : index'.room ≡ index.room) where
   abbrev entry : Entry
   entry = record { uid = next; superior = Some s; place = place; inferiors = 0 }
@@ -115,20 +102,15 @@ module _ {nodes : List Node} {es : List Entry} {free : List ℕ} {index : Places
   old_node : (j : ℕ) → j < length es → node_of_entry nodes' es j ≡ node_of_entry nodes es j
   old_node j lt = others (entry_at es j).place (unused j lt)
 
-  old_nodes : newest nodes' es ≡ newest nodes es
-  old_nodes = newest_same nodes' nodes es old_node
-
   view_added : newest nodes' es' ≡ n ∷ newest nodes es
-  view_added = newest_push nodes' es entry ∙ ap (λ x. x ∷ newest nodes' es) here ∙ ap (λ xs. n ∷ xs) old_nodes
+  view_added = rw (newest_push nodes' es entry, here, newest_same nodes' nodes es old_node) refl
 
   few_es : length es < 4097
-  few_es = (let a : length (shapes (newest nodes es)) < 4097 = may_add.room in let b =
-      length-map (newest nodes es) shape in let c = length_newest nodes es in
-      omega arith)
+  few_es = rw (length-map (newest nodes es) shape, length_newest nodes es) at may_add.room
 
   branch : IsBranch (shapes (newest nodes es)) s (shape n)
   branch = record {
-    later = rw n_uid (below_newest next nodes es (λ i lt. subst (λ u. u < next) (sym (k.uids i lt)) (k.below i lt)));
+    later = rw n_uid (below_newest next nodes es (λ i lt. rw (k.uids i lt) (k.below i lt)));
     below = directory_shape (newest nodes es) s ∙ directory;
     new = may_add.new;
     shallow = may_add.shallow;
@@ -143,11 +125,8 @@ module _ {nodes : List Node} {es : List Entry} {free : List ℕ} {index : Places
   old_free : (i : ℕ) → i < length free' → get_or free' i 0 ≡ get_or free i 0
   old_free i lt = (let m = size_free in rw rest (get_or-take (length free - 1) free i 0 (omega arith)))
 
-  more : (p : ℕ) → p < length nodes → p < length nodes'
-  more = within_more k place is_place nodes' others grown
-
-  in_place : place < length nodes'
-  in_place = new_within k place is_place nodes' others grown
+  more : length nodes ≤ length nodes'
+  more = longer k place is_place nodes' others grown
 
   old_entry : (i : ℕ) → i < length es → entry_at es' i ≡ entry_at es i
   old_entry i lt = get_or_append_left es (entry ∷ []) no_entry i lt
@@ -166,11 +145,9 @@ module _ {nodes : List Node} {es : List Entry} {free : List ℕ} {index : Places
       (sym (old_free i (omega arith)) ∙ e ∙ old_free j within))
 
   place_not_free : (i : ℕ) → i < length free' → get_or free' i 0 ≢ place
-  place_not_free i lt e = (let m = size_free in elim (cases_eq (length free) 0) [
-    | inl none ↦ omega arith
-    | inr some ↦
-        (let last : place ≡ get_or free (length free - 1) 0 = rw (ne_eqb (length free) 0 some) at is_place in
-        k.free_apart i (length free - 1) (omega arith) (omega arith) (sym (old_free i lt) ∙ e ∙ last))
+  place_not_free i lt e = (let m = size_free in elim (placed nodes free place is_place) [
+    | Behind none at_end ↦ omega arith
+    | Reused some last ↦ k.free_apart i (length free - 1) (omega arith) (omega arith) (sym (old_free i lt) ∙ e ∙ last)
   ])
 
   unused' : (i j : ℕ) → i < length free' → j < length es' → get_or free' i 0 ≢ (entry_at es' j).place
@@ -180,21 +157,16 @@ module _ {nodes : List Node} {es : List Entry} {free : List ℕ} {index : Places
     | inr new ↦ place_not_free i lt (e ∙ ap (λ (d : Entry). d.place) (new_entry j new within))
   ]
 
-  count' : length nodes' ≡ length es' + length free'
-  count' = (let m = size in let f = size_free in let c : length nodes ≡ length es + length free =
-      k.count in elim (cases_eq (length free) 0) [
-        | inl none ↦
-            (let g : length nodes' ≡ length nodes + 1 = rw (eq-eqb (length free) 0 none) at grown in omega arith)
-        | inr some ↦ (let g : length nodes' ≡ length nodes = rw (ne_eqb (length free) 0 some) at grown in omega arith)
-      ])
-
-  few' : length nodes' ≤ 4097
-  few' = (let f = few_es in let n : length nodes ≤ 4097 = k.few in let c : length nodes ≡ length es + length free =
-      k.count in elim (cases_eq (length free) 0) [
-        | inl none ↦
-            (let g : length nodes' ≡ length nodes + 1 = rw (eq-eqb (length free) 0 none) at grown in omega arith)
-        | inr some ↦ (let g : length nodes' ≡ length nodes = rw (ne_eqb (length free) 0 some) at grown in omega arith)
-      ])
+  counts : (length nodes' ≡ length es' + length free') × (length nodes' ≤ 4097)
+  counts =
+      let m = size in
+      let f = size_free in
+      let few = few_es in
+      let n : length nodes ≤ 4097 = k.few in
+      let c : length nodes ≡ length es + length free = k.count in elim (cases_eq (length free) 0) [
+        | inl none ↦ (let g = rw (eq-eqb (length free) 0 none) at grown in (omega arith, omega arith))
+        | inr some ↦ (let g = rw (ne_eqb (length free) 0 some) at grown in (omega arith, omega arith))
+      ]
 
   still_named : (o : Option ℕ) (p : ℕ) → p ≢ place → IsNamed index.places o p → IsNamed index'.places o p
   still_named None p ne none = λ there. elim ((places p).0 there) [ inl old ↦ none old | inr new ↦ ne new ]
@@ -210,41 +182,39 @@ module _ {nodes : List Node} {es : List Entry} {free : List ℕ} {index : Places
     | inl old ↦ (let q = k.places p old in record {
       i = q.i;
       within = omega (arith, q.within);
-      place_is = ap (λ (d : Entry). d.place) (old_entry q.i q.within)
-          ∙ q.place_is;
+      place_is = rw (old_entry q.i q.within) q.place_is;
     })
     | inr new ↦ record {
       i = length es;
       within = omega arith;
-      place_is = ap (λ (d : Entry). d.place) (new_entry (length es) (omega arith) (omega arith))
-          ∙ sym new;
+      place_is = rw (new_entry (length es) (omega arith) (omega arith)) (sym new);
     }
   ])
 
   kept_added : IsKept nodes' es' free' index' (next + 1)
   kept_added = record {
     uids = each_pushed es entry no_entry (λ e. (node_at nodes' e.place).uid ≡ e.uid)
-        (λ i lt. ap (λ (x : Node). x.uid) (old_node i lt) ∙ k.uids i lt)
-        (ap (λ (x : Node). x.uid) here ∙ n_uid);
+        (λ i lt. ap (λ (x : Node). x.uid) (old_node i lt) ∙ k.uids i lt) (ap (λ (x : Node). x.uid) here ∙ n_uid);
     superiors = each_pushed es entry no_entry (λ e. (node_at nodes' e.place).superior ≡ e.superior)
         (λ i lt. ap (λ (x : Node). x.superior) (old_node i lt) ∙ k.superiors i lt)
         (ap (λ (x : Node). x.superior) here ∙ n_superior);
-    within = each_pushed es entry no_entry (λ e. e.place < length nodes') (λ i lt. more _ (k.within i lt)) in_place;
+    within = each_pushed es entry no_entry (λ e. e.place < length nodes')
+        (λ i lt. (let m = more in let w = k.within i lt in omega arith))
+        (new_within k place is_place nodes' others grown);
     rising = rising';
     below = each_pushed es entry no_entry (λ e. e.uid < next + 1) (λ i lt. omega (arith, k.below i lt)) (omega arith);
-    free_within = λ i lt. subst (λ p. p < length nodes') (sym (old_free i lt))
-        (more _ (k.free_within i (let m = size_free in omega arith)));
+    free_within = λ i lt. rw (old_free i lt)
+        (let s = size_free in let m = more in let w = k.free_within i (omega arith) in omega arith);
     free_apart = free_apart';
     unused = unused';
-    count = count';
-    few = few';
+    count = counts.0;
+    few = counts.1;
     named = named';
     places = places';
     order = order;
     branches = (let m = size in let p : length index.places + 1 ≡ length es = k.branches in omega arith);
     room = room ∙ k.room;
-    tree = subst (λ ns. IsTree (shapes ns)) (sym view_added)
-        (subst (λ o. Joins (shapes (newest nodes es)) o (shape n)) (sym n_superior) branch, k.tree);
+    tree = rw view_added (subst (λ o. Joins (shapes (newest nodes es)) o (shape n)) (sym n_superior) branch, k.tree);
   }
 
   pub added : IsKept nodes' es' free' index' (next + 1) × (newest nodes' es' ≡ n ∷ newest nodes es)

@@ -1,5 +1,5 @@
 -- What a change of a node, which keeps its shape, leaves of the tables behind a tree.
-use Rattle.dir_tree.proofs.Prelude.{◌≡◌, ◌≢◌, ℕ, suc, ◌+◌, ◌<◌, true, false, [], ◌∷◌, ◌++◌, arith, eqb, if◌then◌else◌, List, length, Some, refl, sym, ap, subst, ◌∙◌, get_or, set, inl, inr, cases_Bool, cases_eq, eq-eqb, ne_eqb, get_or-set_same, get_or-set_other, length-set, map-append, get_or_read, Term, Node, Entry, Places, Key, HasPlace, key_at, key_of, key_hash, node_at, no_node, Branches, added, is_in, node_of_new, with_acl, with_changed, node_of, acl_of, NewNode, Row, shape, shapes, IsTree, entry_at, newest, IsKept, HasEntry}
+use Rattle.dir_tree.proofs.Prelude.{◌≡◌, ◌≢◌, ℕ, suc, ◌+◌, ◌<◌, true, false, [], ◌∷◌, arith, eqb, if◌then◌else◌, List, length, refl, sym, ap, ◌∙◌, get_or, set, inl, inr, cases_Bool, cases_eq, eq-eqb, ne_eqb, get_or-set_same, get_or-set_other, length-set, map-append, get_or_read, Term, Node, Entry, Places, Key, HasPlace, key_at, key_of, key_hash, node_at, no_node, Branches, added, is_in, node_of_new, with_acl, with_changed, node_of, acl_of, NewNode, Row, shape, entry_at, newest, IsKept, HasEntry, shapes}
 use Rattle.dir_tree.proofs.NewestLemmas.{node_of_entry, newest_changed}
 use Rattle.dir_tree.proofs.KeptLemmas.{apart_places, not_of, node_read}
 
@@ -8,10 +8,10 @@ shapes_newest : (ms ns : List Node) (es : List Entry) →
     → shapes (newest ms es) ≡ shapes (newest ns es)
 shapes_newest ms ns [] same = refl
 shapes_newest ms ns (e ∷ es) same =
-    map-append shape (newest ms es) (node_at ms e.place ∷ [])
-    ∙ ap (λ xs. xs ++ shape (node_at ms e.place) ∷ []) (shapes_newest ms ns es (λ j lt. same (suc j) (omega arith)))
-    ∙ ap (λ x. shapes (newest ns es) ++ x ∷ []) (same 0 (omega arith))
-    ∙ sym (map-append shape (newest ns es) (node_at ns e.place ∷ []))
+    let first = same 0 (omega arith) in
+    let more = shapes_newest ms ns es (λ j lt. same (suc j) (omega arith)) in
+    rw (map-append shape (newest ms es) (node_at ms e.place ∷ []), more, first)
+    (sym (map-append shape (newest ns es) (node_at ns e.place ∷ [])))
 
 abbrev shape_key : Term → Key
 shape_key t = (t.superior, t.name)
@@ -37,11 +37,7 @@ module _ {nodes : List Node} {es : List Entry} {free : List ℕ} {index : Places
   ]
 
   same_key_of : (place : ℕ) → HasPlace index.places place → key_of (node_at nodes' place) ≡ key_of (node_at nodes place)
-  same_key_of place at =
-      (let p = k.places place at in
-      let same : shape (node_of_entry nodes' es p.i) ≡ shape (node_of_entry nodes es p.i) = same_shape p.i p.within in
-      subst (λ q. shape_key (shape (node_at nodes' q)) ≡ shape_key (shape (node_at nodes q))) p.place_is
-      (ap shape_key same))
+  same_key_of place at = (let p = k.places place at in rw p.place_is at (ap shape_key (same_shape p.i p.within)))
 
   same_key : (a : ℕ) → a < length index.places → key_at nodes' index.places a ≡ key_at nodes index.places a
   same_key a lt = same_key_of (get_or index.places a 0) (record { at = a; within = lt; is = refl })
@@ -77,37 +73,8 @@ module _ {nodes : List Node} {es : List Entry} {free : List ℕ} {index : Places
     };
     branches = k.branches;
     room = k.room;
-    tree = subst IsTree (sym (shapes_newest nodes' nodes es same_shape)) k.tree;
+    tree = rw (shapes_newest nodes' nodes es same_shape) k.tree;
   }
-
-pub set_kept : {nodes : List Node} {es : List Entry} {free : List ℕ} {index : Places} {next : ℕ}
-    → IsKept nodes es free index next → (uid place : ℕ)
-    → (i : ℕ) × (i < length es) × ((entry_at es i).uid ≡ uid) × ((entry_at es i).place ≡ place)
-    → (h : Node → Node) → ((n : Node) → shape (h n) ≡ shape n) → (x : Node) → x ≡ get_or nodes place x
-    → IsKept (set nodes place (h x)) es free index next
-    × (newest (set nodes place (h x)) es ≡ with_changed uid h (newest nodes es))
-set_kept {nodes} {es} {free} {index} {next} k uid place at h keeps x read =
-    let within : place < length nodes = subst (λ q. q < length nodes) at.3 (k.within at.0 at.1) in
-    let node : x ≡ node_of_entry nodes es at.0 = get_or_read nodes place x within read no_node
-    ∙ ap (node_at nodes) (sym at.3) in
-    let same : shape (h x) ≡ shape (node_of_entry nodes es at.0) = keeps x ∙ ap shape node in
-    subst (λ q. IsKept (set nodes q (h x)) es free index next
-    × (newest (set nodes q (h x)) es ≡ with_changed uid h (newest nodes es))) at.3 (
-      kept_changed k uid at.0 at.1 at.2 h (h x) (ap h node) same,
-      view_changed k uid at.0 at.1 at.2 h (h x) (ap h node)
-          same,
-    )
-
-pub acl_read : {nodes : List Node} {es : List Entry} {free : List ℕ} {index : Places} {next : ℕ}
-    → IsKept nodes es free index next → (uid place : ℕ)
-    → (i : ℕ) × (i < length es) × ((entry_at es i).uid ≡ uid) × ((entry_at es i).place ≡ place)
-    → (x : Node) → x ≡ get_or nodes place x → x.acl ≡ acl_of (newest nodes es) uid
-acl_read {nodes} {es} {free} {index} {next} k uid place at x read =
-    let entry : HasEntry es uid (entry_at es at.0) = record { i = at.0; within = at.1; entry_is = refl; uid_is = at.2 }
-    in
-    let found : node_of (newest nodes es) uid ≡ Some x =
-    node_read k uid (entry_at es at.0) entry x (subst (λ q. x ≡ get_or nodes q x) (sym at.3) read) in
-    rw found refl
 
 -- a change of nodes that keeps their shapes
 pub shapes_changed : (u : ℕ) (h : Node → Node) → ((n : Node) → shape (h n) ≡ shape n) → (ns : List Node)
@@ -124,44 +91,65 @@ pub others_kept : (u : ℕ) (h : Node → Node) → ((n : Node) → (h n).uid �
 others_kept u h keeps [] v other = refl
 others_kept u h keeps (n ∷ ns) v other = elim (cases_eq n.uid u) [
   | inl same ↦
-      (let off : eqb n.uid v ≡ false = ne_eqb n.uid v (λ e. other (sym e ∙ same)) in
+      (let off : eqb n.uid v ≡ false = ne_eqb n.uid v (λ e. other (cc)) in
       let still : eqb (h n).uid v ≡ false = rw (keeps n) off in
       rw (eq-eqb n.uid u same, still, off) (others_kept u h keeps ns v other))
   | inr far ↦ rw (ne_eqb n.uid u far) (elim (cases_Bool (eqb n.uid v))
       [ inl is ↦ rw is refl | inr isnt ↦ rw isnt (others_kept u h keeps ns v other) ])
 ]
 
--- what the tables show once a segment has been changed, where they showed this tree
-pub set_seen : {nodes : List Node} {es : List Entry} {free : List ℕ} {index : Places} {next : ℕ}
-    → IsKept nodes es free index next → (uid place : ℕ)
-    → (i : ℕ) × (i < length es) × ((entry_at es i).uid ≡ uid) × ((entry_at es i).place ≡ place)
-    → (h : Node → Node) → ((n : Node) → shape (h n) ≡ shape n) → (x : Node) → x ≡ get_or nodes place x
-    → {now : Branches} → record { nodes = newest nodes es; next = next } ≡ now → record {
-      kept : IsKept (set nodes place (h x)) es free index next;
-      tree : record { nodes = newest (set nodes place (h x)) es; next = next }
-          ≡ record now { nodes = with_changed uid h now.nodes };
-      shapes : shapes (newest (set nodes place (h x)) es) ≡ shapes now.nodes;
-    }
-set_seen {next = next} k uid place at h keeps x read seen =
-    let set = set_kept k uid place at h keeps x read in record {
-      kept = set.0;
-      tree = ap (λ (ns : List Node). record { nodes = ns; next = next }) set.1
-          ∙ ap (λ (t : Branches). record t { nodes = with_changed uid h t.nodes }) seen;
-      shapes = ap shapes set.1 ∙ shapes_changed uid h keeps _ ∙ ap (λ (t : Branches). shapes t.nodes) seen;
-    }
-
 -- a change of a uid that no node has changes nothing
 pub none_changed : (u : ℕ) (h : Node → Node) (ns : List Node) → is_in ns u ≡ false → with_changed u h ns ≡ ns
 none_changed u h [] off = refl
 none_changed u h (n ∷ ns) off = elim (cases_Bool (eqb n.uid u)) [
   | inl is ↦ (let clash : true ≡ false = rw is at off in cc)
-  | inr isnt ↦ rw isnt (ap (λ (rest : List Node). n ∷ rest) (none_changed u h ns (rw isnt at off)))
+  | inr isnt ↦ rw isnt (cc (none_changed u h ns (rw isnt at off)))
 ]
 
 -- the rows of a new branch, set once it is there
 pub rows_added : (t : Branches) (superior : ℕ) (new : NewNode) (rows : List Row) → is_in t.nodes t.next ≡ false
     → with_acl (added t superior (record new { acl = rows })) t.next new.acl ≡ added t superior new
-rows_added t superior new rows fresh =
-    rw (eq-eqb t.next t.next refl)
-    (ap (λ (rest : List Node). record { nodes = node_of_new t.next superior new ∷ rest; next = t.next + 1 })
-    (none_changed t.next (λ n. record n { acl = new.acl }) t.nodes fresh))
+rows_added t superior new rows fresh = rw (eq-eqb t.next t.next refl)
+    (cc (none_changed t.next (λ n. record n { acl = new.acl }) t.nodes fresh))
+
+module _ {nodes : List Node} {es : List Entry} {free : List ℕ} {index : Places} {next : ℕ}
+    (k : IsKept nodes es free index next) where
+  pub set_kept : (uid place : ℕ)
+      → (i : ℕ) × (i < length es) × ((entry_at es i).uid ≡ uid) × ((entry_at es i).place ≡ place)
+      → (h : Node → Node) → ((n : Node) → shape (h n) ≡ shape n) → (x : Node) → x ≡ get_or nodes place x
+      → IsKept (set nodes place (h x)) es free index next
+      × (newest (set nodes place (h x)) es ≡ with_changed uid h (newest nodes es))
+  set_kept uid place at h keeps x read =
+      let within = rw at.3 at (k.within at.0 at.1) in
+      let node : x ≡ node_of_entry nodes es at.0 = rw at.3 (get_or_read nodes place x within read no_node) in
+      let same : shape (h x) ≡ shape (node_of_entry nodes es at.0) = keeps x ∙ ap shape node in
+      rw (← at.3) (
+        kept_changed k uid at.0 at.1 at.2 h (h x) (ap h node) same,
+        view_changed k uid at.0 at.1 at.2 h (h x) (ap h node) same,
+      )
+
+  pub acl_read : (uid place : ℕ)
+      → (i : ℕ) × (i < length es) × ((entry_at es i).uid ≡ uid) × ((entry_at es i).place ≡ place)
+      → (x : Node) → x ≡ get_or nodes place x → x.acl ≡ acl_of (newest nodes es) uid
+  acl_read uid place at x read =
+      let entry : HasEntry es uid (entry_at es at.0) =
+      record { i = at.0; within = at.1; entry_is = refl; uid_is = at.2 } in
+      rw (node_read k uid (entry_at es at.0) entry x (rw at.3 read)) refl
+
+  -- what the tables show once a segment has been changed, where they showed this tree
+  pub set_seen : (uid place : ℕ)
+      → (i : ℕ) × (i < length es) × ((entry_at es i).uid ≡ uid) × ((entry_at es i).place ≡ place)
+      → (h : Node → Node) → ((n : Node) → shape (h n) ≡ shape n) → (x : Node) → x ≡ get_or nodes place x
+      → {now : Branches} → record { nodes = newest nodes es; next = next } ≡ now → record {
+        kept : IsKept (set nodes place (h x)) es free index next;
+        tree : record { nodes = newest (set nodes place (h x)) es; next = next }
+            ≡ record now { nodes = with_changed uid h now.nodes };
+        shapes : shapes (newest (set nodes place (h x)) es) ≡ shapes now.nodes;
+      }
+  set_seen uid place at h keeps x read seen =
+      let set = set_kept uid place at h keeps x read in assumption (
+        ap (λ (ns : List Node). record
+            { nodes = ns; next = next }) set.1 ∙ ap (λ (t : Branches). record t { nodes = with_changed uid h t.nodes })
+            seen,
+        ap shapes set.1 ∙ shapes_changed uid h keeps _ ∙ ap (λ (t : Branches). shapes t.nodes) seen,
+      )

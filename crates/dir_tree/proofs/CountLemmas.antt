@@ -1,5 +1,5 @@
 -- How many nodes lie in each directory.
-use Rattle.dir_tree.proofs.Prelude.{◌≡◌, ◌≢◌, ℕ, suc, ◌+◌, ◌-◌, ◌<◌, ◌≤◌, Bool, true, false, eqb, if◌then◌else◌, List, [], ◌∷◌, ◌++◌, length, Option, Some, None, refl, sym, ap, subst, ◌∙◌, arith, get_or, set, inl, inr, count_by, ◌^◌, ◌↔◌, remove, cases_Bool, cases_eq, eq-eqb, ne_eqb, false_from_ne_true, ext_get_or, get_or-map, get_or-set_same, get_or-set_other, get_or_append_left, length-map, length-set, length_push, sum_by-cons, sum_by_push, sum_by-remove, count_by-le-length, same_Some, Node, Entry, Places, node_at, is_directory, shapes, IsTree, no_entry, entry_at, newest, lies_in, recount, recounted, HasEntry, IsAscending, IsCounted, IsKept, IsNamed, directory_in, directory_shape, superior_in, superior_up, superior_is, is_superior_of, IsUp}
+use Rattle.dir_tree.proofs.Prelude.{◌≡◌, ◌≢◌, ℕ, suc, ◌+◌, ◌-◌, ◌<◌, ◌≤◌, Bool, true, false, eqb, if◌then◌else◌, List, [], ◌∷◌, ◌++◌, length, Option, Some, None, refl, sym, ap, ◌∙◌, arith, get_or, set, inl, inr, count_by, ◌^◌, ◌↔◌, remove, cases_Bool, cases_eq, eq-eqb, ne_eqb, false_from_ne_true, ext_get_or, get_or-map, get_or-set_same, get_or-set_other, get_or_append_left, length-map, length-set, length_push, sum_by-cons, sum_by_push, sum_by-remove, count_by-le-length, same_Some, Node, Entry, Places, node_at, is_directory, shapes, no_entry, entry_at, newest, lies_in, recount, recounted, HasEntry, IsAscending, IsCounted, IsKept, IsNamed, directory_in, directory_shape, superior_in, superior_up, superior_is, is_superior_of}
 use Rattle.dir_tree.proofs.EditLemmas.{each_pushed, each_left, was, was_up, was_within, now, was_now, now_within, at_was}
 use Rattle.dir_tree.proofs.KeptLemmas.{entry_present, superior_read}
 
@@ -16,7 +16,7 @@ lies_eq u s e is = up e.superior is
   where
     up : (o : Option ℕ) → o ≡ Some s → lies_in u (record e { superior = o }) ≡ eqb s u
     up None is = cc
-    up (Some v) is = ap (λ x. eqb x u) (same_Some v s is)
+    up (Some v) is = cc (same_Some v s is)
 
 abbrev one_if : Bool → ℕ
 one_if b = if b then 1 else 0
@@ -36,8 +36,7 @@ count_remove u es i lt = sum_by-remove (λ e. one_if (lies_in u e)) es i no_entr
 -- some are counted where there is one
 counted_one : (u : ℕ) (es : List Entry) (i : ℕ) → i < length es → lies_in u (entry_at es i) ≡ true
     → 0 < count_by (lies_in u) es
-counted_one u es i lt is = (let m : count_by (lies_in u) (remove es i) + 1 ≡ count_by (lies_in u) es =
-    ap (λ b. count_by (lies_in u) (remove es i) + one_if b) (sym is) ∙ count_remove u es i lt in omega arith)
+counted_one u es i lt is = let m = rw is at (count_remove u es i lt) in omega arith
 
 one_counted : (u : ℕ) (es : List Entry) → 0 < count_by (lies_in u) es → (i : ℕ) × (i < length es)
     × (lies_in u (entry_at es i) ≡ true)
@@ -45,10 +44,8 @@ one_counted u [] lt = absurd (omega arith)
 one_counted u (e ∷ es) lt = elim (cases_Bool (lies_in u e)) [
   | inl is ↦ (0, omega arith, is)
   | inr isnt ↦
-      (let m : count_by (lies_in u) (e ∷ es) ≡ 0 + count_by (lies_in u) es = count_cons u e es
-      ∙ ap (λ b. one_if b + count_by (lies_in u) es) isnt in
-      let later : (i : ℕ) × (i < length es) × (lies_in u (entry_at es i) ≡ true) = one_counted u es (omega arith) in
-      (suc later.0, omega (arith, later.1), later.2))
+      (let m = count_cons u e es ∙ ap (λ b. one_if b + count_by (lies_in u) es) isnt in
+      let later = one_counted u es (omega arith) in (suc later.0, omega arith, later.2))
 ]
 
 none_counted : (u : ℕ) (es : List Entry) → ((i : ℕ) → i < length es → lies_in u (entry_at es i) ≡ false)
@@ -56,10 +53,8 @@ none_counted : (u : ℕ) (es : List Entry) → ((i : ℕ) → i < length es → 
 none_counted u [] none = refl
 none_counted u (e ∷ es) none =
     let here : lies_in u e ≡ false = none 0 (omega arith) in
-    let m : count_by (lies_in u) (e ∷ es) ≡ 0 + count_by (lies_in u) es = count_cons u e es
-    ∙ ap (λ b. one_if b + count_by (lies_in u) es) here in
-    let ih : count_by (lies_in u) es ≡ 0 = none_counted u es (λ i lt. none (suc i) (omega arith)) in
-    omega arith
+    let m = count_cons u e es ∙ ap (λ b. one_if b + count_by (lies_in u) es) here in
+    let ih = none_counted u es (λ i lt. none (suc i) (omega arith)) in omega arith
 
 -- ---- entries with the number of one changed
 
@@ -74,22 +69,20 @@ module _ (v : ℕ) (g : ℕ → ℕ) where
   pub each_recounted : (es : List Entry) (P : Entry → Type 0)
       → ((i : ℕ) → i < length es → P (recount v g (entry_at es i))) → (i : ℕ)
       → i < length (recounted v g es) → P (entry_at (recounted v g es) i)
-  each_recounted es P all i lt = (let n = length_recounted es in subst P (sym (entry_recounted es i (omega arith)))
-      (all i (omega arith)))
+  each_recounted es P all i lt =
+      let n = length_recounted es in rw (entry_recounted es i (omega arith)) (all i (omega arith))
 
   count_recounted : (u : ℕ) (es : List Entry) → count_by (lies_in u) (recounted v g es) ≡ count_by (lies_in u) es
   count_recounted u [] = refl
   count_recounted u (e ∷ es) =
-      count_cons u (recount v g e) (recounted v g es) ∙ ap (λ n. one_if (lies_in u e) + n) (count_recounted u es)
-      ∙ sym (count_cons u e es)
+      rw (count_cons u (recount v g e) (recounted v g es), count_recounted u es) (sym (count_cons u e es))
 
   pub newest_recounted : (ns : List Node) (es : List Entry) → newest ns (recounted v g es) ≡ newest ns es
   newest_recounted ns [] = refl
-  newest_recounted ns (e ∷ es) = ap (λ xs. xs ++ node_at ns e.place ∷ []) (newest_recounted ns es)
+  newest_recounted ns (e ∷ es) = rw (newest_recounted ns es) refl
 
   pub kept_recounted : {nodes : List Node} {es : List Entry} {free : List ℕ} {index : Places} {next : ℕ}
-      → IsKept nodes es free index next
-      → IsKept nodes (recounted v g es) free index next
+      → IsKept nodes es free index next → IsKept nodes (recounted v g es) free index next
   kept_recounted {nodes} {es} {free} {index} {next} k = record {
     uids = each_recounted es (λ e. (node_at nodes e.place).uid ≡ e.uid) k.uids;
     superiors = each_recounted es (λ e. (node_at nodes e.place).superior ≡ e.superior) k.superiors;
@@ -100,29 +93,26 @@ module _ (v : ℕ) (g : ℕ → ℕ) where
     free_within = k.free_within;
     free_apart = k.free_apart;
     unused = λ i j lt in_j. each_recounted es (λ e. get_or free i 0 ≢ e.place) (λ j in_j. k.unused i j lt in_j) j in_j;
-    count = (let n = length_recounted es in let c : length nodes ≡ length es + length free = k.count in omega arith);
+    count = (omega (arith, length_recounted es));
     few = k.few;
     named = each_recounted es (λ e. IsNamed index.places e.superior e.place) k.named;
     places = λ p pair. (let q = k.places p pair in
         record {
           i = q.i;
-          within = (let n = length_recounted es in omega (arith, q.within));
-          place_is =
-              ap (λ (e : Entry). e.place) (entry_recounted es q.i q.within) ∙ q.place_is;
+          within = (omega (arith, length_recounted es));
+          place_is = rw (entry_recounted es q.i q.within) q.place_is;
         });
     order = k.order;
-    branches = (let n = length_recounted es in let p : length index.places + 1 ≡ length es = k.branches in omega arith);
+    branches = (omega (arith, length_recounted es));
     room = k.room;
-    tree = subst (λ ns. IsTree (shapes ns)) (sym (newest_recounted nodes es)) k.tree;
+    tree = rw (newest_recounted nodes es) k.tree;
   }
 
   -- the one entry of a uid written
   set_recounted : (es : List Entry) → IsAscending es → (i : ℕ) → i < length es → (entry_at es i).uid ≡ v
-      → (e : Entry) → e ≡ recount v g (entry_at es i)
-      → set es i e ≡ recounted v g es
-  set_recounted es rising i within is e e_is =
-      ext_get_or no_entry _ _ (length-set es i e ∙ sym (length_recounted es))
-      (λ j lt. at j (let n = length-set es i e in omega arith))
+      → (e : Entry) → e ≡ recount v g (entry_at es i) → set es i e ≡ recounted v g es
+  set_recounted es rising i within is e e_is = ext_get_or no_entry _ _ (length-set es i e ∙ sym (length_recounted es))
+      (λ j lt. at j (omega (arith, length-set es i e)))
     where
       other : (j : ℕ) → j < length es → j ≢ i → (entry_at es j).uid ≢ v
       other j lt ne same = grind (arith, rising i j, rising j i)
@@ -133,7 +123,7 @@ module _ (v : ℕ) (g : ℕ → ℕ) where
         | inr there ↦
             (let isnt : eqb (entry_at es j).uid v ≡ false = ne_eqb _ _ (other j lt there) in
             let kept : recount v g (entry_at es j) ≡ entry_at es j = rw isnt refl in
-            get_or-set_other es i j e no_entry there ∙ sym kept ∙ sym (entry_recounted es j lt))
+            cc (get_or-set_other es i j e no_entry there, entry_recounted es j lt))
       ]
 
 -- where its count of inferiors alone is another
@@ -145,35 +135,17 @@ count_set uid g es rising i within is e read = set_recounted uid g es rising i w
 
 -- ---- one inferior more, one less
 
--- a directory is older than what lies in it
-pub superior_older : {nodes : List Node} {es : List Entry} {free : List ℕ} {index : Places} {next : ℕ}
-    → IsKept nodes es free index next → (s i : ℕ)
-    → i < length es → (entry_at es i).superior ≡ Some s → (s < (entry_at es i).uid)
-    × (is_directory (newest nodes es) s ≡ true)
-superior_older {nodes} {es} {free} {index} {next} k s i lt is =
-    let entry : HasEntry es (entry_at es i).uid (entry_at es i) =
-    record { i = i; within = lt; entry_is = refl; uid_is = refl } in
-    let up : superior_in (shapes (newest nodes es)) (entry_at es i).uid ≡ Some s =
-    superior_read k (entry_at es i).uid (entry_at es i) entry ∙ is in
-    let older : IsUp (shapes (newest nodes es)) (entry_at es i).uid (Some s) =
-    subst (IsUp (shapes (newest nodes es)) (entry_at es i).uid) up
-    (superior_up (shapes (newest nodes es)) k.tree (entry_at es i).uid) in
-    (older.0, sym (directory_shape (newest nodes es) s) ∙ older.1)
-
 pub few_counted : (es : List Entry) → IsCounted es → length es ≤ 4097 → (i : ℕ) → i < length es
     → (entry_at es i).inferiors ≤ 4097
-few_counted es counted few i lt = (let is : (entry_at es i).inferiors ≡ count_by (lies_in (entry_at es i).uid) es =
-    counted i lt in
-    let le = count_by-le-length (lies_in (entry_at es i).uid) es in omega arith)
+few_counted es counted few i lt = omega (arith, counted i lt, count_by-le-length (lies_in (entry_at es i).uid) es)
 
 module _ (es : List Entry) (counted : IsCounted es) (e : Entry) (s : ℕ) (up : e.superior ≡ Some s) where
   -- what lies in a node once there is one more entry
   count_pushed : (u : ℕ) → count_by (lies_in u) (es ++ e ∷ []) ≡ count_by (lies_in u) es + one_if (eqb s u)
-  count_pushed u = count_push u es e ∙ ap (λ b. count_by (lies_in u) es + one_if b) (lies_eq u s e up)
+  count_pushed u = rw (← lies_eq u s e up) (count_push u es e)
 
   pub counted_added : e.inferiors ≡ 0 → s < e.uid → ((i : ℕ) → i < length es → (t : ℕ) → (entry_at es i).superior
-      ≡ Some t → t < e.uid)
-      → IsCounted (recounted s (λ n. n + 1) (es ++ e ∷ []))
+      ≡ Some t → t < e.uid) → IsCounted (recounted s (λ n. n + 1) (es ++ e ∷ []))
   counted_added none older all = each_recounted s (λ n. n + 1) (es ++ e ∷ [])
       (λ d. d.inferiors ≡ count_by (lies_in d.uid) (recounted s (λ n. n + 1) (es ++ e ∷ [])))
       (each_pushed es e no_entry (λ d. (recount s (λ n. n + 1) d).inferiors
@@ -182,28 +154,23 @@ module _ (es : List Entry) (counted : IsCounted es) (e : Entry) (s : ℕ) (up : 
     where
       empty : count_by (lies_in e.uid) es ≡ 0
       empty = none_counted e.uid es (λ i lt. false_from_ne_true _
-          (λ is. (let less : e.uid < e.uid = all i lt e.uid (lies_of e.uid (entry_at es i) is) in omega arith)))
+          (λ is. (omega (arith, all i lt e.uid (lies_of e.uid (entry_at es i) is)))))
 
       at : (d : Entry) → d.inferiors ≡ count_by (lies_in d.uid) es
           → (recount s (λ n. n + 1) d).inferiors ≡ count_by (lies_in d.uid) (recounted s (λ n. n + 1) (es ++ e ∷ []))
-      at d is =
-          (let same = count_recounted s (λ n. n + 1) d.uid (es ++ e ∷ []) in
+      at d is = (let same = count_recounted s (λ n. n + 1) d.uid (es ++ e ∷ []) in
           let more = count_pushed d.uid in
           elim (cases_eq d.uid s) [
-            | inl here ↦ (let a : eqb s d.uid ≡ true = eq-eqb s d.uid (sym here) in
-                let m : count_by (lies_in d.uid) (es ++ e ∷ []) ≡ count_by (lies_in d.uid) es + 1 =
-                rw a at more in rw (eq-eqb d.uid s here) (omega arith))
-            | inr there ↦ (let a : eqb s d.uid ≡ false = ne_eqb s d.uid (λ q. there (sym q)) in
-                let m : count_by (lies_in d.uid) (es ++ e ∷ []) ≡ count_by (lies_in d.uid) es + 0 =
-                rw a at more in rw (ne_eqb d.uid s there) (omega arith))
+            | inl here ↦ rw (eq-eqb d.uid s here) (let m = rw (eq-eqb s d.uid (sym here)) at more in omega arith)
+            | inr there ↦ rw (ne_eqb d.uid s there)
+                (let m = rw (ne_eqb s d.uid (λ q. there (sym q))) at more in omega arith)
           ])
 
 module _ (es : List Entry) (counted : IsCounted es) (i : ℕ) (within : i < length es) (s : ℕ)
     (up : (entry_at es i).superior ≡ Some s) where
   -- what lies in a node once the entry is out
   count_left : (u : ℕ) → count_by (lies_in u) (remove es i) + one_if (eqb s u) ≡ count_by (lies_in u) es
-  count_left u = ap (λ b. count_by (lies_in u) (remove es i) + one_if b) (sym (lies_eq u s (entry_at es i) up))
-      ∙ count_remove u es i within
+  count_left u = rw (← lies_eq u s (entry_at es i) up) (count_remove u es i within)
 
   pub counted_removed : IsCounted (recounted s (λ n. n - 1) (remove es i))
   counted_removed = each_recounted s (λ n. n - 1) (remove es i)
@@ -214,16 +181,12 @@ module _ (es : List Entry) (counted : IsCounted es) (i : ℕ) (within : i < leng
     where
       at : (d : Entry) → d.inferiors ≡ count_by (lies_in d.uid) es
           → (recount s (λ n. n - 1) d).inferiors ≡ count_by (lies_in d.uid) (recounted s (λ n. n - 1) (remove es i))
-      at d is =
-          (let same = count_recounted s (λ n. n - 1) d.uid (remove es i) in
+      at d is = (let same = count_recounted s (λ n. n - 1) d.uid (remove es i) in
           let less = count_left d.uid in
           elim (cases_eq d.uid s) [
-            | inl here ↦ (let a : eqb s d.uid ≡ true = eq-eqb s d.uid (sym here) in
-                let m : count_by (lies_in d.uid) (remove es i) + 1 ≡ count_by (lies_in d.uid) es =
-                rw a at less in rw (eq-eqb d.uid s here) (omega arith))
-            | inr there ↦ (let a : eqb s d.uid ≡ false = ne_eqb s d.uid (λ q. there (sym q)) in
-                let m : count_by (lies_in d.uid) (remove es i) + 0 ≡ count_by (lies_in d.uid) es =
-                rw a at less in rw (ne_eqb d.uid s there) (omega arith))
+            | inl here ↦ rw (eq-eqb d.uid s here) (let m = rw (eq-eqb s d.uid (sym here)) at less in omega arith)
+            | inr there ↦ rw (ne_eqb d.uid s there)
+                (let m = rw (ne_eqb s d.uid (λ q. there (sym q))) at less in omega arith)
           ])
 
   -- the entry that comes out was counted
@@ -231,24 +194,7 @@ module _ (es : List Entry) (counted : IsCounted es) (i : ℕ) (within : i < leng
       → 0 < (entry_at (remove es i) j).inferiors
   some_left = each_left es i within no_entry (λ d. d.uid ≡ s → 0 < d.inferiors)
       (λ j lt ne is. (let c : (entry_at es j).inferiors ≡ count_by (lies_in s) es = rw is at (counted j lt) in
-      let one = counted_one s es i within (lies_since s (entry_at es i) up) in omega arith))
-
--- a directory stays when one that lies in it comes out
-pub superior_left : {nodes : List Node} {es : List Entry} {free : List ℕ} {index : Places} {next : ℕ}
-    → IsKept nodes es free index next → (s i : ℕ)
-    → i < length es → (entry_at es i).superior ≡ Some s → (j : ℕ) × (j < length (remove es i))
-    × ((entry_at (remove es i) j).uid ≡ s)
-superior_left {nodes} {es} {free} {index} {next} k s i lt is =
-    let older = superior_older k s i lt is in
-    let less : s < (entry_at es i).uid = older.0 in
-    let there : (j : ℕ) × (j < length es) × ((entry_at es j).uid ≡ s) =
-    entry_present k s (directory_in (newest nodes es) s older.1) in
-    let other : there.0 ≢ i = λ q. (let same : (entry_at es i).uid ≡ s = rw q at there.2 in omega arith) in (
-      now i there.0,
-      now_within es i lt there.0 there.1 other,
-      ap (λ (e : Entry). e.uid) (at_was es i lt (now i there.0) no_entry)
-          ∙ ap (λ j. (entry_at es j).uid) (was_now i there.0 other) ∙ there.2,
-    )
+      omega (arith, counted_one s es i within (lies_since s (entry_at es i) up))))
 
 -- whether an entry of a uid counts some tells whether there are some
 pub counts_some : (es : List Entry) → IsCounted es → (u i : ℕ) → i < length es → (entry_at es i).uid ≡ u
@@ -256,47 +202,65 @@ pub counts_some : (es : List Entry) → IsCounted es → (u i : ℕ) → i < len
 counts_some es counted u i lt is =
     let c : (entry_at es i).inferiors ≡ count_by (lies_in u) es = rw is at (counted i lt) in (
       λ some. (let one = one_counted u es (omega arith) in (one.0, one.1, lies_of u (entry_at es one.0) one.2)),
-      λ one. (let n = counted_one u es one.0 one.1 (lies_since u (entry_at es one.0) one.2) in omega arith),
+      λ one. (omega (arith, counted_one u es one.0 one.1 (lies_since u (entry_at es one.0) one.2))),
     )
 
 -- ---- as the calls leave them
 
-pub superior_there : {nodes : List Node} {es : List Entry} {free : List ℕ} {index : Places} {next : ℕ}
-    → IsKept nodes es free index next → (s : ℕ)
-    → is_directory (newest nodes es) s ≡ true → (e : Entry) → (j : ℕ) × (j < length (es ++ e ∷ []))
-    × ((entry_at (es ++ e ∷ []) j).uid ≡ s)
-superior_there {nodes} {es} {free} {index} {next} k s is e =
-    let there : (j : ℕ) × (j < length es) × ((entry_at es j).uid ≡ s) =
-    entry_present k s (directory_in (newest nodes es) s is) in
-    let n = length_push es e in (
-      there.0,
-      omega (arith, there.1),
-      ap (λ (d : Entry). d.uid)
-          (get_or_append_left es (e ∷ []) no_entry there.0 there.1) ∙ there.2,
-    )
-
 pub pushed_few : (es : List Entry) (e : Entry) → IsCounted es → length es ≤ 4097 → e.inferiors ≡ 0 → (i : ℕ)
-    → i < length (es ++ e ∷ [])
-    → (entry_at (es ++ e ∷ []) i).inferiors + 1 < 2 ^ 32
+    → i < length (es ++ e ∷ []) → (entry_at (es ++ e ∷ []) i).inferiors + 1 < 2 ^ 32
 pushed_few es e counted few none = each_pushed es e no_entry (λ d. d.inferiors + 1 < 2 ^ 32)
-    (λ i lt. (let le = few_counted es counted few i lt in omega arith)) (omega arith)
+    (λ i lt. (omega (arith, few_counted es counted few i lt))) (omega arith)
 
-pub counted_with : {nodes : List Node} {es : List Entry} {free : List ℕ} {index : Places} {next : ℕ}
-    → IsKept nodes es free index next → IsCounted es
-    → (s : ℕ) → is_directory (newest nodes es) s ≡ true → (e : Entry) → e.uid ≡ next → e.superior ≡ Some s
-    → e.inferiors ≡ 0
-    → IsCounted (recounted s (λ n. n + 1) (es ++ e ∷ []))
-counted_with {nodes} {es} {free} {index} {next} k counted s is e new up none =
-    let there : (j : ℕ) × (j < length es) × ((entry_at es j).uid ≡ s) =
-    entry_present k s (directory_in (newest nodes es) s is) in
-    counted_added es counted e s up none (let b : (entry_at es there.0).uid < next = k.below there.0 there.1 in
-    let same : (entry_at es there.0).uid ≡ s = there.2 in omega arith)
-    (λ i lt t lies. (let older = superior_older k t i lt lies in let a : t < (entry_at es i).uid = older.0 in
-    let b : (entry_at es i).uid < next = k.below i lt in omega arith))
+module _ {nodes : List Node} {es : List Entry} {free : List ℕ} {index : Places} {next : ℕ}
+    (k : IsKept nodes es free index next) where
+  -- a directory is older than what lies in it
+  pub superior_older : (s i : ℕ) → i < length es → (entry_at es i).superior ≡ Some s → (s < (entry_at es i).uid)
+      × (is_directory (newest nodes es) s ≡ true)
+  superior_older s i lt is =
+      let entry : HasEntry es (entry_at es i).uid (entry_at es i) =
+      record { i = i; within = lt; entry_is = refl; uid_is = refl } in
+      let up : superior_in (shapes (newest nodes es)) (entry_at es i).uid ≡ Some s =
+      superior_read k (entry_at es i).uid (entry_at es i) entry ∙ is in
+      let older = rw up at (superior_up (shapes (newest nodes es)) k.tree (entry_at es i).uid) in
+      (older.0, cc (directory_shape (newest nodes es) s))
 
-pub removed_rising : {nodes : List Node} {es : List Entry} {free : List ℕ} {index : Places} {next : ℕ}
-    → IsKept nodes es free index next → (i : ℕ)
-    → i < length es → IsAscending (remove es i)
-removed_rising {nodes} {es} {free} {index} {next} k i within a b lt in_b =
-    rw (at_was es i within a no_entry, at_was es i within b no_entry)
-    (k.rising (was i a) (was i b) (was_up i a b lt) (was_within es i within b in_b))
+  -- a directory stays when one that lies in it comes out
+  pub superior_left : (s i : ℕ)
+      → i < length es → (entry_at es i).superior ≡ Some s → (j : ℕ) × (j < length (remove es i))
+      × ((entry_at (remove es i) j).uid ≡ s)
+  superior_left s i lt is =
+      let older = superior_older s i lt is in
+      let less : s < (entry_at es i).uid = older.0 in
+      let there : (j : ℕ) × (j < length es) × ((entry_at es j).uid ≡ s) =
+      entry_present k s (directory_in (newest nodes es) s older.1) in
+      let other : there.0 ≢ i = λ q. (let same : (entry_at es i).uid ≡ s = rw q at there.2 in omega arith) in (
+        now i there.0,
+        now_within es i lt there.0 there.1 other,
+        cc (at_was es i lt (now i there.0) no_entry, was_now i there.0 other),
+      )
+
+  pub superior_there : (s : ℕ)
+      → is_directory (newest nodes es) s ≡ true → (e : Entry) → (j : ℕ) × (j < length (es ++ e ∷ []))
+      × ((entry_at (es ++ e ∷ []) j).uid ≡ s)
+  superior_there s is e =
+      let there : (j : ℕ) × (j < length es) × ((entry_at es j).uid ≡ s) =
+      entry_present k s (directory_in (newest nodes es) s is) in
+      let n = length_push es e in (
+        there.0,
+        omega arith,
+        cc (get_or_append_left es (e ∷ []) no_entry there.0 there.1),
+      )
+
+  pub counted_with : IsCounted es
+      → (s : ℕ) → is_directory (newest nodes es) s ≡ true → (e : Entry) → e.uid ≡ next → e.superior ≡ Some s
+      → e.inferiors ≡ 0 → IsCounted (recounted s (λ n. n + 1) (es ++ e ∷ []))
+  counted_with counted s is e new up none =
+      let there : (j : ℕ) × (j < length es) × ((entry_at es j).uid ≡ s) =
+      entry_present k s (directory_in (newest nodes es) s is) in
+      counted_added es counted e s up none (omega (arith, k.below there.0 there.1))
+      (λ i lt t lies. (omega (arith, superior_older t i lt lies, k.below i lt)))
+
+  pub removed_rising : (i : ℕ) → i < length es → IsAscending (remove es i)
+  removed_rising i within a b lt in_b = rw (at_was es i within a no_entry, at_was es i within b no_entry)
+      (k.rising (was i a) (was i b) (was_up i a b lt) (was_within es i within b in_b))

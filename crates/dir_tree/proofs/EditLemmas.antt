@@ -1,14 +1,13 @@
 -- What holds of each element of a list after one more at its end, or one less.
-use Rattle.dir_tree.proofs.Prelude.{◌≡◌, ◌≢◌, ℕ, ◌+◌, ◌-◌, ◌<◌, List, [], ◌∷◌, ◌++◌, length, refl, sym, subst, arith, get_or, inl, inr, leb, if◌then◌else◌, remove, cases_lt, le-leb, lt-leb, get_or_append_left, get_or_push, length_push, length-remove, get_or-remove_below, get_or-remove_above}
+use Rattle.dir_tree.proofs.Prelude.{◌≡◌, ◌≢◌, ℕ, ◌+◌, ◌-◌, ◌<◌, List, [], ◌∷◌, ◌++◌, length, refl, sym, subst, arith, get_or, inl, inr, leb, if◌then◌else◌, remove, cases_lt, le-leb, lt-leb, get_or_append_left, get_or_push, length_push, length-remove, get_or-remove_below, get_or-remove_above, before}
 
 pub each_pushed : {X : Type 0} (xs : List X) (y d : X) (P : X → Type 0) → ((i : ℕ) → i < length xs → P (get_or xs i d))
-    → P y → (i : ℕ)
-    → i < length (xs ++ y ∷ []) → P (get_or (xs ++ y ∷ []) i d)
+    → P y → (i : ℕ) → i < length (xs ++ y ∷ []) → P (get_or (xs ++ y ∷ []) i d)
 each_pushed xs y d P old new i lt =
     let n : length (xs ++ y ∷ []) ≡ length xs + 1 = length_push xs y in
     elim (cases_lt i (length xs)) [
-      | inl before ↦ subst P (sym (get_or_append_left xs (y ∷ []) d i before)) (old i before)
-      | inr last ↦ subst P (sym (get_or_push xs y d i (omega arith))) new
+      | inl before ↦ rw (get_or_append_left xs (y ∷ []) d i before) (old i before)
+      | inr last ↦ rw (get_or_push xs y d i (omega arith)) new
     ]
 
 -- the place in the longer list of what stands k-th once the i-th is out
@@ -25,8 +24,7 @@ pub was_up : (i a b : ℕ) → a < b → was i a < was i b
 was_up i a b lt = elim (cases_lt a i) [
   | inl x ↦ elim (cases_lt b i) [
     | inl y ↦ rw (lt-leb i a x, lt-leb i b y) lt
-    | inr y ↦ rw (lt-leb i a x, le-leb i b y)
-        (omega arith)
+    | inr y ↦ rw (lt-leb i a x, le-leb i b y) (omega arith)
   ]
   | inr x ↦ rw (le-leb i a x, le-leb i b (omega arith)) (omega arith)
 ]
@@ -60,6 +58,5 @@ module _ {X : Type 0} (xs : List X) (i : ℕ) (within : i < length xs) where
       [ inl x ↦ rw (lt-leb i j x) (omega arith) | inr x ↦ rw (le-leb i j x) (omega arith) ])
 
   pub each_left : (d : X) (P : X → Type 0) → ((j : ℕ) → j < length xs → j ≢ i → P (get_or xs j d)) → (k : ℕ)
-      → k < length (remove xs i)
-      → P (get_or (remove xs i) k d)
+      → k < length (remove xs i) → P (get_or (remove xs i) k d)
   each_left d P all k lt = subst P (sym (at_was k d)) (all (was i k) (was_within k lt) (was_other i k))

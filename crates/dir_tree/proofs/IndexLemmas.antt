@@ -1,5 +1,5 @@
 -- What the order of keys tells, and what an edit of the index leaves.
-use Rattle.dir_tree.proofs.Prelude.{◌≡◌, ◌≢◌, ℕ, ◌+◌, ◌-◌, ◌<◌, ◌≤◌, true, List, length, Option, Some, None, refl, sym, ap, subst, ◌∙◌, arith, get_or, set, inl, inr, ◌⊎◌, ◌↔◌, bytes_eq, insert, remove, Ordering, Less, Equal, Greater, nat_cmp, ordering_then, is_eq, MatchOrdering, option_cmp, IsTotalOrder, nat_cmp_is, slice_cmp, options_total, tied_itself, then_total, on_total, nat_cmp_total, nat_list_cmp_total, ranked, is_eq-slice_cmp, bytes_eq-Decides, cases_lt, cases_eq, cases_order, and_from, get_or_read, get_or-set_same, get_or-set_other, length-set, length-insert, get_or-insert_below, get_or-insert_at, get_or-insert_above, get_or-remove_below, get_or-remove_above, is_branch, is_inferior, Node, shape, Key, HasPlace, IsSorted, IsOrdered, no_node, node_at, key_of, key_at, key_cmp, key_hash, hash_at, AreRising, lies, is_below, Where, Before, Here, After, where_is}
+use Rattle.dir_tree.proofs.Prelude.{◌≡◌, ◌≢◌, ℕ, ◌+◌, ◌-◌, ◌<◌, ◌≤◌, true, List, length, Option, Some, None, refl, sym, ap, subst, ◌∙◌, arith, get_or, set, inl, inr, ◌⊎◌, ◌↔◌, bytes_eq, insert, remove, Ordering, Less, Equal, Greater, nat_cmp, ordering_then, is_eq, MatchOrdering, option_cmp, IsTotalOrder, nat_cmp_is, slice_cmp, options_total, tied_itself, then_total, on_total, nat_cmp_total, nat_list_cmp_total, ranked, is_eq-slice_cmp, bytes_eq-Decides, cases_lt, cases_eq, cases_order, and_from, get_or_read, get_or-set_same, get_or-set_other, length-set, length-insert, get_or-insert_below, get_or-insert_at, get_or-insert_above, get_or-remove_below, get_or-remove_above, is_branch, is_inferior, Node, shape, Key, HasPlace, IsSorted, IsOrdered, no_node, node_at, key_of, key_at, key_cmp, key_hash, hash_at, AreRising, lies, is_below, Where, Before, Here, After, where_is, above, before}
 use Rattle.dir_tree.proofs.EditLemmas.{was, was_other, was_up, at_was, fewer, was_within}
 
 -- ---- the order of keys
@@ -7,8 +7,7 @@ use Rattle.dir_tree.proofs.EditLemmas.{was, was_other, was_up, at_was, fewer, wa
 key_total : IsTotalOrder key_cmp
 unfolding key_cmp
 key_total = then_total (then_total (on_total key_hash nat_cmp_total)
-    (on_total (λ (k : Key). k.0) (options_total nat_cmp_total)))
-    (on_total (λ (k : Key). k.1) nat_list_cmp_total)
+    (on_total (λ (k : Key). k.0) (options_total nat_cmp_total))) (on_total (λ (k : Key). k.1) nat_list_cmp_total)
 
 -- no key is before itself
 pub not_itself : (x y : Key) → x ≡ y → key_cmp x y ≢ Less
@@ -30,7 +29,7 @@ superiors_tied None (Some y) e = cc
 superiors_tied (Some x) None e = cc
 superiors_tied (Some x) (Some y) e = (let same : x ≡ y =
     subst (λ o. MatchOrdering o (x < y) (x ≡ y) (y < x)) e (ranked x y (nat_cmp x y) refl) in
-    ap (λ (n : ℕ). Some n) same)
+    cc)
 
 names_tied : (a b : List ℕ) → slice_cmp nat_cmp a b ≡ Equal → a ≡ b
 names_tied a b e = (let same : bytes_eq a b ≡ true = sym (is_eq-slice_cmp a b)
@@ -52,8 +51,7 @@ tied_same x y e =
     let front : (nat_cmp (key_hash x) (key_hash y) ≡ Equal) × (option_cmp nat_cmp x.0 y.0 ≡ Equal) =
     then_tied (nat_cmp (key_hash x) (key_hash y)) (option_cmp nat_cmp x.0 y.0) both.0 in
     let up : x.0 ≡ y.0 = superiors_tied x.0 y.0 front.1 in
-    let name : x.1 ≡ y.1 = names_tied x.1 y.1 both.1 in
-    ap (λ (s : Option ℕ). (s, x.1)) up ∙ ap (λ (n : List ℕ). (y.0, n)) name
+    let name : x.1 ≡ y.1 = names_tied x.1 y.1 both.1 in λ i. (up i, name i)
 
 after_by : (x y : Key) (o p : Ordering) → key_cmp x y ≡ o → key_cmp y x ≡ p → o ≢ Less → x ≢ y → p ≡ Less
 after_by x y Less p eo ep isnt other = absurd (isnt refl)
@@ -65,9 +63,7 @@ pub after_other : (x y : Key) → key_cmp x y ≢ Less → x ≢ y → key_cmp y
 after_other x y isnt other = after_by x y (key_cmp x y) (key_cmp y x) refl refl isnt other
 
 pub branch_key : (d : ℕ) (name : List ℕ) (n : Node) → is_branch d name (shape n) ≡ true → key_of n ≡ (Some d, name)
-branch_key d name n is = (let h : (n.superior ≡ Some d) × (n.name ≡ name) =
-    lies d name (shape n) is in ap (λ (s : Option ℕ). (s, n.name)) h.0
-    ∙ ap (λ (m : List ℕ). (Some d, m)) h.1)
+branch_key d name n is = (let h : (n.superior ≡ Some d) × (n.name ≡ name) = lies d name (shape n) is in cc)
 
 pub key_branch : (d : ℕ) (name : List ℕ) (n : Node) → key_of n ≡ (Some d, name) → is_branch d name (shape n) ≡ true
 key_branch d name n e =
@@ -96,7 +92,7 @@ module _ (ps : List ℕ) (i place : ℕ) (within : i ≤ length ps) where
 
   old_or_new : (p k : ℕ) → k < length longer → get_or longer k 0 ≡ p → Where k i → HasPlace ps p ⊎ (p ≡ place)
   old_or_new p k lt e (Before before) = inl (record { at = k; within = omega arith; is = sym (at_before k before) ∙ e })
-  old_or_new p k lt e (Here same) = inr (sym e ∙ ap (λ j. get_or longer j 0) same ∙ at_here)
+  old_or_new p k lt e (Here same) = inr (cc (e, same, at_here))
   old_or_new p k lt e (After j is le) = (let n : length longer ≡ length ps + 1 = size in
       inl (record { at = j; within = omega arith; is = sym (at_after k j is le) ∙ e }))
 
@@ -104,12 +100,11 @@ module _ (ps : List ℕ) (i place : ℕ) (within : i ≤ length ps) where
   still_there p x =
       let n : length longer ≡ length ps + 1 = size in
       elim (cases_lt x.at i) [
-        | inl before ↦ record { at = x.at; within = omega (arith, x.within); is = at_before x.at before ∙ x.is }
+        | inl before ↦ record { at = x.at; within = omega arith; is = at_before x.at before ∙ x.is }
         | inr after ↦ record {
           at = x.at + 1;
-          within = omega (arith, x.within);
-          is =
-              at_after (x.at + 1) x.at refl after ∙ x.is;
+          within = omega arith;
+          is = at_after (x.at + 1) x.at refl after ∙ x.is;
         }
       ]
 
@@ -118,8 +113,7 @@ module _ (ps : List ℕ) (i place : ℕ) (within : i ≤ length ps) where
     λ x. old_or_new p x.at x.within x.is (where_is x.at i),
     λ o. elim o [
       | inl x ↦ still_there p x
-      | inr e ↦ (let n =
-          size in record { at = i; within = omega arith; is = at_here ∙ sym e })
+      | inr e ↦ (let n = size in record { at = i; within = omega arith; is = at_here ∙ sym e })
     ],
   )
 
@@ -155,7 +149,7 @@ ordered_more nodes ps hashes i place hash within order sorted slot is new = reco
   sorted = sorted;
   hashed = λ p there. elim ((place_inserted ps i place within p).0 there) [
     | inl old ↦
-        (let other : p ≢ place = λ e. new old.at old.within (ap (λ q. key_of (node_at nodes q)) (old.is ∙ e)) in
+        (let other : p ≢ place = λ e. new old.at old.within (cc) in
         get_or-set_other hashes place p hash 0 other ∙ order.hashed p old)
     | inr same ↦ rw same (get_or-set_same hashes place hash 0 slot ∙ is)
   ];
@@ -174,25 +168,23 @@ module _ (nodes : List Node) (ps : List ℕ) (i : ℕ) (within : i < length ps) 
       (sorted (was i a) (was i b) (was_up i a b lt) (was_within ps i within b w))
 
   apart : (a b : ℕ) → a < b → b < length ps → get_or ps a 0 ≢ get_or ps b 0
-  apart a b lt w e = not_itself (key_at nodes ps a) (key_at nodes ps b) (ap (λ p. key_of (node_at nodes p)) e)
-      (sorted a b lt w)
+  apart a b lt w e = not_itself (key_at nodes ps a) (key_at nodes ps b) (cc) (sorted a b lt w)
 
   still_left : (p : ℕ) → HasPlace ps p → p ≢ get_or ps i 0 → HasPlace shorter p
   still_left p x ne =
       let n = fewer ps i within in
-      let other : x.at ≢ i = λ e. ne (sym x.is ∙ ap (λ j. get_or ps j 0) e) in
+      let other : x.at ≢ i = λ e. ne (cc) in
       elim (cases_lt x.at i) [
         | inl before ↦ record {
           at = x.at;
           within = omega arith;
-          is = get_or-remove_below ps i 0 x.at before within
-              ∙ x.is;
+          is = get_or-remove_below ps i 0 x.at before within ∙ x.is;
         }
         | inr after ↦
             (let same : x.at - 1 + 1 ≡ x.at = omega arith in
             let e : get_or shorter (x.at - 1) 0 ≡ get_or ps x.at 0 =
             rw same at (get_or-remove_above ps i 0 (x.at - 1) (omega arith) within) in
-            record { at = x.at - 1; within = omega (arith, x.within); is = e ∙ x.is })
+            record { at = x.at - 1; within = omega arith; is = e ∙ x.is })
       ]
 
   no_longer : (k : ℕ) → k < length shorter → get_or shorter k 0 ≢ get_or ps i 0
@@ -202,8 +194,7 @@ module _ (nodes : List Node) (ps : List ℕ) (i : ℕ) (within : i < length ps) 
         | inl z ↦ was_other i k z
         | inr differ ↦ elim differ [
           | inl below ↦ apart (was i k) i below within same
-          | inr above ↦
-              apart i (was i k) above (was_within ps i within k lt) (sym same)
+          | inr above ↦ apart i (was i k) above (was_within ps i within k lt) (sym same)
         ]
       ]
 
@@ -213,10 +204,9 @@ module _ (nodes : List Node) (ps : List ℕ) (i : ℕ) (within : i < length ps) 
       record {
         at = was i x.at;
         within = was_within ps i within x.at x.within;
-        is = sym (at_was ps i within x.at 0)
-            ∙ x.is;
+        is = sym (at_was ps i within x.at 0) ∙ x.is;
       },
-      λ e. no_longer x.at x.within (x.is ∙ e ∙ sym is),
+      λ e. no_longer x.at x.within (cc),
     ),
     λ y. still_left p y.0 (λ e. y.1 (e ∙ is)),
   )
@@ -237,8 +227,8 @@ not_greater Equal p q less = λ e. cc
 not_greater Greater p q less = λ e. cc
 
 at_most : (a b : ℕ) (o : Ordering) → nat_cmp a b ≡ o → o ≢ Greater → a ≤ b
-at_most a b Less e isnt = (let lt : a < b = ranked a b Less (sym e) in omega arith)
-at_most a b Equal e isnt = (let same : a ≡ b = ranked a b Equal (sym e) in omega arith)
+at_most a b Less e isnt = (omega (arith, ranked a b Less (sym e)))
+at_most a b Equal e isnt = (omega (arith, ranked a b Equal (sym e)))
 at_most a b Greater e isnt = absurd (isnt refl)
 
 -- the hash of a key that is before another is not above the other's
@@ -251,14 +241,12 @@ hash_most x y less = at_most (key_hash x) (key_hash y) (nat_cmp (key_hash x) (ke
 pub hash_less : (x y : Key) → key_hash x < key_hash y → key_cmp x y ≡ Less
 unfolding key_cmp
 hash_less x y lt =
-    let is : nat_cmp (key_hash x) (key_hash y) ≡ Less =
-    sym (nat_cmp_is (key_hash x) (key_hash y) Less lt) in
+    let is : nat_cmp (key_hash x) (key_hash y) ≡ Less = sym (nat_cmp_is (key_hash x) (key_hash y) Less lt) in
     rw is refl
 
 pub hash_is : {nodes : List Node} {ps hashes : List ℕ} → IsOrdered nodes ps hashes → (k : ℕ) → k < length ps
     → hash_at ps hashes k ≡ key_hash (key_at nodes ps k)
-hash_is {nodes} {ps} order k within =
-    order.hashed (get_or ps k 0) (record { at = k; within = within; is = refl })
+hash_is {nodes} {ps} order k within = order.hashed (get_or ps k 0) (record { at = k; within = within; is = refl })
 
 pub are_rising : {nodes : List Node} {ps hashes : List ℕ} → IsOrdered nodes ps hashes → AreRising ps hashes
 are_rising {nodes} {ps} {hashes} order = record {
@@ -280,14 +268,13 @@ pub compared : (nodes : List Node) (ps : List ℕ) (m : ℕ) (key : Key) {n : No
     → key_cmp (key_at nodes ps m) key ≡ o
 compared nodes ps m key {n} there read is =
     let node : n ≡ node_at nodes (get_or ps m 0) = get_or_read nodes (get_or ps m 0) n there read no_node in
-    ap (λ (x : Node). key_cmp (key_of x) key) (sym node) ∙ sym is
+    cc
 
 -- what stands after one that isn't before a key isn't before it either
 pub halved_above : (nodes : List Node) (ps : List ℕ) (m : ℕ) (key : Key) → IsSorted nodes ps
-    → key_cmp (key_at nodes ps m) key ≢ Less → (k : ℕ) → m ≤ k
-    → k < length ps → key_cmp (key_at nodes ps k) key ≢ Less
+    → key_cmp (key_at nodes ps m) key ≢ Less → (k : ℕ) → m ≤ k → k < length ps → key_cmp (key_at nodes ps k) key ≢ Less
 halved_above nodes ps m key sorted isnt k le within less = elim (cases_eq k m) [
-  | inl same ↦ isnt (subst (λ (j : ℕ). key_cmp (key_at nodes ps j) key ≡ Less) same less)
+  | inl same ↦ isnt (rw same at less)
   | inr other ↦ isnt (less_through _ _ _ (sorted m k (omega arith) within) less)
 ]
 
@@ -300,19 +287,17 @@ first_is nodes ps at key sorted below from k within is = elim (cases_order k at)
   | inl same ↦ same
   | inr differ ↦ elim differ [
     | inl before ↦ absurd (not_itself (key_at nodes ps k) key is (below k before))
-    | inr after ↦ absurd (from at (omega arith) (omega arith)
-        (subst (λ (x : Key). key_cmp (key_at nodes ps at) x ≡ Less) is (sorted at k after within)))
+    | inr after ↦ absurd (from at (omega arith) (omega arith) (rw is at (sorted at k after within)))
   ]
 ]
 
 branch_at_first : (nodes : List Node) (ps : List ℕ) (at superior : ℕ) (name : List ℕ) → IsSorted nodes ps
     → ((k : ℕ) → k < at → key_cmp (key_at nodes ps k) (Some superior, name) ≡ Less)
     → ((k : ℕ) → at ≤ k → k < length ps → key_cmp (key_at nodes ps k) (Some superior, name) ≢ Less) → (place : ℕ)
-    → (there : HasPlace ps place)
-    → is_branch superior name (shape (node_at nodes place)) ≡ true → there.at ≡ at
+    → (there : HasPlace ps place) → is_branch superior name (shape (node_at nodes place)) ≡ true → there.at ≡ at
 branch_at_first nodes ps at superior name sorted below from place there is =
     first_is nodes ps at (Some superior, name) sorted below from there.at there.within
-    (ap (λ p. key_of (node_at nodes p)) there.is ∙ branch_key superior name (node_at nodes place) is)
+    (cc (branch_key superior name (node_at nodes place) is))
 
 -- so the first of those from there on is its place
 pub first_place : (nodes : List Node) (ps : List ℕ) (at superior : ℕ) (name : List ℕ) → IsSorted nodes ps
@@ -321,7 +306,5 @@ pub first_place : (nodes : List Node) (ps : List ℕ) (at superior : ℕ) (name 
     → HasPlace ps place → is_branch superior name (shape (node_at nodes place)) ≡ true
     → (at < length ps) × (get_or ps at 0 ≡ place)
 first_place nodes ps at superior name sorted below from place there is =
-    let same = branch_at_first nodes ps at superior name sorted below from place there is in (
-      subst (λ k. k < length ps) same there.within,
-      subst (λ k. get_or ps k 0 ≡ place) same there.is,
-    )
+    let same = branch_at_first nodes ps at superior name sorted below from place there is in
+    (rw same at there.within, rw same at there.is)

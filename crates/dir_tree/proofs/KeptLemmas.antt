@@ -12,11 +12,9 @@ below_append v (x ∷ xs) ys a b = (a.0, below_append v xs ys a.1 b)
 pub below_newest : (v : ℕ) (ns : List Node) (es : List Entry)
     → ((i : ℕ) → i < length es → (node_of_entry ns es i).uid < v) → AreBelow v (shapes (newest ns es))
 below_newest v ns [] all = tt
-below_newest v ns (e ∷ es) all =
-    rw (map-append shape (newest ns es) (node_at ns e.place ∷ []))
+below_newest v ns (e ∷ es) all = rw (map-append shape (newest ns es) (node_at ns e.place ∷ []))
     (below_append v (shapes (newest ns es)) (shape (node_at ns e.place) ∷ [])
-    (below_newest v ns es (λ i lt. all (suc i) (omega arith)))
-    (all 0 (omega arith), tt))
+    (below_newest v ns es (λ i lt. all (suc i) (omega arith))) (all 0 (omega arith), tt))
 
 -- what keeps no branch from being added
 pub record MayAdd (ns : List Term) (s : ℕ) (name : List ℕ) (dir : Bool) : Type 0 where
@@ -25,8 +23,7 @@ pub record MayAdd (ns : List Term) (s : ℕ) (name : List ℕ) (dir : Bool) : Ty
   pub room : length ns < 4097
 
 no_fault_at : (ns : List Term) (s : ℕ) (name : List ℕ) (dir : Bool) → add_fault_of ns s name dir ≡ None
-    → (o : Option Term) → branch_in ns s name ≡ o
-    → MayAdd ns s name dir
+    → (o : Option Term) → branch_in ns s name ≡ o → MayAdd ns s name dir
 no_fault_at ns s name dir e (Some n) is =
     (let z : is_some (branch_in ns s name) ≡ true = ap is_some is in let y : Some add_fault.Exists ≡ None =
     rw z at e in cc)
@@ -53,6 +50,31 @@ pub no_fault : (ns : List Term) (s : ℕ) (name : List ℕ) (dir : Bool) → add
     → MayAdd ns s name dir
 no_fault ns s name dir e = no_fault_at ns s name dir e (branch_in ns s name) refl
 
+-- an entry is that of a node that is there
+pub member_entry : (ns : List Node) (es : List Entry) (x : Node) → IsMember x (newest ns es) → (i : ℕ)
+    × (i < length es) × (node_of_entry ns es i ≡ x)
+member_entry ns [] x m = absurd m
+member_entry ns (e ∷ es) x m = elim (member_parts x (newest ns es) (node_at ns e.place ∷ []) m) [
+  | inl old ↦ (let h = member_entry ns es x old in (suc h.0, omega arith, h.2))
+  | inr last ↦ elim last [ inl same ↦ (0, omega arith, sym same) | inr none ↦ absurd none ]
+]
+
+some_of : {X : Type 0} (o : Option X) → is_some o ≡ true → (x : X) × (o ≡ Some x)
+some_of None e = cc
+some_of (Some x) e = (x, refl)
+
+pub up_in : (ns : List Node) (u : ℕ) (o : Option ℕ) → IsUp (shapes ns) u o
+    → IfSome o (λ s. (s < u) × (is_in ns s ≡ true))
+up_in ns u None up = tt
+up_in ns u (Some s) up = (up.0, directory_in ns s (sym (directory_shape ns s) ∙ up.1))
+
+no_branch : (n : Node) (d : ℕ) (name : List ℕ) (places : List ℕ) (place : ℕ) → IsNamed places n.superior place
+    → (HasPlace places place → is_branch d name (shape n) ≡ false) → is_branch d name (shape n) ≡ false
+no_branch n d name places place named none = elim (cases_Bool (is_branch d name (shape n))) [
+  | inr isnt ↦ isnt
+  | inl is ↦ none (subst (λ o. IsNamed places o place) (lies d name (shape n) is).0 named)
+]
+
 -- ---- an entry and its node
 
 module _ {nodes : List Node} {es : List Entry} {free : List ℕ} {index : Places} {next : ℕ}
@@ -62,19 +84,17 @@ module _ {nodes : List Node} {es : List Entry} {free : List ℕ} {index : Places
   apart_uids i j lt_i lt_j ne e = elim (cases_order j i) [
     | inl same ↦ ne same
     | inr differ ↦ elim differ [
-      | inl less ↦ (let x : (entry_at es j).uid < (entry_at es i).uid = k.rising j i less lt_i in omega arith)
-      | inr more ↦
-          (let x : (entry_at es i).uid < (entry_at es j).uid = k.rising i j more lt_j in omega arith)
+      | inl less ↦ (omega (arith, k.rising j i less lt_i))
+      | inr more ↦ (omega (arith, k.rising i j more lt_j))
     ]
   ]
 
   pub apart_places : (i j : ℕ) → i < length es → j < length es → j ≢ i → (entry_at es j).place ≢ (entry_at es i).place
-  apart_places i j lt_i lt_j ne e = apart_uids i j lt_i lt_j ne
-      (sym (k.uids j lt_j) ∙ ap (λ p. (node_at nodes p).uid) e ∙ k.uids i lt_i)
+  apart_places i j lt_i lt_j ne e = apart_uids i j lt_i lt_j ne (cc (k.uids j lt_j, k.uids i lt_i))
 
   pub not_of : (uid i j : ℕ) → i < length es → (entry_at es i).uid ≡ uid → j < length es → j ≢ i
       → eqb (node_of_entry nodes es j).uid uid ≡ false
-  not_of uid i j lt_i is lt_j ne = ne_eqb _ _ (λ e. apart_uids i j lt_i lt_j ne (sym (k.uids j lt_j) ∙ e ∙ sym is))
+  not_of uid i j lt_i is lt_j ne = ne_eqb _ _ (λ e. apart_uids i j lt_i lt_j ne (cc (k.uids j lt_j)))
 
   pub node_found : (uid i : ℕ) → i < length es → (entry_at es i).uid ≡ uid → node_of (newest nodes es) uid
       ≡ Some (node_of_entry nodes es i)
@@ -86,164 +106,112 @@ module _ {nodes : List Node} {es : List Entry} {free : List ℕ} {index : Places
   node_missing uid none = none_newest (λ n. eqb n.uid uid) nodes es
       (λ j lt. ne_eqb _ _ (λ e. none j lt (sym (k.uids j lt) ∙ e)))
 
--- what the next branch gets is no node's uid yet
-pub next_missing : {nodes : List Node} {es : List Entry} {free : List ℕ} {index : Places} {next : ℕ}
-    → IsKept nodes es free index next → is_some (node_of (newest nodes es) next) ≡ false
-next_missing {es = es} {next = next} k = ap is_some (node_missing k next
-    (λ i lt e. (let less : (entry_at es i).uid < next = k.below i lt in omega (arith, less, e))))
+  -- what the next branch gets is no node's uid yet
+  pub next_missing : is_some (node_of (newest nodes es) next) ≡ false
+  next_missing = ap is_some (node_missing next (λ i lt e. (omega (arith, k.below i lt))))
 
--- an entry is that of a node that is there
-pub member_entry : (ns : List Node) (es : List Entry) (x : Node) → IsMember x (newest ns es) → (i : ℕ)
-    × (i < length es) × (node_of_entry ns es i ≡ x)
-member_entry ns [] x m = absurd m
-member_entry ns (e ∷ es) x m = elim (member_parts x (newest ns es) (node_at ns e.place ∷ []) m) [
-  | inl old ↦ (let h = member_entry ns es x old in (suc h.0, omega (arith, h.1), h.2))
-  | inr last ↦ elim last [ inl same ↦ (0, omega arith, sym same) | inr none ↦ absurd none ]
-]
+  pub entry_present : (uid : ℕ)
+      → is_in (newest nodes es) uid ≡ true → (i : ℕ) × (i < length es) × ((entry_at es i).uid ≡ uid)
+  entry_present uid e =
+      let n : (n : Node) × (node_of (newest nodes es) uid ≡ Some n) = some_of (node_of (newest nodes es) uid) e in
+      let m : (i : ℕ) × (i < length es) × (node_of_entry nodes es i ≡ n.0) =
+      member_entry nodes es n.0 (found_member (λ n. eqb n.uid uid) (newest nodes es) n.0 n.1) in
+      let is : eqb n.0.uid uid ≡ true = find_passes (λ n. eqb n.uid uid) (newest nodes es) n.0 n.1 in
+      (m.0, m.1, cc (k.uids m.0 m.1, eqb-true n.0.uid uid is))
 
-some_of : {X : Type 0} (o : Option X) → is_some o ≡ true → (x : X) × (o ≡ Some x)
-some_of None e = cc
-some_of (Some x) e = (x, refl)
+  pub segment_present : (uid : ℕ) {t : Branches} → record { nodes = newest nodes es; next = next } ≡ t
+      → is_segment t.nodes uid ≡ true → (i : ℕ) × (i < length es) × ((entry_at es i).uid ≡ uid)
+  segment_present uid {t} seen is =
+      entry_present uid (subst (λ (t : Branches). is_in t.nodes uid ≡ true) (sym seen) (segment_in t.nodes uid is))
 
-pub entry_present : {nodes : List Node} {es : List Entry} {free : List ℕ} {index : Places} {next : ℕ}
-    → IsKept nodes es free index next → (uid : ℕ)
-    → is_in (newest nodes es) uid ≡ true → (i : ℕ) × (i < length es) × ((entry_at es i).uid ≡ uid)
-entry_present {nodes} {es} {free} {index} {next} k uid e =
-    let n : (n : Node) × (node_of (newest nodes es) uid ≡ Some n) = some_of (node_of (newest nodes es) uid) e in
-    let m : (i : ℕ) × (i < length es) × (node_of_entry nodes es i ≡ n.0) =
-    member_entry nodes es n.0 (found_member (λ n. eqb n.uid uid) (newest nodes es) n.0 n.1) in
-    let is : eqb n.0.uid uid ≡ true = find_passes (λ n. eqb n.uid uid) (newest nodes es) n.0 n.1 in
-    (m.0, m.1, sym (k.uids m.0 m.1) ∙ ap (λ (n : Node). n.uid) m.2 ∙ eqb-true n.0.uid uid is)
+  -- ---- what a look-up reads
 
-pub segment_present : {nodes : List Node} {es : List Entry} {free : List ℕ} {index : Places} {next : ℕ}
-    → IsKept nodes es free index next → (uid : ℕ) {t : Branches} → record { nodes = newest nodes es; next = next } ≡ t
-    → is_segment t.nodes uid ≡ true → (i : ℕ) × (i < length es) × ((entry_at es i).uid ≡ uid)
-segment_present {nodes} {es} {free} {index} {next} k uid {t} seen is =
-    entry_present k uid (subst (λ (t : Branches). is_in t.nodes uid ≡ true) (sym seen) (segment_in t.nodes uid is))
+  pub node_read : (uid : ℕ) (e : Entry)
+      → HasEntry es uid e → (x : Node) → x ≡ get_or nodes e.place x → node_of (newest nodes es) uid ≡ Some x
+  node_read uid e h x read =
+      let within : e.place < length nodes = rw (← h.entry_is) (k.within h.i h.within) in
+      let node : x ≡ node_at nodes e.place = get_or_read nodes e.place x within read no_node in
+      cc (node_found uid h.i h.within (ap (λ (d : Entry). d.uid) h.entry_is ∙ h.uid_is))
 
-pub up_in : (ns : List Node) (u : ℕ) (o : Option ℕ) → IsUp (shapes ns) u o
-    → IfSome o (λ s. (s < u) × (is_in ns s ≡ true))
-up_in ns u None up = tt
-up_in ns u (Some s) up = (up.0, directory_in ns s (sym (directory_shape ns s) ∙ up.1))
+  -- the superior of a node is its entry's
+  pub superior_read : (uid : ℕ) (e : Entry) → HasEntry es uid e
+      → superior_in (shapes (newest nodes es)) uid ≡ e.superior
+  superior_read uid e h =
+      let found : node_of (newest nodes es) uid ≡ Some (node_of_entry nodes es h.i) =
+      node_found uid h.i h.within (cc) in
+      let shaped : find (λ n. eqb n.uid uid) (shapes (newest nodes es)) ≡ Some (shape (node_of_entry nodes es h.i)) =
+      find_map (λ n. eqb n.uid uid) shape (newest nodes es) ∙ ap (option_map shape) found in
+      cc (k.superiors h.i h.within)
 
--- ---- what a look-up reads
+  -- the branch of a name is the node that the index finds
+  pub branch_read : (d : ℕ) (name : List ℕ) (place : ℕ)
+      → HasPlace index.places place → is_branch d name (shape (node_at nodes place)) ≡ true
+      → branch_in (shapes (newest nodes es)) d name ≡ Some (shape (node_at nodes place))
+  branch_read d name place there is = branch_at (branch_in (shapes (newest nodes es)) d name) refl
+    where
+      member : IsMember (shape (node_at nodes place)) (shapes (newest nodes es))
+      member = (let p = k.places place there in
+          rw (← p.place_is) (member_map shape _ (newest nodes es) (member_newest nodes es p.i p.within)))
 
-pub node_read : {nodes : List Node} {es : List Entry} {free : List ℕ} {index : Places} {next : ℕ}
-    → IsKept nodes es free index next → (uid : ℕ) (e : Entry)
-    → HasEntry es uid e → (x : Node) → x ≡ get_or nodes e.place x → node_of (newest nodes es) uid ≡ Some x
-node_read {nodes} {es} {free} {index} {next} k uid e h x read =
-    let within : e.place < length nodes = subst (λ (d : Entry). d.place < length nodes) h.entry_is
-    (k.within h.i h.within) in
-    let node : x ≡ node_at nodes e.place = get_or_read nodes e.place x within read no_node in
-    node_found k uid h.i h.within (ap (λ (d : Entry). d.uid) h.entry_is ∙ h.uid_is)
-    ∙ ap (λ (d : Entry). Some (node_at nodes d.place)) h.entry_is ∙ ap (λ (n : Node). Some n) (sym node)
+      branch_at : (o : Option Term) → branch_in (shapes (newest nodes es)) d name ≡ o
+          → branch_in (shapes (newest nodes es)) d name ≡ Some (shape (node_at nodes place))
+      branch_at None e = absurd (member_found (is_branch d name) (shapes (newest nodes es)) _ member is
+          (sym (branch_found d name (shapes (newest nodes es))) ∙ e))
+      branch_at (Some x) e = e ∙ ap (λ (n : Term). Some n)
+          (only_branch (shapes (newest nodes es)) k.tree d name x _ e member is)
 
--- the superior of a node is its entry's
-pub superior_read : {nodes : List Node} {es : List Entry} {free : List ℕ} {index : Places} {next : ℕ}
-    → IsKept nodes es free index next
-    → (uid : ℕ) (e : Entry) → HasEntry es uid e → superior_in (shapes (newest nodes es)) uid ≡ e.superior
-superior_read {nodes} {es} {free} {index} {next} k uid e h =
-    let found : node_of (newest nodes es) uid ≡ Some (node_of_entry nodes es h.i) =
-    node_found k uid h.i h.within (ap (λ (d : Entry). d.uid) h.entry_is ∙ h.uid_is) in
-    let shaped : find (λ n. eqb n.uid uid) (shapes (newest nodes es)) ≡ Some (shape (node_of_entry nodes es h.i)) =
-    find_map (λ n. eqb n.uid uid) shape (newest nodes es) ∙ ap (option_map shape) found in
-    ap (option_and_then (λ n. n.superior)) shaped ∙ k.superiors h.i h.within ∙ ap (λ (d : Entry). d.superior) h.entry_is
+  pub branch_missing : (d : ℕ) (name : List ℕ)
+      → ((place : ℕ) → HasPlace index.places place → is_branch d name (shape (node_at nodes place)) ≡ false)
+      → branch_in (shapes (newest nodes es)) d name ≡ None
+  branch_missing d name none = cc (
+    branch_found d name (shapes (newest nodes es)),
+    find_map (is_branch d name) shape (newest nodes es),
+    none_newest (λ n. is_branch d name (shape n)) nodes es (λ j lt. no_branch (node_of_entry nodes es j) d name
+        index.places (entry_at es j).place (subst (λ o. IsNamed index.places o (entry_at es j).place)
+        (sym (k.superiors j lt)) (k.named j lt)) (none (entry_at es j).place)),
+  )
 
--- the branch of a name is the node that the index finds
-pub branch_read : {nodes : List Node} {es : List Entry} {free : List ℕ} {index : Places} {next : ℕ}
-    → IsKept nodes es free index next
-    → (d : ℕ) (name : List ℕ) (place : ℕ)
-    → HasPlace index.places place → is_branch d name (shape (node_at nodes place)) ≡ true
-    → branch_in (shapes (newest nodes es)) d name ≡ Some (shape (node_at nodes place))
-branch_read {nodes} {es} {free} {index} {next} k d name place there is =
-    branch_at (branch_in (shapes (newest nodes es)) d name) refl
-  where
-    member : IsMember (shape (node_at nodes place)) (shapes (newest nodes es))
-    member = (let p = k.places place there in
-        subst (λ q. IsMember (shape (node_at nodes q)) (shapes (newest nodes es))) p.place_is
-        (member_map shape _ (newest nodes es) (member_newest nodes es p.i p.within)))
+  -- where no branch of a name is there, no place of the index is that of one
+  pub no_place : (d : ℕ) (name : List ℕ) → branch_in (shapes (newest nodes es)) d name ≡ None
+      → (place : ℕ) → HasPlace index.places place → is_branch d name (shape (node_at nodes place)) ≡ true → ⊥
+  no_place d name none place there is =
+      let found : branch_in (shapes (newest nodes es)) d name ≡ Some (shape (node_at nodes place)) =
+      branch_read d name place there is in
+      let no : None ≡ Some (shape (node_at nodes place)) = sym none ∙ found in
+      cc
 
-    branch_at : (o : Option Term) → branch_in (shapes (newest nodes es)) d name ≡ o
-        → branch_in (shapes (newest nodes es)) d name ≡ Some (shape (node_at nodes place))
-    branch_at None e = absurd (member_found (is_branch d name) (shapes (newest nodes es)) _ member is
-        (sym (branch_found d name (shapes (newest nodes es))) ∙ e))
-    branch_at (Some x) e = e ∙ ap (λ (n : Term). Some n)
-        (only_branch (shapes (newest nodes es)) k.tree d name x _ e member is)
+  pub places_within : AreWithin nodes index.places
+  places_within i lt = (let p = k.places (get_or index.places i 0) (record { at = i; within = lt; is = refl }) in
+      rw p.place_is at (k.within p.i p.within))
 
-no_branch : (n : Node) (d : ℕ) (name : List ℕ) (places : List ℕ) (place : ℕ) → IsNamed places n.superior place
-    → (HasPlace places place → is_branch d name (shape n) ≡ false) → is_branch d name (shape n) ≡ false
-no_branch n d name places place named none = elim (cases_Bool (is_branch d name (shape n))) [
-  | inr isnt ↦ isnt
-  | inl is ↦ none (subst (λ o. IsNamed places o place) (lies d name (shape n) is).0 named)
-]
+  pub place_within : (place : ℕ) → HasPlace index.places place → place < length nodes
+  place_within place there = rw there.is at (places_within there.at there.within)
 
-pub branch_missing : {nodes : List Node} {es : List Entry} {free : List ℕ} {index : Places} {next : ℕ}
-    → IsKept nodes es free index next
-    → (d : ℕ) (name : List ℕ)
-    → ((place : ℕ) → HasPlace index.places place → is_branch d name (shape (node_at nodes place)) ≡ false)
-    → branch_in (shapes (newest nodes es)) d name ≡ None
-branch_missing {nodes} {es} {free} {index} {next} k d name none =
-    branch_found d name (shapes (newest nodes es)) ∙ find_map (is_branch d name) shape (newest nodes es)
-    ∙ ap (option_map shape) (none_newest (λ n. is_branch d name (shape n)) nodes es (λ j lt.
-    no_branch (node_of_entry nodes es j) d name index.places (entry_at es j).place
-    (subst (λ o. IsNamed index.places o (entry_at es j).place) (sym (k.superiors j lt)) (k.named j lt))
-    (none (entry_at es j).place)))
+  pub place_read : (place : ℕ) (x : Node) → HasPlace index.places place → x ≡ get_or nodes place x
+      → x ≡ node_at nodes place
+  place_read place x there read = get_or_read nodes place x (place_within place there) read no_node
 
--- where no branch of a name is there, no place of the index is that of one
-pub no_place : {nodes : List Node} {es : List Entry} {free : List ℕ} {index : Places} {next : ℕ}
-    → IsKept nodes es free index next → (d : ℕ) (name : List ℕ)
-    → branch_in (shapes (newest nodes es)) d name ≡ None
-    → (place : ℕ) → HasPlace index.places place → is_branch d name (shape (node_at nodes place)) ≡ true → ⊥
-no_place {nodes} {es} {free} {index} {next} k d name none place there is =
-    let found : branch_in (shapes (newest nodes es)) d name ≡ Some (shape (node_at nodes place)) =
-    branch_read k d name place there is in
-    let no : None ≡ Some (shape (node_at nodes place)) = sym none ∙ found in
-    cc
+  -- what stands in the index is a node of the tree
+  pub place_there : (place : ℕ) → HasPlace index.places place → is_in (newest nodes es) (node_at nodes place).uid ≡ true
+  place_there place there =
+      let p = k.places place there in
+      rw p.place_is at (ap is_some (node_found (node_of_entry nodes es p.i).uid p.i p.within
+      (sym (k.uids p.i p.within))))
 
-pub places_within : {nodes : List Node} {es : List Entry} {free : List ℕ} {index : Places} {next : ℕ}
-    → IsKept nodes es free index next
-    → AreWithin nodes index.places
-places_within {nodes} {es} {free} {index} {next} k i lt =
-    (let p = k.places (get_or index.places i 0) (record { at = i; within = lt; is = refl }) in subst
-    (λ q. q < length nodes) p.place_is (k.within p.i p.within))
+  -- a node has an inferior where an entry has it as superior
+  pub inferior_since : (u i : ℕ)
+      → i < length es → (entry_at es i).superior ≡ Some u → list_any (is_inferior u) (shapes (newest nodes es)) ≡ true
+  inferior_since u i lt is =
+      let up : (node_of_entry nodes es i).superior ≡ Some u = k.superiors i lt ∙ is in
+      any_member (is_inferior u) (shapes (newest nodes es)) (shape (node_of_entry nodes es i))
+      (member_map shape _ (newest nodes es) (member_newest nodes es i lt))
+      (is_below u (shape (node_of_entry nodes es i)) up)
 
-pub place_within : {nodes : List Node} {es : List Entry} {free : List ℕ} {index : Places} {next : ℕ}
-    → IsKept nodes es free index next → (place : ℕ)
-    → HasPlace index.places place → place < length nodes
-place_within {nodes} {es} {free} {index} {next} k place there =
-    subst (λ q. q < length nodes) there.is (places_within k there.at there.within)
-
-pub place_read : {nodes : List Node} {es : List Entry} {free : List ℕ} {index : Places} {next : ℕ}
-    → IsKept nodes es free index next → (place : ℕ) (x : Node) → HasPlace index.places place → x ≡ get_or nodes place x
-    → x ≡ node_at nodes place
-place_read {nodes} k place x there read = get_or_read nodes place x (place_within k place there) read no_node
-
--- what stands in the index is a node of the tree
-pub place_there : {nodes : List Node} {es : List Entry} {free : List ℕ} {index : Places} {next : ℕ}
-    → IsKept nodes es free index next → (place : ℕ)
-    → HasPlace index.places place
-    → is_in (newest nodes es) (node_at nodes place).uid ≡ true
-place_there {nodes} {es} {free} {index} {next} k place there =
-    let p = k.places place there in
-    subst (λ q. is_in (newest nodes es) (node_at nodes q).uid ≡ true) p.place_is
-    (ap is_some (node_found k (node_of_entry nodes es p.i).uid p.i p.within (sym (k.uids p.i p.within))))
-
--- a node has an inferior where an entry has it as superior
-pub inferior_since : {nodes : List Node} {es : List Entry} {free : List ℕ} {index : Places} {next : ℕ}
-    → IsKept nodes es free index next → (u i : ℕ)
-    → i < length es → (entry_at es i).superior ≡ Some u → list_any (is_inferior u) (shapes (newest nodes es)) ≡ true
-inferior_since {nodes} {es} {free} {index} {next} k u i lt is =
-    let up : (node_of_entry nodes es i).superior ≡ Some u = k.superiors i lt ∙ is in
-    any_member (is_inferior u) (shapes (newest nodes es)) (shape (node_of_entry nodes es i))
-    (member_map shape _ (newest nodes es) (member_newest nodes es i lt))
-    (is_below u (shape (node_of_entry nodes es i)) up)
-
-pub no_inferior : {nodes : List Node} {es : List Entry} {free : List ℕ} {index : Places} {next : ℕ}
-    → IsKept nodes es free index next → (u : ℕ)
-    → ((i : ℕ) → i < length es → (entry_at es i).superior ≢ Some u)
-    → list_any (is_inferior u) (shapes (newest nodes es)) ≡ false
-no_inferior {nodes} {es} {free} {index} {next} k u none =
-    any_found (is_inferior u) (shapes (newest nodes es))
-    ∙ ap is_some (find_map (is_inferior u) shape (newest nodes es)
-    ∙ ap (option_map shape) (none_newest (λ n. is_inferior u (shape n)) nodes es (λ j lt.
-    not_below u (shape (node_of_entry nodes es j)) (λ e. none j lt (sym (k.superiors j lt) ∙ e)))))
+  pub no_inferior : (u : ℕ) → ((i : ℕ) → i < length es → (entry_at es i).superior ≢ Some u)
+      → list_any (is_inferior u) (shapes (newest nodes es)) ≡ false
+  no_inferior u none = cc (
+    any_found (is_inferior u) (shapes (newest nodes es)),
+    find_map (is_inferior u) shape (newest nodes es),
+    none_newest (λ n. is_inferior u (shape n)) nodes es (λ j lt. not_below u
+        (shape (node_of_entry nodes es j)) (λ e. none j lt (sym (k.superiors j lt) ∙ e))),
+  )

@@ -6,8 +6,7 @@ abbrev pub node_of_entry : List Node → List Entry → ℕ → Node
 node_of_entry ns es i = node_at ns (entry_at es i).place
 
 pub none_newest : (p : Node → Bool) (ns : List Node) (es : List Entry)
-    → ((j : ℕ) → j < length es → p (node_of_entry ns es j) ≡ false)
-    → find p (newest ns es) ≡ None
+    → ((j : ℕ) → j < length es → p (node_of_entry ns es j) ≡ false) → find p (newest ns es) ≡ None
 none_newest p ns [] all = refl
 none_newest p ns (e ∷ es) all =
     let none : find p (newest ns es) ≡ None = none_newest p ns es (λ j lt. all (suc j) (omega arith)) in
@@ -23,8 +22,7 @@ find_newest p ns (e ∷ es) zero lt is others =
     let none : find p (newest ns es) ≡ None = none_newest p ns es
     (λ j lt_j. others (suc j) (omega arith) (λ q. omega arith)) in
     past_front p (newest ns es) (node_at ns e.place ∷ []) none ∙ rw is refl
-find_newest p ns (e ∷ es) (suc i) lt is others =
-    found_front p (newest ns es) (node_at ns e.place ∷ []) _
+find_newest p ns (e ∷ es) (suc i) lt is others = found_front p (newest ns es) (node_at ns e.place ∷ []) _
     (find_newest p ns es i (omega arith) is (λ j lt_j ne. others (suc j) (omega arith) (λ q. ne (omega arith))))
 
 pub member_newest : (ns : List Node) (es : List Entry) (i : ℕ) → i < length es
@@ -35,8 +33,7 @@ member_newest ns (e ∷ es) (suc i) lt = member_left _ (newest ns es) (node_at n
     (member_newest ns es i (omega arith))
 
 pub newest_same : (ms ns : List Node) (es : List Entry)
-    → ((j : ℕ) → j < length es → node_of_entry ms es j ≡ node_of_entry ns es j)
-    → newest ms es ≡ newest ns es
+    → ((j : ℕ) → j < length es → node_of_entry ms es j ≡ node_of_entry ns es j) → newest ms es ≡ newest ns es
 newest_same ms ns [] same = refl
 newest_same ms ns (e ∷ es) same =
     let here : node_at ms e.place ≡ node_at ns e.place = same 0 (omega arith) in
@@ -45,13 +42,11 @@ newest_same ms ns (e ∷ es) same =
 pub newest_push : (ns : List Node) (es : List Entry) (e : Entry) → newest ns (es ++ e ∷ []) ≡ node_at ns e.place
     ∷ newest ns es
 newest_push ns [] e = refl
-newest_push ns (d ∷ es) e = ap (λ xs. xs ++ node_at ns d.place ∷ []) (newest_push ns es e)
+newest_push ns (d ∷ es) e = rw (newest_push ns es e) refl
 
 pub length_newest : (ns : List Node) (es : List Entry) → length (newest ns es) ≡ length es
 length_newest ns [] = refl
-length_newest ns (e ∷ es) = (let ih : length (newest ns es) ≡ length es = length_newest ns es in let more =
-    length_push (newest ns es) (node_at ns e.place) in
-    omega arith)
+length_newest ns (e ∷ es) = rw (length_push, length_newest ns es) (omega arith)
 
 pub newest_changed : (ms ns : List Node) (es : List Entry) (h : Node → Node)
     → ((j : ℕ) → j < length es → node_of_entry ms es j ≡ h (node_of_entry ns es j))
@@ -63,8 +58,7 @@ newest_changed ms ns (e ∷ es) h same =
     (sym (map-append h (newest ns es) (node_at ns e.place ∷ [])))
 
 all_kept : (p : Node → Bool) (ns : List Node) (es : List Entry)
-    → ((j : ℕ) → j < length es → p (node_of_entry ns es j) ≡ true)
-    → filter p (newest ns es) ≡ newest ns es
+    → ((j : ℕ) → j < length es → p (node_of_entry ns es j) ≡ true) → filter p (newest ns es) ≡ newest ns es
 all_kept p ns [] all = refl
 all_kept p ns (e ∷ es) all =
     let here : p (node_at ns e.place) ≡ true = all 0 (omega arith) in
@@ -89,4 +83,4 @@ newest_remove p ns (e ∷ es) (suc i) lt isnt others =
     let here : p (node_at ns e.place) ≡ true = others 0 (omega arith) (λ q. omega arith) in
     let ih : newest ns (remove es i) ≡ filter p (newest ns es) =
     newest_remove p ns es i (omega arith) isnt (λ j lt_j ne. others (suc j) (omega arith) (λ q. ne (omega arith))) in
-    rw (filter-append p (newest ns es) (node_at ns e.place ∷ []), here) (ap (λ xs. xs ++ node_at ns e.place ∷ []) ih)
+    rw (filter-append p (newest ns es) (node_at ns e.place ∷ []), here) (cc)

@@ -10,8 +10,7 @@ node_any q (n ∷ ns) u = elim (cases_Bool (eqb n.uid u)) [ inl is ↦ rw is ref
 
 -- the superior of a node that is found
 pub superior_is : (ns : List Node) (u : ℕ) (n : Node) → node_of ns u ≡ Some n → superior_in (shapes ns) u ≡ n.superior
-superior_is ns u n e = ap (option_and_then (λ m. m.superior))
-    (find_map (λ n. eqb n.uid u) shape ns ∙ ap (option_map shape) e)
+superior_is ns u n e = cc (find_map (λ n. eqb n.uid u) shape ns)
 
 -- the root is in each tree that has a node
 pub root_there : (ns : List Node) → IsTree (shapes ns) → 0 < length ns → is_some (node_of ns 1) ≡ true
@@ -33,8 +32,7 @@ pub branch_shape : (ns : List Node) (d : ℕ) (name : List ℕ) → branch_in (s
 branch_shape ns d name = branch_found d name (shapes ns) ∙ find_map (is_branch d name) shape ns
 
 onward_any : (q : ℕ → ℕ) (f g : Term → Walk) → ((n : Node) → f (as_term q n) ≡ g (shape n))
-    → (b : Bool) (o : Option Node)
-    → onward f b (option_map (as_term q) o) ≡ onward g b (option_map shape o)
+    → (b : Bool) (o : Option Node) → onward f b (option_map (as_term q) o) ≡ onward g b (option_map shape o)
 onward_any q f g same false o = refl
 onward_any q f g same true None = refl
 onward_any q f g same true (Some n) = same n
@@ -42,8 +40,7 @@ onward_any q f g same true (Some n) = same n
 walk_any_from : (q : ℕ → ℕ) (ns : List Node) (u : ℕ) (b : Bool) (path : List (List ℕ))
     → walk_from (with_quotas q ns) u b path ≡ walk_from (shapes ns) u b path
 walk_any_from q ns u b [] = refl
-walk_any_from q ns u b (name ∷ names) =
-    rw (branch_any q ns u name, branch_shape ns u name)
+walk_any_from q ns u b (name ∷ names) = rw (branch_any q ns u name, branch_shape ns u name)
     (onward_any q (λ n. walk_from (with_quotas q ns) n.uid n.directory names)
     (λ n. walk_from (shapes ns) n.uid n.directory names)
     (λ n. walk_any_from q ns n.uid n.dir names) b (find (λ n. is_branch u name (shape n)) ns))
@@ -54,9 +51,12 @@ walk_any q ns path = walk_any_from q ns 1 true path
 
 pub named_any : (q : ℕ → ℕ) (ns : List Node) (d : ℕ) (name : List ℕ) → is_some (branch_in (with_quotas q ns) d name)
     ≡ is_some (branch_in (shapes ns) d name)
-named_any q ns d name =
-    ap is_some (branch_any q ns d name) ∙ none_mapped (as_term q) (find (λ n. is_branch d name (shape n)) ns)
-    ∙ sym (ap is_some (branch_shape ns d name) ∙ none_mapped shape (find (λ n. is_branch d name (shape n)) ns))
+named_any q ns d name = cc (
+  branch_any q ns d name,
+  none_mapped (as_term q) (find (λ n. is_branch d name (shape n)) ns),
+  branch_shape ns d name,
+  none_mapped shape (find (λ n. is_branch d name (shape n)) ns),
+)
 
 pub fault_any : (q : ℕ → ℕ) (ns : List Node) (d : ℕ) (name : List ℕ) (b : Bool)
     → add_fault_of (with_quotas q ns) d name b ≡ add_fault_of (shapes ns) d name b
@@ -74,16 +74,15 @@ fault_by q ns d name dir is_here is_deep is_full = fault_any q ns d name dir
 
 pub inferior_any : (q : ℕ → ℕ) (ns : List Node) (u : ℕ) → has_inferior (with_quotas q ns) u ≡ has_inferior (shapes ns) u
 inferior_any q [] u = refl
-inferior_any q (n ∷ ns) u = ap (λ b. is_inferior u (shape n) || b) (inferior_any q ns u)
+inferior_any q (n ∷ ns) u = cc (inferior_any q ns u)
 
 -- one more name of a path
 pub walk_next : (ns : List Term) (u : ℕ) (b : Bool) (names : List (List ℕ)) (i : ℕ) (name : List ℕ) → i < length names
     → name ≡ get_or names i name
     → walk_from ns u b (drop i names) ≡ onward (λ n. walk_from ns n.uid n.directory (drop (i + 1) names)) b
     (branch_in ns u name)
-walk_next ns u b names i name lt read = at_drop_more (λ (path : List (List ℕ)). walk_from ns u b path) names i name lt
-    ∙ ap (λ (x : List ℕ). onward (λ n. walk_from ns n.uid n.directory (drop (i + 1) names)) b (branch_in ns u x))
-    (sym read)
+walk_next ns u b names i name lt read = cc (at_drop_more (λ (path : List (List ℕ)). walk_from ns u b path) names i name
+    lt)
 
 pub walk_ends : (ns : List Term) (u : ℕ) (b : Bool) (names : List (List ℕ)) (i : ℕ) → length names ≤ i
     → walk_from ns u b (drop i names) ≡ LeadsTo u

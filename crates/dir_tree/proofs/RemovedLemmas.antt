@@ -1,12 +1,11 @@
 -- What a branch less leaves of the tables behind a tree.
-use Rattle.dir_tree.proofs.Prelude.{◌≡◌, ◌≢◌, ℕ, ◌+◌, ◌<◌, ◌≤◌, false, eqb, not, List, [], ◌∷◌, ◌++◌, length, Option, Some, None, refl, sym, ap, subst, ◌∙◌, arith, get_or, inl, inr, ◌↔◌, find, remove, list_any, option_map, cases_lt, eq-eqb, not_from_true, not_from_false, length_push, get_or_append_left, get_or_push, is_inferior, Node, Entry, Places, HasPlace, IsOrdered, node_at, without, node_of, shape, shapes, IsTree, no_entry, entry_at, newest, IsNamed, IsPlace, IsKept, filter_map_same, find_map, tree_left, root_found}
+use Rattle.dir_tree.proofs.Prelude.{◌≡◌, ◌≢◌, ℕ, ◌+◌, ◌<◌, ◌≤◌, false, eqb, not, List, [], ◌∷◌, ◌++◌, length, Option, Some, None, refl, sym, ap, ◌∙◌, arith, get_or, inl, inr, ◌↔◌, find, remove, list_any, option_map, cases_lt, eq-eqb, not_from_true, not_from_false, length_push, get_or_append_left, get_or_push, is_inferior, Node, Entry, Places, HasPlace, IsOrdered, node_at, without, node_of, shape, shapes, no_entry, entry_at, newest, IsNamed, IsPlace, IsKept, filter_map_same, find_map, tree_left, root_found, before}
 use Rattle.dir_tree.proofs.EditLemmas.{each_pushed, each_left, was, was_up, was_other, now, was_now, at_was, fewer, was_within, now_within}
 use Rattle.dir_tree.proofs.NewestLemmas.{node_of_entry, newest_remove}
 use Rattle.dir_tree.proofs.KeptLemmas.{apart_places, not_of, node_found}
 
 module _ {nodes : List Node} {es : List Entry} {free : List ℕ} {index : Places} {next : ℕ}
-    (k : IsKept nodes es free index next) (i : ℕ)
-    (within : i < length es) (index' : Places)
+    (k : IsKept nodes es free index next) (i : ℕ) (within : i < length es) (index' : Places)
     (leaf : list_any (is_inferior (entry_at es i).uid) (shapes (newest nodes es)) ≡ false)
     (order : IsOrdered nodes index'.places index'.hashes) (places : (p : ℕ) → HasPlace index'.places p
     ↔ (HasPlace index.places p × (p ≢ (entry_at es i).place)))
@@ -69,15 +68,13 @@ module _ {nodes : List Node} {es : List Entry} {free : List ℕ} {index : Places
   still_named (Some d) p ne there = (places p).1 (there, ne)
 
   places' : (p : ℕ) → HasPlace index'.places p → IsPlace es' p
-  places' p there =
-      (let both : HasPlace index.places p × (p ≢ place) = (places p).0 there in
+  places' p there = (let both : HasPlace index.places p × (p ≢ place) = (places p).0 there in
       let q = k.places p both.0 in
-      let other : q.i ≢ i = λ e. both.1 (sym q.place_is ∙ ap (λ j. (entry_at es j).place) e) in
+      let other : q.i ≢ i = λ e. both.1 (cc) in
       record {
         i = now i q.i;
         within = now_within es i within q.i q.within other;
-        place_is = ap (λ (d : Entry). d.place) (old (now i q.i))
-            ∙ ap (λ j. (entry_at es j).place) (was_now i q.i other) ∙ q.place_is;
+        place_is = rw (old (now i q.i), was_now i q.i other) q.place_is;
       })
 
   pub kept_removed : IsKept nodes es' free' index' next
@@ -91,8 +88,7 @@ module _ {nodes : List Node} {es : List Entry} {free : List ℕ} {index : Places
     free_within = each_pushed free place 0 (λ p. p < length nodes) k.free_within (k.within i within);
     free_apart = free_apart';
     unused = unused';
-    count = (let m = size in let f = size_free in let c : length nodes ≡ length es + length free =
-        k.count in omega arith);
+    count = (omega (arith, size, size_free, k.count));
     few = k.few;
     named = each_left es i within no_entry (λ e. IsNamed index'.places e.superior e.place)
         (λ j lt ne. still_named (entry_at es j).superior (entry_at es j).place (apart_places k i j within lt ne)
@@ -100,49 +96,38 @@ module _ {nodes : List Node} {es : List Entry} {free : List ℕ} {index : Places
     places = places';
     order = order;
     branches = (let m = size in let p : length index.places + 1 ≡ length es = k.branches in omega arith);
-    room = room ∙ k.room;
-    tree = subst (λ ns. IsTree (shapes ns)) (sym view_removed)
-        (subst IsTree (sym (filter_map_same (λ n. not (eqb n.uid uid)) shape (newest nodes es)))
-        (tree_left uid (shapes (newest nodes es)) leaf k.tree));
+    room = cc;
+    tree = rw (view_removed, filter_map_same (λ n. not (eqb n.uid uid)) shape (newest nodes es))
+        (tree_left uid (shapes (newest nodes es)) leaf k.tree);
   }
 
-pub removed_at : {nodes : List Node} {es : List Entry} {free : List ℕ} {index : Places} {next : ℕ}
-    → IsKept nodes es free index next → (uid i : ℕ) (e : Entry)
-    → i < length es → e ≡ entry_at es i → (entry_at es i).uid ≡ uid
-    → list_any (is_inferior uid) (shapes (newest nodes es)) ≡ false → (index' : Places)
-    → IsOrdered nodes index'.places index'.hashes
-    → ((p : ℕ) → HasPlace index'.places p ↔ (HasPlace index.places p × (p ≢ e.place)))
-    → length index'.places + 1 ≡ length index.places → index'.room ≡ index.room
-    → IsKept nodes (remove es i) (free ++ e.place ∷ []) index' next
-    × (newest nodes (remove es i) ≡ without uid (newest nodes es))
-removed_at {nodes} {es} {free} {index} {next} k uid i e within same is_uid leaf index' order places count room =
-    let leaf' : list_any (is_inferior (entry_at es i).uid) (shapes (newest nodes es)) ≡ false = rw is_uid leaf in
-    let places' : (p : ℕ) → HasPlace index'.places p ↔ (HasPlace index.places p × (p ≢ (entry_at es i).place)) =
-    subst (λ (d : Entry). (p : ℕ) → HasPlace index'.places p ↔ (HasPlace index.places p × (p ≢ d.place))) same places
-    in (
-      subst (λ (d : Entry). IsKept nodes (remove es i) (free ++ d.place ∷ []) index' next) (sym same)
-          (kept_removed k i within index' leaf' order places' count room),
-      subst (λ u. newest nodes (remove es i) ≡ without u (newest nodes es)) is_uid
-          (view_removed k i within index' leaf' order places' count room),
-    )
+module _ {nodes : List Node} {es : List Entry} {free : List ℕ} {index : Places} {next : ℕ}
+    (k : IsKept nodes es free index next) where
+  pub removed_at : (uid i : ℕ) (e : Entry) → i < length es → e ≡ entry_at es i → (entry_at es i).uid ≡ uid
+      → list_any (is_inferior uid) (shapes (newest nodes es)) ≡ false → (index' : Places)
+      → IsOrdered nodes index'.places index'.hashes
+      → ((p : ℕ) → HasPlace index'.places p ↔ (HasPlace index.places p × (p ≢ e.place)))
+      → length index'.places + 1 ≡ length index.places → index'.room ≡ index.room
+      → IsKept nodes (remove es i) (free ++ e.place ∷ []) index' next
+      × (newest nodes (remove es i) ≡ without uid (newest nodes es))
+  removed_at uid i e within same is_uid leaf index' order places count room =
+      let leaf' = rw (← is_uid) at leaf in
+      let places' = rw same at places in (
+        rw same (kept_removed k i within index' leaf' order places' count room),
+        rw (← is_uid) (view_removed k i within index' leaf' order places' count room),
+      )
 
--- the root is the only node without a superior
-pub not_root : {nodes : List Node} {es : List Entry} {free : List ℕ} {index : Places} {next : ℕ}
-    → IsKept nodes es free index next → (uid i : ℕ) (e : Entry)
-    → i < length es → e ≡ entry_at es i → (entry_at es i).uid ≡ uid → e.superior ≡ None → uid ≡ 1
-not_root {nodes} {es} {free} {index} {next} k uid i e within same is_uid none =
-    let found : node_of (newest nodes es) uid ≡ Some (node_of_entry nodes es i) = node_found k uid i within is_uid in
-    let shaped : find (λ n. eqb n.uid uid) (shapes (newest nodes es)) ≡ Some (shape (node_of_entry nodes es i)) =
-    find_map (λ n. eqb n.uid uid) shape (newest nodes es) ∙ ap (option_map shape) found in
-    (root_found (shapes (newest nodes es)) k.tree uid (shape (node_of_entry nodes es i)) shaped
-    (k.superiors i within ∙ ap (λ (d : Entry). d.superior) (sym same) ∙ none)).0
+  -- the root is the only node without a superior
+  pub not_root : (uid i : ℕ) (e : Entry)
+      → i < length es → e ≡ entry_at es i → (entry_at es i).uid ≡ uid → e.superior ≡ None → uid ≡ 1
+  not_root uid i e within same is_uid none =
+      let found : node_of (newest nodes es) uid ≡ Some (node_of_entry nodes es i) = node_found k uid i within is_uid in
+      let shaped : find (λ n. eqb n.uid uid) (shapes (newest nodes es)) ≡ Some (shape (node_of_entry nodes es i)) =
+      find_map (λ n. eqb n.uid uid) shape (newest nodes es) ∙ ap (option_map shape) found in
+      (root_found (shapes (newest nodes es)) k.tree uid (shape (node_of_entry nodes es i)) shaped
+      (cc (k.superiors i within))).0
 
--- a node with a superior stands in the index
-pub named_at : {nodes : List Node} {es : List Entry} {free : List ℕ} {index : Places} {next : ℕ}
-    → IsKept nodes es free index next → (i : ℕ) (e : Entry)
-    → i < length es → e ≡ entry_at es i
-    → (s : ℕ) → e.superior ≡ Some s → HasPlace index.places e.place
-named_at {nodes} {es} {free} {index} {next} k i e within same s up =
-    let named : IsNamed index.places e.superior e.place =
-    subst (λ (d : Entry). IsNamed index.places d.superior d.place) (sym same) (k.named i within) in
-    subst (λ o. IsNamed index.places o e.place) up named
+  -- a node with a superior stands in the index
+  pub named_at : (i : ℕ) (e : Entry) → i < length es → e ≡ entry_at es i
+      → (s : ℕ) → e.superior ≡ Some s → HasPlace index.places e.place
+  named_at i e within same s up = rw up at (rw (← same) at (k.named i within))

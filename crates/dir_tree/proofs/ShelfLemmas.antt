@@ -1,5 +1,5 @@
 -- The shelves of the index, and the list of all places on them.
-use Rattle.dir_tree.proofs.Prelude.{◌≡◌, ◌≢◌, ℕ, zero, suc, ◌+◌, ◌-◌, ◌<◌, ◌≤◌, true, false, List, [], ◌∷◌, ◌++◌, length, Option, Some, None, refl, sym, ap, subst, ◌∙◌, arith, get_or, set, inl, inr, ◌⊎◌, ◌↔◌, IfSome, IfNone, concat, insert, remove, Less, cases_eq, cases_lt, cases_order, false_from_ne_true, get_or_append_left, get_or-append-add, get_or_read, get_or-set_same, get_or-set_other, length-set, length-append, length-insert, insert-append_left, insert-append_right, remove-append_left, remove-append_right, is_branch, Node, shape, Key, HasPlace, IsOrdered, AreWithin, AreShelved, node_at, key_of, key_at, key_cmp, key_hash, before, shelf_at, shelf_of}
+use Rattle.dir_tree.proofs.Prelude.{◌≡◌, ◌≢◌, ℕ, zero, suc, ◌+◌, ◌-◌, ◌<◌, ◌≤◌, false, List, [], ◌∷◌, length, Option, Some, None, refl, sym, ap, ◌∙◌, arith, get_or, set, inl, inr, ◌⊎◌, ◌↔◌, IfSome, IfNone, concat, insert, remove, Less, cases_eq, cases_lt, cases_order, false_from_ne_true, get_or_append_left, get_or-append-add, get_or_read, get_or-set_same, get_or-set_other, length-set, length-append, length-insert, insert-append_left, insert-append_right, remove-append_left, remove-append_right, is_branch, Node, shape, Key, HasPlace, IsOrdered, AreWithin, AreShelved, node_at, key_of, key_at, key_cmp, key_hash, before, shelf_at, shelf_of}
 use Rattle.dir_tree.proofs.IndexLemmas.{after_other, branch_key, hash_is, hash_less, inserted_sorted, place_inserted, place_removed, ordered_more, ordered_less}
 use Rattle.dir_tree.proofs.EditLemmas.{fewer}
 
@@ -9,17 +9,13 @@ pub on_shelf : (xs : List (List ℕ)) (m k : ℕ) → k < length (shelf_at xs m)
     → (before xs m + k < length (concat xs)) × (get_or (concat xs) (before xs m + k) 0 ≡ get_or (shelf_at xs m) k 0)
 on_shelf [] m k lt = absurd (omega arith)
 on_shelf (x ∷ xs) zero k lt =
-    let n : length (x ++ concat xs) ≡ length x + length (concat xs) = length-append x (concat xs) in
-    let z : 0 + k ≡ k = omega arith in
-    (omega arith, ap (λ (i : ℕ). get_or (x ++ concat xs) i 0) z ∙ get_or_append_left x (concat xs) 0 k lt)
+    let n = length-append x (concat xs) in
+    let z : 0 + k ≡ k = omega arith in (omega arith, rw z (get_or_append_left x (concat xs) 0 k lt))
 on_shelf (x ∷ xs) (suc m) k lt =
-    let r : (before xs m + k < length (concat xs))
-    × (get_or (concat xs) (before xs m + k) 0 ≡ get_or (shelf_at xs m) k 0) = on_shelf xs m k lt in
-    let n : length (x ++ concat xs) ≡ length x + length (concat xs) = length-append x (concat xs) in
-    let further : length x + before xs m + k ≡ length x + (before xs m + k) = omega arith in (
-      omega (arith, r.0, n),
-      ap (λ (i : ℕ). get_or (x ++ concat xs) i 0) further ∙ get_or-append-add x (concat xs) (before xs m + k) 0 ∙ r.1,
-    )
+    let r = on_shelf xs m k lt in
+    let n = length-append x (concat xs) in
+    let further : length x + before xs m + k ≡ length x + (before xs m + k) = omega arith in
+    (omega arith, rw further (get_or-append-add x (concat xs) (before xs m + k) 0 ∙ r.1))
 
 -- where the k-th of all places stands
 pub record Located (xs : List (List ℕ)) (k : ℕ) : Type 0 where
@@ -33,9 +29,9 @@ located [] k lt = absurd (omega arith)
 located (x ∷ xs) k lt = elim (cases_lt k (length x)) [
   | inl here ↦ record { m = 0; j = k; within = here; is = omega arith }
   | inr past ↦
-      (let n : length (x ++ concat xs) ≡ length x + length (concat xs) = length-append x (concat xs) in
-      let r : Located xs (k - length x) = located xs (k - length x) (omega (arith, lt, n)) in
-      record { m = suc r.m; j = r.j; within = r.within; is = omega (arith, r.is) })
+      (let n = length-append x (concat xs) in
+      let r = located xs (k - length x) (omega arith) in
+      record { m = suc r.m; j = r.j; within = r.within; is = omega arith })
 ]
 
 -- what stands on a later shelf stands after all of an earlier one
@@ -45,30 +41,24 @@ before_later (x ∷ xs) zero zero lt = absurd (omega arith)
 before_later (x ∷ xs) zero (suc n) lt = omega arith
 before_later (x ∷ xs) (suc m) zero lt = absurd (omega arith)
 before_later (x ∷ xs) (suc m) (suc n) lt =
-    let r : before xs m + length (shelf_at xs m) ≤ before xs n = before_later xs m n (omega arith) in omega (arith, r)
+    let r : before xs m + length (shelf_at xs m) ≤ before xs n = before_later xs m n (omega arith) in omega arith
 
 pub shelf_of_all : (xs : List (List ℕ)) (m p : ℕ) → HasPlace (shelf_at xs m) p → HasPlace (concat xs) p
 shelf_of_all xs m p there =
     let r = on_shelf xs m there.at there.within in
-    record { at = before xs m + there.at; within = r.0; is = r.1 ∙ there.is }
+    record { at = before xs m + there.at; within = r.0; is = cc }
 
 -- the shelf that a place stands on
 pub on_some : (xs : List (List ℕ)) (p : ℕ) → HasPlace (concat xs) p → (m : ℕ) × HasPlace (shelf_at xs m) p
 on_some xs p there =
-    let l : Located xs there.at = located xs there.at there.within in
-    let r = on_shelf xs l.m l.j l.within in (
-      l.m,
-      record {
-        at = l.j;
-        within = l.within;
-        is = sym r.1 ∙ ap (λ (k : ℕ). get_or (concat xs) k 0) (sym l.is) ∙ there.is;
-      },
-    )
+    let l = located xs there.at there.within in
+    let r = on_shelf xs l.m l.j l.within in
+    (l.m, record { at = l.j; within = l.within; is = sym r.1 ∙ (rw (← l.is) there.is) })
 
 pub shelf_there : (xs : List (List ℕ)) (m at : ℕ) → at < length (shelf_at xs m) → m < length xs
 shelf_there [] m at lt = absurd (omega arith)
 shelf_there (x ∷ xs) zero at lt = omega arith
-shelf_there (x ∷ xs) (suc m) at lt = (let r : m < length xs = shelf_there xs m at lt in omega (arith, r))
+shelf_there (x ∷ xs) (suc m) at lt = (omega (arith, shelf_there xs m at lt))
 
 -- ---- one place more on a shelf, and one less
 
@@ -76,34 +66,26 @@ pub concat_insert : (xs : List (List ℕ)) (m at p : ℕ) → m < length xs → 
     → concat (set xs m (insert (shelf_at xs m) at p)) ≡ insert (concat xs) (before xs m + at) p
 concat_insert [] m at p within le = absurd (omega arith)
 concat_insert (x ∷ xs) zero at p within le =
-    let z : at ≡ 0 + at = omega arith in
-    sym (insert-append_left x (concat xs) at p le) ∙ ap (λ (i : ℕ). insert (x ++ concat xs) i p) z
+    let z : 0 + at ≡ at = omega arith in rw z (sym (insert-append_left x (concat xs) at p le))
 concat_insert (x ∷ xs) (suc m) at p within le =
     let rest : length x + before xs m + at - length x ≡ before xs m + at = omega arith in
-    ap (λ (ps : List ℕ). x ++ ps) (concat_insert xs m at p (omega arith) le)
-    ∙ ap (λ (i : ℕ). x ++ insert (concat xs) i p) (sym rest)
-    ∙ sym (insert-append_right x (concat xs) (length x) (length x + before xs m + at) p refl (omega arith))
+    let right = insert-append_right x (concat xs) (length x) (length x + before xs m + at) p refl (omega arith) in
+    rw (concat_insert xs m at p (omega arith) le, right, rest) refl
 
 pub concat_remove : (xs : List (List ℕ)) (m at : ℕ) → at < length (shelf_at xs m)
     → concat (set xs m (remove (shelf_at xs m) at)) ≡ remove (concat xs) (before xs m + at)
 concat_remove [] m at lt = absurd (omega arith)
 concat_remove (x ∷ xs) zero at lt =
-    let z : at ≡ 0 + at = omega arith in
-    sym (remove-append_left x (concat xs) at lt) ∙ ap (λ (i : ℕ). remove (x ++ concat xs) i) z
+    let z : 0 + at ≡ at = omega arith in rw z (sym (remove-append_left x (concat xs) at lt))
 concat_remove (x ∷ xs) (suc m) at lt =
     let rest : length x + before xs m + at - length x ≡ before xs m + at = omega arith in
-    ap (λ (ps : List ℕ). x ++ ps) (concat_remove xs m at lt)
-    ∙ ap (λ (i : ℕ). x ++ remove (concat xs) i) (sym rest)
-    ∙ sym (remove-append_right x (concat xs) (length x) (length x + before xs m + at) refl (omega arith))
+    let right = remove-append_right x (concat xs) (length x) (length x + before xs m + at) refl (omega arith) in
+    rw (concat_remove xs m at lt, right, rest) refl
 
 pub all_within : (xs : List (List ℕ)) (m at : ℕ) → at ≤ length (shelf_at xs m) → before xs m + at ≤ length (concat xs)
-all_within [] m at le = omega (arith, le)
-all_within (x ∷ xs) zero at le =
-    let n : length (x ++ concat xs) ≡ length x + length (concat xs) = length-append x (concat xs) in
-    omega (arith, le, n)
-all_within (x ∷ xs) (suc m) at le =
-    let r : before xs m + at ≤ length (concat xs) = all_within xs m at le in
-    let n : length (x ++ concat xs) ≡ length x + length (concat xs) = length-append x (concat xs) in omega (arith, r, n)
+all_within [] m at le = omega arith
+all_within (x ∷ xs) zero at le = omega (arith, length-append x (concat xs))
+all_within (x ∷ xs) (suc m) at le = omega (arith, all_within xs m at le, length-append x (concat xs))
 
 -- ---- the order of a shelf
 
@@ -111,7 +93,7 @@ module _ (nodes : List Node) (xs : List (List ℕ)) (hashes : List ℕ) (order :
     (m : ℕ) where
   key_on : (k : ℕ) → k < length (shelf_at xs m)
       → key_at nodes (shelf_at xs m) k ≡ key_at nodes (concat xs) (before xs m + k)
-  key_on k lt = ap (λ (p : ℕ). key_of (node_at nodes p)) (sym (on_shelf xs m k lt).1)
+  key_on k lt = cc ((on_shelf xs m k lt).1)
 
   pub shelf_ordered : IsOrdered nodes (shelf_at xs m) hashes
   shelf_ordered = record {
@@ -122,9 +104,7 @@ module _ (nodes : List Node) (xs : List (List ℕ)) (hashes : List ℕ) (order :
   }
 
   pub shelf_within : AreWithin nodes (concat xs) → AreWithin nodes (shelf_at xs m)
-  shelf_within within k lt =
-      let r = on_shelf xs m k lt in
-      subst (λ (p : ℕ). p < length nodes) r.1 (within (before xs m + k) r.0)
+  shelf_within within k lt = let r = on_shelf xs m k lt in rw r.1 at (within (before xs m + k) r.0)
 
 -- ---- a search on the shelf of a hash
 
@@ -134,15 +114,11 @@ pub none_elsewhere : (nodes : List Node) (xs : List (List ℕ)) (hashes : List �
     → is_branch superior name (shape (node_at nodes p)) ≡ false)
     → (p : ℕ) → HasPlace (concat xs) p → is_branch superior name (shape (node_at nodes p)) ≡ false
 none_elsewhere nodes xs hashes superior name order shelved none p there =
-    false_from_ne_true (is_branch superior name (shape (node_at nodes p))) (λ is.
-    (let at = on_some xs p there in
+    false_from_ne_true (is_branch superior name (shape (node_at nodes p))) (λ is. (let at = on_some xs p there in
     let hash : get_or hashes p 0 ≡ key_hash (Some superior, name) = order.hashed p there
     ∙ ap key_hash (branch_key superior name (node_at nodes p) is) in
-    let same : at.0 ≡ shelf_of (key_hash (Some superior, name)) = sym (shelved.shelved at.0 p at.1) ∙ ap shelf_of hash
-    in
-    let here : HasPlace (shelf_at xs (shelf_of (key_hash (Some superior, name)))) p =
-    subst (λ (m : ℕ). HasPlace (shelf_at xs m) p) same at.1 in
-    let clash : true ≡ false = sym is ∙ none p here in cc))
+    let same = sym (shelved.shelved at.0 p at.1) ∙ ap shelf_of hash in
+    let isnt = none p (rw same at at.1) in cc))
 
 -- ---- a place more
 
@@ -150,8 +126,7 @@ module _ (nodes : List Node) (xs : List (List ℕ)) (hashes : List ℕ) (place h
     (order : IsOrdered nodes (concat xs) hashes) (shelved : AreShelved xs hashes)
     (is : hash ≡ key_hash (key_of (node_at nodes place)))
     (new : (k : ℕ) → k < length (concat xs) → key_at nodes (concat xs) k ≢ key_of (node_at nodes place))
-    (at : ℕ) (within : at ≤ length (shelf_at xs (shelf_of hash)))
-    (below : (k : ℕ) → k < at
+    (at : ℕ) (within : at ≤ length (shelf_at xs (shelf_of hash))) (below : (k : ℕ) → k < at
     → key_cmp (key_at nodes (shelf_at xs (shelf_of hash)) k) (key_of (node_at nodes place)) ≡ Less)
     (from : (k : ℕ) → at ≤ k → k < length (shelf_at xs (shelf_of hash))
     → key_cmp (key_at nodes (shelf_at xs (shelf_of hash)) k) (key_of (node_at nodes place)) ≢ Less) where
@@ -163,43 +138,40 @@ module _ (nodes : List Node) (xs : List (List ℕ)) (hashes : List ℕ) (place h
 
   -- the hash of what stands on a shelf
   hash_on : (l m : ℕ) → l < length (shelf_at xs m) → shelf_of (key_hash (key_at nodes (shelf_at xs m) l)) ≡ m
-  hash_on l m lt =
-      sym (ap shelf_of (hash_is (shelf_ordered nodes xs hashes order m) l lt))
-      ∙ shelved.shelved m (get_or (shelf_at xs m) l 0) (record { at = l; within = lt; is = refl })
+  hash_on l m lt = cc (
+    hash_is (shelf_ordered nodes xs hashes order m) l lt,
+    shelved.shelved m (get_or (shelf_at xs m) l 0) (record { at = l; within = lt; is = refl }),
+  )
 
   key_all : (k : ℕ) (l : Located xs k) → key_at nodes (concat xs) k ≡ key_at nodes (shelf_at xs l.m) l.j
-  key_all k l = ap (λ (i : ℕ). key_at nodes (concat xs) i) l.is ∙ sym (key_on nodes xs hashes order l.m l.j l.within)
+  key_all k l = cc (key_on nodes xs hashes order l.m l.j l.within)
 
   below_at : (k : ℕ) → k < before xs mine + at → (l : Located xs k) → (l.m < mine) ⊎ (l.m ≡ mine)
       → key_cmp (key_at nodes (shelf_at xs l.m) l.j) key ≡ Less
   below_at k lt l (inl earlier) = hash_less (key_at nodes (shelf_at xs l.m) l.j) key
-      (let own = hash_on l.j l.m l.within in omega (arith, own, is, earlier))
-  below_at k lt l (inr same) =
-      let near : l.j < at = omega (arith, lt, l.is, ap (before xs) same) in
-      subst (λ (n : ℕ). key_cmp (key_at nodes (shelf_at xs n) l.j) key ≡ Less) (sym same) (below l.j near)
+      (omega (arith, hash_on l.j l.m l.within))
+  below_at k lt l (inr same) = rw same (below l.j (omega (arith, ap (before xs) same)))
 
   pub all_below : (k : ℕ) → k < before xs mine + at → key_cmp (key_at nodes (concat xs) k) key ≡ Less
   all_below k lt =
       let top : before xs mine + at ≤ length (concat xs) = all_within xs mine at within in
-      let l : Located xs k = located xs k (omega (arith, lt, top)) in
+      let l : Located xs k = located xs k (omega arith) in
       rw (key_all k l) (below_at k lt l (elim (cases_order l.m mine) [
         | inl same ↦ inr same
         | inr differ ↦ elim differ [
           | inl earlier ↦ inl earlier
-          | inr later ↦ absurd (omega (arith, before_later xs mine l.m later, l.is, lt, within))
+          | inr later ↦ absurd (omega (arith, before_later xs mine l.m later))
         ]
       ]))
 
   above_at : (k : ℕ) → before xs mine + at ≤ k → k < length (concat xs) → (l : Located xs k)
       → (l.m ≡ mine) ⊎ (mine < l.m) → key_cmp key (key_at nodes (shelf_at xs l.m) l.j) ≡ Less
   above_at k le lt l (inr later) = hash_less key (key_at nodes (shelf_at xs l.m) l.j)
-      (let own = hash_on l.j l.m l.within in omega (arith, own, is, later))
+      (omega (arith, hash_on l.j l.m l.within))
   above_at k le lt l (inl same) =
-      let here : at ≤ l.j = omega (arith, le, l.is, ap (before xs) same) in
-      let isnt : key_cmp (key_at nodes (shelf_at xs l.m) l.j) key ≢ Less =
-      subst (λ (n : ℕ). l.j < length (shelf_at xs n) → key_cmp (key_at nodes (shelf_at xs n) l.j) key ≢ Less) (sym same)
-      (from l.j here) l.within in
-      after_other (key_at nodes (shelf_at xs l.m) l.j) key isnt (λ e. new k lt (key_all k l ∙ e))
+      let here : at ≤ l.j = omega (arith, ap (before xs) same) in
+      after_other (key_at nodes (shelf_at xs l.m) l.j) key (rw same (from l.j here (rw same at l.within)))
+      (λ e. new k lt (key_all k l ∙ e))
 
   pub all_above : (k : ℕ) → before xs mine + at ≤ k → k < length (concat xs)
       → key_cmp key (key_at nodes (concat xs) k) ≡ Less
@@ -208,7 +180,7 @@ module _ (nodes : List Node) (xs : List (List ℕ)) (hashes : List ℕ) (place h
       rw (key_all k l) (above_at k le lt l (elim (cases_order l.m mine) [
         | inl same ↦ inl same
         | inr differ ↦ elim differ [
-          | inl earlier ↦ absurd (omega (arith, before_later xs l.m mine earlier, l.is, le, l.within))
+          | inl earlier ↦ absurd (omega (arith, before_later xs l.m mine earlier))
           | inr later ↦ inr later
         ]
       ]))
@@ -217,11 +189,11 @@ module _ (nodes : List Node) (xs : List (List ℕ)) (hashes : List ℕ) (place h
   more = set xs mine (insert (shelf_at xs mine) at place)
 
   other_place : (p : ℕ) → HasPlace (concat xs) p → p ≢ place
-  other_place p there e = new there.at there.within (ap (λ (q : ℕ). key_of (node_at nodes q)) (there.is ∙ e))
+  other_place p there e = new there.at there.within (cc)
 
   module _ (bound : shelf_of hash < 64) (slot : place < length hashes) where
     on_one : mine < length xs
-    on_one = (let n : length xs ≡ 64 = shelved.count in omega (arith, bound, n))
+    on_one = (omega arith)
 
     pub ordered_shelved : IsOrdered nodes (concat more) (set hashes place hash)
     ordered_shelved = rw (concat_insert xs mine at place on_one within)
@@ -238,27 +210,23 @@ module _ (nodes : List Node) (xs : List (List ℕ)) (hashes : List ℕ) (place h
         ∙ length-insert (concat xs) (before xs mine + at) place (all_within xs mine at within)
 
     still_shelved : (m p : ℕ) → HasPlace (shelf_at xs m) p → shelf_of (get_or (set hashes place hash) p 0) ≡ m
-    still_shelved m p there =
-        ap shelf_of (get_or-set_other hashes place p hash 0 (other_place p (shelf_of_all xs m p there)))
-        ∙ shelved.shelved m p there
+    still_shelved m p there = cc (
+      get_or-set_other hashes place p hash 0 (other_place p (shelf_of_all xs m p there)),
+      shelved.shelved m p there,
+    )
 
     pub are_shelved : AreShelved more (set hashes place hash)
     are_shelved = record {
-      count = length-set xs mine (insert (shelf_at xs mine) at place) ∙ shelved.count;
+      count = cc (length-set xs mine (insert (shelf_at xs mine) at place));
       shelved = λ m p there. elim (cases_eq m mine) [
         | inl same ↦
-            (let on : HasPlace (insert (shelf_at xs mine) at place) p =
-            subst (λ (ps : List ℕ). HasPlace ps p)
-            (ap (shelf_at more) same ∙ get_or-set_same xs mine (insert (shelf_at xs mine) at place) [] on_one) there in
+            (let on = rw (same, get_or-set_same xs mine (insert (shelf_at xs mine) at place) [] on_one) at there in
             elim ((place_inserted (shelf_at xs mine) at place within p).0 on) [
               | inl old ↦ still_shelved mine p old ∙ sym same
-              | inr e ↦ ap (λ (q : ℕ). shelf_of (get_or (set hashes place hash) q 0)) e
-                  ∙ ap shelf_of (get_or-set_same hashes place hash 0 slot)
-                  ∙ sym same
+              | inr e ↦ rw e (cc (get_or-set_same hashes place hash 0 slot))
             ])
         | inr other ↦
-            still_shelved m p (subst (λ (ps : List ℕ). HasPlace ps p)
-            (get_or-set_other xs mine m (insert (shelf_at xs mine) at place) [] other) there)
+            still_shelved m p (rw (get_or-set_other xs mine m (insert (shelf_at xs mine) at place) [] other) at there)
       ];
     }
 
@@ -284,21 +252,18 @@ module _ (nodes : List Node) (xs : List (List ℕ)) (hashes : List ℕ) (order :
 
   pub are_left : AreShelved less hashes
   are_left = record {
-    count = length-set xs m (remove (shelf_at xs m) at) ∙ shelved.count;
+    count = cc (length-set xs m (remove (shelf_at xs m) at));
     shelved = λ n p there. elim (cases_eq n m) [
       | inl same ↦
-          (let on : HasPlace (remove (shelf_at xs m) at) p = subst (λ (ps : List ℕ). HasPlace ps p)
-          (ap (shelf_at less) same ∙ get_or-set_same xs m (remove (shelf_at xs m) at) [] in_all) there in
+          (let on = rw (
+            same,
+            get_or-set_same xs m (remove (shelf_at xs m) at) [] (shelf_there xs m at within),
+          ) at there in
           shelved.shelved m p ((place_removed nodes (shelf_at xs m) at within
-          (shelf_ordered nodes xs hashes order m).sorted
-          (get_or (shelf_at xs m) at 0) p refl).0 on).0 ∙ sym same)
-      | inr other ↦ shelved.shelved n p (subst (λ (ps : List ℕ). HasPlace ps p)
-          (get_or-set_other xs m n (remove (shelf_at xs m) at) [] other) there)
+          (shelf_ordered nodes xs hashes order m).sorted (get_or (shelf_at xs m) at 0) p refl).0 on).0 ∙ sym same)
+      | inr other ↦ shelved.shelved n p (rw (get_or-set_other xs m n (remove (shelf_at xs m) at) [] other) at there)
     ];
   }
-    where
-      in_all : m < length xs
-      in_all = shelf_there xs m at within
 
 -- ---- both, as the index does them
 
@@ -308,9 +273,8 @@ pub record Inserted (nodes : List Node) (old new : List (List ℕ)) (hashes hash
   pub count : length (concat new) ≡ length (concat old) + 1
   pub shelved : AreShelved new hashes'
 
-pub inserted : (nodes : List Node) (xs : List (List ℕ)) (hashes : List ℕ) (place hash m at : ℕ) (ps on : List ℕ)
-    (key : Key)
-    → IsOrdered nodes (concat xs) hashes → AreShelved xs hashes → hash ≡ key_hash key
+pub inserted : {nodes : List Node} {xs : List (List ℕ)} {hashes : List ℕ} {place hash m : ℕ} (at : ℕ)
+    {ps on : List ℕ} {key : Key} → IsOrdered nodes (concat xs) hashes → AreShelved xs hashes → hash ≡ key_hash key
     → key ≡ key_of (node_at nodes place)
     → ((k : ℕ) → k < length (concat xs) → key_at nodes (concat xs) k ≢ key_of (node_at nodes place))
     → m ≡ shelf_of hash → m < 64 → ps ≡ shelf_at xs m → at ≤ length ps
@@ -318,28 +282,20 @@ pub inserted : (nodes : List Node) (xs : List (List ℕ)) (hashes : List ℕ) (p
     → ((k : ℕ) → at ≤ k → k < length ps → key_cmp (key_at nodes ps k) key ≢ Less)
     → place < length hashes → on ≡ insert (shelf_at xs m) at place
     → Inserted nodes xs (set xs m on) hashes (set hashes place hash) place
-inserted nodes xs hashes place hash m at ps on key order shelved is own new e bound shelf within below from slot put =
+inserted {nodes} {xs} {hashes} {place} {hash} at {ps = ps} order shelved is own new e bound shelf within below from
+    slot put =
     let same : ps ≡ shelf_at xs (shelf_of hash) = shelf ∙ ap (shelf_at xs) e in
-    let le : at ≤ length (shelf_at xs (shelf_of hash)) = subst (λ (l : List ℕ). at ≤ length l) same within in
-    let less : (k : ℕ) → k < at
-    → key_cmp (key_at nodes (shelf_at xs (shelf_of hash)) k) (key_of (node_at nodes place)) ≡ Less =
-    subst (λ (x : Key). (k : ℕ) → k < at → key_cmp (key_at nodes (shelf_at xs (shelf_of hash)) k) x ≡ Less) own
-    (subst (λ (l : List ℕ). (k : ℕ) → k < at → key_cmp (key_at nodes l k) key ≡ Less) same below) in
-    let more : (k : ℕ) → at ≤ k → k < length (shelf_at xs (shelf_of hash))
-    → key_cmp (key_at nodes (shelf_at xs (shelf_of hash)) k) (key_of (node_at nodes place)) ≢ Less =
-    subst (λ (x : Key). (k : ℕ) → at ≤ k → k < length (shelf_at xs (shelf_of hash))
-    → key_cmp (key_at nodes (shelf_at xs (shelf_of hash)) k) x ≢ Less) own
-    (subst (λ (l : List ℕ). (k : ℕ) → at ≤ k → k < length l → key_cmp (key_at nodes l k) key ≢ Less) same from) in
+    let le = rw same at within in
+    let less = rw (same, own) at below in
+    let more = rw (same, own) at from in
     let hashed : hash ≡ key_hash (key_of (node_at nodes place)) = is ∙ ap key_hash own in
-    let few : shelf_of hash < 64 = subst (λ (n : ℕ). n < 64) e bound in
-    let now : set xs m on ≡ set xs (shelf_of hash) (insert (shelf_at xs (shelf_of hash)) at place) =
-    ap (set xs m) put ∙ ap (λ (n : ℕ). set xs n (insert (shelf_at xs n) at place)) e in
-    rw now (record {
-      order = ordered_shelved nodes xs hashes place hash order shelved hashed new at le less more few slot;
-      places = place_shelved nodes xs hashes place hash order shelved hashed new at le less more few slot;
-      count = count_shelved nodes xs hashes place hash order shelved hashed new at le less more few slot;
-      shelved = are_shelved nodes xs hashes place hash order shelved hashed new at le less more few slot;
-    })
+    let few : shelf_of hash < 64 = rw (← e) bound in
+    rw (put, e) (assumption (
+      ordered_shelved nodes xs hashes place hash order shelved hashed new at le less more few slot,
+      place_shelved nodes xs hashes place hash order shelved hashed new at le less more few slot,
+      count_shelved nodes xs hashes place hash order shelved hashed new at le less more few slot,
+      are_shelved nodes xs hashes place hash order shelved hashed new at le less more few slot,
+    ))
 
 pub record Removed (nodes : List Node) (old new : List (List ℕ)) (hashes : List ℕ) (place : ℕ) : Type 0 where
   pub order : IsOrdered nodes (concat new) hashes
@@ -347,31 +303,29 @@ pub record Removed (nodes : List Node) (old new : List (List ℕ)) (hashes : Lis
   pub count : length (concat new) + 1 ≡ length (concat old)
   pub shelved : AreShelved new hashes
 
-pub removed : (nodes : List Node) (xs : List (List ℕ)) (hashes : List ℕ) (place m at : ℕ) (ps on : List ℕ)
+pub removed : {nodes : List Node} {xs : List (List ℕ)} {hashes : List ℕ} {place : ℕ} (m at : ℕ) {ps on : List ℕ}
     → IsOrdered nodes (concat xs) hashes → AreShelved xs hashes → ps ≡ shelf_at xs m → at < length ps
     → get_or ps at 0 ≡ place → on ≡ remove (shelf_at xs m) at → Removed nodes xs (set xs m on) hashes place
-removed nodes xs hashes place m at ps on order shelved shelf within is put =
-    let lt : at < length (shelf_at xs m) = subst (λ (l : List ℕ). at < length l) shelf within in
-    let here : get_or (shelf_at xs m) at 0 ≡ place = subst (λ (l : List ℕ). get_or l at 0 ≡ place) shelf is in
+removed {nodes} {xs} {hashes} {place} m at order shelved shelf within is put =
+    let lt = rw shelf at within in
     rw put (record {
       order = ordered_left nodes xs hashes order shelved m at lt;
-      places = λ p. place_left nodes xs hashes order shelved m at lt place p here;
+      places = λ p. place_left nodes xs hashes order shelved m at lt place p (rw shelf at is);
       count = count_left nodes xs hashes order shelved m at lt;
       shelved = are_left nodes xs hashes order shelved m at lt;
     })
 
 -- a shelf that is read
-pub shelf_read : (xs : List (List ℕ)) (hashes : List ℕ) (m : ℕ) (x : List ℕ) → AreShelved xs hashes → m < 64
+pub shelf_read : {xs : List (List ℕ)} {hashes : List ℕ} (m : ℕ) {x : List ℕ} → AreShelved xs hashes → m < 64
     → x ≡ get_or xs m x → x ≡ shelf_at xs m
-shelf_read xs hashes m x shelved lt read =
-    get_or_read xs m x (let n : length xs ≡ 64 = shelved.count in omega (arith, lt, n)) read []
+shelf_read {xs} m {x} shelved lt read = get_or_read xs m x (omega arith) read []
 
 -- the place of a branch stands on the shelf of its hash
-pub on_own : (xs : List (List ℕ)) (hashes : List ℕ) (place m : ℕ) → AreShelved xs hashes → HasPlace (concat xs) place
+pub on_own : {xs : List (List ℕ)} {hashes : List ℕ} {place m : ℕ} → AreShelved xs hashes → HasPlace (concat xs) place
     → m ≡ shelf_of (get_or hashes place 0) → HasPlace (shelf_at xs m) place
-on_own xs hashes place m shelved there e =
+on_own {xs} {place = place} shelved there e =
     let at = on_some xs place there in
-    subst (λ (n : ℕ). HasPlace (shelf_at xs n) place) (sym (e ∙ shelved.shelved at.0 place at.1)) at.1
+    rw (e ∙ shelved.shelved at.0 place at.1) at.1
 
 -- what a search on a shelf finds
 pub found_all : (xs : List (List ℕ)) (m : ℕ) (r : Option ℕ) (B : ℕ → Type 0)
@@ -388,9 +342,7 @@ pub none_shelved : (xs : List (List ℕ)) (hashes : List ℕ) → length xs ≡ 
     → AreShelved xs hashes
 none_shelved xs hashes count empty = record {
   count = count;
-  shelved = λ m place there.
-      (let none : there.at < 0 = subst (λ (l : List ℕ). there.at < length l) (empty m) there.within in
-      absurd (omega (arith, none)));
+  shelved = λ m place there. (let none = rw (empty m) at there.within in absurd (omega arith));
 }
 
 pub none_placed : (xs : List (List ℕ)) → ((m : ℕ) → shelf_at xs m ≡ []) → concat xs ≡ []

@@ -1,6 +1,6 @@
 -- Entries that stand in the slots of their places.
-use Rattle.dir_tree.proofs.Prelude.{◌≡◌, ◌≢◌, ℕ, ◌+◌, ◌<◌, List, [], ◌∷◌, ◌++◌, length, set, get_or, sym, ap, ◌∙◌, arith, inl, inr, remove, cases_eq, cases_lt, ext_get_or, get_or-map, get_or-set_same, get_or-set_other, get_or_append_left, get_or_push, length-map, length-set, length_push, map-append, Entry, no_entry, entry_at, listed, IsListed}
-use Rattle.dir_tree.proofs.EditLemmas.{was, was_up, was_within, at_was, each_left, fewer}
+use Rattle.dir_tree.proofs.Prelude.{◌≡◌, ◌≢◌, ℕ, ◌+◌, ◌<◌, List, [], ◌∷◌, ◌++◌, length, set, get_or, sym, ap, ◌∙◌, arith, inl, inr, remove, cases_eq, cases_lt, ext_get_or, get_or-map, get_or-set_same, get_or-set_other, get_or_append_left, get_or_push, length-map, length-set, length_push, map-append, Entry, no_entry, entry_at, listed, IsListed, refl}
+use Rattle.dir_tree.proofs.EditLemmas.{was, was_up, was_within, at_was, each_left, each_pushed, fewer}
 
 pub listed_at : (slots : List Entry) (order : List ℕ) (i : ℕ) → i < length order → entry_at (listed slots order) i
     ≡ entry_at slots (get_or order i 0)
@@ -12,7 +12,7 @@ length_listed slots order = length-map order (entry_at slots)
 -- the place of an entry is that which stands there
 pub place_listed : {slots : List Entry} {order : List ℕ} → IsListed slots order → (i : ℕ) → i < length order
     → (entry_at (listed slots order) i).place ≡ get_or order i 0
-place_listed {slots} {order} l i lt = ap (λ (e : Entry). e.place) (listed_at slots order i lt) ∙ l.places i lt
+place_listed {slots} {order} l i lt = rw (listed_at slots order i lt) (l.places i lt)
 
 -- an entry changed, but for its place
 module _ {slots : List Entry} {order : List ℕ} (l : IsListed slots order) (i : ℕ) (lt : i < length order) (e : Entry)
@@ -21,7 +21,7 @@ module _ {slots : List Entry} {order : List ℕ} (l : IsListed slots order) (i :
   p = get_or order i 0
 
   slot : p < length slots
-  slot = (let w : p < 4097 = l.within i lt in let n : length slots ≡ 4097 = l.size in omega arith)
+  slot = (omega (arith, l.within i lt))
 
   elsewhere : (j : ℕ) → j < length order → j ≢ i → entry_at (set slots p e) (get_or order j 0)
       ≡ entry_at slots (get_or order j 0)
@@ -30,15 +30,14 @@ module _ {slots : List Entry} {order : List ℕ} (l : IsListed slots order) (i :
   pub set_listed : listed (set slots p e) order ≡ set (listed slots order) i e
   set_listed = ext_get_or no_entry _ _ (length_listed (set slots p e) order
       ∙ sym (length-set (listed slots order) i e ∙ length_listed slots order))
-      (λ j in_j. at j (let n = length_listed (set slots p e) order in omega arith))
+      (λ j in_j. at j (omega (arith, length_listed (set slots p e) order)))
     where
       at : (j : ℕ) → j < length order → entry_at (listed (set slots p e) order) j
           ≡ entry_at (set (listed slots order) i e) j
       at j in_j = elim (cases_eq j i) [
         | inl here ↦
             rw here (listed_at (set slots p e) order i lt ∙ get_or-set_same slots p e no_entry slot
-            ∙ sym (get_or-set_same (listed slots order) i e no_entry
-            (let n = length_listed slots order in omega arith)))
+            ∙ sym (get_or-set_same (listed slots order) i e no_entry (omega (arith, length_listed slots order))))
         | inr there ↦
             listed_at (set slots p e) order j in_j ∙ elsewhere j in_j there ∙ sym (listed_at slots order j in_j)
             ∙ sym (get_or-set_other (listed slots order) i j e no_entry there)
@@ -49,8 +48,8 @@ module _ {slots : List Entry} {order : List ℕ} (l : IsListed slots order) (i :
     size = length-set slots p e ∙ l.size;
     within = l.within;
     places = λ j in_j. elim (cases_eq j i) [
-      | inl here ↦ rw here (ap (λ (d : Entry). d.place) (get_or-set_same slots p e no_entry slot) ∙ place)
-      | inr there ↦ ap (λ (d : Entry). d.place) (elsewhere j in_j there) ∙ l.places j in_j
+      | inl here ↦ rw (here, get_or-set_same slots p e no_entry slot) place
+      | inr there ↦ rw (elsewhere j in_j there) (l.places j in_j)
     ];
     apart = l.apart;
   }
@@ -59,10 +58,10 @@ module _ {slots : List Entry} {order : List ℕ} (l : IsListed slots order) (i :
 module _ {slots : List Entry} {order : List ℕ} (l : IsListed slots order) (e : Entry) (room : e.place < 4097)
     (new : (i : ℕ) → i < length (listed slots order) → (entry_at (listed slots order) i).place ≢ e.place) where
   room_there : e.place < length slots
-  room_there = (let n : length slots ≡ 4097 = l.size in omega arith)
+  room_there = (omega arith)
 
   other : (i : ℕ) → i < length order → get_or order i 0 ≢ e.place
-  other i lt same = new i (let n = length_listed slots order in omega arith) (place_listed l i lt ∙ same)
+  other i lt same = new i (omega (arith, length_listed slots order)) (place_listed l i lt ∙ same)
 
   unmoved : (i : ℕ) → i < length order → entry_at (set slots e.place e) (get_or order i 0)
       ≡ entry_at slots (get_or order i 0)
@@ -71,13 +70,11 @@ module _ {slots : List Entry} {order : List ℕ} (l : IsListed slots order) (e :
   rest : listed (set slots e.place e) order ≡ listed slots order
   rest = ext_get_or no_entry _ _ (length_listed (set slots e.place e) order ∙ sym (length_listed slots order))
       (λ i in_i. (let n = length_listed (set slots e.place e) order in let lt : i < length order =
-      omega arith in listed_at (set slots e.place e) order i lt
-      ∙ unmoved i lt ∙ sym (listed_at slots order i lt)))
+      omega arith in listed_at (set slots e.place e) order i lt ∙ unmoved i lt ∙ sym (listed_at slots order i lt)))
 
   pub push_listed : listed (set slots e.place e) (order ++ e.place ∷ []) ≡ listed slots order ++ e ∷ []
   push_listed = map-append (entry_at (set slots e.place e)) order (e.place ∷ [])
-      ∙ ap (λ (es : List Entry). es ++ entry_at (set slots e.place e) e.place ∷ []) rest
-      ∙ ap (λ (d : Entry). listed slots order ++ d ∷ []) (get_or-set_same slots e.place e no_entry room_there)
+      ∙ rw (rest, get_or-set_same slots e.place e no_entry room_there) refl
 
   abbrev order' : List ℕ
   order' = order ++ e.place ∷ []
@@ -94,22 +91,16 @@ module _ {slots : List Entry} {order : List ℕ} (l : IsListed slots order) (e :
   pub more_listed : IsListed (set slots e.place e) (order ++ e.place ∷ [])
   more_listed = record {
     size = length-set slots e.place e ∙ l.size;
-    within = λ i lt. (let n = size in elim (cases_lt i (length order)) [
-      | inl before ↦ rw (old_at i before) (l.within i before)
-      | inr last ↦ rw (last_at i (omega arith)) room
-    ]);
-    places = λ i lt. (let n = size in elim (cases_lt i (length order)) [
-      | inl before ↦ rw (old_at i before) (ap (λ (d : Entry). d.place) (unmoved i before) ∙ l.places i before)
-      | inr last ↦ rw (last_at i (omega arith)) (ap (λ (d : Entry). d.place)
-          (get_or-set_same slots e.place e no_entry room_there))
-    ]);
+    within = each_pushed order e.place 0 (λ q. q < 4097) l.within room;
+    places = each_pushed order e.place 0 (λ q. (entry_at (set slots e.place e) q).place ≡ q)
+        (λ i lt. rw (unmoved i lt) (l.places i lt)) (rw (get_or-set_same slots e.place e no_entry room_there) refl);
     apart = λ i j in_i in_j ne same. (let n = size in elim (cases_lt i (length order)) [
       | inl before_i ↦ elim (cases_lt j (length order)) [
         | inl before_j ↦ l.apart i j before_i before_j ne (sym (old_at i before_i) ∙ same ∙ old_at j before_j)
         | inr last_j ↦ other i before_i (sym (old_at i before_i) ∙ same ∙ last_at j (omega arith))
       ]
       | inr last_i ↦ elim (cases_lt j (length order)) [
-        | inl before_j ↦ other j before_j (sym (old_at j before_j) ∙ sym same ∙ last_at i (omega arith))
+        | inl before_j ↦ other j before_j (cc (old_at j before_j, last_at i (omega arith)))
         | inr last_j ↦ ne (omega arith)
       ]
     ]);
@@ -121,14 +112,17 @@ module _ {slots : List Entry} {order : List ℕ} (l : IsListed slots order) (i :
   remove_listed = ext_get_or no_entry _ _ (let a = length_listed slots (remove order i) in let b =
       length_listed slots order in let c = fewer order i lt in
       let d = fewer (listed slots order) i (omega arith) in omega arith)
-      (λ j in_j. at j (let a = length_listed slots (remove order i) in omega arith))
+      (λ j in_j. at j (omega (arith, length_listed slots (remove order i))))
     where
       at : (j : ℕ) → j < length (remove order i) → entry_at (listed slots (remove order i)) j
           ≡ entry_at (remove (listed slots order) i) j
       at j in_j = (let n = length_listed slots order in
-          listed_at slots (remove order i) j in_j ∙ ap (entry_at slots) (at_was order i lt j 0)
-          ∙ sym (listed_at slots order (was i j) (was_within order i lt j in_j))
-          ∙ sym (at_was (listed slots order) i (omega arith) j no_entry))
+          cc (
+            listed_at slots (remove order i) j in_j,
+            at_was order i lt j 0,
+            listed_at slots order (was i j) (was_within order i lt j in_j),
+            at_was (listed slots order) i (omega arith) j no_entry,
+          ))
 
   pub less_listed : IsListed slots (remove order i)
   less_listed = record {
@@ -136,8 +130,7 @@ module _ {slots : List Entry} {order : List ℕ} (l : IsListed slots order) (i :
     within = each_left order i lt 0 (λ q. q < 4097) (λ j in_j ne. l.within j in_j);
     places = each_left order i lt 0 (λ q. (entry_at slots q).place ≡ q) (λ j in_j ne. l.places j in_j);
     apart = λ a b in_a in_b ne same. l.apart (was i a) (was i b) (was_within order i lt a in_a)
-        (was_within order i lt b in_b) (was_apart a b ne)
-        (sym (at_was order i lt a 0) ∙ same ∙ at_was order i lt b 0);
+        (was_within order i lt b in_b) (was_apart a b ne) (sym (at_was order i lt a 0) ∙ same ∙ at_was order i lt b 0);
   }
     where
       was_apart : (a b : ℕ) → a ≢ b → was i a ≢ was i b

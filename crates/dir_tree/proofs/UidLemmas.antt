@@ -1,5 +1,5 @@
 -- The table of places by uid, and the places that stand in it.
-use Rattle.dir_tree.proofs.Prelude.{◌≡◌, ◌≢◌, ℕ, zero, suc, ◌+◌, ◌-◌, ◌<◌, ◌≤◌, eqb, true, false, List, [], ◌∷◌, ◌++◌, length, set, get_or, replicate, refl, sym, ap, subst, ◌∙◌, arith, inl, inr, ◌⊎◌, remove, cases_eq, eq-eqb, ne_eqb, cases_lt, get_or_append_left, get_or-set_same, get_or-set_other, length-set, get_or_read, append_assoc, replicate-append-replicate, get_or-replicate, length-append, length-replicate, length_push, Entry, no_entry, entry_at, listed, recounted, IsAscending, IsListed, taken, IsTabled, IsRemoved}
+use Rattle.dir_tree.proofs.Prelude.{◌≡◌, ◌≢◌, ℕ, zero, suc, ◌+◌, ◌-◌, ◌<◌, ◌≤◌, eqb, true, false, List, [], ◌∷◌, ◌++◌, length, set, get_or, replicate, refl, sym, ap, ◌∙◌, arith, inl, inr, ◌⊎◌, remove, cases_eq, eq-eqb, ne_eqb, cases_lt, get_or_append_left, get_or-set_same, get_or-set_other, length-set, get_or_read, append_assoc, replicate-append-replicate, get_or-replicate, length-append, length-replicate, length_push, Entry, no_entry, entry_at, listed, recounted, IsAscending, IsListed, taken, IsTabled, IsRemoved}
 use Rattle.dir_tree.proofs.SlotLemmas.{listed_at, length_listed, place_listed, remove_listed, set_listed, still_listed, more_listed, push_listed, less_listed}
 use Rattle.dir_tree.proofs.EditLemmas.{fewer}
 use Rattle.dir_tree.proofs.CountLemmas.{count_set}
@@ -13,7 +13,7 @@ taken_past [] zero = refl
 taken_past [] (suc n) = taken_past [] n
 taken_past (p ∷ t) n = elim (cases_eq p 65535) [
   | inl none ↦ rw (eq-eqb p 65535 none) (taken_past t n)
-  | inr is ↦ rw (ne_eqb p 65535 is) (ap (λ (ps : List ℕ). p ∷ ps) (taken_past t n))
+  | inr is ↦ rw (ne_eqb p 65535 is, taken_past t n) refl
 ]
 
 taken_none : (t : List ℕ) → ((v : ℕ) → v < length t → get_or t v 0 ≡ 65535) → taken t ≡ []
@@ -31,7 +31,7 @@ taken_out (p ∷ t) (suc u) lt some =
     let ih = taken_out t u (omega arith) some in
     elim (cases_eq p 65535) [
       | inl none ↦ rw (eq-eqb p 65535 none) ih
-      | inr is ↦ rw (ne_eqb p 65535 is) (suc ih.0, omega (arith, ih.1), ih.2, ap (λ (ps : List ℕ). p ∷ ps) ih.3)
+      | inr is ↦ rw (ne_eqb p 65535 is) (suc ih.0, omega arith, ih.2, rw ih.3 refl)
     ]
 
 -- and what is taken stands in it
@@ -42,17 +42,17 @@ taken_from [] i lt = absurd (omega arith)
 taken_from (p ∷ t) zero lt = elim (cases_eq p 65535) [
   | inl none ↦
       (let off : eqb p 65535 ≡ true = eq-eqb p 65535 none in
-      let ih = taken_from t 0 (rw off at lt) in rw off (suc ih.0, omega (arith, ih.1), ih.2, ih.3))
+      let ih = taken_from t 0 (rw off at lt) in rw off (suc ih.0, omega arith, ih.2, ih.3))
   | inr is ↦ rw (ne_eqb p 65535 is) (0, omega arith, is, refl)
 ]
 taken_from (p ∷ t) (suc i) lt = elim (cases_eq p 65535) [
   | inl none ↦
       (let off : eqb p 65535 ≡ true = eq-eqb p 65535 none in
-      let ih = taken_from t (suc i) (rw off at lt) in rw off (suc ih.0, omega (arith, ih.1), ih.2, ih.3))
+      let ih = taken_from t (suc i) (rw off at lt) in rw off (suc ih.0, omega arith, ih.2, ih.3))
   | inr is ↦
       (let on : eqb p 65535 ≡ false = ne_eqb p 65535 is in
       let more : suc i < length (p ∷ taken t) = rw on at lt in
-      let ih = taken_from t i (omega arith) in rw on (suc ih.0, omega (arith, ih.1), ih.2, ih.3))
+      let ih = taken_from t i (omega arith) in rw on (suc ih.0, omega arith, ih.2, ih.3))
 ]
 
 -- past all others a place comes in at the end
@@ -64,11 +64,10 @@ taken_in (q ∷ t) zero p lt is none =
     let rest : taken t ≡ [] = taken_none t (λ v in_v. none (suc v) (omega arith) (omega arith)) in
     rw (ne_eqb p 65535 is, eq-eqb q 65535 (none 0 (omega arith) (omega arith)), rest) refl
 taken_in (q ∷ t) (suc u) p lt is none =
-    let ih : taken (set t u p) ≡ taken t ++ p ∷ [] =
-    taken_in t u p (omega arith) is (λ v le in_v. none (suc v) (omega arith) (omega arith)) in
+    let ih = taken_in t u p (omega arith) is (λ v le in_v. none (suc v) (omega arith) (omega arith)) in
     elim (cases_eq q 65535) [
       | inl off ↦ rw (eq-eqb q 65535 off) ih
-      | inr on ↦ rw (ne_eqb q 65535 on) (ap (λ (ps : List ℕ). q ∷ ps) ih)
+      | inr on ↦ rw (ne_eqb q 65535 on, ih) refl
     ]
 
 -- ---- the entries of a table
@@ -81,44 +80,38 @@ module _ {slots : List Entry} {table : List ℕ} (l : IsListed slots (taken tabl
       × ((entry_at es i).uid ≡ u) × ((entry_at es i).place ≡ get_or table u 0)
   place_found u lt some =
       let x = taken_out table u lt some in
-      let n = length_listed slots (taken table) in (
-        x.0,
-        omega (arith, x.1, n),
-        ap (λ (e : Entry). e.uid) (listed_at slots (taken table) x.0 x.1)
-            ∙ ap (λ p. (entry_at slots p).uid) x.2 ∙ t.uids u lt some,
-        place_listed l x.0 x.1 ∙ x.2,
-      )
+      let n = length_listed slots (taken table) in
+      let at = listed_at slots (taken table) x.0 x.1 in
+      (x.0, omega arith, rw (at, x.2) (t.uids u lt some), place_listed l x.0 x.1 ∙ x.2)
 
-  pub place_missing : (uid : ℕ) → (uid < length table → get_or table uid 0 ≡ 65535) → (i : ℕ) → i < length es
-      → (entry_at es i).uid ≢ uid
-  place_missing uid none i lt is =
+  -- the place of an entry stands in the table
+  stands : (i : ℕ) → i < length es → ((entry_at es i).uid < length table)
+      × (get_or table (entry_at es i).uid 0 ≢ 65535) × (get_or table (entry_at es i).uid 0 ≡ (entry_at es i).place)
+  stands i lt =
       let n = length_listed slots (taken table) in
       let within : i < length (taken table) = omega arith in
       let x = taken_from table i within in
-      let own : (entry_at es i).uid ≡ x.0 = ap (λ (e : Entry). e.uid) (listed_at slots (taken table) i within)
-      ∙ ap (λ p. (entry_at slots p).uid) (sym x.3) ∙ t.uids x.0 x.1 x.2 in
-      let same : x.0 ≡ uid = sym own ∙ is in
-      x.2 (ap (λ u. get_or table u 0) same ∙ none (subst (λ u. u < length table) same x.1))
+      let own : (entry_at es i).uid ≡ x.0 = rw (listed_at slots (taken table) i within, ← x.3) (t.uids x.0 x.1 x.2) in
+      rw own (x.1, x.2, x.3 ∙ sym (place_listed l i within))
+
+  pub place_missing : (uid : ℕ) → (uid < length table → get_or table uid 0 ≡ 65535) → (i : ℕ) → i < length es
+      → (entry_at es i).uid ≢ uid
+  place_missing uid none i lt is = let x = stands i lt in x.1 (rw is (none (rw is at x.0)))
 
   -- an entry more, of a place that no other has
-  pub tabled_more : (e : Entry) → e.place < length slots
-      → ((i : ℕ) → i < length es → (entry_at es i).place ≢ e.place)
+  pub tabled_more : (e : Entry) → e.place < length slots → ((i : ℕ) → i < length es → (entry_at es i).place ≢ e.place)
       → e.uid < length table → IsTabled (set slots e.place e) (set table e.uid e.place)
   tabled_more e room new in_table = record {
     uids = λ u lt some. elim (cases_eq u e.uid) [
       | inl here ↦
-          rw (here, get_or-set_same table e.uid e.place 0 in_table)
-          (ap (λ (d : Entry). d.uid) (get_or-set_same slots e.place e no_entry room))
+          rw (here, get_or-set_same table e.uid e.place 0 in_table, get_or-set_same slots e.place e no_entry room) refl
       | inr there ↦
           (let m = length-set table e.uid e.place in
-          let same : get_or (set table e.uid e.place) u 0 ≡ get_or table u 0 =
-          get_or-set_other table e.uid u e.place 0 there in
+          let same = get_or-set_other table e.uid u e.place 0 there in
           let is : get_or table u 0 ≢ 65535 = λ z. some (same ∙ z) in
-          let within : u < length table = omega arith in
-          let x = place_found u within is in
-          let other : get_or table u 0 ≢ e.place = λ z. new x.0 x.1 (x.3 ∙ z) in
-          rw same (ap (λ (d : Entry). d.uid) (get_or-set_other slots e.place (get_or table u 0) e no_entry other)
-          ∙ t.uids u within is))
+          let x = place_found u (omega arith) is in
+          rw (same, get_or-set_other slots e.place (get_or table u 0) e no_entry (λ z. new x.0 x.1 (x.3 ∙ z)))
+          (t.uids u (omega arith) is))
     ];
   }
 
@@ -127,11 +120,7 @@ module _ {slots : List Entry} {table : List ℕ} (l : IsListed slots (taken tabl
       → (v : ℕ) → uid ≤ v → v < length table → get_or table v 0 ≡ 65535
   none_later uid later v le lt = elim (cases_eq (get_or table v 0) 65535) [
     | inl none ↦ none
-    | inr some ↦
-        (let x = place_found v lt some in
-        let less : (entry_at es x.0).uid < uid = later x.0 x.1 in
-        let is : (entry_at es x.0).uid ≡ v = x.2 in
-        absurd (omega arith))
+    | inr some ↦ (let x = place_found v lt some in let less = later x.0 x.1 in let is = x.2 in absurd (omega arith))
   ]
 
   -- an entry less
@@ -147,19 +136,18 @@ module _ {slots : List Entry} {table : List ℕ} (l : IsListed slots (taken tabl
   }
 
   pub removed_entry : (uid : ℕ) → uid < length table → get_or table uid 0 ≢ 65535 → (x : Entry)
-      → x ≡ entry_at slots (get_or table uid 0)
-      → IsRemoved es uid x (listed slots (taken (set table uid 65535)))
+      → x ≡ entry_at slots (get_or table uid 0) → IsRemoved es uid x (listed slots (taken (set table uid 65535)))
   removed_entry uid lt some x read =
       let o = taken_out table uid lt some in
       let n = length_listed slots (taken table) in
       let here : entry_at es o.0 ≡ entry_at slots (get_or table uid 0) =
-      listed_at slots (taken table) o.0 o.1 ∙ ap (entry_at slots) o.2 in
+      rw (← o.2) (listed_at slots (taken table) o.0 o.1) in
       record {
         at = o.0;
-        within = omega (arith, o.1, n);
-        entry_is = read ∙ sym here;
-        uid_is = ap (λ (e : Entry). e.uid) here ∙ t.uids uid lt some;
-        rest = ap (listed slots) o.3 ∙ remove_listed l o.0 o.1;
+        within = omega arith;
+        entry_is = cc;
+        uid_is = rw here (t.uids uid lt some);
+        rest = rw o.3 (remove_listed l o.0 o.1);
       }
 
   -- an entry changed, but for its uid
@@ -167,28 +155,15 @@ module _ {slots : List Entry} {table : List ℕ} (l : IsListed slots (taken tabl
       → IsTabled (set slots p e) table
   tabled_set p e room same = record {
     uids = λ u lt some. elim (cases_eq (get_or table u 0) p) [
-      | inl here ↦ rw here (ap (λ (d : Entry). d.uid) (get_or-set_same slots p e no_entry room) ∙ same)
-          ∙ ap (λ q. (entry_at slots q).uid) (sym here) ∙ t.uids u lt some
-      | inr there ↦ ap (λ (d : Entry). d.uid) (get_or-set_other slots p (get_or table u 0) e no_entry there)
-          ∙ t.uids u lt some
+      | inl here ↦ rw (here, get_or-set_same slots p e no_entry room) (same ∙ (rw here at (t.uids u lt some)))
+      | inr there ↦ rw (get_or-set_other slots p (get_or table u 0) e no_entry there) (t.uids u lt some)
     ];
   }
 
   -- the place of a uid that an entry has stands in the table
   pub place_stands : (uid i : ℕ) → i < length es → (entry_at es i).uid ≡ uid → (uid < length table)
       × (get_or table uid 0 ≢ 65535) × (get_or table uid 0 ≡ (entry_at es i).place)
-  place_stands uid i lt is =
-      let n = length_listed slots (taken table) in
-      let within : i < length (taken table) = omega arith in
-      let x = taken_from table i within in
-      let own : (entry_at es i).uid ≡ x.0 = ap (λ (e : Entry). e.uid) (listed_at slots (taken table) i within)
-      ∙ ap (λ p. (entry_at slots p).uid) (sym x.3) ∙ t.uids x.0 x.1 x.2 in
-      let same : x.0 ≡ uid = sym own ∙ is in
-      let at : get_or table uid 0 ≡ get_or table x.0 0 = ap (λ u. get_or table u 0) (sym same) in (
-        subst (λ u. u < length table) same x.1,
-        λ z. x.2 (sym at ∙ z),
-        at ∙ x.3 ∙ sym (place_listed l i within),
-      )
+  place_stands uid i lt is = rw is at (stands i lt)
 
 -- an entry of a uid stands in a place
 abbrev pub IsThere : List Entry → ℕ → ℕ → Type 0
@@ -196,35 +171,20 @@ IsThere es uid place = (i : ℕ) × (i < length es) × ((entry_at es i).uid ≡ 
 
 module _ {slots : List Entry} {order : List ℕ} (l : IsListed slots order) (now : List Entry)
     (view : listed slots order ≡ now) (uid place : ℕ) (at : IsThere now uid place) where
-  seen : IsThere (listed slots order) uid place
-  seen = subst (λ (es : List Entry). IsThere es uid place) (sym view) at
+  ordered : at.0 < length order
+  ordered = (let n = length_listed slots order in let lt = rw (← view) at at.1 in omega arith)
 
-  ordered : seen.0 < length order
-  ordered = (let n = length_listed slots order in omega (arith, seen.1))
-
-  place_at : place ≡ get_or order seen.0 0
-  place_at = sym seen.3 ∙ place_listed l seen.0 ordered
+  place_at : get_or order at.0 0 ≡ place
+  place_at = sym (place_listed l at.0 ordered) ∙ (rw (← view) at at.3)
 
   pub slot_there : place < length slots
-  slot_there = (let w : get_or order seen.0 0 < 4097 = l.within seen.0 ordered in let m : length slots ≡ 4097 =
-      l.size in
-      let p = place_at in omega arith)
+  slot_there = omega (arith, l.within at.0 ordered, l.size, place_at)
 
-  slot_read : (x : Entry) → x ≡ get_or slots place x → x ≡ entry_at slots (get_or order seen.0 0)
-  slot_read x read = get_or_read slots place x slot_there read no_entry ∙ ap (entry_at slots) place_at
-
-  entry_seen : (x : Entry) → x ≡ get_or slots place x → x ≡ entry_at (listed slots order) seen.0
-  entry_seen x read = slot_read x read ∙ sym (listed_at slots order seen.0 ordered)
+  slot_read : (x : Entry) → x ≡ get_or slots place x → x ≡ entry_at slots place
+  slot_read x read = get_or_read slots place x slot_there read no_entry
 
   pub entry_there : (x : Entry) → x ≡ get_or slots place x → x ≡ entry_at now at.0
-  entry_there x read = slot_read x read ∙ ap (entry_at slots) (sym place_at) ∙ ap (entry_at slots) (sym at.3)
-      ∙ still
-    where
-      still : entry_at slots (entry_at now at.0).place ≡ entry_at now at.0
-      still = subst (λ (es : List Entry). at.0 < length es
-          → entry_at slots (entry_at es at.0).place ≡ entry_at es at.0) view
-          (λ lt. (let n = length_listed slots order in let within : at.0 < length order = omega arith in
-          ap (entry_at slots) (place_listed l at.0 within) ∙ sym (listed_at slots order at.0 within))) at.1
+  entry_there x read = rw (← view, listed_at slots order at.0 ordered, place_at) (slot_read x read)
 
 -- the number of those that lie in a node changed
 module _ {slots : List Entry} {table : List ℕ} (l : IsListed slots (taken table)) (t : IsTabled slots table)
@@ -233,31 +193,20 @@ module _ {slots : List Entry} {table : List ℕ} (l : IsListed slots (taken tabl
   abbrev changed : Entry
   changed = record x { inferiors = g x.inferiors }
 
-  abbrev IsLeft : ℕ → Type 0
-  IsLeft q = IsListed (set slots q changed) (taken table) × IsTabled (set slots q changed) table
-      × (listed (set slots q changed) (taken table) ≡ recounted uid g now)
-
   pub inferiors_changed : IsListed (set slots place changed) (taken table) × IsTabled (set slots place changed) table
       × (listed (set slots place changed) (taken table) ≡ recounted uid g now)
   inferiors_changed =
-      let here = seen l now view uid place at in
-      let within : here.0 < length (taken table) = ordered l now view uid place at in
-      let is = place_at l now view uid place at in
-      let own : x ≡ entry_at slots (get_or (taken table) here.0 0) = slot_read l now view uid place at x read in
-      let own_place : changed.place ≡ get_or (taken table) here.0 0 = ap (λ (e : Entry). e.place) own
-      ∙ l.places here.0 within in
-      let room : get_or (taken table) here.0 0 < length slots = subst (λ q. q < length slots) is
-      (slot_there l now view uid place at) in
-      let up : IsAscending (listed slots (taken table)) = subst IsAscending (sym view) rising in
-      subst IsLeft (sym is) (
-        still_listed l here.0 within changed own_place,
-        tabled_set l t (get_or (taken table) here.0 0) changed room (ap (λ (e : Entry). e.uid) own),
-        set_listed l here.0 within changed own_place
-            ∙ ap (λ (e : Entry). set (listed slots (taken table)) here.0 (record e { inferiors = g x.inferiors }))
-            (entry_seen l now view uid place at x read)
-            ∙ count_set uid g (listed slots (taken table)) up here.0 here.1 here.2 x
-            (entry_seen l now view uid place at x read)
-            ∙ ap (recounted uid g) view,
+      let lt = ordered l now view uid place at in
+      let is : get_or (taken table) at.0 0 ≡ place = place_at l now view uid place at in
+      let own : x ≡ entry_at slots place = slot_read l now view uid place at x read in
+      let own_place : x.place ≡ get_or (taken table) at.0 0 = ap (λ (e : Entry). e.place) own
+      ∙ (rw is at (l.places at.0 lt)) ∙ sym is in
+      let there = entry_there l now view uid place at x read in
+      rw (← is) (
+        still_listed l at.0 lt changed own_place,
+        tabled_set l t (get_or (taken table) at.0 0) changed (rw is (slot_there l now view uid place at)) (cc),
+        set_listed l at.0 lt changed own_place
+            ∙ rw (view, there) (count_set uid g now rising at.0 at.1 at.2 (entry_at now at.0) refl),
       )
 
 -- ---- as the calls leave them
@@ -266,18 +215,18 @@ module _ {slots : List Entry} {table : List ℕ} (l : IsListed slots (taken tabl
 pub nowhere_next : (xs ys : List ℕ) (n : ℕ) → ys ≡ xs ++ replicate (n - length xs) 65535 → length xs ≤ n
     → ys ++ 65535 ∷ [] ≡ xs ++ replicate (n + 1 - length xs) 65535
 nowhere_next xs ys n is le =
-    let one : (n - length xs) + 1 ≡ n + 1 - length xs = omega (arith, le) in
-    ap (λ (zs : List ℕ). zs ++ 65535 ∷ []) is ∙ append_assoc xs (replicate (n - length xs) 65535) (65535 ∷ [])
-    ∙ ap (λ (zs : List ℕ). xs ++ zs) (replicate-append-replicate (n - length xs) 1 65535
-    ∙ ap (λ (k : ℕ). replicate k 65535) one)
+    let one : (n - length xs) + 1 ≡ n + 1 - length xs = omega arith in
+    rw (is, append_assoc xs (replicate (n - length xs) 65535) (65535 ∷ []), ← one)
+    (ap (λ (zs : List ℕ). xs ++ zs) (replicate-append-replicate (n - length xs) 1 65535))
 
 -- how many uids the table holds by then
 pub reached : (table wide : List ℕ) (uid : ℕ) → wide ≡ table ++ replicate (uid + 1 - length table) 65535
     → length wide ≡ length table + (uid + 1 - length table)
-reached table wide uid is =
-    let all = ap length is ∙ length-append table (replicate (uid + 1 - length table) 65535) in
-    let many = length-replicate {A = ℕ} (uid + 1 - length table) 65535 in
-    omega (arith, all, many)
+reached table wide uid is = omega (
+  arith,
+  ap length is ∙ length-append table (replicate (uid + 1 - length table) 65535),
+  length-replicate {A = ℕ} (uid + 1 - length table) 65535,
+)
 
 pub blank_taken : (table : List ℕ) → table ≡ [] → taken table ≡ []
 unfolding taken
@@ -285,7 +234,7 @@ blank_taken table is = ap taken is
 
 pub blank_listed : (slots : List Entry) (table : List ℕ) → length slots ≡ 4097 → table ≡ []
     → IsListed slots (taken table)
-blank_listed slots table size is = subst (IsListed slots) (sym (blank_taken table is)) (record {
+blank_listed slots table size is = rw (blank_taken table is) (record {
   size = size;
   within = λ i lt. absurd (omega arith);
   places = λ i lt. absurd (omega arith);
@@ -293,7 +242,7 @@ blank_listed slots table size is = subst (IsListed slots) (sym (blank_taken tabl
 })
 
 pub blank_tabled : (slots : List Entry) (table : List ℕ) → table ≡ [] → IsTabled slots table
-blank_tabled slots table is = subst (IsTabled slots) (sym is) (record { uids = λ u lt some. absurd (omega arith) })
+blank_tabled slots table is = rw is (record { uids = λ u lt some. absurd (omega arith) })
 
 -- the uids that the table holds from then on are nowhere
 past_tabled : (slots : List Entry) (table : List ℕ) (n : ℕ) → IsTabled slots table
@@ -308,15 +257,14 @@ past_tabled slots table n t = record { uids = λ u lt some. held u lt some (case
 
     nowhere : (ps : List ℕ) (u : ℕ) → length ps ≤ u → u < length (ps ++ blanks) → get_or (ps ++ blanks) u 0 ≡ 65535
     nowhere [] u past lt = blank_at n u 65535 lt
-    nowhere (p ∷ ps) zero past lt = absurd (omega (arith, past))
-    nowhere (p ∷ ps) (suc u) past lt = nowhere ps u (omega (arith, past)) (omega (arith, lt))
+    nowhere (p ∷ ps) zero past lt = absurd (omega arith)
+    nowhere (p ∷ ps) (suc u) past lt = nowhere ps u (omega arith) (omega arith)
 
     held : (u : ℕ) → u < length (table ++ blanks) → get_or (table ++ blanks) u 0 ≢ 65535
-        → (u < length table) ⊎ (length table ≤ u)
-        → (entry_at slots (get_or (table ++ blanks) u 0)).uid ≡ u
+        → (u < length table) ⊎ (length table ≤ u) → (entry_at slots (get_or (table ++ blanks) u 0)).uid ≡ u
     held u lt some (inl within) =
         let same : get_or (table ++ blanks) u 0 ≡ get_or table u 0 = get_or_append_left table blanks 0 u within in
-        ap (λ p. (entry_at slots p).uid) same ∙ t.uids u within (λ z. some (same ∙ z))
+        rw same (t.uids u within (λ z. some (same ∙ z)))
     held u lt some (inr past) = absurd (some (nowhere table u past lt))
 
 module _ {slots : List Entry} {table : List ℕ} (l : IsListed slots (taken table)) (t : IsTabled slots table)
@@ -325,13 +273,11 @@ module _ {slots : List Entry} {table : List ℕ} (l : IsListed slots (taken tabl
       → IsThere now uid value
   place_given uid value read lt some =
       let is : value ≡ get_or table uid 0 = get_or_read table uid value lt read 0 in
-      subst (λ (es : List Entry). IsThere es uid value) view
-      (subst (IsThere (listed slots (taken table)) uid) (sym is) (place_found l t uid lt (λ z. some (is ∙ z))))
+      rw (← view, is) (place_found l t uid lt (λ z. some (is ∙ z)))
 
   pub place_absent : (uid : ℕ) → (uid < length table → get_or table uid 0 ≡ 65535) → (i : ℕ) → i < length now
       → (entry_at now i).uid ≢ uid
-  place_absent uid none = subst (λ (es : List Entry). (i : ℕ) → i < length es → (entry_at es i).uid ≢ uid) view
-      (place_missing l t uid none)
+  place_absent uid none = rw (← view) (place_missing l t uid none)
 
   pub pushed : (e : Entry) → e.place < 4097 → ((i : ℕ) → i < length now → (entry_at now i).place ≢ e.place)
       → e.uid < length table → ((i : ℕ) → i < length now → (entry_at now i).uid < e.uid)
@@ -340,52 +286,41 @@ module _ {slots : List Entry} {table : List ℕ} (l : IsListed slots (taken tabl
       × (length (taken (set table e.uid e.place)) ≡ length (taken table) + 1)
       × (listed (set slots e.place e) (taken (set table e.uid e.place)) ≡ now ++ e ∷ [])
   pushed e room new in_table later =
-      let new' : (i : ℕ) → i < length (listed slots (taken table))
-      → (entry_at (listed slots (taken table)) i).place ≢ e.place =
-      subst (λ (es : List Entry). (i : ℕ) → i < length es → (entry_at es i).place ≢ e.place) (sym view) new in
-      let later' : (i : ℕ) → i < length (listed slots (taken table))
-      → (entry_at (listed slots (taken table)) i).uid < e.uid =
-      subst (λ (es : List Entry). (i : ℕ) → i < length es → (entry_at es i).uid < e.uid) (sym view) later in
+      let new' = rw (← view) at new in
+      let later' = rw (← view) at later in
       let size : length slots ≡ 4097 = l.size in
       let grown : taken (set table e.uid e.place) ≡ taken table ++ e.place ∷ [] =
       taken_in table e.uid e.place in_table (λ z. omega arith) (none_later l t e.uid later') in (
-        subst (IsListed (set slots e.place e)) (sym grown) (more_listed l e room new'),
+        rw grown (more_listed l e room new'),
         tabled_more l t e (omega arith) new' in_table,
-        ap length grown ∙ length_push (taken table) e.place,
-        ap (listed (set slots e.place e)) grown ∙ push_listed l e room new'
-            ∙ ap (λ (es : List Entry). es ++ e ∷ []) view,
+        rw grown (length_push (taken table) e.place),
+        rw (grown, ← view) (push_listed l e room new'),
       )
 
   module _ (uid place : ℕ) (at : IsThere now uid place) where
     here : (uid < length table) × (get_or table uid 0 ≢ 65535) × (get_or table uid 0 ≡ place)
-    here = (let s = seen l now view uid place at in let p = place_stands l t uid s.0 s.1 s.2 in
-        (p.0, p.1, p.2 ∙ s.3))
+    here = (let p = place_stands l t uid at.0 (rw (← view) at at.1) (rw (← view) at at.2) in
+        (p.0, p.1, p.2 ∙ (rw (← view) at at.3)))
 
     pub in_table : uid < length table
     in_table = here.0
 
     pub some_taken : 0 < length (taken table)
-    some_taken = (let o = taken_out table uid here.0 here.1 in omega (arith, o.1))
+    some_taken = (omega (arith, taken_out table uid here.0 here.1))
 
     pub left_listed : IsListed slots (taken (set table uid 65535))
-    left_listed = (let o = taken_out table uid here.0 here.1 in
-        subst (IsListed slots) (sym o.3) (less_listed l o.0 o.1))
+    left_listed = (let o = taken_out table uid here.0 here.1 in rw o.3 (less_listed l o.0 o.1))
 
     pub left_tabled : IsTabled slots (set table uid 65535)
     left_tabled = tabled_less l t uid here.0
 
     pub left_taken : length (taken (set table uid 65535)) + 1 ≡ length (taken table)
-    left_taken = (let o = taken_out table uid here.0 here.1 in let n = fewer (taken table) o.0 o.1 in
-        let m : length (taken (set table uid 65535)) ≡ length (remove (taken table) o.0) = ap length o.3 in omega arith)
+    left_taken = (let o = taken_out table uid here.0 here.1 in rw o.3 (fewer (taken table) o.0 o.1))
 
     pub left_removed : (x : Entry) → x ≡ get_or slots place x
         → IsRemoved now uid x (listed slots (taken (set table uid 65535)))
-    left_removed x read =
-        let own : x ≡ entry_at slots (get_or table uid 0) =
-        get_or_read slots place x (slot_there l now view uid place at) read no_entry
-        ∙ ap (entry_at slots) (sym here.2) in
-        subst (λ (es : List Entry). IsRemoved es uid x (listed slots (taken (set table uid 65535)))) view
-        (removed_entry l t uid here.0 here.1 x own)
+    left_removed x read = rw (← view) (removed_entry l t uid here.0 here.1 x
+        (rw here.2 (slot_read l now view uid place at x read)))
 
 -- an entry of a uid that the table holds by then
 module _ {slots : List Entry} {table : List ℕ} (l : IsListed slots (taken table)) (t : IsTabled slots table)
@@ -401,7 +336,7 @@ module _ {slots : List Entry} {table : List ℕ} (l : IsListed slots (taken tabl
       × (length (taken (set wide e.uid e.place)) ≡ length (taken table) + 1)
       × (listed (set slots e.place e) (taken (set wide e.uid e.place)) ≡ now ++ e ∷ [])
   pushed_past e room new in_table later =
-      let wide_listed = subst (IsListed slots) (sym same) l in
-      let wide_tabled = subst (IsTabled slots) (sym is) (past_tabled slots table n t) in
-      let p = pushed wide_listed wide_tabled now (ap (listed slots) same ∙ view) e room new in_table later in
-      (p.0, p.1, p.2 ∙ ap (λ (ps : List ℕ). length ps + 1) same, p.3)
+      let wide_listed : IsListed slots (taken wide) = rw same l in
+      let wide_tabled : IsTabled slots wide = rw is (past_tabled slots table n t) in
+      let p = pushed wide_listed wide_tabled now (cc (same, view)) e room new in_table later in
+      (p.0, p.1, cc (p.2, same), p.3)

@@ -19,10 +19,11 @@ pub returns-clause-room : goal.returns-clause-room
 returns-clause-room c =
     let none = sym (fault_any (λ _. 0) c.args.self.now.nodes c.args.superior c.args.new.name c.args.new.dir)
     ∙ unless_none _ _ _ (sym (c.may_add.ensures (λ _. 0)) ∙ c.in_ok-may_add.was) in
-    let may : MayAdd (shapes c.args.self.now.nodes) c.args.superior c.args.new.name c.args.new.dir =
-    no_fault (shapes c.args.self.now.nodes) c.args.superior c.args.new.name c.args.new.dir none in
-    let room : length (shapes c.args.self.now.nodes) < 4097 = may.room in
-    omega (arith, length-map c.args.self.now.nodes shape)
+    omega (
+      arith,
+      no_fault (shapes c.args.self.now.nodes) c.args.superior c.args.new.name c.args.new.dir none,
+      length-map c.args.self.now.nodes shape,
+    )
 
 pub returns-in_err-may_add-clause-chains : goal.returns-in_err-may_add-clause-chains
 returns-in_err-may_add-clause-chains c =
@@ -36,9 +37,5 @@ returns-clause-chains c = rw (← c.self.view_is) (has_chains
 pub returns-clause-ok : goal.returns-clause-ok
 returns-clause-ok c =
     let next : c.self.inside.next ≡ c.args.self.now.next = ap (λ (t : Branches). t.next) c.self.view_is in
-    c.set_rows.ensures
-    ∙ ap (λ (t : Branches). with_acl t c.self.inside.next c.args.new.acl) c.attach.ensures.tree
-    ∙ ap (λ (u : ℕ). with_acl (added c.args.self.now c.args.superior (record c.args.new { acl = [] })) u c.args.new.acl)
-    next
-    ∙ rows_added c.args.self.now c.args.superior c.args.new [] (rw (← c.self.view_is)
-    (next_missing c.self.invariant.0))
+    cc (rows_added c.args.self.now c.args.superior c.args.new [] (rw (← c.self.view_is)
+    (next_missing c.self.invariant.0)))

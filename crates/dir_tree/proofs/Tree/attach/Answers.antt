@@ -1,4 +1,4 @@
-use Rattle.dir_tree.proofs.Prelude.{◌≡◌, ◌+◌, ◌<◌, ℕ, List, [], ◌∷◌, ◌++◌, Bool, length, true, None, Some, refl, sym, ap, subst, ◌∙◌, arith, length-map, Node, Entry, Branches, is_directory, add_fault_of, node_of_new, as_node, IsOrdered, AreWithin, shape, shapes, newest, recounted, IsCounted, IsKept, has_chains}
+use Rattle.dir_tree.proofs.Prelude.{◌≡◌, ◌+◌, ◌<◌, ℕ, List, [], ◌∷◌, ◌++◌, Bool, length, true, None, Some, refl, sym, ap, subst, ◌∙◌, arith, length-map, Node, Entry, Branches, is_directory, add_fault_of, node_of_new, as_node, IsOrdered, AreWithin, shape, shapes, newest, recounted, IsCounted, IsKept, has_chains, Places}
 use Rattle.dir_tree.proofs.AddedLemmas.{place_unused, place_room, asked, new_key, added}
 use Rattle.dir_tree.proofs.CountLemmas.{superior_there, pushed_few, counted_with, newest_recounted, kept_recounted}
 use Rattle.dir_tree.proofs.KeptLemmas.{next_missing, no_fault}
@@ -15,16 +15,17 @@ may_at : (u : ℕ) (name : List ℕ) (dir : Bool) {s t : Branches} → s ≡ t �
     → add_fault_of (shapes s.nodes) u name dir ≡ None
 may_at u name dir {s} {t} e h = subst (λ (x : Branches). add_fault_of (shapes x.nodes) u name dir ≡ None) (sym e) h
 
-few : (nodes : List Node) (es : List Entry) (s : ℕ) (name : List ℕ) (dir : Bool)
-    → add_fault_of (shapes (newest nodes es)) s name dir ≡ None → length es < 4097
-few nodes es s name dir e = (let m = no_fault (shapes (newest nodes es)) s name dir e in let r : length
-    (shapes (newest nodes es)) < 4097 = m.room in
-    let a = length-map (newest nodes es) shape in let b = length_newest nodes es in omega arith)
+few : {nodes : List Node} {es : List Entry} {free : List ℕ} {index : Places} {next : ℕ}
+    → IsKept nodes es free index next → (s : ℕ) (name : List ℕ) (dir : Bool) {t : Branches}
+    → record { nodes = newest nodes es; next = next } ≡ t
+    → add_fault_of (shapes t.nodes) s name dir ≡ None → length es < 4097
+few {nodes} {es} k s name dir seen e =
+    let m = no_fault (shapes (newest nodes es)) s name dir (may_at s name dir seen e) in
+    rw (length-map (newest nodes es) shape, length_newest nodes es) at m.room
 
 pub store-place-requires-clause-room : goal.store-place-requires-clause-room
 store-place-requires-clause-room c none =
-    let lt = few c.self.inside.nodes.items c.self.inside.entries c.args.superior c.args.new.name c.args.new.dir
-    (may_at c.args.superior c.args.new.name c.args.new.dir c.self.view_is c.requires.may) in
+    let lt = few c.self.invariant.0 c.args.superior c.args.new.name c.args.new.dir c.self.view_is c.requires.may in
     omega (arith, c.self.invariant.0.count, c.self.invariant.1, c.self.inside.nodes.ok.0)
 
 pub store-place-requires-clause-count : goal.store-place-requires-clause-count
@@ -32,8 +33,7 @@ store-place-requires-clause-count c = omega (arith, c.self.invariant.0.few)
 
 pub insert-requires-clause-room : goal.insert-requires-clause-room
 insert-requires-clause-room c =
-    let lt = few c.self.inside.nodes.items c.self.inside.entries c.args.superior c.args.new.name c.args.new.dir
-    (may_at c.args.superior c.args.new.name c.args.new.dir c.self.view_is c.requires.may) in
+    let lt = few c.self.invariant.0 c.args.superior c.args.new.name c.args.new.dir c.self.view_is c.requires.may in
     omega (arith, c.self.invariant.0.branches, c.self.invariant.0.room)
 
 -- what the index asks for holds once the new node stands in its place
@@ -54,10 +54,8 @@ pub insert-requires-clause-node : goal.insert-requires-clause-node
 insert-requires-clause-node c = rw c.deref.ensures.value (ready c).2
 
 pub insert-requires-clause-slot : goal.insert-requires-clause-slot
-insert-requires-clause-slot c =
-    place_room c.self.invariant.0 c.store-place.result c.store-place.ensures.place
-    (few c.self.inside.nodes.items c.self.inside.entries c.args.superior c.args.new.name c.args.new.dir
-    (may_at c.args.superior c.args.new.name c.args.new.dir c.self.view_is c.requires.may))
+insert-requires-clause-slot c = place_room c.self.invariant.0 c.store-place.result c.store-place.ensures.place
+    (few c.self.invariant.0 c.args.superior c.args.new.name c.args.new.dir c.self.view_is c.requires.may)
 
 pub insert-requires-clause-new : goal.insert-requires-clause-new
 insert-requires-clause-new c =
@@ -65,47 +63,39 @@ insert-requires-clause-new c =
     c.args.new.name c.args.new.dir
     (may_at c.args.superior c.args.new.name c.args.new.dir c.self.view_is c.requires.may) in
     rw c.deref.ensures.value (new_key c.self.invariant.0 c.store-place.result c.store-place.ensures.place
-    c.store-place.new.nodes.items
-    c.store-place.ensures.others c.store-place.ensures.count c.args.superior
+    c.store-place.new.nodes.items c.store-place.ensures.others c.store-place.ensures.count c.args.superior
     (node_of_new c.self.inside.next c.args.superior (as_node c.args.new)) c.store-place.ensures.here refl may.new)
 
 pub push-requires-clause-few : goal.push-requires-clause-few
-push-requires-clause-few c = few c.self.inside.nodes.items c.self.inside.entries c.args.superior c.args.new.name
-    c.args.new.dir
-    (may_at c.args.superior c.args.new.name c.args.new.dir c.self.view_is c.requires.may)
+push-requires-clause-few c = few c.self.invariant.0 c.args.superior c.args.new.name c.args.new.dir c.self.view_is
+    c.requires.may
 
 pub push-requires-clause-place : goal.push-requires-clause-place
-push-requires-clause-place c =
-    place_room c.self.invariant.0 c.store-place.result c.store-place.ensures.place
-    (few c.self.inside.nodes.items c.self.inside.entries c.args.superior c.args.new.name c.args.new.dir
-    (may_at c.args.superior c.args.new.name c.args.new.dir c.self.view_is c.requires.may))
+push-requires-clause-place c = place_room c.self.invariant.0 c.store-place.result c.store-place.ensures.place
+    (few c.self.invariant.0 c.args.superior c.args.new.name c.args.new.dir c.self.view_is c.requires.may)
 
 pub push-requires-clause-new : goal.push-requires-clause-new
 push-requires-clause-new c = place_unused c.self.invariant.0 c.store-place.result c.store-place.ensures.place
 
 pub push-requires-clause-uid : goal.push-requires-clause-uid
-push-requires-clause-uid c = subst (λ (t : Branches). t.next < 100003) (sym c.self.view_is) c.requires.uids
+push-requires-clause-uid c = rw (← c.self.view_is) at c.requires.uids
 
 pub push-requires-clause-later : goal.push-requires-clause-later
 push-requires-clause-later c = c.self.invariant.0.below
 
 pub gain-requires-clause-there : goal.gain-requires-clause-there
-gain-requires-clause-there c = rw c.push.ensures
-    (superior_there c.self.invariant.0 c.args.superior
+gain-requires-clause-there c = rw c.push.ensures (superior_there c.self.invariant.0 c.args.superior
     (directory_at c.args.superior c.self.view_is c.requires.directory) _)
 
 pub gain-requires-clause-room : goal.gain-requires-clause-room
 gain-requires-clause-room c =
-    let lt = few c.self.inside.nodes.items c.self.inside.entries c.args.superior c.args.new.name c.args.new.dir
-    (may_at c.args.superior c.args.new.name c.args.new.dir c.self.view_is c.requires.may) in
+    let lt = few c.self.invariant.0 c.args.superior c.args.new.name c.args.new.dir c.self.view_is c.requires.may in
     rw c.push.ensures (pushed_few c.self.inside.entries _ c.self.invariant.3 (omega (arith, lt)) refl)
 
 -- the tables with the new branch are those of the tree with it
-added_to : (c : goal.After-self-1)
-    → IsKept c.store-place.new.nodes.items
+added_to : (c : goal.After-self-1) → IsKept c.store-place.new.nodes.items
     (c.self.inside.entries ++ new_entry c.self.inside.next c.args.superior c.store-place.result ∷ [])
-    c.store-place.new.free.items c.insert.new.self (c.self.inside.next + 1)
-    × (newest c.store-place.new.nodes.items
+    c.store-place.new.free.items c.insert.new.self (c.self.inside.next + 1) × (newest c.store-place.new.nodes.items
     (c.self.inside.entries ++ new_entry c.self.inside.next c.args.superior c.store-place.result ∷ [])
     ≡ node_of_new c.self.inside.next c.args.superior
     (as_node c.args.new) ∷ newest c.self.inside.nodes.items c.self.inside.entries)

@@ -1,4 +1,4 @@
-use Rattle.dir_tree.proofs.Prelude.{◌≡◌, ◌+◌, ◌-◌, ◌<◌, ◌≤◌, List, [], ◌∷◌, ◌++◌, length, true, false, sym, ap, subst, ◌∙◌, arith, Node, Entry, newest, recounted, IsKept, list_any, remove, is_inferior, Branches, is_in, without, shapes, length-remove}
+use Rattle.dir_tree.proofs.Prelude.{◌≡◌, ◌+◌, ◌-◌, ◌<◌, ◌≤◌, List, [], ◌∷◌, ◌++◌, length, sym, ap, ◌∙◌, arith, Node, Entry, newest, recounted, IsKept, remove, without, length-remove}
 use Rattle.dir_tree.proofs.KeptLemmas.{entry_present, places_within}
 use Rattle.dir_tree.proofs.CountLemmas.{removed_rising, superior_left, some_left, counted_removed, length_recounted, newest_recounted, kept_recounted}
 use Rattle.dir_tree.proofs.NewestLemmas.{length_newest}
@@ -6,9 +6,7 @@ use Rattle.dir_tree.proofs.RemovedLemmas.{removed_at, not_root, named_at}
 use Rattle.dir_tree.proofs.Tree.detach.Goals as goal
 
 pub remove-superior-requires : goal.remove-superior-requires
-remove-superior-requires c =
-    entry_present c.self.invariant.0 c.args.uid (subst (λ (t : Branches). is_in t.nodes c.args.uid ≡ true)
-    (sym c.self.view_is) c.requires.there)
+remove-superior-requires c = entry_present c.self.invariant.0 c.args.uid (rw (← c.self.view_is) at c.requires.there)
 
 pub unreachable-requires : goal.unreachable-requires
 unreachable-requires c = c.requires.branch
@@ -17,12 +15,7 @@ unreachable-requires c = c.requires.branch
     c.remove-superior.ensures.uid_is c.in_default.is)
 
 pub push_reserved-requires : goal.push_reserved-requires
-push_reserved-requires c =
-    let within : c.remove-superior.ensures.at < length c.self.inside.entries = c.remove-superior.ensures.within in
-    let count : length c.self.inside.nodes.items ≡ length c.self.inside.entries + length c.self.inside.free.items =
-    c.self.invariant.0.count in
-    let few : length c.self.inside.nodes.items ≤ 4097 = c.self.invariant.0.few in
-    omega (arith, c.self.invariant.2, c.self.inside.free.ok.0)
+push_reserved-requires c = omega arith
 
 pub lose-requires-clause-rising : goal.lose-requires-clause-rising
 lose-requires-clause-rising c = rw c.remove-superior.ensures.rest
@@ -38,8 +31,7 @@ pub lose-requires-clause-some : goal.lose-requires-clause-some
 lose-requires-clause-some c =
     let up = ap (λ (e : Entry). e.superior) (sym c.remove-superior.ensures.entry_is) ∙ c.in-Some.is in
     rw c.remove-superior.ensures.rest (some_left c.self.inside.entries c.self.invariant.3 c.remove-superior.ensures.at
-    c.remove-superior.ensures.within
-    c.in-Some.superior up)
+    c.remove-superior.ensures.within c.in-Some.superior up)
 
 -- the tables without the branch are those of the tree without it
 left_by : (c : goal.After-push_reserved)
@@ -47,11 +39,10 @@ left_by : (c : goal.After-push_reserved)
     (c.self.inside.free.items ++ c.remove-superior.result.place ∷ []) c.remove.new.self c.self.inside.next
     × (newest c.self.inside.nodes.items (remove c.self.inside.entries c.remove-superior.ensures.at)
     ≡ without c.args.uid (newest c.self.inside.nodes.items c.self.inside.entries))
-left_by c =
-    removed_at c.self.invariant.0 c.args.uid c.remove-superior.ensures.at c.remove-superior.result
+left_by c = removed_at c.self.invariant.0 c.args.uid c.remove-superior.ensures.at c.remove-superior.result
     c.remove-superior.ensures.within c.remove-superior.ensures.entry_is c.remove-superior.ensures.uid_is
-    (subst (λ (t : Branches). list_any (is_inferior c.args.uid) (shapes t.nodes) ≡ false) (sym c.self.view_is)
-    c.requires.leaf) c.remove.new.self (rw c.deref.ensures.value at c.remove.ensures.order) c.remove.ensures.places
+    (rw (← c.self.view_is) at c.requires.leaf) c.remove.new.self
+    (rw c.deref.ensures.value at c.remove.ensures.order) c.remove.ensures.places
     c.remove.ensures.count c.remove.ensures.room
 
 pub invariant_of-self : goal.invariant_of-self
@@ -62,7 +53,7 @@ invariant_of-self c =
     rw c.remove-superior.ensures.rest at c.lose.ensures in (
       rw (c.push_reserved.ensures.items, lost) (kept_recounted c.in-Some.superior (λ n. n - 1) (left_by c).0),
       c.self.invariant.1,
-      omega (arith, c.self.invariant.2, c.push_reserved.ensures.capacity),
+      omega arith,
       rw lost (counted_removed c.self.inside.entries c.self.invariant.3 c.remove-superior.ensures.at
           c.remove-superior.ensures.within c.in-Some.superior up),
     )
@@ -72,20 +63,14 @@ returns-clause-tree c =
     let fewer : List Entry = remove c.self.inside.entries c.remove-superior.ensures.at in
     let lost : c.lose.new.self ≡ recounted c.in-Some.superior (λ n. n - 1) fewer =
     rw c.remove-superior.ensures.rest at c.lose.ensures in
-    rw (← c.self.view_is) (ap (λ (ns : List Node). record { nodes = ns; next = c.self.inside.next })
+    rw (← c.self.view_is) (ap (λ (ns : List Node). assumption (c.self.inside.next))
     (rw lost (newest_recounted c.in-Some.superior (λ n. n - 1) c.self.inside.nodes.items fewer ∙ (left_by c).1)))
 
 pub remove-requires : goal.remove-requires
 remove-requires c =
     let there = named_at c.self.invariant.0 c.remove-superior.ensures.at c.remove-superior.result
-    c.remove-superior.ensures.within c.remove-superior.ensures.entry_is
-    c.in-Some.superior c.in-Some.is in
-    rw c.deref.ensures.value (record {
-      there = there;
-      order = c.self.invariant.0.order;
-      within =
-          places_within c.self.invariant.0;
-    })
+    c.remove-superior.ensures.within c.remove-superior.ensures.entry_is c.in-Some.superior c.in-Some.is in
+    rw c.deref.ensures.value (assumption (places_within c.self.invariant.0))
 
 pub returns-clause-count : goal.returns-clause-count
 returns-clause-count c =
@@ -97,4 +82,4 @@ returns-clause-count c =
     let same = length_recounted c.in-Some.superior (λ n. n - 1) fewer in
     let new = length_newest c.self.inside.nodes.items (recounted c.in-Some.superior (λ n. n - 1) fewer) in
     let old = length_newest c.self.inside.nodes.items c.self.inside.entries in
-    rw (← c.self.view_is) (rw lost (omega (arith, less, same, new, old)))
+    rw (← c.self.view_is) (rw lost (omega arith))

@@ -5,6 +5,5 @@ use Rattle.dir_tree.proofs.Tree.is_full.Goals as goal
 pub returns : goal.returns
 returns c =
     let count : c.len.result ≡ length c.args.self.now.nodes =
-    rw (← c.self.view_is) (let a = length_newest c.self.inside.nodes.items c.self.inside.entries in omega
-    (arith, c.len.ensures)) in
-    ap (nat_le 4097) count
+    rw (← c.self.view_is) (omega (arith, length_newest c.self.inside.nodes.items c.self.inside.entries)) in
+    cc

@@ -1,12 +1,11 @@
-use Rattle.dir_tree.proofs.Prelude.{◌≡◌, ◌≢◌, ℕ, ◌<◌, length, true, false, Some, refl, sym, subst, ◌∙◌, both_ways, Branches, is_in, has_inferior, shapes, newest, entry_at}
+use Rattle.dir_tree.proofs.Prelude.{◌≡◌, ◌≢◌, ℕ, ◌<◌, length, true, false, Some, refl, ◌∙◌, both_ways, has_inferior, shapes, newest, entry_at}
 use Rattle.dir_tree.proofs.KeptLemmas.{entry_present, inferior_since, no_inferior}
 use Rattle.dir_tree.proofs.QuotaLemmas.{inferior_any}
 use Rattle.dir_tree.proofs.Tree.may_remove.Goals as goal
 
 pub has_inferior-requires-clause-there : goal.has_inferior-requires-clause-there
 has_inferior-requires-clause-there c =
-    (entry_present c.self.invariant.0 c.args.uid (subst (λ (t : Branches). is_in t.nodes c.args.uid ≡ true)
-    (sym c.self.view_is) c.requires.there))
+    (entry_present c.self.invariant.0 c.args.uid (rw (← c.self.view_is) at c.requires.there))
 
 pub returns-then-has_inferior : goal.returns-then-has_inferior
 returns-then-has_inferior c quota =
@@ -26,7 +25,6 @@ returns c quota =
     let isnt : has_inferior (shapes (newest c.self.inside.nodes.items c.self.inside.entries)) c.args.uid ≡ false =
     no_inferior c.self.invariant.0 c.args.uid none in (
       λ z. absurd (both_ways false refl z),
-      λ is. absurd
-          (both_ways _ (rw (← c.self.view_is) (inferior_any quota
+      λ is. absurd (both_ways _ (rw (← c.self.view_is) (inferior_any quota
           (newest c.self.inside.nodes.items c.self.inside.entries) c.args.uid ∙ isnt)) is),
     )

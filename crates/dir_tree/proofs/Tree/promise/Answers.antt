@@ -9,4 +9,4 @@ returns-clause-chains c = rw (← c.self.view_is) (has_chains
 pub returns-clause-below : goal.returns-clause-below
 returns-clause-below c = rw (← c.self.view_is)
     (below_newest c.self.inside.next c.self.inside.nodes.items c.self.inside.entries
-    (λ i lt. subst (λ u. u < c.self.inside.next) (sym (c.self.invariant.0.uids i lt)) (c.self.invariant.0.below i lt)))
+    (λ i lt. rw (c.self.invariant.0.uids i lt) (c.self.invariant.0.below i lt)))

@@ -19,4 +19,4 @@ invariant_of-self c = (
 pub returns : goal.returns
 returns c = let seen = set_seen c.self.invariant.0 c.args.uid c.place_of-place.result c.place_of-place.ensures
     (λ n. record n { volume = c.args.volume; entry = c.args.entry }) (λ n. refl) c.index_mut-node.result.now
-    c.index_mut-node.ensures.value c.self.view_is in record { tree = seen.tree; shapes = seen.shapes }
+    c.index_mut-node.ensures.value c.self.view_is in assumption

@@ -9,8 +9,7 @@ place_of-place-requires c = segment_present c.self.invariant.0 c.args.uid c.self
 pub invariant_of-self : goal.invariant_of-self
 invariant_of-self c = (
   (set_kept c.self.invariant.0 c.args.uid c.place_of-place.result c.place_of-place.ensures
-      (λ n. record n { length = c.args.pages }) (λ n. refl) c.index_mut.result.now
-      c.index_mut.ensures.value).0,
+      (λ n. record n { length = c.args.pages }) (λ n. refl) c.index_mut.result.now c.index_mut.ensures.value).0,
   c.self.invariant.1,
   c.self.invariant.2,
   c.self.invariant.3,
@@ -19,4 +18,4 @@ invariant_of-self c = (
 pub returns : goal.returns
 returns c = let seen = set_seen c.self.invariant.0 c.args.uid c.place_of-place.result c.place_of-place.ensures
     (λ n. record n { length = c.args.pages }) (λ n. refl) c.index_mut.result.now
-    c.index_mut.ensures.value c.self.view_is in record { tree = seen.tree; shapes = seen.shapes }
+    c.index_mut.ensures.value c.self.view_is in assumption

@@ -1,17 +1,15 @@
-use Rattle.dir_tree.proofs.Prelude.{◌≡◌, true, refl, sym, subst, Branches, is_in}
+use Rattle.dir_tree.proofs.Prelude.{refl}
 use Rattle.dir_tree.proofs.KeptLemmas.{entry_present}
 use Rattle.dir_tree.proofs.ChangedLemmas.{set_kept, set_seen}
 use Rattle.dir_tree.proofs.Tree.set_rows.Goals as goal
 
 pub place_of-place-requires : goal.place_of-place-requires
-place_of-place-requires c = entry_present c.self.invariant.0 c.args.uid
-    (subst (λ (t : Branches). is_in t.nodes c.args.uid ≡ true) (sym c.self.view_is) c.requires)
+place_of-place-requires c = entry_present c.self.invariant.0 c.args.uid (rw (← c.self.view_is) at c.requires)
 
 pub invariant_of-self : goal.invariant_of-self
 invariant_of-self c = (
   (set_kept c.self.invariant.0 c.args.uid c.place_of-place.result c.place_of-place.ensures
-      (λ n. record n { acl = c.args.acl }) (λ n. refl) c.index_mut.result.now
-      c.index_mut.ensures.value).0,
+      (λ n. record n { acl = c.args.acl }) (λ n. refl) c.index_mut.result.now c.index_mut.ensures.value).0,
   c.self.invariant.1,
   c.self.invariant.2,
   c.self.invariant.3,

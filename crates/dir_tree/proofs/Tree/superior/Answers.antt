@@ -1,4 +1,4 @@
-use Rattle.dir_tree.proofs.Prelude.{◌≡◌, true, None, sym, ap, subst, ◌∙◌, is_some, both_ways, above, step_up, Branches, is_in, node_of, newest, shapes, superior_in, above_once, superior_up, IsUp}
+use Rattle.dir_tree.proofs.Prelude.{◌≡◌, true, None, ap, subst, ◌∙◌, is_some, both_ways, above, step_up, is_in, node_of, newest, shapes, superior_in, above_once, superior_up, IsUp}
 use Rattle.dir_tree.proofs.KeptLemmas.{superior_read, node_missing, up_in}
 use Rattle.dir_tree.proofs.Tree.superior.Goals as goal
 
@@ -7,7 +7,7 @@ unreachable-requires c =
     let missing : node_of (newest c.self.inside.nodes.items c.self.inside.entries) c.args.uid ≡ None =
     node_missing c.self.invariant.0 c.args.uid c.in-None.ensures.none in
     let there : is_in (newest c.self.inside.nodes.items c.self.inside.entries) c.args.uid ≡ true =
-    subst (λ (t : Branches). is_in t.nodes c.args.uid ≡ true) (sym c.self.view_is) c.requires in
+    rw (← c.self.view_is) at c.requires in
     both_ways _ (ap is_some missing) there
 
 pub returns-clause-above : goal.returns-clause-above
@@ -15,7 +15,7 @@ returns-clause-above c =
     let ns = shapes (newest c.self.inside.nodes.items c.self.inside.entries) in
     let up : superior_in ns c.args.uid ≡ c.in-Some.entry.superior =
     superior_read c.self.invariant.0 c.args.uid c.in-Some.entry c.in-Some.ensures.some in
-    rw (← c.self.view_is) (above_once ns c.self.invariant.0.tree c.args.uid ∙ ap (step_up (above ns)) up)
+    rw (← c.self.view_is) (cc (above_once ns c.self.invariant.0.tree c.args.uid))
 
 pub returns-clause-falls : goal.returns-clause-falls
 returns-clause-falls c =
@@ -23,5 +23,4 @@ returns-clause-falls c =
     let up : superior_in ns c.args.uid ≡ c.in-Some.entry.superior =
     superior_read c.self.invariant.0 c.args.uid c.in-Some.entry c.in-Some.ensures.some in
     rw (← c.self.view_is) (up_in (newest c.self.inside.nodes.items c.self.inside.entries) c.args.uid
-    c.in-Some.entry.superior
-    (subst (IsUp ns c.args.uid) up (superior_up ns c.self.invariant.0.tree c.args.uid)))
+    c.in-Some.entry.superior (rw (← up) (superior_up ns c.self.invariant.0.tree c.args.uid)))

@@ -20,9 +20,7 @@ pub returns-clause-above : goal.returns-clause-above
 returns-clause-above c quota =
     let ns = shapes c.args.self.now.nodes in
     let none : above ns c.loop-superior.at ≡ [] = rw c.in_default.is at c.superior.ensures.above in
-    sym (append-nil c.loop-superior.up.items) ∙ ap (λ (xs : List ℕ). c.loop-superior.up.items ++ xs) (sym none)
-    ∙ c.loop-superior.invariant.so_far
-    ∙ sym (above_any quota c.args.self.now.nodes c.args.uid)
+    cc (append-nil c.loop-superior.up.items, above_any quota c.args.self.now.nodes c.args.uid)
 
 pub returns-clause-most : goal.returns-clause-most
 returns-clause-most c =

@@ -11,8 +11,7 @@ returns-then-not-dir-clause-answer c quota =
     c.loop-name-test.true c.name-item.is in
     let end : walk_from ns c.loop-name.at c.loop-name.dir (drop c.loop-name.name-index names) ≡ InSegment = step
     ∙ ap (λ b. onward (λ n. walk_from ns n.uid n.directory (drop (c.loop-name.name-index + 1) names)) b
-    (branch_in ns c.loop-name.at c.name-item.result))
-    isnt in
+    (branch_in ns c.loop-name.at c.name-item.result)) isnt in
     sym (ap path_answer (walk_any quota c.args.self.now.nodes c.args.names.now ∙ sym c.loop-name.invariant.so_far
     ∙ end))
 

@@ -6,7 +6,7 @@ pub loop-preserved : goal.loop-preserved
 loop-preserved c =
     let past : length c.args.places.now.items ≤ c.loop.counter = c.loop.invariant.2 in (
       c.push_reserved.ensures.items ∙ nowhere_next _ _ c.loop.counter c.loop.invariant.0 past,
-      c.push_reserved.ensures.capacity ∙ c.loop.invariant.1,
-      omega (arith, past),
-      omega (arith, past, c.loop-test.true),
+      cc,
+      omega arith,
+      omega arith,
     )

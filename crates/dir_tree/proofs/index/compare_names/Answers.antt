@@ -3,4 +3,4 @@ use Rattle.dir_tree.proofs.index.compare_names.Goals as goal
 
 pub returns-then-eq : goal.returns-then-eq
 returns-then-eq c = sym ((Equal-is (slice_cmp nat_cmp c.args.own.now c.args.other.now)).0
-    (is_eq-slice_cmp c.args.own.now c.args.other.now ∙ (sym c.eq.ensures ∙ c.if-eq.true)))
+    (cc (is_eq-slice_cmp c.args.own.now c.args.other.now)))

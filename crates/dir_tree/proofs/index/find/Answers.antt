@@ -8,13 +8,9 @@ from_hash-at-requires c = record { rising = are_rising c.requires.order }
 pub loop-at-init : goal.loop-at-init
 loop-at-init c =
     let key : Key = (Some c.args.superior, c.args.name.now) in
-    let below : (k : ℕ) → k < c.from_hash-at.result
-    → hash_at c.args.places.now c.args.hashes.now k < key_hash key =
+    let below : (k : ℕ) → k < c.from_hash-at.result → hash_at c.args.places.now c.args.hashes.now k < key_hash key =
     rw c.requires.hash at c.from_hash-at.ensures.below in
-    record {
-      within = c.from_hash-at.ensures.within;
-      below = before_hash c.requires.order c.from_hash-at.result key c.from_hash-at.ensures.within below;
-    }
+    assumption (before_hash c.requires.order c.from_hash-at.result key c.from_hash-at.ensures.within below)
 
 pub returns-in-Equal-clause-some : goal.returns-in-Equal-clause-some
 returns-in-Equal-clause-some c =
@@ -26,8 +22,7 @@ returns-in-Equal-clause-some c =
     (compared c.args.nodes.now c.args.places.now at key (c.requires.within at within) c.index-nodes-place.is
     c.compare.ensures ∙ c.in-Equal.is) in (
       record { at = at; within = within; is = refl },
-      key_branch c.args.superior c.args.name.now
-          (node_at c.args.nodes.now (get_or c.args.places.now at 0)) same,
+      key_branch c.args.superior c.args.name.now (node_at c.args.nodes.now (get_or c.args.places.now at 0)) same,
     )
 
 pub returns-in-Greater-clause-none : goal.returns-in-Greater-clause-none
@@ -43,9 +38,8 @@ returns-in-Greater-clause-none c place there = false_from_ne_true _ (λ is.
     let first = first_place c.args.nodes.now c.args.places.now at c.args.superior c.args.name.now
     c.requires.order.sorted c.loop-at.invariant.below
     (halved_above c.args.nodes.now c.args.places.now at key c.requires.order.sorted isnt) place there is in
-    not_after (key_at c.args.nodes.now c.args.places.now at) key
-    (ap (λ p. key_of (node_at c.args.nodes.now p)) first.1
-    ∙ branch_key c.args.superior c.args.name.now (node_at c.args.nodes.now place) is) more))
+    not_after (key_at c.args.nodes.now c.args.places.now at) key (cc (branch_key c.args.superior c.args.name.now
+    (node_at c.args.nodes.now place) is)) more))
 
 pub returns-clause-none : goal.returns-clause-none
 returns-clause-none c place there = false_from_ne_true _ (λ is.

@@ -4,11 +4,11 @@ use Rattle.dir_tree.proofs.UidLemmas.{slot_there, entry_there}
 use Rattle.dir_tree.proofs.entries.Entries.has_inferior.Goals as goal
 
 pub index-requires : goal.index-requires
-index-requires c =
-    let within : c.place_of-place.result < length c.self.inside.slots.items =
-    slot_there c.self.invariant.0 c.args.self.now c.self.view_is c.args.uid c.place_of-place.result
-    c.place_of-place.ensures in
-    omega (arith, within)
+index-requires c = omega (
+  arith,
+  slot_there c.self.invariant.0 c.args.self.now c.self.view_is c.args.uid c.place_of-place.result
+      c.place_of-place.ensures,
+)
 
 pub returns : goal.returns
 returns c =

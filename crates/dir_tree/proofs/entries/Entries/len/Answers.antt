@@ -3,5 +3,4 @@ use Rattle.dir_tree.proofs.SlotLemmas.{length_listed}
 use Rattle.dir_tree.proofs.entries.Entries.len.Goals as goal
 
 pub returns : goal.returns
-returns c = c.self.invariant.3 ∙ sym (length_listed c.self.inside.slots.items (taken c.self.inside.places.items))
-    ∙ ap length c.self.view_is
+returns c = cc (length_listed c.self.inside.slots.items (taken c.self.inside.places.items))

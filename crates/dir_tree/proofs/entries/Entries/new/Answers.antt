@@ -13,5 +13,4 @@ invariant_of-result c =
     )
 
 pub returns : goal.returns
-returns c = ap (listed c.in_ok-slots.slots.items)
-    (blank_taken c.in_ok-places.places.items c.in_ok-places.ensures.items)
+returns c = ap (listed c.in_ok-slots.slots.items) (blank_taken c.in_ok-places.places.items c.in_ok-places.ensures.items)

@@ -15,10 +15,10 @@ returns-in_default-clause-none c =
     let read : c.in-Some.place.now ≡ get_or c.self.inside.places.items c.args.uid c.in-Some.place.now =
     grind (arith, common_steps) in
     place_absent c.self.invariant.0 c.self.invariant.1 c.args.self.now c.self.view_is c.args.uid (λ lt.
-    sym (get_or_read c.self.inside.places.items c.args.uid c.in-Some.place.now lt read 0) ∙ c.if-place.false)
+    cc (get_or_read c.self.inside.places.items c.args.uid c.in-Some.place.now lt read 0))
 
 pub returns-in_default-2-clause-none : goal.returns-in_default-2-clause-none
 returns-in_default-2-clause-none c =
     let past : length c.self.inside.places.items ≤ c.args.uid = grind (arith, common_steps) in
     place_absent c.self.invariant.0 c.self.invariant.1 c.args.self.now c.self.view_is c.args.uid
-    (λ lt. absurd (omega (arith, lt, past)))
+    (λ lt. absurd (omega arith))

@@ -4,34 +4,32 @@ use Rattle.dir_tree.proofs.UidLemmas.{pushed_past, reached}
 use Rattle.dir_tree.proofs.entries.Entries.push.Goals as goal
 
 pub index_mut-requires : goal.index_mut-requires
-index_mut-requires c = omega (arith, c.requires.place, c.self.invariant.0.size)
+index_mut-requires c = omega arith
 
 pub reach-requires : goal.reach-requires
-reach-requires c = omega (arith, c.requires.uid, c.self.invariant.4)
+reach-requires c = omega arith
 
 pub index_mut-requires-2 : goal.index_mut-requires-2
 index_mut-requires-2 c = omega (arith, reached c.self.inside.places.items _ c.args.entry.uid c.reach.ensures.places)
 
 pub overflow_add-self : goal.overflow_add-self
 overflow_add-self c =
-    let n = length_listed c.self.inside.slots.items (taken c.self.inside.places.items) in
-    let m = ap length c.self.view_is in
-    omega (arith, c.self.invariant.3, n, m, c.requires.few)
+    omega (arith, length_listed c.self.inside.slots.items (taken c.self.inside.places.items), ap length c.self.view_is)
 
 pub invariant_of-self : goal.invariant_of-self
 invariant_of-self c =
     let long = reached c.self.inside.places.items _ c.args.entry.uid c.reach.ensures.places in
     let p = pushed_past c.self.invariant.0 c.self.invariant.1 c.args.self.now c.self.view_is _ _ c.reach.ensures.places
-    c.args.entry c.requires.place c.requires.new (omega (arith, long)) c.requires.later in (
+    c.args.entry c.requires.place c.requires.new (omega arith) c.requires.later in (
       p.0,
       p.1,
-      omega (arith, long, c.requires.uid, c.self.invariant.2, c.self.inside.places.ok.0, c.reach.new.places.ok.0),
-      omega (arith, p.2, c.self.invariant.3),
-      omega (arith, c.reach.ensures.capacity, c.self.invariant.4),
+      omega arith,
+      omega arith,
+      omega arith,
     )
 
 pub returns : goal.returns
 returns c =
     let long = reached c.self.inside.places.items _ c.args.entry.uid c.reach.ensures.places in
     (pushed_past c.self.invariant.0 c.self.invariant.1 c.args.self.now c.self.view_is _ _ c.reach.ensures.places
-    c.args.entry c.requires.place c.requires.new (omega (arith, long)) c.requires.later).3
+    c.args.entry c.requires.place c.requires.new (omega arith) c.requires.later).3

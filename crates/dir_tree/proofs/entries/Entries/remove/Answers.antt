@@ -3,25 +3,25 @@ use Rattle.dir_tree.proofs.UidLemmas.{in_table, left_listed, left_removed, left_
 use Rattle.dir_tree.proofs.entries.Entries.remove.Goals as goal
 
 pub index_mut-requires : goal.index_mut-requires
-index_mut-requires c =
-    let within : c.args.uid < length c.self.inside.places.items =
-    in_table c.self.invariant.0 c.self.invariant.1 c.args.self.now c.self.view_is c.args.uid c.place_of-place.result
-    c.place_of-place.ensures in
-    omega (arith, within)
+index_mut-requires c = omega (
+  arith,
+  in_table c.self.invariant.0 c.self.invariant.1 c.args.self.now c.self.view_is c.args.uid
+      c.place_of-place.result c.place_of-place.ensures,
+)
 
 pub overflow_sub-self : goal.overflow_sub-self
-overflow_sub-self c =
-    let some : 0 < length (taken c.self.inside.places.items) =
-    some_taken c.self.invariant.0 c.self.invariant.1 c.args.self.now c.self.view_is c.args.uid c.place_of-place.result
-    c.place_of-place.ensures in
-    omega (arith, some, c.self.invariant.3)
+overflow_sub-self c = omega (
+  arith,
+  some_taken c.self.invariant.0 c.self.invariant.1 c.args.self.now c.self.view_is c.args.uid
+      c.place_of-place.result c.place_of-place.ensures,
+)
 
 pub index-requires : goal.index-requires
-index-requires c =
-    let within : c.place_of-place.result < length c.self.inside.slots.items =
-    slot_there c.self.invariant.0 c.args.self.now c.self.view_is c.args.uid c.place_of-place.result
-    c.place_of-place.ensures in
-    omega (arith, within)
+index-requires c = omega (
+  arith,
+  slot_there c.self.invariant.0 c.args.self.now c.self.view_is c.args.uid c.place_of-place.result
+      c.place_of-place.ensures,
+)
 
 pub invariant_of-self : goal.invariant_of-self
 invariant_of-self c =
@@ -33,11 +33,10 @@ invariant_of-self c =
       left_tabled c.self.invariant.0 c.self.invariant.1 c.args.self.now c.self.view_is c.args.uid
           c.place_of-place.result at,
       search rules,
-      omega (arith, n, c.self.invariant.3),
+      omega arith,
       search rules,
     )
 
 pub returns : goal.returns
-returns c =
-    left_removed c.self.invariant.0 c.self.invariant.1 c.args.self.now c.self.view_is c.args.uid
+returns c = left_removed c.self.invariant.0 c.self.invariant.1 c.args.self.now c.self.view_is c.args.uid
     c.place_of-place.result c.place_of-place.ensures c.index.result.now c.index.ensures

@@ -1,15 +1,13 @@
-use Rattle.dir_tree.proofs.Prelude.{◌≡◌, ℕ, true, false, List, sym, ap, subst, ◌∙◌, Some, IfSome, concat, Places, HasPlace, IsOrdered, AreWithin, key_hash, node_at, shelf_at, shelf_of, is_branch, shape, Node}
+use Rattle.dir_tree.proofs.Prelude.{◌≡◌, ℕ, true, false, List, ap, subst, ◌∙◌, Some, IfSome, concat, HasPlace, IsOrdered, key_hash, node_at, shelf_at, shelf_of, is_branch, shape, Node}
 use Rattle.dir_tree.proofs.ShelfLemmas.{found_all, none_elsewhere, none_then, shelf_ordered, shelf_read, shelf_within}
 use Rattle.dir_tree.proofs.index.Index.find.Goals as goal
 
 ordered : (c : goal.After-deref) → IsOrdered c.args.nodes.now (concat c.self.inside.shelves.items)
     c.self.inside.hashes.items
-ordered c = subst (λ (v : Places). IsOrdered c.args.nodes.now v.places v.hashes) (sym c.self.view_is) c.requires.order
+ordered c = rw (← c.self.view_is) at c.requires.order
 
 shelf : (c : goal.After-deref) → c.places.result.now ≡ shelf_at c.self.inside.shelves.items c.shelf_of.result
-shelf c = c.places.ensures
-    ∙ shelf_read c.self.inside.shelves.items c.self.inside.hashes.items c.shelf_of.result c.index-shelf.result.now
-    c.self.invariant.0 c.shelf_of.ensures.within c.index-shelf.ensures
+shelf c = cc (shelf_read c.shelf_of.result c.self.invariant.0 c.shelf_of.ensures.within c.index-shelf.ensures)
 
 pub find-requires-clause-order : goal.find-requires-clause-order
 find-requires-clause-order c = rw (c.deref.ensures.value, shelf c)
@@ -19,21 +17,17 @@ find-requires-clause-order c = rw (c.deref.ensures.value, shelf c)
 pub find-requires-clause-within : goal.find-requires-clause-within
 find-requires-clause-within c = rw (shelf c)
     (shelf_within c.args.nodes.now c.self.inside.shelves.items c.self.inside.hashes.items (ordered c) c.shelf_of.result
-    (subst (λ (v : Places). AreWithin c.args.nodes.now v.places) (sym c.self.view_is) c.requires.within))
+    (rw (← c.self.view_is) at c.requires.within))
 
 pub returns-clause-some : goal.returns-clause-some
 returns-clause-some c =
     let nodes : List Node = c.args.nodes.now in
     let xs : List (List ℕ) = c.self.inside.shelves.items in
     let own : c.places.result.now ≡ shelf_at xs c.shelf_of.result = c.places.ensures
-    ∙ shelf_read xs c.self.inside.hashes.items c.shelf_of.result c.index-shelf.result.now c.self.invariant.0
-    c.shelf_of.ensures.within c.index-shelf.ensures in
-    subst (λ (v : Places). IfSome c.find.result (λ place. HasPlace v.places place
-    × (is_branch c.args.superior c.args.name.now (shape (node_at nodes place)) ≡ true))) c.self.view_is
-    (found_all xs c.shelf_of.result c.find.result
+    ∙ shelf_read c.shelf_of.result c.self.invariant.0 c.shelf_of.ensures.within c.index-shelf.ensures in
+    rw (← c.self.view_is) (found_all xs c.shelf_of.result c.find.result
     (λ place. is_branch c.args.superior c.args.name.now (shape (node_at nodes place)) ≡ true)
-    (subst (λ (l : List ℕ). IfSome c.find.result (λ place. HasPlace l place
-    × (is_branch c.args.superior c.args.name.now (shape (node_at nodes place)) ≡ true))) own c.find.ensures.some))
+    (rw (← own) c.find.ensures.some))
 
 pub returns-clause-none : goal.returns-clause-none
 returns-clause-none c =
@@ -42,13 +36,9 @@ returns-clause-none c =
     let none : List ℕ → Type 0 = λ l. (place : ℕ) → HasPlace l place
     → is_branch c.args.superior c.args.name.now (shape (node_at nodes place)) ≡ false in
     let own : c.places.result.now ≡ shelf_at xs (shelf_of (key_hash (Some c.args.superior, c.args.name.now))) =
-    c.places.ensures
-    ∙ shelf_read xs c.self.inside.hashes.items c.shelf_of.result c.index-shelf.result.now c.self.invariant.0
-    c.shelf_of.ensures.within c.index-shelf.ensures
-    ∙ ap (shelf_at xs) (c.shelf_of.ensures.shelf ∙ ap shelf_of c.hash_of-hash.ensures) in
-    let order : IsOrdered nodes (concat xs) c.self.inside.hashes.items =
-    subst (λ (v : Places). IsOrdered nodes v.places v.hashes) (sym c.self.view_is) c.requires.order in
+    c.places.ensures ∙ shelf_read c.shelf_of.result c.self.invariant.0 c.shelf_of.ensures.within c.index-shelf.ensures
+    ∙ ap (shelf_at xs) (cc) in
+    let order : IsOrdered nodes (concat xs) c.self.inside.hashes.items = rw (← c.self.view_is) at c.requires.order in
     none_then c.find.result (none c.places.result.now) (none c.args.self.now.places) c.find.ensures.none
-    (λ here. subst (λ (v : Places). none v.places) c.self.view_is
-    (none_elsewhere nodes xs c.self.inside.hashes.items c.args.superior c.args.name.now order c.self.invariant.0
-    (subst none own here)))
+    (λ here. rw (← c.self.view_is) (none_elsewhere nodes xs c.self.inside.hashes.items c.args.superior
+    c.args.name.now order c.self.invariant.0 (subst none own here)))

@@ -1,4 +1,4 @@
-use Rattle.dir_tree.proofs.Prelude.{◌≡◌, ◌≢◌, ℕ, List, get_or, length, set, sym, ap, subst, ◌∙◌, arith, ◌↔◌, concat, remove, get_or_read, Places, HasPlace, IsOrdered, shelf_at, shelf_of}
+use Rattle.dir_tree.proofs.Prelude.{◌≡◌, ℕ, List, get_or, length, set, ap, ◌∙◌, arith, concat, remove, get_or_read, Places, HasPlace, IsOrdered, shelf_at, shelf_of}
 use Rattle.dir_tree.proofs.IndexLemmas.{are_rising}
 use Rattle.dir_tree.proofs.ShelfLemmas.{Removed, on_own, removed, shelf_ordered, shelf_read}
 use Rattle.dir_tree.proofs.index.Index.remove.Goals as goal
@@ -6,47 +6,40 @@ use Rattle.dir_tree.proofs.index.Index.remove.Goals as goal
 pub index-requires : goal.index-requires
 index-requires c =
     let order : IsOrdered c.args.nodes.now (concat c.self.inside.shelves.items) c.self.inside.hashes.items =
-    subst (λ (v : Places). IsOrdered c.args.nodes.now v.places v.hashes) (sym c.self.view_is) c.requires.order in
+    rw (← c.self.view_is) at c.requires.order in
     let there : HasPlace (concat c.self.inside.shelves.items) c.args.place =
-    subst (λ (v : Places). HasPlace v.places c.args.place) (sym c.self.view_is) c.requires.there in
-    omega (arith, order.slots c.args.place there, c.self.inside.hashes.ok.0)
+    rw (← c.self.view_is) at c.requires.there in
+    omega (arith, order.slots c.args.place there)
 
 ordered : (c : goal.After-deref) → IsOrdered c.args.nodes.now (concat c.self.inside.shelves.items)
     c.self.inside.hashes.items
-ordered c = subst (λ (v : Places). IsOrdered c.args.nodes.now v.places v.hashes) (sym c.self.view_is) c.requires.order
+ordered c = rw (← c.self.view_is) at c.requires.order
 
 own : (c : goal.After-deref) → c.places.result.now ≡ shelf_at c.self.inside.shelves.items c.shelf_of.result
-own c = c.places.ensures ∙ shelf_read c.self.inside.shelves.items c.self.inside.hashes.items c.shelf_of.result
-    c.index_mut-shelf.result.now c.self.invariant.0 c.shelf_of.ensures.within c.index_mut-shelf.ensures.value
+own c = cc (shelf_read c.shelf_of.result c.self.invariant.0 c.shelf_of.ensures.within c.index_mut-shelf.ensures.value)
 
 pub place_at-at-requires-clause-there : goal.place_at-at-requires-clause-there
 place_at-at-requires-clause-there c =
     let there : HasPlace (concat c.self.inside.shelves.items) c.args.place =
-    subst (λ (v : Places). HasPlace v.places c.args.place) (sym c.self.view_is) c.requires.there in
+    rw (← c.self.view_is) at c.requires.there in
     let hash : c.index.result.now ≡ get_or c.self.inside.hashes.items c.args.place 0 =
     get_or_read c.self.inside.hashes.items c.args.place c.index.result.now
     ((ordered c).slots c.args.place there) c.index.ensures 0 in
-    rw (own c) (on_own c.self.inside.shelves.items c.self.inside.hashes.items c.args.place c.shelf_of.result
-    c.self.invariant.0 there (c.shelf_of.ensures.shelf ∙ ap shelf_of hash))
+    rw (own c) (on_own c.self.invariant.0 there (cc))
 
 pub place_at-at-requires-clause-rising : goal.place_at-at-requires-clause-rising
 place_at-at-requires-clause-rising c = rw (c.deref.ensures.value, own c)
     (are_rising (shelf_ordered c.args.nodes.now c.self.inside.shelves.items c.self.inside.hashes.items (ordered c)
     c.shelf_of.result))
 
-less : (c : goal.After-self-1)
-    → Removed c.args.nodes.now c.self.inside.shelves.items
+less : (c : goal.After-self-1) → Removed c.args.nodes.now c.self.inside.shelves.items
     (set c.self.inside.shelves.items c.shelf_of.result c.remove.new.self) c.self.inside.hashes.items c.args.place
 less c =
     let xs : List (List ℕ) = c.self.inside.shelves.items in
     let own : c.index_mut-shelf.result.now ≡ shelf_at xs c.shelf_of.result =
-    shelf_read xs c.self.inside.hashes.items c.shelf_of.result c.index_mut-shelf.result.now c.self.invariant.0
-    c.shelf_of.ensures.within c.index_mut-shelf.ensures.value in
-    removed c.args.nodes.now xs c.self.inside.hashes.items c.args.place c.shelf_of.result c.place_at-at.result
-    c.places.result.now c.remove.new.self
-    (subst (λ (v : Places). IsOrdered c.args.nodes.now v.places v.hashes) (sym c.self.view_is) c.requires.order)
-    c.self.invariant.0 (c.places.ensures ∙ own) c.place_at-at.ensures.within c.place_at-at.ensures.place
-    (c.remove.ensures ∙ ap (λ (l : List ℕ). remove l c.place_at-at.result) own)
+    shelf_read c.shelf_of.result c.self.invariant.0 c.shelf_of.ensures.within c.index_mut-shelf.ensures.value in
+    removed c.shelf_of.result c.place_at-at.result (rw (← c.self.view_is) at c.requires.order)
+    c.self.invariant.0 (cc) c.place_at-at.ensures.within c.place_at-at.ensures.place (cc)
 
 pub invariant_of-self : goal.invariant_of-self
 invariant_of-self c = ((less c).shelved, c.self.invariant.1)
@@ -55,10 +48,7 @@ pub returns-clause-order : goal.returns-clause-order
 returns-clause-order c = (less c).order
 
 pub returns-clause-places : goal.returns-clause-places
-returns-clause-places c =
-    subst (λ (v : Places). (p : ℕ)
-    → HasPlace (concat (set c.self.inside.shelves.items c.shelf_of.result c.remove.new.self)) p
-    ↔ (HasPlace v.places p × (p ≢ c.args.place))) c.self.view_is (less c).places
+returns-clause-places c = rw (← c.self.view_is) (less c).places
 
 pub returns-clause-count : goal.returns-clause-count
 returns-clause-count c = (less c).count ∙ ap (λ (v : Places). length v.places) c.self.view_is
