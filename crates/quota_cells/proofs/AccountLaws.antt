@@ -43,7 +43,7 @@ account_is q (x ∷ y ∷ ys) a e is = elim (cases_Bool (eqb (q x) 0)) [
   | inr some ↦ rw some (elim (cases_Bool (eqb x a)) [ inl t ↦ rw t refl | inr f ↦ rw f refl ])
   | inl none ↦ elim (cases_eq x a) [
     | inl same ↦ absurd (elim (or_cases (eqb a 1) (not (eqb (q a) 0)) is) [
-      | inl root ↦ (let one : a ≡ 1 = eqb-true a 1 root in let more : 1 < x = e.0 in omega arith)
+      | inl root ↦ (omega (arith, eqb-true a 1 root))
       | inr quota ↦ both_ways (eqb (q a) 0) (not-true _ quota) (rw same at none)
     ])
     | inr other ↦ rw (none, ne_eqb x a other) (account_is q (y ∷ ys) a e.1 is)
@@ -61,8 +61,7 @@ covers_same q r (x ∷ xs) e same = rw (same x, covers_same q r xs e same) refl
 pub covers_above : (q r : ℕ → ℕ) (x : ℕ) (xs : List ℕ) (e : ℕ) → ((y : ℕ) → y ≢ x → r y ≡ q y) → AreUnder x xs
     → covers r xs e ≡ covers q xs e
 covers_above q r x [] e same a = refl
-covers_above q r x (y ∷ ys) e same a =
-    (let here : r y ≡ q y = same y (λ z. (let lt : y < x = a.0 in omega arith)) in
+covers_above q r x (y ∷ ys) e same a = (let here : r y ≡ q y = same y (λ z. (omega arith)) in
     rw (here, covers_above q r x ys e same a.1) refl)
 
 module _ (f : ℕ → List ℕ) (q r : ℕ → ℕ) (x : ℕ) (same : (y : ℕ) → y ≢ x → r y ≡ q y) (none : q x ≡ 0) (some : r x ≢ 0)
@@ -73,9 +72,9 @@ module _ (f : ℕ → List ℕ) (q r : ℕ → ℕ) (x : ℕ) (same : (y : ℕ) 
   appears_on e w [] c = elim (cases_Bool (covers q (f x) e)) [ inl t ↦ rw t refl | inr u ↦ rw u refl ]
   appears_on e w (y ∷ ys) c = elim (cases_eq y x) [
     | inl here ↦
-        (let q_none : eqb (q y) 0 ≡ true = eq-eqb (q y) 0 (ap q here ∙ none) in
-        let r_some : eqb (r y) 0 ≡ false = ne_eqb (r y) 0 (λ z. some (sym (ap r here) ∙ z)) in
-        let rest : f x ≡ ys = sym (c.0 ∙ ap f here) in
+        (let q_none : eqb (q y) 0 ≡ true = eq-eqb (q y) 0 (cc) in
+        let r_some : eqb (r y) 0 ≡ false = ne_eqb (r y) 0 (λ z. some (cc)) in
+        let rest : f x ≡ ys = sym (cc) in
         let is_x : eqb y x ≡ true = eq-eqb y x here in
         elim (cases_eq y e) [
           | inl at ↦
@@ -101,7 +100,7 @@ module _ (f : ℕ → List ℕ) (q r : ℕ → ℕ) (x : ℕ) (same : (y : ℕ) 
                       (let x_below : x < y = covers_under q y ys x c.1 t in
                       let off : covers q (f x) e ≡ false = elim (cases_Bool (covers q (f x) e)) [
                         | inr v ↦ v
-                        | inl v ↦ absurd (let y_below : e < x = covers_under q x (f x) e under v in omega arith)
+                        | inl v ↦ absurd (omega (arith, covers_under q x (f x) e under v))
                       ] in
                       rw off refl)
                 ] in
@@ -119,18 +118,17 @@ module _ (f : ℕ → List ℕ) (q r : ℕ → ℕ) (x : ℕ) (same : (y : ℕ) 
       let ih : load f r ks ws e + cond (covers q (f x) e) (load f q ks ws x) 0 ≡ load f q ks ws e =
       appears chains ks ws e in
       let here : cond (covers r (f k) e) w 0 + cond (covers q (f x) e) (cond (covers q (f k) x) w 0) 0
-      ≡ cond (covers q (f k) e) w 0 =
-      appears_on e w (f k) (chains k) in
+      ≡ cond (covers q (f k) e) w 0 = appears_on e w (f k) (chains k) in
       elim (cases_Bool (covers q (f x) e)) [
-        | inl t ↦ (let ih' = rw t at ih in let here' = rw t at here in rw t (omega (arith, ih', here')))
-        | inr u ↦ (let ih' = rw u at ih in let here' = rw u at here in rw u (omega (arith, ih', here')))
+        | inl t ↦ (let ih' = rw t at ih in let here' = rw t at here in rw t (omega arith))
+        | inr u ↦ (let ih' = rw u at ih in let here' = rw u at here in rw u (omega arith))
       ]
 
   -- its own load stays
   pub appears_own : ((k : ℕ) → IsChain f (f k)) → (ks ws : List ℕ) → load f r ks ws x ≡ load f q ks ws x
   appears_own chains ks ws = (let h = appears chains ks ws x in let off : covers q (f x) x ≡ false =
       covers_not q x (f x) under in let h' = rw off at h in
-      omega (arith, h'))
+      omega arith)
 
 pub load_same : (f : ℕ → List ℕ) (q r : ℕ → ℕ) → ((y : ℕ) → eqb (r y) 0 ≡ eqb (q y) 0) → (ks ws : List ℕ) (e : ℕ)
     → load f r ks ws e ≡ load f q ks ws e

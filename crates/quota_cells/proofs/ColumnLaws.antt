@@ -28,12 +28,10 @@ look_with_other [] vs u v w ne = refl
 look_with_other (k ∷ ks) [] u v w ne = refl
 look_with_other (k ∷ ks) (x ∷ vs) u v w ne = elim (cases_eq k u) [
   | inl same ↦ rw (eq-eqb k u same, ne_eqb k w (λ q. ne (omega arith))) refl
-  | inr other ↦ rw (ne_eqb k u other) (elim
-      (cases_eq k w) [
-        | inl here ↦ rw (eq-eqb k w here) refl
-        | inr there ↦ rw (ne_eqb k w there)
-            (look_with_other ks vs u v w ne)
-      ])
+  | inr other ↦ rw (ne_eqb k u other) (elim (cases_eq k w) [
+    | inl here ↦ rw (eq-eqb k w here) refl
+    | inr there ↦ rw (ne_eqb k w there) (look_with_other ks vs u v w ne)
+  ])
 ]
 
 pub length_with : (ks vs : List ℕ) (u v : ℕ) → length (with_value ks vs u v) ≡ length vs
@@ -60,20 +58,17 @@ look_le_sum [] vs u = omega arith
 look_le_sum (k ∷ ks) [] u = omega arith
 look_le_sum (k ∷ ks) (x ∷ vs) u = (let b = sum_by-cons (λ (y : ℕ). y) x vs in elim (cases_Bool (eqb k u)) [
   | inl is ↦ rw is (omega arith)
-  | inr isnt ↦ rw isnt (let ih : look ks vs u ≤ sum vs = look_le_sum ks vs u in omega arith)
+  | inr isnt ↦ rw isnt (omega (arith, look_le_sum ks vs u))
 ])
 
 pub two_le_sum : (ks vs : List ℕ) (u w : ℕ) → u ≢ w → look ks vs u + look ks vs w ≤ sum vs
 two_le_sum [] vs u w ne = omega arith
 two_le_sum (k ∷ ks) [] u w ne = omega arith
 two_le_sum (k ∷ ks) (x ∷ vs) u w ne = (let b = sum_by-cons (λ (y : ℕ). y) x vs in elim (cases_eq k u) [
-  | inl here ↦ rw (eq-eqb k u here, ne_eqb k w (λ q. ne (omega arith)))
-      (let le : look ks vs w ≤ sum vs = look_le_sum ks vs w in omega arith)
+  | inl here ↦ rw (eq-eqb k u here, ne_eqb k w (λ q. ne (omega arith))) (omega (arith, look_le_sum ks vs w))
   | inr off ↦ elim (cases_eq k w) [
-    | inl there ↦ rw (ne_eqb k u off, eq-eqb k w there)
-        (let le : look ks vs u ≤ sum vs = look_le_sum ks vs u in omega arith)
-    | inr far ↦ rw (ne_eqb k u off, ne_eqb k w far) (let ih : look ks vs u + look ks vs w ≤ sum vs =
-        two_le_sum ks vs u w ne in omega arith)
+    | inl there ↦ rw (ne_eqb k u off, eq-eqb k w there) (omega (arith, look_le_sum ks vs u))
+    | inr far ↦ rw (ne_eqb k u off, ne_eqb k w far) (omega (arith, two_le_sum ks vs u w ne))
   ]
 ])
 
@@ -112,27 +107,24 @@ weigh_with t (k ∷ ks) (w ∷ ws) u v len e = elim (cases_eq k u) [
   | inr other ↦
       (let far : eqb k u ≡ false = ne_eqb k u other in
       let ih = weigh_with t ks ws u v (omega arith) (rw far at e) in
-      rw far (omega (arith, ih)))
+      rw far (omega arith))
 ]
 
 pub weigh_same : (s t : ℕ → Bool) (ks ws : List ℕ) → ((k : ℕ) → has ks k ≡ true → s k ≡ t k) → weigh s ks ws
     ≡ weigh t ks ws
 weigh_same s t [] ws same = refl
 weigh_same s t (k ∷ ks) [] same = refl
-weigh_same s t (k ∷ ks) (w ∷ ws) same =
-    rw (
-      same k (or_left (eqb k k) (has ks k) (eq-eqb k k refl)),
-      weigh_same s t ks ws
-          (λ j h. same j (or_right (eqb k j) (has ks j) h)),
-    ) refl
+weigh_same s t (k ∷ ks) (w ∷ ws) same = rw (
+  same k (or_left (eqb k k) (has ks k) (eq-eqb k k refl)),
+  weigh_same s t ks ws (λ j h. same j (or_right (eqb k j) (has ks j) h)),
+) refl
 
 pub look_le_weigh : (t : ℕ → Bool) (ks ws : List ℕ) (u : ℕ) → t u ≡ true → look ks ws u ≤ weigh t ks ws
 look_le_weigh t [] ws u is = omega arith
 look_le_weigh t (k ∷ ks) [] u is = omega arith
 look_le_weigh t (k ∷ ks) (w ∷ ws) u is = elim (cases_eq k u) [
   | inl same ↦ (let here : t k ≡ true = rw same is in rw (eq-eqb k u same, here) (omega arith))
-  | inr other ↦ rw (ne_eqb k u other) (let ih : look ks ws u ≤ weigh t ks ws =
-      look_le_weigh t ks ws u is in omega arith)
+  | inr other ↦ rw (ne_eqb k u other) (omega (arith, look_le_weigh t ks ws u is))
 ]
 
 pub weigh_le_on : (s t : ℕ → Bool) (ks ws : List ℕ) → ((k : ℕ) → has ks k ≡ true → s k ≡ true → t k ≡ true)

@@ -22,8 +22,7 @@ look_insert (k ∷ ks) (w ∷ vs) (suc i) u v len off = elim (cases_Bool (eqb k 
   | inl at ↦ (let z : true ≡ false = rw at at off in cc)
   | inr far ↦ elim (cases_Bool (eqb k v)) [
     | inl t ↦ rw t refl
-    | inr f ↦ rw f
-        (look_insert ks vs i u v (omega arith) (rw far at off))
+    | inr f ↦ rw f (look_insert ks vs i u v (omega arith) (rw far at off))
   ]
 ]
 
@@ -34,8 +33,7 @@ weigh_insert t ks ws zero u len = elim (cases_Bool (t u))
 weigh_insert t [] [] (suc i) u len = elim (cases_Bool (t u)) [ inl is ↦ rw is refl | inr isnt ↦ rw isnt refl ]
 weigh_insert t [] (w ∷ ws) (suc i) u len = absurd (omega arith)
 weigh_insert t (k ∷ ks) [] (suc i) u len = absurd (omega arith)
-weigh_insert t (k ∷ ks) (w ∷ ws) (suc i) u len = ap (λ n. (if t k then w else 0) + n)
-    (weigh_insert t ks ws i u (omega arith))
+weigh_insert t (k ∷ ks) (w ∷ ws) (suc i) u len = cc (weigh_insert t ks ws i u (omega arith))
 
 pub has_remove : (ks : List ℕ) (i v : ℕ) → IsRising ks → i < length ks → has (remove ks i) v
     ≡ (has ks v && not (eqb (get_or ks i 0) v))
@@ -61,8 +59,7 @@ look_remove (k ∷ ks) (w ∷ vs) zero v len up lt ne = rw (ne_eqb k v (λ q. ne
 look_remove (k ∷ ks) (w ∷ vs) (suc i) v len up lt ne =
     elim (cases_Bool (eqb k v)) [
       | inl t ↦ rw t refl
-      | inr f ↦ rw f
-          (look_remove ks vs i v (omega arith) (rest_rises k ks up) (omega arith) ne)
+      | inr f ↦ rw f (look_remove ks vs i v (omega arith) (rest_rises k ks up) (omega arith) ne)
     ]
 
 pub look_gone : (ks vs : List ℕ) (i : ℕ) → IsRising ks → i < length ks
@@ -77,8 +74,7 @@ weigh_remove t [] ws i len lt none = absurd (omega arith)
 weigh_remove t (k ∷ ks) [] i len lt none = absurd (omega arith)
 weigh_remove t (k ∷ ks) (w ∷ ws) zero len lt none = rw none
     (elim (cases_Bool (t k)) [ inl is ↦ rw is (omega arith) | inr isnt ↦ rw isnt (omega arith) ])
-weigh_remove t (k ∷ ks) (w ∷ ws) (suc i) len lt none =
-    ap (λ n. (if t k then w else 0) + n) (weigh_remove t ks ws i (omega arith) (omega arith) none)
+weigh_remove t (k ∷ ks) (w ∷ ws) (suc i) len lt none = cc (weigh_remove t ks ws i (omega arith) (omega arith) none)
 
 -- ---- rising
 
@@ -105,8 +101,7 @@ module _ (ks : List ℕ) (u i : ℕ) (up : IsRising ks) (gap : IsGap ks u i) whe
       (let n = length-insert ks i u gap.within in gap.above j g (omega arith))
   rises a b lt w (After h d f) (Before y) = absurd (omega arith)
   rises a b lt w (After h d f) (Here y) = absurd (omega arith)
-  rises a b lt w (After h d f) (After j e g) =
-      rw (at_after a h d f, at_after b j e g) (let n =
+  rises a b lt w (After h d f) (After j e g) = rw (at_after a h d f, at_after b j e g) (let n =
       length-insert ks i u gap.within in up h j (omega arith) (omega arith))
 
   pub rising_insert : IsRising (insert ks i u)

@@ -1,10 +1,10 @@
 -- What a new cell, and a cell less, leave.
-use Rattle.quota_cells.proofs.Prelude.{◌≡◌, ◌≢◌, ℕ, ◌+◌, ◌<◌, ◌≤◌, ◌^◌, Bool, true, false, eqb, not, ◌&&◌, if◌then◌else◌, List, [], ◌∷◌, length, refl, sym, ap, subst, ◌∙◌, arith, get_or, inl, inr, insert, remove, sum, cases_Bool, cases_eq, both_ways, eqb-true, eq-eqb, ne_eqb, or_parts, or_cases, and_parts, or_right, or_left, false_from_ne_true, length-map, length-insert, length-remove, sum_by-insert, sum_by-remove, above, Node, is_directory, is_segment, is_in, without, shape, shapes, HasChains, look, has, covers, weigh, load, is_an_account, CellMaps, quota_in, load_in, stored_in, Fits, IsTable, Enters, Leaves, has_cell, with_directory, with_segment, without_directory, without_segment, entered, left, IsGap, not_in_directory, not_in_segment, directory_shape, segment_shape, look_absent, on_directories, on_segments, and_false, place_there}
+use Rattle.quota_cells.proofs.Prelude.{◌≡◌, ◌≢◌, ℕ, ◌+◌, ◌<◌, ◌≤◌, Bool, true, false, eqb, not, ◌&&◌, if◌then◌else◌, List, [], ◌∷◌, length, refl, sym, ◌∙◌, arith, get_or, inl, inr, insert, remove, sum, cases_Bool, cases_eq, both_ways, eqb-true, eq-eqb, ne_eqb, or_parts, or_cases, and_parts, or_right, or_left, false_from_ne_true, length-map, length-insert, length-remove, sum_by-insert, sum_by-remove, above, Node, is_directory, is_segment, is_in, without, shape, shapes, HasChains, look, has, covers, weigh, load, CellMaps, quota_in, load_in, stored_in, Fits, IsTable, Enters, Leaves, has_cell, without_directory, without_segment, entered, left, IsGap, not_in_directory, not_in_segment, directory_shape, segment_shape, look_absent, on_directories, on_segments, and_false, place_there, ◌||◌, with_beside, without_beside, IsRising, subst}
 use Rattle.quota_cells.proofs.ColumnLaws.{weigh_same}
 use Rattle.quota_cells.proofs.PlaceLaws.{look_at}
 use Rattle.quota_cells.proofs.FitLaws.{all_there, covered_there}
 use Rattle.quota_cells.proofs.RowLaws.{insert_beside, remove_beside, gap_of}
-use Rattle.quota_cells.proofs.EditLaws.{has_insert, look_insert, weigh_insert, has_remove, look_remove, look_gone, weigh_remove, rising_insert, rising_remove}
+use Rattle.quota_cells.proofs.EditLaws.{has_insert, look_insert, weigh_insert, has_remove, look_remove, weigh_remove, rising_insert, rising_remove}
 
 -- what no uid passes weighs nothing
 pub no_weight : (t : ℕ → Bool) (ks ws : List ℕ) → ((k : ℕ) → has ks k ≡ true → t k ≡ false) → weigh t ks ws ≡ 0
@@ -16,8 +16,7 @@ no_weight t (k ∷ ks) (w ∷ ws) none = rw (
 ) refl
 
 module _ (nodes : List Node) (n : Node) (old new : CellMaps) (fits : Fits nodes old)
-    (chains : HasChains (shapes nodes)) (absent : is_in nodes n.uid ≡ false)
-    (enters : Enters old new n.uid n.dir) where
+    (chains : HasChains (shapes nodes)) (absent : is_in nodes n.uid ≡ false) (enters : Enters old new n.uid n.dir) where
   -- segments of the tree are as they were
   apart : (k : ℕ) → has old.segments k ≡ true → eqb n.uid k ≡ false
   apart k h = ne_eqb n.uid k (λ e. both_ways (is_segment nodes n.uid) (not_in_segment nodes n.uid absent)
@@ -30,14 +29,11 @@ module _ (nodes : List Node) (n : Node) (old new : CellMaps) (fits : Fits nodes 
   quotas = λ i d. enters.quotas d i
 
   loads_same : (e : ℕ) → load (above (shapes (n ∷ nodes))) (quota_in new) new.segments new.stored e
-      ≡ load (above (shapes nodes))
-      (quota_in old) old.segments old.stored e
-  loads_same e =
-      enters.counts (λ k. covers (quota_in new) (above (shapes (n ∷ nodes)) k) e)
+      ≡ load (above (shapes nodes)) (quota_in old) old.segments old.stored e
+  loads_same e = enters.counts (λ k. covers (quota_in new) (above (shapes (n ∷ nodes)) k) e)
       ∙ weigh_same (λ k. covers (quota_in new) (above (shapes (n ∷ nodes)) k) e)
       (λ k. covers (quota_in old) (above (shapes nodes) k) e) old.segments old.stored
-      (λ k h. ap (λ (q : ℕ → ℕ). covers q (above (shapes (n ∷ nodes)) k) e) quotas
-      ∙ ap (λ xs. covers (quota_in old) xs e) (same_up k h))
+      (λ k h. rw (quotas, same_up k h) refl)
 
   -- nothing lies below the new node
   none_below : load (above (shapes nodes)) (quota_in old) old.segments old.stored n.uid ≡ 0
@@ -53,33 +49,26 @@ module _ (nodes : List Node) (n : Node) (old new : CellMaps) (fits : Fits nodes 
 
   pub fits_entered : Fits (n ∷ nodes) new
   fits_entered = record {
-    count = (let a = enters.size in let b : length old.directories + length old.segments ≡ length (shapes nodes) =
-        fits.count in omega (arith, a));
+    count = (omega arith);
     directories = λ u. enters.directories u ∙ elim (cases_Bool (eqb n.uid u)) [
       | inl is ↦
           (let off : has old.directories u ≡ false = on_directories nodes fits u
-          ∙ not_in_directory nodes u (subst (λ v. is_in nodes v ≡ false) (eqb-true n.uid u is) absent) in
+          ∙ not_in_directory nodes u (rw (eqb-true n.uid u is) at absent) in
           rw (is, off) (elim (cases_Bool n.dir) [ inl t ↦ rw t refl | inr f ↦ rw f refl ]))
-      | inr isnt ↦ rw isnt (elim (cases_Bool n.dir) [
-        | inl t ↦ rw t (fits.directories u)
-        | inr f ↦ rw f
-            (fits.directories u)
-      ])
+      | inr isnt ↦ rw isnt (elim (cases_Bool n.dir)
+          [ inl t ↦ rw t (fits.directories u) | inr f ↦ rw f (fits.directories u) ])
     ];
     segments = λ u. enters.segments u ∙ elim (cases_Bool (eqb n.uid u)) [
       | inl is ↦
           (let off : has old.segments u ≡ false = on_segments nodes fits u
-          ∙ not_in_segment nodes u (subst (λ v. is_in nodes v ≡ false) (eqb-true n.uid u is) absent) in
+          ∙ not_in_segment nodes u (rw (eqb-true n.uid u is) at absent) in
           rw (is, off) (elim (cases_Bool n.dir) [ inl t ↦ rw t refl | inr f ↦ rw f refl ]))
       | inr isnt ↦ rw isnt (elim (cases_Bool n.dir) [ inl t ↦ rw t (fits.segments u) | inr f ↦ rw f (fits.segments u) ])
     ];
     loads = λ e there. enters.loads e ∙ elim (cases_eq n.uid e) [
-      | inl same ↦ subst (λ x. load_in old x ≡ load (above (shapes (n ∷ nodes))) (quota_in new) new.segments new.stored
-          x) same
-          (absent_load ∙ sym (loads_same n.uid ∙ none_below))
+      | inl same ↦ rw (← same) (absent_load ∙ sym (loads_same n.uid ∙ none_below))
       | inr other ↦
-          (let was : has old.directories e ≡ true =
-          sym (enters.directories e ∙ rw (ne_eqb n.uid e other)
+          (let was : has old.directories e ≡ true = sym (enters.directories e ∙ rw (ne_eqb n.uid e other)
           (elim (cases_Bool n.dir) [ inl t ↦ rw t refl | inr f ↦ rw f refl ])) ∙ there in
           fits.loads e was ∙ sym (loads_same e))
     ];
@@ -112,336 +101,254 @@ segment_without : (ns : List Node) (u v : ℕ) → is_segment (without u ns) v �
 segment_without = kind_without is_segment (λ n. not n.dir) (λ u. refl)
     (λ n ns u. elim (cases_Bool (eqb n.uid u)) [ inl t ↦ rw t refl | inr f ↦ rw f refl ])
 
+not_gone : (uid u : ℕ) (b : Bool) → (b && not (eqb uid u)) ≡ true → u ≢ uid
+not_gone uid u b e same =
+    both_ways (not (eqb uid u)) (rw (eq-eqb uid u (sym same)) refl) (and_parts b (not (eqb uid u)) e).1
+
 module _ (nodes : List Node) (uid : ℕ) (old new : CellMaps) (fits : Fits nodes old) (leaves : Leaves old new uid)
     (same_above : (u : ℕ) → u ≢ uid → above (shapes (without uid nodes)) u ≡ above (shapes nodes) u)
     (one_less : length (without uid nodes) + 1 ≡ length nodes) where
   quotas_left : quota_in new ≡ quota_in old
   quotas_left = λ i d. leaves.quotas d i
 
-  not_gone : (u : ℕ) (b : Bool) → (b && not (eqb uid u)) ≡ true → u ≢ uid
-  not_gone u b e same = (let h = and_parts b (not (eqb uid u)) e in both_ways (not (eqb uid u))
-      (rw (eq-eqb uid u (sym same)) refl) h.1)
-
   loads_left : (e : ℕ) → load (above (shapes (without uid nodes))) (quota_in new) new.segments new.stored e
-      ≡ load (above (shapes nodes))
-      (quota_in old) old.segments old.stored e
-  loads_left e =
-      weigh_same (λ k. covers (quota_in new) (above (shapes (without uid nodes)) k) e)
+      ≡ load (above (shapes nodes)) (quota_in old) old.segments old.stored e
+  loads_left e = weigh_same (λ k. covers (quota_in new) (above (shapes (without uid nodes)) k) e)
       (λ k. covers (quota_in old) (above (shapes nodes) k) e) new.segments new.stored
-      (λ k h. ap (λ (q : ℕ → ℕ). covers q (above (shapes (without uid nodes)) k) e) quotas_left
-      ∙ ap (λ xs. covers (quota_in old) xs e) (same_above k
-      (not_gone k (has old.segments k) (sym (leaves.segments k) ∙ h))))
+      (λ k h. rw (quotas_left, same_above k (not_gone uid k (has old.segments k) (sym (leaves.segments k) ∙ h))) refl)
       ∙ leaves.counts (λ k. covers (quota_in old) (above (shapes nodes) k) e)
 
   pub fits_left : Fits (without uid nodes) new
   fits_left = record {
-    count = (let a = leaves.size in let b : length old.directories + length old.segments ≡ length (shapes nodes) =
-        fits.count in
-        let m = length-map nodes shape in let n = length-map (without uid nodes) shape in omega (arith, a));
-    directories = λ u. leaves.directories u ∙ ap (λ b. b && not (eqb uid u)) (on_directories nodes fits u)
-        ∙ sym (directory_without nodes uid u)
-        ∙ sym (directory_shape (without uid nodes) u);
-    segments = λ u. leaves.segments u ∙ ap (λ b. b && not (eqb uid u)) (on_segments nodes fits u)
-        ∙ sym (segment_without nodes uid u)
-        ∙ sym (segment_shape (without uid nodes) u);
+    count = (omega (arith, length-map nodes shape, length-map (without uid nodes) shape));
+    directories = λ u. rw (leaves.directories u, on_directories nodes fits u, directory_shape (without uid nodes) u)
+        (sym (directory_without nodes uid u));
+    segments = λ u. rw (leaves.segments u, on_segments nodes fits u, segment_shape (without uid nodes) u)
+        (sym (segment_without nodes uid u));
     loads = λ e there.
         (let kept : (has old.directories e && not (eqb uid e)) ≡ true = sym (leaves.directories e) ∙ there in
-        leaves.loads e (not_gone e (has old.directories e) kept)
-        ∙ fits.loads e (and_parts (has old.directories e) (not (eqb uid e)) kept).0
-        ∙ sym (loads_left e));
+        leaves.loads e (not_gone uid e (has old.directories e) kept)
+        ∙ fits.loads e (and_parts (has old.directories e) (not (eqb uid e)) kept).0 ∙ sym (loads_left e));
   }
 
 -- ---- the columns
 
-module _ (c : CellMaps) (table : IsTable c) (uid i : ℕ) (absent : has_cell c uid ≡ false) where
+-- the values beside rising uids with one more
+module _ (ks : List ℕ) (u : ℕ) (rising : IsRising ks) (absent : has ks u ≡ false) where
+  gap : (i : ℕ) × IsGap ks u i
+  gap = gap_of ks u rising absent
+
+  more_is : (vs : List ℕ) (v : ℕ) → length vs ≡ length ks → with_beside ks vs u v ≡ insert vs gap.0 v
+  more_is vs v len = sym (insert_beside ks vs u gap.0 v len gap.1)
+
+  has_more : (w : ℕ) → has (with_beside ks ks u u) w ≡ (eqb u w || has ks w)
+  has_more w = rw (more_is ks u refl) (has_insert ks gap.0 u w)
+
+  look_more : (vs : List ℕ) → length vs ≡ length ks → (w : ℕ)
+      → look (with_beside ks ks u u) (with_beside ks vs u 0) w ≡ look ks vs w
+  look_more vs len w = rw (more_is ks u refl, more_is vs 0 len) (look_insert ks vs gap.0 u w len absent)
+
+  weigh_more : (ws : List ℕ) → length ws ≡ length ks → (t : ℕ → Bool)
+      → weigh t (with_beside ks ks u u) (with_beside ks ws u 0) ≡ weigh t ks ws
+  weigh_more ws len t = rw (more_is ks u refl, more_is ws 0 len) (weigh_insert t ks ws gap.0 u len)
+
+  rising_more : IsRising (with_beside ks ks u u)
+  rising_more = rw (more_is ks u refl) (rising_insert ks u gap.0 rising gap.1)
+
+  length_more : (vs : List ℕ) (v : ℕ) → length vs ≡ length ks → length (with_beside ks vs u v) ≡ length ks + 1
+  length_more vs v len = rw (more_is vs v len)
+      (let w : gap.0 ≤ length ks = gap.1.within in let n = length-insert vs gap.0 v (omega arith) in omega arith)
+
+  sum_more : (vs : List ℕ) → length vs ≡ length ks → sum (with_beside ks vs u 0) ≡ sum vs
+  sum_more vs len = rw (more_is vs 0 len) (let s = sum_by-insert (λ (x : ℕ). x) vs gap.0 0 in omega arith)
+
+-- and with one less
+module _ (ks : List ℕ) (u : ℕ) (rising : IsRising ks) (there : has ks u ≡ true) where
+  place : (i : ℕ) × (i < length ks) × (get_or ks i 0 ≡ u)
+  place = place_there ks u there
+
+  less_is : (vs : List ℕ) → length vs ≡ length ks → without_beside ks vs u ≡ remove vs place.0
+  less_is vs len = sym (rw place.2 at (remove_beside ks vs place.0 len rising place.1))
+
+  value_at : (vs : List ℕ) → get_or vs place.0 0 ≡ look ks vs u
+  value_at vs = sym (rw place.2 at (look_at ks vs place.0 rising place.1))
+
+  has_less : (w : ℕ) → has (without_beside ks ks u) w ≡ (has ks w && not (eqb u w))
+  has_less w = rw (less_is ks refl) (rw place.2 at (has_remove ks place.0 w rising place.1))
+
+  look_less : (vs : List ℕ) → length vs ≡ length ks → (w : ℕ) → w ≢ u
+      → look (without_beside ks ks u) (without_beside ks vs u) w ≡ look ks vs w
+  look_less vs len w other = rw (less_is ks refl, less_is vs len)
+      (look_remove ks vs place.0 w len rising place.1 (λ e. other (e ∙ place.2)))
+
+  look_all : (vs : List ℕ) → length vs ≡ length ks → look ks vs u ≡ 0 → (w : ℕ)
+      → look (without_beside ks ks u) (without_beside ks vs u) w ≡ look ks vs w
+  look_all vs len none w = elim (cases_eq w u) [
+    | inl same ↦ rw same (look_absent (without_beside ks ks u) (without_beside ks vs u) u
+        (rw (has_less u, there, eq-eqb u u refl) refl) ∙ sym none)
+    | inr other ↦ look_less vs len w other
+  ]
+
+  weigh_less : (ws : List ℕ) → length ws ≡ length ks → look ks ws u ≡ 0 → (t : ℕ → Bool)
+      → weigh t (without_beside ks ks u) (without_beside ks ws u) ≡ weigh t ks ws
+  weigh_less ws len none t = rw (less_is ks refl, less_is ws len)
+      (weigh_remove t ks ws place.0 len place.1 (value_at ws ∙ none))
+
+  rising_less : IsRising (without_beside ks ks u)
+  rising_less = rw (less_is ks refl) (rising_remove ks place.0 rising place.1)
+
+  length_less : (vs : List ℕ) → length vs ≡ length ks → length (without_beside ks vs u) + 1 ≡ length ks
+  length_less vs len = rw (less_is vs len) (let lt = place.1 in length-remove vs place.0 (omega arith) ∙ len)
+
+  sum_less : (vs : List ℕ) → length vs ≡ length ks → look ks vs u ≡ 0 → sum (without_beside ks vs u) ≡ sum vs
+  sum_less vs len none = rw (less_is vs len) (let lt = place.1 in
+      let s = sum_by-remove (λ (x : ℕ). x) vs place.0 0 (omega arith) in
+      omega (arith, value_at vs ∙ none))
+
+module _ (c : CellMaps) (table : IsTable c) (uid : ℕ) (absent : has_cell c uid ≡ false) where
   no_directory : has c.directories uid ≡ false
   no_directory = (or_parts (has c.directories uid) (has c.segments uid) absent).0
 
   no_segment : has c.segments uid ≡ false
   no_segment = (or_parts (has c.directories uid) (has c.segments uid) absent).1
 
-  abbrev pub inserted_directory : CellMaps
-  inserted_directory = record {
-    directories = insert c.directories i uid;
-    quotas = insert c.quotas i 0;
-    loads = insert c.loads i 0;
-    segments = c.segments;
-    stored = c.stored;
-  }
-
-  pub enters_directory : i ≤ length c.directories → Enters c inserted_directory uid true
-  enters_directory within = record {
-    size = (let a = length-insert c.directories i uid within in omega (arith, a));
-    directories = has_insert c.directories i uid;
+  pub enters_entered : (dir : Bool) → Enters c (entered c uid dir) uid dir
+  enters_entered true = record {
+    directories = has_more c.directories uid table.rising no_directory;
     segments = λ u. refl;
-    quotas = λ d. look_insert c.directories c.quotas i uid d table.quota_count no_directory;
-    loads = λ d. look_insert c.directories c.loads i uid d table.load_count no_directory;
+    quotas = look_more c.directories uid table.rising no_directory c.quotas table.quota_count;
+    loads = look_more c.directories uid table.rising no_directory c.loads table.load_count;
     stored = λ s. refl;
     counts = λ t. refl;
-    total = (let s = sum_by-insert (λ (x : ℕ). x) c.quotas i 0 in omega (arith, s));
+    size = (omega (arith, length_more c.directories uid table.rising no_directory c.directories uid refl));
+    total = sum_more c.directories uid table.rising no_directory c.quotas table.quota_count;
   }
-
-  same_quotas : quota_in inserted_directory ≡ quota_in c
-  same_quotas = λ j d. look_insert c.directories c.quotas i uid d table.quota_count no_directory j
-
-  pub table_directory : IsGap c.directories uid i → IsTable inserted_directory
-  table_directory gap = record {
-    rising = rising_insert c.directories uid i table.rising gap;
-    segments_rise = table.segments_rise;
-    quota_count = (let a = length-insert c.directories i uid gap.within in let n : length c.quotas
-        ≡ length c.directories = table.quota_count in
-        let w : i ≤ length c.directories = gap.within in let b =
-        length-insert c.quotas i 0 (omega arith) in omega arith);
-    load_count = (let a = length-insert c.directories i uid gap.within in let n : length c.loads
-        ≡ length c.directories = table.load_count in
-        let w : i ≤ length c.directories = gap.within in let b =
-        length-insert c.loads i 0 (omega arith) in omega arith);
-    stored_count = table.stored_count;
-    apart = λ u h. elim (cases_Bool (eqb uid u)) [
-      | inl is ↦ subst (λ v. has c.segments v ≡ false) (eqb-true uid u is) no_segment
-      | inr isnt ↦ table.apart u (sym ((enters_directory gap.within).directories u ∙ rw isnt refl) ∙ h)
-    ];
-    within = λ a h is. rw ((enters_directory gap.within).loads a, (enters_directory gap.within).quotas a)
-        (elim (cases_Bool (eqb uid a)) [
-          | inl at ↦ (let none : load_in c a ≡ 0 =
-              look_absent c.directories c.loads a (subst (λ v. has c.directories v ≡ false) (eqb-true uid a at)
-              no_directory) in omega arith)
-          | inr off ↦ table.within a (sym ((enters_directory gap.within).directories a ∙ rw off refl) ∙ h)
-              (subst (λ (q : ℕ → ℕ). is_an_account q a ≡ true) same_quotas is)
-        ]);
-    total = (let s = sum_by-insert (λ (x : ℕ). x) c.quotas i 0 in let t : sum c.quotas < 2 ^ 32 =
-        table.total in omega arith);
-  }
-
-  abbrev pub inserted_segment : CellMaps
-  inserted_segment = record {
-    directories = c.directories;
-    quotas = c.quotas;
-    loads = c.loads;
-    segments = insert c.segments i uid;
-    stored =
-        insert c.stored i 0;
-  }
-
-  pub enters_segment : i ≤ length c.segments → Enters c inserted_segment uid false
-  enters_segment within = record {
-    size = (let a = length-insert c.segments i uid within in omega (arith, a));
+  enters_entered false = record {
     directories = λ u. refl;
-    segments = has_insert c.segments i uid;
+    segments = has_more c.segments uid table.segments_rise no_segment;
     quotas = λ d. refl;
     loads = λ d. refl;
-    stored = λ s. look_insert c.segments c.stored i uid s table.stored_count no_segment;
-    counts = λ t. weigh_insert t c.segments c.stored i uid table.stored_count;
+    stored = look_more c.segments uid table.segments_rise no_segment c.stored table.stored_count;
+    counts = weigh_more c.segments uid table.segments_rise no_segment c.stored table.stored_count;
+    size = (omega (arith, length_more c.segments uid table.segments_rise no_segment c.segments uid refl));
     total = refl;
   }
-
-  pub table_segment : IsGap c.segments uid i → IsTable inserted_segment
-  table_segment gap = record {
-    rising = table.rising;
-    segments_rise = rising_insert c.segments uid i table.segments_rise gap;
-    quota_count = table.quota_count;
-    load_count = table.load_count;
-    stored_count = (let a = length-insert c.segments i uid gap.within in let n : length c.stored ≡ length c.segments =
-        table.stored_count in
-        let w : i ≤ length c.segments = gap.within in let b = length-insert c.stored i 0 (omega arith) in omega arith);
-    apart = λ u h. (enters_segment gap.within).segments u ∙ elim (cases_Bool (eqb uid u)) [
-      | inl is ↦ absurd (both_ways (has c.directories u)
-          (subst (λ v. has c.directories v ≡ false) (eqb-true uid u is) no_directory) h)
-      | inr isnt ↦ rw isnt (table.apart u h)
-    ];
-    within = table.within;
-    total = table.total;
-  }
-
-module _ (c : CellMaps) (table : IsTable c) (uid i : ℕ) where
-  abbrev pub removed_directory : CellMaps
-  removed_directory = record {
-    directories = remove c.directories i;
-    quotas = remove c.quotas i;
-    loads = remove c.loads i;
-    segments = c.segments;
-    stored =
-        c.stored;
-  }
-
-  pub leaves_directory : has c.directories uid ≡ true → quota_in c uid ≡ 0 → i < length c.directories
-      → get_or c.directories i 0 ≡ uid
-      → Leaves c removed_directory uid
-  leaves_directory there none lt is = record {
-    size = (let a = length-remove c.directories i lt in omega (arith, a));
-    directories = λ u. has_remove c.directories i u table.rising lt ∙ ap (λ x. has c.directories u && not (eqb x u)) is;
-    segments = λ u. elim (cases_eq uid u) [
-      | inl same ↦ (let off : has c.segments u ≡ false =
-          table.apart u (subst (λ v. has c.directories v ≡ true) same there) in rw off refl)
-      | inr other ↦ rw (ne_eqb uid u other) (elim (cases_Bool (has c.segments u))
-          [ inl t ↦ rw t refl | inr f ↦ rw f refl ])
-    ];
-    quotas = λ d. elim (cases_eq d uid) [
-      | inl same ↦ subst (λ v. look (remove c.directories i) (remove c.quotas i) v ≡ look c.directories c.quotas v)
-          (is ∙ sym same)
-          (look_gone c.directories c.quotas i table.rising lt ∙ sym (ap (look c.directories c.quotas) is ∙ none))
-      | inr other ↦ look_remove c.directories c.quotas i d table.quota_count table.rising lt (λ e. other (e ∙ is))
-    ];
-    loads = λ d other. look_remove c.directories c.loads i d table.load_count table.rising lt (λ e. other (e ∙ is));
-    stored = λ s. refl;
-    counts = λ t. refl;
-    total =
-        (let s = sum_by-remove (λ (x : ℕ). x) c.quotas i 0
-        (let n : length c.quotas ≡ length c.directories = table.quota_count in omega arith) in
-        let gone : get_or c.quotas i 0 ≡ 0 = sym (look_at c.directories c.quotas i table.rising lt)
-        ∙ ap (look c.directories c.quotas) is ∙ none in
-        omega (arith, s, gone));
-  }
-
-  pub table_removed_directory : has c.directories uid ≡ true → quota_in c uid ≡ 0 → i < length c.directories
-      → get_or c.directories i 0 ≡ uid
-      → IsTable removed_directory
-  table_removed_directory there none lt is =
-      let leaves : Leaves c removed_directory uid = leaves_directory there none lt is in
-      let same_q : quota_in removed_directory ≡ quota_in c = λ j d. leaves.quotas d j in
-      record {
-        rising = rising_remove c.directories i table.rising lt;
-        segments_rise = table.segments_rise;
-        quota_count = (let a = length-remove c.directories i lt in let n : length c.quotas ≡ length c.directories =
-            table.quota_count in
-            let b = length-remove c.quotas i (omega arith) in omega arith);
-        load_count = (let a = length-remove c.directories i lt in let n : length c.loads ≡ length c.directories =
-            table.load_count in
-            let b = length-remove c.loads i (omega arith) in omega arith);
-        stored_count = table.stored_count;
-        apart = λ u h. table.apart u (and_parts (has c.directories u) (not (eqb uid u))
-            (sym (leaves.directories u) ∙ h)).0;
-        within = λ a h is_a.
-            (let kept = and_parts (has c.directories a) (not (eqb uid a)) (sym (leaves.directories a) ∙ h) in
-            let other : a ≢ uid = λ e. both_ways (not (eqb uid a)) (rw (eq-eqb uid a (sym e)) refl) kept.1 in
-            rw (leaves.loads a other, leaves.quotas a)
-            (table.within a kept.0 (subst (λ (q : ℕ → ℕ). is_an_account q a ≡ true) same_q is_a)));
-        total = (let s = sum_by-remove (λ (x : ℕ). x) c.quotas i 0
-            (let n : length c.quotas ≡ length c.directories = table.quota_count in omega arith) in
-            let t : sum c.quotas < 2 ^ 32 = table.total in omega arith);
-      }
-
-  abbrev pub removed_segment : CellMaps
-  removed_segment = record {
-    directories = c.directories;
-    quotas = c.quotas;
-    loads = c.loads;
-    segments =
-        remove c.segments i;
-    stored = remove c.stored i;
-  }
-
-  pub leaves_segment : has c.directories uid ≡ false → stored_in c uid ≡ 0 → i < length c.segments
-      → get_or c.segments i 0 ≡ uid → Leaves c removed_segment uid
-  leaves_segment off none lt is = record {
-    size = (let a = length-remove c.segments i lt in omega (arith, a));
-    directories = λ u. elim (cases_eq uid u) [
-      | inl same ↦ (let gone : has c.directories u ≡ false =
-          subst (λ v. has c.directories v ≡ false) same off in rw gone refl)
-      | inr other ↦ rw (ne_eqb uid u other) (elim (cases_Bool (has c.directories u))
-          [ inl t ↦ rw t refl | inr f ↦ rw f refl ])
-    ];
-    segments = λ u. has_remove c.segments i u table.segments_rise lt ∙ ap (λ x. has c.segments u && not (eqb x u)) is;
-    quotas = λ d. refl;
-    loads = λ d other. refl;
-    stored = λ s. elim (cases_eq s uid) [
-      | inl same ↦ subst (λ v. look (remove c.segments i) (remove c.stored i) v ≡ look c.segments c.stored v)
-          (is ∙ sym same)
-          (look_gone c.segments c.stored i table.segments_rise lt ∙ sym (ap (look c.segments c.stored) is ∙ none))
-      | inr other ↦ look_remove c.segments c.stored i s table.stored_count table.segments_rise lt (λ e. other (e ∙ is))
-    ];
-    counts = λ t. weigh_remove t c.segments c.stored i table.stored_count lt
-        (sym (look_at c.segments c.stored i table.segments_rise lt) ∙ ap (look c.segments c.stored) is ∙ none);
-    total = refl;
-  }
-
-  pub table_removed_segment : i < length c.segments → IsTable removed_segment
-  table_removed_segment lt = record {
-    rising = table.rising;
-    segments_rise = rising_remove c.segments i table.segments_rise lt;
-    quota_count = table.quota_count;
-    load_count = table.load_count;
-    stored_count = (let a = length-remove c.segments i lt in let n : length c.stored ≡ length c.segments =
-        table.stored_count in
-        let b = length-remove c.stored i (omega arith) in omega arith);
-    apart = λ u h. has_remove c.segments i u table.segments_rise lt ∙ rw (table.apart u h) refl;
-    within = table.within;
-    total = table.total;
-  }
-
--- ---- as functions of what was there
-
-module _ (c : CellMaps) (table : IsTable c) (uid : ℕ) (absent : has_cell c uid ≡ false) where
-  new_directory : (g : (i : ℕ) × IsGap c.directories uid i) → inserted_directory c table uid g.0 absent
-      ≡ with_directory c uid
-  new_directory g =
-      let uids = insert_beside c.directories c.directories uid g.0 uid refl g.1 in
-      let quotas = insert_beside c.directories c.quotas uid g.0 0 table.quota_count g.1 in
-      let loads = insert_beside c.directories c.loads uid g.0 0 table.load_count g.1 in
-      λ i. record c { directories = uids i; quotas = quotas i; loads = loads i }
-
-  new_segment : (g : (i : ℕ) × IsGap c.segments uid i) → inserted_segment c table uid g.0 absent ≡ with_segment c uid
-  new_segment g =
-      let uids = insert_beside c.segments c.segments uid g.0 uid refl g.1 in
-      let stored = insert_beside c.segments c.stored uid g.0 0 table.stored_count g.1 in
-      λ i. record c { segments = uids i; stored = stored i }
-
-  gap_directory : (i : ℕ) × IsGap c.directories uid i
-  gap_directory = gap_of c.directories uid table.rising (or_parts (has c.directories uid) (has c.segments uid) absent).0
-
-  gap_segment : (i : ℕ) × IsGap c.segments uid i
-  gap_segment = gap_of c.segments uid table.segments_rise
-      (or_parts (has c.directories uid) (has c.segments uid) absent).1
-
-  pub enters_entered : (dir : Bool) → Enters c (entered c uid dir) uid dir
-  enters_entered true = subst (λ (d : CellMaps). Enters c d uid true) (new_directory gap_directory)
-      (enters_directory c table uid gap_directory.0 absent gap_directory.1.within)
-  enters_entered false = subst (λ (d : CellMaps). Enters c d uid false) (new_segment gap_segment)
-      (enters_segment c table uid gap_segment.0 absent gap_segment.1.within)
 
   pub table_entered : (dir : Bool) → IsTable (entered c uid dir)
-  table_entered true = subst IsTable (new_directory gap_directory)
-      (table_directory c table uid gap_directory.0 absent gap_directory.1)
-  table_entered false = subst IsTable (new_segment gap_segment)
-      (table_segment c table uid gap_segment.0 absent gap_segment.1)
+  table_entered true =
+      let enters = enters_entered true in
+      let size = length_more c.directories uid table.rising no_directory in record {
+        rising = rising_more c.directories uid table.rising no_directory;
+        segments_rise = table.segments_rise;
+        quota_count = size c.quotas 0 table.quota_count ∙ sym (size c.directories uid refl);
+        load_count = size c.loads 0 table.load_count ∙ sym (size c.directories uid refl);
+        stored_count = table.stored_count;
+        apart = λ u h. elim (cases_Bool (eqb uid u)) [
+          | inl is ↦ rw (eqb-true uid u is) at no_segment
+          | inr isnt ↦ table.apart u (sym (enters.directories u ∙ rw isnt refl) ∙ h)
+        ];
+        within = λ a h is. rw (enters.loads a, enters.quotas a) (elim (cases_Bool (eqb uid a)) [
+          | inl at ↦ (let none : load_in c a ≡ 0 =
+              look_absent c.directories c.loads a (rw (eqb-true uid a at) at no_directory) in omega arith)
+          | inr off ↦ table.within a (sym (enters.directories a ∙ rw off refl) ∙ h) (rw (enters.quotas a) at is)
+        ]);
+        total = rw enters.total table.total;
+      }
+  table_entered false =
+      let enters = enters_entered false in
+      let size = length_more c.segments uid table.segments_rise no_segment in record {
+        rising = table.rising;
+        segments_rise = rising_more c.segments uid table.segments_rise no_segment;
+        quota_count = table.quota_count;
+        load_count = table.load_count;
+        stored_count = size c.stored 0 table.stored_count ∙ sym (size c.segments uid refl);
+        apart = λ u h. enters.segments u ∙ elim (cases_Bool (eqb uid u)) [
+          | inl is ↦ absurd (both_ways (has c.directories u) (rw (eqb-true uid u is) at no_directory) h)
+          | inr isnt ↦ rw isnt (table.apart u h)
+        ];
+        within = table.within;
+        total = table.total;
+      }
+
+-- a uid that isn't there is left out of no list
+left_out : (ks : List ℕ) (uid u : ℕ) → has ks uid ≡ false → has ks u ≡ (has ks u && not (eqb uid u))
+left_out ks uid u off = elim (cases_eq uid u) [
+  | inl same ↦ (let gone : has ks u ≡ false = rw same at off in rw gone refl)
+  | inr other ↦ rw (ne_eqb uid u other) (elim (cases_Bool (has ks u)) [ inl t ↦ rw t refl | inr f ↦ rw f refl ])
+]
+
+module _ (c : CellMaps) (table : IsTable c) (uid : ℕ) (no_quota : quota_in c uid ≡ 0) (no_pages : stored_in c uid ≡ 0)
+  where
+    leaves_directory : has c.directories uid ≡ true → Leaves c (without_directory c uid) uid
+    leaves_directory dir = record {
+      directories = has_less c.directories uid table.rising dir;
+      segments = λ u. left_out c.segments uid u (table.apart uid dir);
+      quotas = look_all c.directories uid table.rising dir c.quotas table.quota_count no_quota;
+      loads = look_less c.directories uid table.rising dir c.loads table.load_count;
+      stored = λ s. refl;
+      counts = λ t. refl;
+      size = (omega (arith, length_less c.directories uid table.rising dir c.directories refl));
+      total = sum_less c.directories uid table.rising dir c.quotas table.quota_count no_quota;
+    }
+
+    leaves_segment : has c.directories uid ≡ false → has c.segments uid ≡ true → Leaves c (without_segment c uid) uid
+    leaves_segment off seg = record {
+      directories = λ u. left_out c.directories uid u off;
+      segments = has_less c.segments uid table.segments_rise seg;
+      quotas = λ d. refl;
+      loads = λ d other. refl;
+      stored = look_all c.segments uid table.segments_rise seg c.stored table.stored_count no_pages;
+      counts = weigh_less c.segments uid table.segments_rise seg c.stored table.stored_count no_pages;
+      size = (omega (arith, length_less c.segments uid table.segments_rise seg c.segments refl));
+      total = refl;
+    }
+
+    table_directory : has c.directories uid ≡ true → IsTable (without_directory c uid)
+    table_directory dir =
+        let leaves = leaves_directory dir in
+        let size = length_less c.directories uid table.rising dir in
+        let all = size c.directories refl in record {
+          rising = rising_less c.directories uid table.rising dir;
+          segments_rise = table.segments_rise;
+          quota_count = (omega (arith, size c.quotas table.quota_count));
+          load_count = (omega (arith, size c.loads table.load_count));
+          stored_count = table.stored_count;
+          apart = λ u h. table.apart u (and_parts (has c.directories u) (not (eqb uid u))
+              (sym (leaves.directories u) ∙ h)).0;
+          within = λ a h is. (let kept = sym (leaves.directories a) ∙ h in
+              rw (leaves.loads a (not_gone uid a (has c.directories a) kept), leaves.quotas a)
+              (table.within a (and_parts (has c.directories a) (not (eqb uid a)) kept).0 (rw (leaves.quotas a) at is)));
+          total = rw leaves.total table.total;
+        }
+
+    table_segment : has c.segments uid ≡ true → IsTable (without_segment c uid)
+    table_segment seg =
+        let size = length_less c.segments uid table.segments_rise seg in
+        let all = size c.segments refl in record {
+          rising = table.rising;
+          segments_rise = rising_less c.segments uid table.segments_rise seg;
+          quota_count = table.quota_count;
+          load_count = table.load_count;
+          stored_count = (omega (arith, size c.stored table.stored_count));
+          apart = λ u h. has_less c.segments uid table.segments_rise seg u ∙ rw (table.apart u h) refl;
+          within = table.within;
+          total = table.total;
+        }
 
 module _ (c : CellMaps) (table : IsTable c) (uid : ℕ) (there : has_cell c uid ≡ true) (no_quota : quota_in c uid ≡ 0)
     (no_pages : stored_in c uid ≡ 0) where
-  old_directory : (p : (i : ℕ) × (i < length c.directories) × (get_or c.directories i 0 ≡ uid))
-      → removed_directory c table uid p.0 ≡ without_directory c uid
-  old_directory p =
-      let uids = remove_beside c.directories c.directories p.0 refl table.rising p.1 in
-      let quotas = remove_beside c.directories c.quotas p.0 table.quota_count table.rising p.1 in
-      let loads = remove_beside c.directories c.loads p.0 table.load_count table.rising p.1 in
-      (λ i. record c { directories = uids i; quotas = quotas i; loads = loads i }) ∙ ap (without_directory c) p.2
-
-  old_segment : (p : (i : ℕ) × (i < length c.segments) × (get_or c.segments i 0 ≡ uid))
-      → removed_segment c table uid p.0 ≡ without_segment c uid
-  old_segment p =
-      let uids = remove_beside c.segments c.segments p.0 refl table.segments_rise p.1 in
-      let stored = remove_beside c.segments c.stored p.0 table.stored_count table.segments_rise p.1 in
-      (λ i. record c { segments = uids i; stored = stored i }) ∙ ap (without_segment c) p.2
-
   of_segment : has c.directories uid ≡ false → has c.segments uid ≡ true
   of_segment off = elim (or_cases (has c.directories uid) (has c.segments uid) there)
       [ inl dir ↦ absurd (both_ways _ off dir) | inr seg ↦ seg ]
 
   pub leaves_left : Leaves c (left c uid) uid
   leaves_left = elim (cases_Bool (has c.directories uid)) [
-    | inl dir ↦
-        (let p = place_there c.directories uid dir in
-        rw dir (subst (λ (d : CellMaps). Leaves c d uid) (old_directory p)
-        (leaves_directory c table uid p.0 dir no_quota p.1 p.2)))
-    | inr off ↦
-        (let p = place_there c.segments uid (of_segment off) in
-        rw off (subst (λ (d : CellMaps). Leaves c d uid) (old_segment p)
-        (leaves_segment c table uid p.0 off no_pages p.1 p.2)))
+    | inl dir ↦ rw dir (leaves_directory c table uid no_quota no_pages dir)
+    | inr off ↦ rw off (leaves_segment c table uid no_quota no_pages off (of_segment off))
   ]
 
   pub table_left : IsTable (left c uid)
   table_left = elim (cases_Bool (has c.directories uid)) [
-    | inl dir ↦ (let p = place_there c.directories uid dir in
-        rw dir (subst IsTable (old_directory p) (table_removed_directory c table uid p.0 dir no_quota p.1 p.2)))
-    | inr off ↦ (let p = place_there c.segments uid (of_segment off) in rw off
-        (subst IsTable (old_segment p) (table_removed_segment c table uid p.0 p.1)))
+    | inl dir ↦ rw dir (table_directory c table uid no_quota no_pages dir)
+    | inr off ↦ rw off (table_segment c table uid no_quota no_pages (of_segment off))
   ]

@@ -1,5 +1,5 @@
 -- What keeps the cells fit for a tree.
-use Rattle.quota_cells.proofs.Prelude.{◌≡◌, ◌≢◌, ℕ, ◌+◌, ◌-◌, ◌<◌, ◌≤◌, ◌^◌, true, eqb, List, [], ◌∷◌, refl, sym, subst, ◌∙◌, arith, inl, inr, Ok, sum, cases_Bool, cases_eq, eqb-true, eq-eqb, ne_eqb, and_parts, above, account, Node, is_segment, shapes, HasChains, IsChain, AreDirectories, EndsAtRoot, look, has, with_value, covers, load, is_an_account, changed_where, CellMaps, quota_in, load_in, stored_in, Fits, IsTable, charged, credited, charge_fault, CountsUsed, directory_shape, uid_shape, segment_in, segment_not, on_segments, AreThere, IsFalling}
+use Rattle.quota_cells.proofs.Prelude.{◌≡◌, ◌≢◌, ℕ, ◌+◌, ◌-◌, ◌<◌, ◌≤◌, ◌^◌, true, eqb, List, [], ◌∷◌, refl, sym, subst, ◌∙◌, arith, inl, inr, Ok, sum, cases_Bool, cases_eq, eqb-true, eq-eqb, ne_eqb, and_parts, above, account, Node, is_segment, shapes, HasChains, IsChain, AreDirectories, EndsAtRoot, has, with_value, covers, load, is_an_account, changed_where, CellMaps, quota_in, load_in, stored_in, Fits, IsTable, charged, credited, charge_fault, CountsUsed, directory_shape, uid_shape, segment_in, segment_not, on_segments, AreThere, IsFalling, directory_in, on_directories}
 use Rattle.quota_cells.proofs.ColumnLaws.{look_changed, length_with, length_changed, weigh_with, weigh_same, weigh_le_on, look_le_weigh, look_le_sum}
 use Rattle.quota_cells.proofs.AccountLaws.{account_covers, account_through, account_is, account_from, account_of_chain}
 
@@ -15,42 +15,49 @@ all_there nodes c fits (x ∷ xs) a = (fits.directories x ∙ a.0, all_there nod
 pub account_there : (q : ℕ → ℕ) (ks xs : List ℕ) → AreThere ks xs → EndsAtRoot xs → has ks (account q xs) ≡ true
 account_there q ks [] a e = absurd e
 account_there q ks (x ∷ []) a e = elim (cases_Bool (eqb (q x) 0))
-    [ inl none ↦ rw none (subst (λ u. has ks u ≡ true) e a.0) | inr some ↦ rw some a.0 ]
+    [ inl none ↦ rw none (rw (← e) a.0) | inr some ↦ rw some a.0 ]
 account_there q ks (x ∷ y ∷ ys) a e = elim (cases_Bool (eqb (q x) 0))
     [ inl none ↦ rw none (account_there q ks (y ∷ ys) a.1 e.1) | inr some ↦ rw some a.0 ]
 
 pub covered_there : (q : ℕ → ℕ) (ks xs : List ℕ) (e : ℕ) → AreThere ks xs → covers q xs e ≡ true → has ks e ≡ true
 covered_there q ks [] e a is = cc
 covered_there q ks (x ∷ xs) e a is = elim (cases_eq x e) [
-  | inl same ↦ subst (λ u. has ks u ≡ true) same a.0
+  | inl same ↦ rw (← same) a.0
   | inr other ↦ covered_there q ks xs e a.1 (and_parts (eqb (q x) 0) (covers q xs e) (rw (ne_eqb x e other) at is)).1
 ]
 
-module _ (nodes : List Node) (c : CellMaps) (table : IsTable c) (fits : Fits nodes c)
-    (chains : HasChains (shapes nodes)) where
+-- cells that hold together and fit a tree
+pub record Settled (nodes : List Node) (c : CellMaps) : Type 0 where
+  pub table : IsTable c
+  pub fits : Fits nodes c
+  pub chains : HasChains (shapes nodes)
+
+module _ {nodes : List Node} {c : CellMaps} (settled : Settled nodes c) where
+  open settled use {table, fits, chains}
+
   abbrev f : ℕ → List ℕ
   f = above (shapes nodes)
+
+  abbrev q : ℕ → ℕ
+  q = quota_in c
 
   -- another count of stored pages of a segment, where what covers it has its load changed by as much
   fits_with : (g : ℕ → ℕ) (s v : ℕ) → is_segment nodes s ≡ true → ((w x : ℕ) → x + stored_in c s ≡ w + v → g w ≡ x)
       → Fits nodes (record c {
-        loads = changed_where g (covers (quota_in c) (f s)) c.directories c.loads;
-        stored =
-            with_value c.segments c.stored s v;
+        loads = changed_where g (covers q (f s)) c.directories c.loads;
+        stored = with_value c.segments c.stored s v;
       })
   fits_with g s v is changes = record {
     directories = fits.directories;
     segments = fits.segments;
     count = fits.count;
-    loads = λ e there.
-        (let q = quota_in c in
-        let old : load_in c e ≡ load f q c.segments c.stored e = fits.loads e there in
+    loads = λ e here. (let old : load_in c e ≡ load f q c.segments c.stored e = fits.loads e here in
         let w = weigh_with (λ k. covers q (f k) e) c.segments c.stored s v table.stored_count
         (on_segments nodes fits s ∙ is) in
-        look_changed g (covers q (f s)) c.directories c.loads e table.load_count there
+        look_changed g (covers q (f s)) c.directories c.loads e table.load_count here
         ∙ elim (cases_Bool (covers q (f s) e)) [
-          | inl t ↦ (let w' = rw t at w in rw t (changes (load_in c e) _ (omega (arith, old, w'))))
-          | inr u ↦ (let w' = rw u at w in rw u (omega (arith, old, w')))
+          | inl t ↦ (let w' = rw t at w in rw t (changes (load_in c e) _ (omega arith)))
+          | inr u ↦ (let w' = rw u at w in rw u (omega arith))
         ]);
   }
 
@@ -62,14 +69,15 @@ module _ (nodes : List Node) (c : CellMaps) (table : IsTable c) (fits : Fits nod
   fits_credited s n is some = fits_with (λ w. w - n) s (stored_in c s - n) is (λ w x e. omega arith)
 
   -- what a stored page of a segment adds to the loads that cover it
-  pub stored_below : (s e : ℕ) → has c.directories e ≡ true → covers (quota_in c) (f s) e ≡ true
-      → stored_in c s ≤ load_in c e
-  stored_below s e there is = rw (fits.loads e there) (look_le_weigh (λ k. covers (quota_in c) (f k) e) c.segments
-      c.stored s is)
+  stored_below : (s e : ℕ) → has c.directories e ≡ true → covers q (f s) e ≡ true → stored_in c s ≤ load_in c e
+  stored_below s e here is = rw (fits.loads e here) (look_le_weigh (λ k. covers q (f k) e) c.segments c.stored s is)
 
   pub ends : (s : ℕ) → is_segment nodes s ≡ true → EndsAtRoot (f s)
   ends s is = chains.segments s (uid_shape nodes s ∙ segment_in nodes s is)
       (directory_shape nodes s ∙ segment_not nodes s is)
+
+  pub ends_at : (d : ℕ) → has c.directories d ≡ true → d ≢ 1 → EndsAtRoot (f d)
+  ends_at d here = chains.rooted d (uid_shape nodes d ∙ directory_in nodes d (sym (on_directories nodes fits d) ∙ here))
 
   pub there : (u : ℕ) → AreThere c.directories (f u)
   there u = all_there nodes c fits (f u) (chains.directories u)
@@ -77,119 +85,94 @@ module _ (nodes : List Node) (c : CellMaps) (table : IsTable c) (fits : Fits nod
   pub falls : (u : ℕ) → IsFalling (f u)
   falls u = falling f (f u) (chains.chain u)
 
+  -- the account that a node is charged to, which is there and within its quota
+  abbrev account_of : ℕ → ℕ
+  account_of s = account q (f s)
+
+  pub account_here : (s : ℕ) → EndsAtRoot (f s) → has c.directories (account q (f s)) ≡ true
+  account_here s = account_there q c.directories (f s) (there s)
+
+  account_within : (s : ℕ) → EndsAtRoot (f s) → load_in c (account_of s) ≤ q (account_of s)
+  account_within s ends_s = table.within (account_of s) (account_here s ends_s) (account_of_chain q (f s))
+
   -- what covers a node has no more pages than its account
-  pub load_up_from : (s e : ℕ) → EndsAtRoot (f s) → covers (quota_in c) (f s) e ≡ true
-      → load_in c e ≤ load_in c (account (quota_in c) (f s))
-  load_up_from s e ends_s covered =
-      let q = quota_in c in
-      let a : ℕ = account q (f s) in
-      let e_there : has c.directories e ≡ true = covered_there q c.directories (f s) e (there s) covered in
-      let a_there : has c.directories a ≡ true = account_there q c.directories (f s) (there s) ends_s in
+  load_up : (s e : ℕ) → EndsAtRoot (f s) → covers q (f s) e ≡ true → load_in c e ≤ load_in c (account_of s)
+  load_up s e ends_s covered =
+      let a : ℕ = account_of s in
       let through : a ≡ account_from f q e = account_through f q (f s) e (chains.chain s) covered in
-      rw (fits.loads e e_there, fits.loads a a_there) (weigh_le_on (λ k. covers q (f k) e) (λ k. covers q (f k) a)
-      c.segments c.stored (λ k h k_covered.
+      rw (fits.loads e (covered_there q c.directories (f s) e (there s) covered), fits.loads a (account_here s ends_s))
+      (weigh_le_on (λ k. covers q (f k) e) (λ k. covers q (f k) a) c.segments c.stored (λ k h k_covered.
       (let seg : is_segment nodes k ≡ true = sym (on_segments nodes fits k) ∙ h in
       let same : account q (f k) ≡ a = account_through f q (f k) e (chains.chain k) k_covered ∙ sym through in
-      subst (λ b. covers q (f k) b ≡ true) same (account_covers q (f k) (ends k seg)))))
-
-  pub load_up : (s e : ℕ) → is_segment nodes s ≡ true → covers (quota_in c) (f s) e ≡ true
-      → load_in c e ≤ load_in c (account (quota_in c) (f s))
-  load_up s e is covered = load_up_from s e (ends s is) covered
+      rw same at (account_covers q (f k) (ends k seg)))))
 
   -- so it has no more than there is quota
-  pub load_bound : (s e : ℕ) → EndsAtRoot (f s) → covers (quota_in c) (f s) e ≡ true → load_in c e < 2 ^ 32
-  load_bound s e ends_s covered =
-      let a : ℕ = account (quota_in c) (f s) in
-      let up : load_in c e ≤ load_in c a = load_up_from s e ends_s covered in
-      let le : load_in c a ≤ quota_in c a = table.within a
-      (account_there (quota_in c) c.directories (f s) (there s) ends_s)
-      (account_of_chain (quota_in c) (f s)) in
-      let most : quota_in c a ≤ sum c.quotas = look_le_sum c.directories c.quotas a in
-      let total : sum c.quotas < 2 ^ 32 = table.total in omega arith
+  pub load_bound : (s e : ℕ) → EndsAtRoot (f s) → covers q (f s) e ≡ true → load_in c e < 2 ^ 32
+  load_bound s e ends_s covered = omega (
+    arith,
+    load_up s e ends_s covered,
+    account_within s ends_s,
+    look_le_sum c.directories c.quotas (account_of s),
+  )
 
   -- where the account isn't full there is room for a page
-  pub below_quota : (s : ℕ) → is_segment nodes s ≡ true
-      → load_in c (account (quota_in c) (f s)) ≢ quota_in c (account (quota_in c) (f s))
-      → load_in c (account (quota_in c) (f s)) < quota_in c (account (quota_in c) (f s))
-  below_quota s is ne =
-      let a : ℕ = account (quota_in c) (f s) in
-      let le : load_in c a ≤ quota_in c a = table.within a
-      (account_there (quota_in c) c.directories (f s) (there s) (ends s is))
-      (account_of_chain (quota_in c) (f s)) in
-      omega (arith, ne)
+  module _ (s : ℕ) (is : is_segment nodes s ≡ true) (ne : load_in c (account q (f s)) ≢ q (account q (f s))) where
+    below_quota : load_in c (account_of s) < q (account_of s)
+    below_quota = (omega (arith, account_within s (ends s is)))
 
-  pub room_charged : (s : ℕ) → is_segment nodes s ≡ true
-      → load_in c (account (quota_in c) (f s)) ≢ quota_in c (account (quota_in c) (f s)) → (e : ℕ)
-      → covers (quota_in c) (f s) e ≡ true → load_in c e + 1 < 2 ^ 32
-  room_charged s is ne e covered =
-      let a : ℕ = account (quota_in c) (f s) in
-      let up : load_in c e ≤ load_in c a = load_up s e is covered in
-      let less : load_in c a < quota_in c a = below_quota s is ne in
-      let most : quota_in c a ≤ sum c.quotas = look_le_sum c.directories c.quotas a in
-      let total : sum c.quotas < 2 ^ 32 = table.total in omega arith
+    pub room_charged : (e : ℕ) → covers q (f s) e ≡ true → load_in c e + 1 < 2 ^ 32
+    room_charged e covered = omega (
+      arith,
+      load_up s e (ends s is) covered,
+      look_le_sum c.directories c.quotas (account_of s),
+      below_quota,
+      table.total,
+    )
 
-  pub stored_room : (s : ℕ) → is_segment nodes s ≡ true
-      → load_in c (account (quota_in c) (f s)) ≢ quota_in c (account (quota_in c) (f s))
-      → stored_in c s + 1 < 2 ^ 32
-  stored_room s is ne =
-      let a : ℕ = account (quota_in c) (f s) in
-      let covered : covers (quota_in c) (f s) a ≡ true = account_covers (quota_in c) (f s) (ends s is) in
-      let le : stored_in c s ≤ load_in c a = stored_below s a
-      (account_there (quota_in c) c.directories (f s) (there s) (ends s is)) covered in
-      let room : load_in c a + 1 < 2 ^ 32 = room_charged s is ne a covered in omega arith
+    pub stored_room : stored_in c s + 1 < 2 ^ 32
+    stored_room =
+        let covered = account_covers q (f s) (ends s is) in
+        let le = stored_below s (account_of s) (account_here s (ends s is)) covered in
+        let room = room_charged (account_of s) covered in omega arith
 
-  pub table_charged : (s : ℕ) → is_segment nodes s ≡ true
-      → load_in c (account (quota_in c) (f s)) ≢ quota_in c (account (quota_in c) (f s))
-      → IsTable (charged c (f s) s)
-  table_charged s is ne = record {
+    pub table_charged : IsTable (charged c (f s) s)
+    table_charged = record {
+      rising = table.rising;
+      segments_rise = table.segments_rise;
+      quota_count = table.quota_count;
+      load_count = cc (length_changed (λ w. w + 1) (covers q (f s)) c.directories c.loads table.load_count);
+      stored_count = cc (length_with c.segments c.stored s (stored_in c s + 1));
+      apart = table.apart;
+      within = λ b here b_is.
+          rw (look_changed (λ w. w + 1) (covers q (f s)) c.directories c.loads b table.load_count here)
+          (elim (cases_Bool (covers q (f s) b)) [
+            | inl t ↦
+                (let own : account q (f s) ≡ b = eqb-true (account q (f s)) b
+                (sym (account_is q (f s) b (ends s is) b_is) ∙ t) in
+                let less : load_in c b < q b = rw own at below_quota in rw t (omega arith))
+            | inr u ↦ rw u (table.within b here b_is)
+          ]);
+      total = table.total;
+    }
+
+  pub table_credited : (s n : ℕ) → IsTable (credited c (f s) s n)
+  table_credited s n = record {
     rising = table.rising;
     segments_rise = table.segments_rise;
     quota_count = table.quota_count;
-    load_count = length_changed (λ w. w + 1) (covers (quota_in c) (f s)) c.directories c.loads table.load_count
-        ∙ table.load_count;
-    stored_count = length_with c.segments c.stored s (stored_in c s + 1) ∙ table.stored_count;
+    load_count = cc (length_changed (λ w. w - n) (covers q (f s)) c.directories c.loads table.load_count);
+    stored_count = cc (length_with c.segments c.stored s (stored_in c s - n));
     apart = table.apart;
-    within = λ b b_there b_is.
-        (let q = quota_in c in
-        let l = look_changed (λ w. w + 1) (covers q (f s)) c.directories c.loads b table.load_count b_there in
-        let old : load_in c b ≤ q b = table.within b b_there b_is in
-        let new : look c.directories (changed_where (λ w. w + 1) (covers q (f s)) c.directories c.loads) b ≤ q b =
-        elim (cases_Bool (covers q (f s) b)) [
-          | inl t ↦
-              (let own : account q (f s) ≡ b = eqb-true (account q (f s)) b
-              (sym (account_is q (f s) b (ends s is) b_is) ∙ t) in
-              let less : load_in c b < q b = subst (λ x. load_in c x < q x) own (below_quota s is ne) in
-              let l' = rw t at l in omega (arith, l'))
-          | inr u ↦ (let l' = rw u at l in omega (arith, l'))
-        ] in new);
+    within = λ b here b_is.
+        rw (look_changed (λ w. w - n) (covers q (f s)) c.directories c.loads b table.load_count here)
+        (let old : load_in c b ≤ q b = table.within b here b_is in elim (cases_Bool (covers q (f s) b))
+        [ inl t ↦ rw t (omega arith) | inr u ↦ rw u old ]);
     total = table.total;
   }
 
-  pub table_credited : (s n : ℕ) → is_segment nodes s ≡ true → IsTable (credited c (f s) s n)
-  table_credited s n is = record {
-    rising = table.rising;
-    segments_rise = table.segments_rise;
-    quota_count = table.quota_count;
-    load_count = length_changed (λ w. w - n) (covers (quota_in c) (f s)) c.directories c.loads table.load_count
-        ∙ table.load_count;
-    stored_count = length_with c.segments c.stored s (stored_in c s - n) ∙ table.stored_count;
-    apart = table.apart;
-    within = λ b b_there b_is.
-        (let q = quota_in c in
-        let l = look_changed (λ w. w - n) (covers q (f s)) c.directories c.loads b table.load_count b_there in
-        let old : load_in c b ≤ q b = table.within b b_there b_is in
-        let new : look c.directories (changed_where (λ w. w - n) (covers q (f s)) c.directories c.loads) b ≤ q b =
-        elim (cases_Bool (covers q (f s) b)) [
-          | inl t ↦ (let l' = rw t at l in omega (arith, l'))
-          | inr u ↦ (let l' = rw u at l in omega (arith, l'))
-        ] in new);
-    total = table.total;
-  }
-
-  pub room_credited : (s n : ℕ) → is_segment nodes s ≡ true → n ≤ stored_in c s → (e : ℕ) → covers (quota_in c) (f s) e
-      ≡ true → n ≤ load_in c e
-  room_credited s n is some e covered = (let le : stored_in c s ≤ load_in c e =
-      stored_below s e (covered_there (quota_in c) c.directories (f s) e (there s) covered) covered in omega arith)
+  pub room_credited : (s n : ℕ) → n ≤ stored_in c s → (e : ℕ) → covers q (f s) e ≡ true → n ≤ load_in c e
+  room_credited s n some e covered =
+      omega (arith, stored_below s e (covered_there q c.directories (f s) e (there s) covered) covered)
 
 pub counts_used : (nodes : List Node) (c : CellMaps) → Fits nodes c → HasChains (shapes nodes) → CountsUsed nodes c
 counts_used nodes c fits chains a a_there = elim (cases_Bool (is_an_account (quota_in c) a)) [
@@ -198,8 +181,7 @@ counts_used nodes c fits chains a a_there = elim (cases_Bool (is_an_account (quo
       rw is (fits.loads a a_there ∙ weigh_same (λ k. covers (quota_in c) (above (shapes nodes) k) a)
       (λ k. eqb (account (quota_in c) (above (shapes nodes) k)) a) c.segments c.stored
       (λ k h. (let seg : is_segment nodes k ≡ true = sym (on_segments nodes fits k) ∙ h in
-      account_is (quota_in c) (above (shapes nodes) k) a
-      (chains.segments k (uid_shape nodes k ∙ segment_in nodes k seg)
+      account_is (quota_in c) (above (shapes nodes) k) a (chains.segments k (uid_shape nodes k ∙ segment_in nodes k seg)
       (directory_shape nodes k ∙ segment_not nodes k seg)) is)))
 ]
 

@@ -8,10 +8,11 @@ pub blanks_next : {X : Type 0} (xs ys : List X) (n : ℕ) (blank : X)
     → ys ≡ xs ++ replicate (n - length xs) blank → length xs ≤ n
     → ys ++ blank ∷ [] ≡ xs ++ replicate (n + 1 - length xs) blank
 blanks_next {X} xs ys n blank is le =
-    let one : (n - length xs) + 1 ≡ n + 1 - length xs = omega (arith, le) in
-    ap (λ (zs : List X). zs ++ blank ∷ []) is ∙ append_assoc xs (replicate (n - length xs) blank) (blank ∷ [])
-    ∙ ap (λ (zs : List X). xs ++ zs) (replicate-append-replicate (n - length xs) 1 blank
-    ∙ ap (λ (k : ℕ). replicate k blank) one)
+    let one : (n - length xs) + 1 ≡ n + 1 - length xs = omega arith in
+    cc (
+      append_assoc xs (replicate (n - length xs) blank) (blank ∷ []),
+      replicate-append-replicate (n - length xs) 1 blank,
+    )
 
 -- ---- zeros
 
@@ -37,24 +38,21 @@ past_zeros (x ∷ xs) n (suc i) = past_zeros xs n i
 -- ---- what is held is changed
 
 set_front : (xs ys : List ℕ) (i v : ℕ) → i < length xs → set (xs ++ ys) i v ≡ set xs i v ++ ys
-set_front [] ys i v lt = absurd (omega (arith, lt))
+set_front [] ys i v lt = absurd (omega arith)
 set_front (x ∷ xs) ys zero v lt = refl
-set_front (x ∷ xs) ys (suc i) v lt = ap (λ (zs : List ℕ). x ∷ zs) (set_front xs ys i v (omega (arith, lt)))
+set_front (x ∷ xs) ys (suc i) v lt = cc (set_front xs ys i v (omega (arith, lt)))
 
 pub set_end : {X : Type 0} (xs : List X) (p : ℕ) (blank v : X) → p ≡ length xs
     → set (xs ++ blank ∷ []) p v ≡ xs ++ v ∷ []
 set_end [] zero blank v e = refl
-set_end [] (suc p) blank v e = absurd (omega (arith, e))
-set_end (x ∷ xs) zero blank v e = absurd (omega (arith, e))
-set_end {X} (x ∷ xs) (suc p) blank v e = ap (λ (zs : List X). x ∷ zs) (set_end xs p blank v (omega (arith, e)))
+set_end [] (suc p) blank v e = absurd (omega arith)
+set_end (x ∷ xs) zero blank v e = absurd (omega arith)
+set_end {X} (x ∷ xs) (suc p) blank v e = cc (set_end xs p blank v (omega (arith, e)))
 
 pub padded_long : (held : List ℕ) → length held ≤ 100003 → length (padded held) ≡ 100003
 unfolding padded
-padded_long held le =
-    let long = length-append held (zeros (100003 - length held)) in
-    let many : length (zeros (100003 - length held)) ≡ 100003 - length held =
-    many_zeros (100003 - length held) in
-    omega (arith, long, many, le)
+padded_long held le = rw (length-append held (zeros (100003 - length held)), many_zeros (100003 - length held))
+    (omega arith)
 
 pub padded_read : (held : List ℕ) (i : ℕ) → get_or (padded held) i 0 ≡ get_or held i 0
 unfolding padded
@@ -62,37 +60,30 @@ padded_read held i = past_zeros held (100003 - length held) i
 
 pub padded_more : (held : List ℕ) (k : ℕ) → length held + k ≤ 100003 → padded (held ++ zeros k) ≡ padded held
 unfolding padded
-padded_more held k le =
-    append_assoc held (zeros k) (zeros (100003 - length (held ++ zeros k)))
+padded_more held k le = append_assoc held (zeros k) (zeros (100003 - length (held ++ zeros k)))
     ∙ ap (λ (xs : List ℕ). held ++ xs) (replicate-append-replicate k (100003 - length (held ++ zeros k)) 0
     ∙ ap (λ (n : ℕ). zeros n) count)
   where
     count : k + (100003 - length (held ++ zeros k)) ≡ 100003 - length held
-    count =
-        let long = length-append held (zeros k) in
-        let many : length (zeros k) ≡ k = many_zeros k in
-        omega (arith, long, many, le)
+    count = rw (length-append held (zeros k), many_zeros k) (omega arith)
 
 -- a number that is held
 pub padded_set : (held : List ℕ) (i v : ℕ) → i < length held → padded (set held i v) ≡ set (padded held) i v
 unfolding padded
-padded_set held i v lt = ap (λ (n : ℕ). set held i v ++ zeros (100003 - n)) (length-set held i v)
-    ∙ sym (set_front held (zeros (100003 - length held)) i v lt)
+padded_set held i v lt = rw (length-set held i v) (sym (set_front held (zeros (100003 - length held)) i v lt))
 
 -- a number after those that are held
 pub padded_put : (held front : List ℕ) (p v : ℕ) → length held ≤ p → p < 100003
     → front ≡ held ++ zeros (p - length held) → padded (front ++ alone v) ≡ set (padded held) p v
-padded_put held front p v past lt is =
-    ap padded (sym (set_end front p 0 v (sym long))) ∙ padded_set (front ++ alone 0) p v inside
-    ∙ ap (λ (xs : List ℕ). set xs p v) (padded_more front 1 (omega (arith, long, lt)) ∙ ap padded is
-    ∙ padded_more held (p - length held) (omega (arith, past, lt)))
+padded_put held front p v past lt is = cc (
+  set_end front p 0 v (sym long),
+  padded_set (front ++ alone 0) p v inside,
+  padded_more front 1 (omega (arith, long, lt)),
+  padded_more held (p - length held) (omega (arith, past, lt)),
+)
   where
     long : length front ≡ p
-    long =
-        let same = ap length is in
-        let all = length-append held (zeros (p - length held)) in
-        let many : length (zeros (p - length held)) ≡ p - length held = many_zeros (p - length held) in
-        omega (arith, same, all, many, past)
+    long = rw (is, length-append held (zeros (p - length held)), many_zeros (p - length held)) (omega arith)
 
     inside : p < length (front ++ alone 0)
     inside =

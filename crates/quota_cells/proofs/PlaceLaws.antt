@@ -16,12 +16,11 @@ set_at (k ∷ ks) [] i v up lt = refl
 set_at (k ∷ ks) (w ∷ vs) zero v up lt = rw (eq-eqb k k refl) refl
 set_at (k ∷ ks) (w ∷ vs) (suc i) v up lt =
     let less : k < get_or ks i 0 = up 0 (suc i) (omega arith) lt in
-    rw (ne_eqb k (get_or ks i 0) (λ q. omega arith)) (ap (λ xs. w ∷ xs)
-    (set_at ks vs i v (rest_rises k ks up) (omega arith)))
+    rw (ne_eqb k (get_or ks i 0) (λ q. omega arith)) (cc (set_at ks vs i v (rest_rises k ks up) (omega arith)))
 
 pub set_there : (ks vs : List ℕ) (i v : ℕ) {u : ℕ} → IsRising ks → i < length ks → get_or ks i 0 ≡ u → set vs i v
     ≡ with_value ks vs u v
-set_there ks vs i v up lt is = set_at ks vs i v up lt ∙ ap (λ k. with_value ks vs k v) is
+set_there ks vs i v up lt is = cc (set_at ks vs i v up lt)
 
 pub has_at : (ks : List ℕ) (i : ℕ) → i < length ks → has ks (get_or ks i 0) ≡ true
 has_at [] i lt = absurd (omega arith)
@@ -36,8 +35,8 @@ apart : (ks : List ℕ) → IsRising ks → (i p : ℕ) → i < length ks → p 
 apart ks up i p li lp ne e = elim (cases_order i p) [
   | inl same ↦ ne same
   | inr differ ↦ elim differ [
-    | inl less ↦ (let x : get_or ks i 0 < get_or ks p 0 = up i p less lp in omega arith)
-    | inr more ↦ (let x : get_or ks p 0 < get_or ks i 0 = up p i more li in omega arith)
+    | inl less ↦ (omega (arith, up i p less lp))
+    | inr more ↦ (omega (arith, up p i more li))
   ]
 ]
 
@@ -45,18 +44,18 @@ apart ks up i p li lp ne e = elim (cases_order i p) [
 pub covers_under : (q : ℕ → ℕ) (x : ℕ) (xs : List ℕ) (e : ℕ) → AreUnder x xs → covers q xs e ≡ true → e < x
 covers_under q x [] e a is = cc
 covers_under q x (y ∷ ys) e a is = elim (or_cases (eqb y e) (eqb (q y) 0 && covers q ys e) is) [
-  | inl here ↦ (let same : y ≡ e = eqb-true y e here in let lt : y < x = a.0 in omega arith)
+  | inl here ↦ (omega (arith, eqb-true y e here))
   | inr there ↦ covers_under q x ys e a.1 (and_parts (eqb (q y) 0) (covers q ys e) there).1
 ]
 
 pub covers_not : (q : ℕ → ℕ) (x : ℕ) (xs : List ℕ) → AreUnder x xs → covers q xs x ≡ false
 covers_not q x xs a = elim (cases_Bool (covers q xs x))
-    [ inl is ↦ absurd (let lt : x < x = covers_under q x xs x a is in omega arith) | inr isnt ↦ isnt ]
+    [ inl is ↦ absurd (omega (arith, covers_under q x xs x a is)) | inr isnt ↦ isnt ]
 
 pub changed_none : (g : ℕ → ℕ) (q : ℕ → ℕ) (ks ws : List ℕ) → changed_where g (covers q []) ks ws ≡ ws
 changed_none g q [] ws = refl
 changed_none g q (k ∷ ks) [] = refl
-changed_none g q (k ∷ ks) (w ∷ ws) = ap (λ xs. w ∷ xs) (changed_none g q ks ws)
+changed_none g q (k ∷ ks) (w ∷ ws) = cc (changed_none g q ks ws)
 
 -- a walk up a chain
 pub record Going (g : ℕ → ℕ) (P : ℕ → Type 0) (ks : List ℕ) (q : ℕ → ℕ) (left ws goal : List ℕ) : Type 0 where
@@ -66,14 +65,14 @@ pub record Going (g : ℕ → ℕ) (P : ℕ → Type 0) (ks : List ℕ) (q : ℕ
   pub room : (e : ℕ) → covers q left e ≡ true → P (look ks ws e)
   pub so_far : changed_where g (covers q left) ks ws ≡ goal
 
-module _ (g : ℕ → ℕ) (P : ℕ → Type 0) (ks : List ℕ) (up : IsRising ks) (q : ℕ → ℕ) (x : ℕ) (xs ws goal : List ℕ)
-    (going : Going g P ks q (x ∷ xs) ws goal)
-    (p : ℕ) (within : p < length ks) (is : get_or ks p 0 ≡ x) where
+module _ {g : ℕ → ℕ} {P : ℕ → Type 0} {ks : List ℕ} {q : ℕ → ℕ} {x : ℕ} {xs ws goal : List ℕ}
+    (going : Going g P ks q (x ∷ xs) ws goal) (up : IsRising ks) {p : ℕ} (within : p < length ks)
+    (is : get_or ks p 0 ≡ x) where
   abbrev changed : List ℕ
   changed = set ws p (g (get_or ws p 0))
 
   in_ws : p < length ws
-  in_ws = (let n : length ws ≡ length ks = going.loads in omega arith)
+  in_ws = (omega arith)
 
   here_covers : covers q (x ∷ xs) (get_or ks p 0) ≡ true
   here_covers = rw is (or_left (eqb x x) (eqb (q x) 0 && covers q xs x) (eq-eqb x x refl))
@@ -84,7 +83,7 @@ module _ (g : ℕ → ℕ) (P : ℕ → Type 0) (ks : List ℕ) (up : IsRising k
   other_covers : (i : ℕ) → i < length ks → i ≢ p → covers q (x ∷ xs) (get_or ks i 0)
       ≡ (eqb (q x) 0 && covers q xs (get_or ks i 0))
   other_covers i lt ne = (let far : eqb x (get_or ks i 0) ≡ false =
-      ne_eqb x (get_or ks i 0) (λ e. apart ks up i p lt within ne (sym e ∙ sym is)) in
+      ne_eqb x (get_or ks i 0) (λ e. apart ks up i p lt within ne (cc)) in
       rw far refl)
 
   sizes : length changed ≡ length ws
@@ -114,15 +113,18 @@ module _ (g : ℕ → ℕ) (P : ℕ → Type 0) (ks : List ℕ) (up : IsRising k
   same_end : q x ≢ 0 → (i : ℕ) → i < length ks → get_or changed i 0
       ≡ get_or (changed_where g (covers q (x ∷ xs)) ks ws) i 0
   same_end some_q i lt = elim (cases_eq i p) [
-    | inl same ↦ rw same (get_or-set_same ws p (g (get_or ws p 0)) 0 in_ws
-        ∙ sym (get_changed g (covers q (x ∷ xs)) ks ws p going.loads within
-        ∙ ap (λ t. cond t (g (get_or ws p 0)) (get_or ws p 0)) here_covers))
+    | inl same ↦ rw same (cc (
+      get_or-set_same ws p (g (get_or ws p 0)) 0 in_ws,
+      get_changed g (covers q (x ∷ xs)) ks ws p going.loads within,
+      here_covers,
+    ))
     | inr other ↦
         (let some : eqb (q x) 0 ≡ false = ne_eqb (q x) 0 some_q in
         let c : covers q (x ∷ xs) (get_or ks i 0) ≡ false = other_covers i lt other ∙ rw some refl in
-        get_or-set_other ws p i (g (get_or ws p 0)) 0 other
-        ∙ sym (get_changed g (covers q (x ∷ xs)) ks ws i going.loads lt
-        ∙ ap (λ t. cond t (g (get_or ws i 0)) (get_or ws i 0)) c))
+        cc (
+          get_or-set_other ws p i (g (get_or ws p 0)) 0 other,
+          get_changed g (covers q (x ∷ xs)) ks ws i going.loads lt,
+        ))
   ]
 
   pub going_ends : q x ≢ 0 → changed ≡ goal
@@ -148,11 +150,9 @@ module _ (g : ℕ → ℕ) (P : ℕ → Type 0) (ks : List ℕ) (up : IsRising k
     there = going.there.1;
     falls = going.falls.1;
     room = still_room zero_q;
-    so_far = ext_get_or 0 (changed_where g (covers q xs) ks changed) (changed_where g (covers q (x ∷ xs)) ks ws)
-        (length_changed g (covers q xs) ks changed (sizes ∙ going.loads) ∙ sizes
-        ∙ sym (length_changed g (covers q (x ∷ xs)) ks ws going.loads))
-        (λ i lt. same_next zero_q i (let m = length_changed g (covers q xs) ks changed (sizes ∙ going.loads) in let n :
-        length ws ≡ length ks = going.loads in
-        let k = sizes in omega arith))
-        ∙ going.so_far;
+    so_far = cc (ext_get_or 0 (changed_where g (covers q xs) ks changed) (changed_where g (covers q (x ∷ xs)) ks ws)
+        (length_changed g (covers q xs) ks changed (sizes ∙ going.loads) ∙ sizes ∙ sym
+        (length_changed g (covers q (x ∷ xs)) ks ws going.loads)) (λ i lt. same_next zero_q i
+        (let m = length_changed g (covers q xs) ks changed (sizes ∙ going.loads) in let n : length ws ≡ length
+        ks = going.loads in let k = sizes in omega arith)));
   }

@@ -29,7 +29,7 @@ pub use Rattle.quota_cells.specs.Cells.{CellMaps, CountsUsed, Enters, Fits, IsRi
 pub use Rattle.quota_cells.specs.Columns.{AreThere, CanGive, HasRoom, IsFalling, IsGap, IsPlaced, NumberMap, beside, both_maps, counted_on, directories_of, directory_maps, no_numbers, numbers_of, with_uid, without_uid}
 unfoldable pub use Rattle.quota_cells.specs.Columns.{uids_from}
 pub use Rattle.quota_cells.specs.Laws.{look_absent, on_directories, on_segments}
-pub use Rattle.quota_cells.specs.Moves.{cell_in, is_account_over, is_giver_over, load_grown, refusal_down, refusal_up}
+pub use Rattle.quota_cells.specs.Moves.{LiesIn, cell_in, is_account_over, is_giver_over, load_grown, refusal_down, refusal_up}
 pub use Rattle.quota_cells.specs.Scratch.{HoldCounts, charge_answer, scratch_answer}
 unfoldable pub use Rattle.quota_cells.specs.Tables.{padded}
 pub use Rattle.quota_cells.specs.declared.Full.{Full}

@@ -1,12 +1,12 @@
 -- Columns of numbers in the order of uids: one more and one less, and a walk up a chain.
-use Rattle.quota_cells.proofs.Prelude.{◌≡◌, ◌≢◌, ℕ, suc, zero, ◌+◌, ◌<◌, ◌≤◌, true, false, List, [], ◌∷◌, length, drop, refl, sym, ap, subst, ◌∙◌, arith, get_or, set, inl, inr, insert, remove, drop_more, cases_order, eq-eqb, ne_eqb, lt-ltb, le-ltb, has, with_value, with_beside, without_beside, covers, changed_where, CellMaps, IsRising, quota_in, load_in, with_loads, AreThere, IsGap, place_there, rest_rises}
+use Rattle.quota_cells.proofs.Prelude.{◌≡◌, ◌≢◌, ℕ, suc, zero, ◌+◌, ◌<◌, ◌≤◌, true, false, List, [], ◌∷◌, length, drop, refl, sym, ap, ◌∙◌, arith, get_or, set, inl, inr, insert, remove, drop_more, cases_order, eq-eqb, ne_eqb, lt-ltb, le-ltb, has, with_value, with_beside, without_beside, covers, changed_where, CellMaps, IsRising, quota_in, load_in, with_loads, IsGap, place_there, rest_rises}
 use Rattle.quota_cells.proofs.PlaceLaws.{Going, going_here, going_next, going_ends, changed_none, look_at, set_there}
 
 -- ---- one more, and one less
 
 rest_gap : (k : ℕ) (ks : List ℕ) (u i : ℕ) → IsGap (k ∷ ks) u (suc i) → IsGap ks u i
 rest_gap k ks u i gap = record {
-  within = (let w : suc i ≤ length (k ∷ ks) = gap.within in omega arith);
+  within = (omega arith);
   below = λ j lt. gap.below (suc j) (omega arith);
   above = λ j le lt. gap.above (suc j) (omega arith) (omega arith);
 }
@@ -14,14 +14,14 @@ rest_gap k ks u i gap = record {
 pub insert_beside : (ks vs : List ℕ) (u i v : ℕ) → length vs ≡ length ks → IsGap ks u i → insert vs i v
     ≡ with_beside ks vs u v
 insert_beside [] [] u zero v len gap = refl
-insert_beside [] [] u (suc i) v len gap = absurd (let w : suc i ≤ 0 = gap.within in omega arith)
+insert_beside [] [] u (suc i) v len gap = absurd (omega arith)
 insert_beside [] (w ∷ vs) u i v len gap = absurd (omega arith)
 insert_beside (k ∷ ks) [] u i v len gap = absurd (omega arith)
 insert_beside (k ∷ ks) (w ∷ vs) u zero v len gap = (let less : u < k =
     gap.above 0 (omega arith) (omega arith) in rw (lt-ltb u k less) refl)
 insert_beside (k ∷ ks) (w ∷ vs) u (suc i) v len gap =
     let more : k < u = gap.below 0 (omega arith) in
-    rw (le-ltb u k (omega arith)) (ap (λ xs. w ∷ xs) (insert_beside ks vs u i v (omega arith) (rest_gap k ks u i gap)))
+    rw (le-ltb u k (omega arith), insert_beside ks vs u i v (omega arith) (rest_gap k ks u i gap)) refl
 
 pub remove_beside : (ks vs : List ℕ) (i : ℕ) → length vs ≡ length ks → IsRising ks → i < length ks → remove vs i
     ≡ without_beside ks vs (get_or ks i 0)
@@ -30,43 +30,26 @@ remove_beside (k ∷ ks) [] i len up lt = absurd (omega arith)
 remove_beside (k ∷ ks) (w ∷ vs) zero len up lt = rw (eq-eqb k k refl) refl
 remove_beside (k ∷ ks) (w ∷ vs) (suc i) len up lt =
     let less : k < get_or ks i 0 = up 0 (suc i) (omega arith) lt in
-    rw (ne_eqb k (get_or ks i 0) (λ q. omega arith)) (ap (λ xs. w ∷ xs)
-    (remove_beside ks vs i (omega arith) (rest_rises k ks up) (omega arith)))
+    rw (
+      ne_eqb k (get_or ks i 0) (λ q. omega arith),
+      remove_beside ks vs i (omega arith) (rest_rises k ks up) (omega arith),
+    ) refl
 
 -- a uid that isn't there has a gap, and one that is there has a place
 pub gap_of : (ks : List ℕ) (u : ℕ) → IsRising ks → has ks u ≡ false → (i : ℕ) × IsGap ks u i
 gap_of [] u up off = (
   0,
-  record {
-    within = omega arith;
-    below = λ j lt. absurd (omega arith);
-    above =
-        λ j le lt. absurd (omega arith);
-  },
+  record { within = omega arith; below = λ j lt. absurd (omega arith); above = λ j le lt. absurd (omega arith) },
 )
 gap_of (k ∷ ks) u up off = elim (cases_order u k) [
-  | inl same ↦ absurd (let z : true ≡ false = rw (eq-eqb k u (sym same)) at off in cc)
+  | inl same ↦ cc (rw (eq-eqb k u (sym same)) at off)
   | inr differ ↦ elim differ [
-    | inl less ↦ (
-      0,
-      record {
-        within = omega arith;
-        below = λ j lt. absurd (omega arith);
-        above =
-            λ j le lt. above_first less j lt;
-      },
-    )
+    | inl less ↦
+        (0, record { within = omega arith; below = λ j lt. absurd (omega arith); above = λ j le. above_first less j })
     | inr more ↦
         (let g = gap_of ks u (rest_rises k ks up) (rw (ne_eqb k u (λ q. omega arith)) at off) in
-        let w : g.0 ≤ length ks = g.1.within in (
-          suc g.0,
-          record {
-            within = omega arith;
-            below = λ j lt. below_next more g j lt;
-            above =
-                λ j le lt. above_next g j le lt;
-          },
-        ))
+        let w : g.0 ≤ length ks = g.1.within in
+        (suc g.0, record { within = omega arith; below = below_next more g; above = above_next g }))
   ]
 ]
   where
@@ -92,10 +75,9 @@ pub record Walks (g : ℕ → ℕ) (P : ℕ → Type 0) (start now : CellMaps) (
   pub going : Going g P start.directories (quota_in start) left now.loads
       (changed_where g (covers (quota_in start) up) start.directories start.loads)
 
-module _ (g : ℕ → ℕ) (P : ℕ → Type 0) (start now : CellMaps) (rises : IsRising now.directories) (up : List ℕ)
-    (i : ℕ) (lt : i < length up)
-    (walks : Walks g P start now up (drop i up))
-    (p : ℕ) (within : p < length now.directories) (is : get_or now.directories p 0 ≡ get_or up i 0) where
+module _ {g : ℕ → ℕ} {P : ℕ → Type 0} {start now : CellMaps} {up : List ℕ} {i : ℕ}
+    (walks : Walks g P start now up (drop i up)) (rises : IsRising now.directories) (lt : i < length up) {p : ℕ}
+    (within : p < length now.directories) (is : get_or now.directories p 0 ≡ get_or up i 0) where
   abbrev x : ℕ
   x = get_or up i 0
 
@@ -106,81 +88,69 @@ module _ (g : ℕ → ℕ) (P : ℕ → Type 0) (start now : CellMaps) (rises : 
   target = changed_where g (covers (quota_in start) up) start.directories start.loads
 
   rising : IsRising start.directories
-  rising = subst (λ (c : CellMaps). IsRising c.directories) walks.kept rises
+  rising = rw walks.kept at rises
 
   going : Going g P start.directories (quota_in start) (x ∷ drop (i + 1) up) now.loads target
-  going = subst (λ left. Going g P start.directories (quota_in start) left now.loads target) (drop_more up i 0 lt)
-      walks.going
+  going = rw (drop_more up i 0 lt) at walks.going
 
   in_start : p < length start.directories
-  in_start = subst (λ (c : CellMaps). p < length c.directories) walks.kept within
+  in_start = rw walks.kept at within
 
   at_start : get_or start.directories p 0 ≡ x
-  at_start = ap (λ (c : CellMaps). get_or c.directories p 0) (sym walks.kept) ∙ is
+  at_start = cc
 
   quota : get_or now.quotas p 0 ≡ quota_in start x
-  quota = ap (λ (c : CellMaps). get_or c.quotas p 0) walks.kept
-      ∙ sym (look_at start.directories start.quotas p rising in_start) ∙ ap (quota_in start) at_start
+  quota = cc (look_at start.directories start.quotas p rising in_start)
 
   walk_fits : P (get_or now.loads p 0)
-  walk_fits = going_here g P start.directories rising (quota_in start) x (drop (i + 1) up) now.loads target going p
-      in_start at_start
+  walk_fits = going_here going rising in_start at_start
 
   walk_ends : get_or now.quotas p 0 ≢ 0 → with_loads now after ≡ with_loads start target
-  walk_ends some = ap (λ (c : CellMaps). with_loads c after) walks.kept
-      ∙ ap (with_loads start) (going_ends g P start.directories rising (quota_in start) x (drop (i + 1) up) now.loads
-      target going p in_start at_start
-      (λ e. some (quota ∙ e)))
+  walk_ends some = cc (going_ends going rising in_start at_start (λ e. some (quota ∙ e)))
 
   walk_next : get_or now.quotas p 0 ≡ 0 → Walks g P start (with_loads now after) up (drop (i + 1) up)
-  walk_next none = record {
-    kept = ap (λ (c : CellMaps). with_loads c after) walks.kept;
-    going = going_next g P start.directories rising (quota_in start) x (drop (i + 1) up) now.loads target going p
-        in_start at_start (sym quota ∙ none);
-  }
+  walk_next none = assumption (
+    ap (λ (c : CellMaps). with_loads c after) walks.kept,
+    going_next going rising in_start at_start (sym quota ∙ none),
+  )
 
 -- the directory has a load
-pub walk_there : (g : ℕ → ℕ) (P : ℕ → Type 0) (start now : CellMaps) (up : List ℕ) (i : ℕ) → i < length up
-    → Walks g P start now up (drop i up) → has now.directories (get_or up i 0) ≡ true
-walk_there g P start now up i lt walks =
-    let there = subst (AreThere start.directories) (drop_more up i 0 lt) walks.going.there in
-    subst (λ (m : CellMaps). has m.directories (get_or up i 0) ≡ true) (sym walks.kept) there.0
+pub walk_there : {g : ℕ → ℕ} {P : ℕ → Type 0} {start now : CellMaps} {up : List ℕ} {i : ℕ}
+    → Walks g P start now up (drop i up) → i < length up → has now.directories (get_or up i 0) ≡ true
+walk_there {up = up} {i = i} walks lt = rw walks.kept (rw (drop_more up i 0 lt) at walks.going.there).0
 
 -- the same by what stands beside it
-module _ (g : ℕ → ℕ) (P : ℕ → Type 0) (start now : CellMaps) (rises : IsRising now.directories) (up : List ℕ)
-    (i : ℕ) (lt : i < length up) (walks : Walks g P start now up (drop i up)) where
+module _ {g : ℕ → ℕ} {P : ℕ → Type 0} {start now : CellMaps} {up : List ℕ} {i : ℕ}
+    (walks : Walks g P start now up (drop i up)) (rises : IsRising now.directories) (lt : i < length up) where
   abbrev y : ℕ
   y = get_or up i 0
 
   place : (i : ℕ) × (i < length now.directories) × (get_or now.directories i 0 ≡ y)
-  place = place_there now.directories y (walk_there g P start now up i lt walks)
+  place = place_there now.directories y (walk_there walks lt)
 
   spot_quota : quota_in now y ≡ get_or now.quotas place.0 0
-  spot_quota = ap (quota_in now) (sym place.2) ∙ look_at now.directories now.quotas place.0 rises place.1
+  spot_quota = cc (place.2, look_at now.directories now.quotas place.0 rises place.1)
 
   spot_load : load_in now y ≡ get_or now.loads place.0 0
-  spot_load = ap (load_in now) (sym place.2) ∙ look_at now.directories now.loads place.0 rises place.1
+  spot_load = cc (place.2, look_at now.directories now.loads place.0 rises place.1)
 
   spot_set : with_value now.directories now.loads y (g (load_in now y))
       ≡ set now.loads place.0 (g (get_or now.loads place.0 0))
-  spot_set = ap (λ w. with_value now.directories now.loads y (g w)) spot_load
-      ∙ sym (set_there now.directories now.loads place.0 (g (get_or now.loads place.0 0)) rises place.1 place.2)
+  spot_set = rw spot_load
+      (sym (set_there now.directories now.loads place.0 (g (get_or now.loads place.0 0)) rises place.1 place.2))
 
   pub load_fits : P (load_in now y)
-  load_fits = subst P (sym spot_load) (walk_fits g P start now rises up i lt walks place.0 place.1 place.2)
+  load_fits = rw spot_load (walk_fits walks rises lt place.1 place.2)
 
   pub load_ends : quota_in now y ≢ 0 → with_loads now (with_value now.directories now.loads y (g (load_in now y)))
       ≡ with_loads start (changed_where g (covers (quota_in start) up) start.directories start.loads)
-  load_ends some = ap (with_loads now) spot_set
-      ∙ walk_ends g P start now rises up i lt walks place.0 place.1 place.2 (λ e. some (spot_quota ∙ e))
+  load_ends some = cc (spot_set, walk_ends walks rises lt place.1 place.2 (λ e. some (spot_quota ∙ e)))
 
   pub load_next : quota_in now y ≡ 0
       → Walks g P start (with_loads now (with_value now.directories now.loads y (g (load_in now y)))) up
       (drop (i + 1) up)
-  load_next none = subst (λ (ws : List ℕ). Walks g P start (with_loads now ws) up (drop (i + 1) up)) (sym spot_set)
-      (walk_next g P start now rises up i lt walks place.0 place.1 place.2 (sym spot_quota ∙ none))
+  load_next none = rw spot_set (walk_next walks rises lt place.1 place.2 (sym spot_quota ∙ none))
 
-pub walk_done : (g : ℕ → ℕ) (P : ℕ → Type 0) (start now : CellMaps) (up : List ℕ) → Walks g P start now up []
+pub walk_done : {g : ℕ → ℕ} {P : ℕ → Type 0} {start now : CellMaps} {up : List ℕ} → Walks g P start now up []
     → now ≡ with_loads start (changed_where g (covers (quota_in start) up) start.directories start.loads)
-walk_done g P start now up walks = walks.kept ∙ ap (with_loads start)
-    (sym (changed_none g (quota_in start) start.directories now.loads) ∙ walks.going.so_far)
+walk_done {g} {start = start} {now = now} walks = cc (changed_none g (quota_in start) start.directories now.loads)

@@ -1,11 +1,11 @@
 -- The counts that the cells keep are the counts from scratch over the stored pages.
-use Rattle.quota_cells.proofs.Prelude.{◌≡◌, ◌≢◌, ℕ, suc, ◌+◌, ◌-◌, ◌<◌, ◌≤◌, Bool, true, false, cond, eqb, leb, ◌&&◌, if◌then◌else◌, List, [], ◌∷◌, length, map, Option, Some, None, Result, Ok, Err, refl, sym, ap, subst, ◌∙◌, arith, get_or, inl, inr, count_by, OnOk, OnErr, find, sum, cases_Bool, cases_eq, cases_lt, both_ways, eqb-true, eq-eqb, ne_eqb, or_cases, and_parts, or_right, or_left, and_from, le-leb, lt-leb, lt-ltb, le-ltb, true_from_ne_false, false_from_ne_true, sum_by-cons, Term, above, account, account_of, has_directory, quota_at, used_by, superior_of, getter_of, giver_of, with_quota_of, with_moved, tree_moved, is_over_at, lesser, least_where, over_in, Node, as_term, with_quotas, is_directory, is_segment, shapes, shape, HasChains, Full, MoveFault, look, has, with_value, weigh, charged_to, is_an_account, CellMaps, quota_in, load_in, stored_in, used_in, Fits, IsTable, IsRising, charge_fault, with_quota, moved, is_over, first_over, over_answer, move_answer, HoldCounts, charge_answer, scratch_answer, above_any, directory_shape, not_in_directory, segment_in, segment_not, uid_shape, look_absent, on_directories, on_segments, least_none, directory_mapped, quota_mapped}
+use Rattle.quota_cells.proofs.Prelude.{◌≡◌, ◌≢◌, ℕ, suc, ◌+◌, ◌-◌, ◌<◌, ◌≤◌, Bool, true, false, cond, eqb, leb, ◌&&◌, if◌then◌else◌, List, [], ◌∷◌, length, map, Option, Some, None, Result, Ok, Err, refl, sym, ap, subst, ◌∙◌, arith, get_or, inl, inr, count_by, OnOk, OnErr, find, sum, cases_Bool, cases_eq, cases_lt, both_ways, eqb-true, eq-eqb, ne_eqb, or_cases, and_parts, or_right, or_left, and_from, le-leb, lt-leb, lt-ltb, le-ltb, true_from_ne_false, false_from_ne_true, sum_by-cons, Term, above, account, account_of, has_directory, quota_at, used_by, superior_of, getter_of, giver_of, with_quota_of, with_moved, tree_moved, is_over_at, lesser, least_where, over_in, Node, as_term, with_quotas, is_directory, is_segment, shapes, shape, HasChains, Full, MoveFault, look, has, with_value, weigh, charged_to, is_an_account, CellMaps, quota_in, load_in, stored_in, used_in, Fits, IsRising, charge_fault, moved, is_over, first_over, over_answer, move_answer, HoldCounts, charge_answer, scratch_answer, above_any, directory_shape, not_in_directory, segment_in, segment_not, uid_shape, look_absent, on_directories, on_segments, least_none, directory_mapped, quota_mapped}
 use Rattle.quota_cells.proofs.ColumnLaws.{look_with, length_with, weigh_with}
 use Rattle.quota_cells.proofs.PlaceLaws.{look_at}
 use Rattle.quota_cells.proofs.AccountLaws.{account_of_chain}
-use Rattle.quota_cells.proofs.FitLaws.{account_there, all_there, counts_used}
+use Rattle.quota_cells.proofs.FitLaws.{Settled, account_there, all_there, counts_used}
 use Rattle.quota_cells.proofs.EnterLaws.{no_weight}
-use Rattle.quota_cells.proofs.OverLaws.{passes, later, fits2, conserved, q2_g, q2_v, q2_other}
+use Rattle.quota_cells.proofs.OverLaws.{Moving, passes, later, fits2, conserved, q2_g, q2_v, q2_other}
 use Rattle.quota_cells.proofs.TransferLaws.{IsBelow, top, answer_ok}
 
 -- ---- counts of pages beside uids are counts over the pages
@@ -26,28 +26,23 @@ abbrev pages_of : List (ℕ × ℕ) → ℕ → ℕ
 pages_of xs s = count_by (λ x. eqb x.0 s) xs
 
 pages_own : (x : ℕ × ℕ) (xs : List (ℕ × ℕ)) → pages_of (x ∷ xs) x.0 ≡ 1 + pages_of xs x.0
-pages_own x xs = count_more (λ v. eqb v x.0) x xs ∙ ap (λ (b : Bool). cond b 1 0 + pages_of xs x.0)
-    (eq-eqb x.0 x.0 refl)
+pages_own x xs = count_more (λ v. eqb v x.0) x xs ∙ rw (eq-eqb x.0 x.0 refl) refl
 
 pages_other : (x : ℕ × ℕ) (xs : List (ℕ × ℕ)) (s : ℕ) → x.0 ≢ s → pages_of (x ∷ xs) s ≡ pages_of xs s
-pages_other x xs s other = count_more (λ v. eqb v s) x xs
-    ∙ ap (λ (b : Bool). cond b 1 0 + pages_of xs s) (ne_eqb x.0 s other) ∙ omega arith
+pages_other x xs s other = count_more (λ v. eqb v s) x xs ∙ rw (ne_eqb x.0 s other) (omega arith)
 
 weigh_pages : (t : ℕ → Bool) (ks ws : List ℕ) (xs : List (ℕ × ℕ)) → IsRising ks → length ws ≡ length ks
-    → ((s : ℕ) → look ks ws s ≡ pages_of xs s)
-    → weigh t ks ws ≡ count_by (λ x. t x.0) xs
+    → ((s : ℕ) → look ks ws s ≡ pages_of xs s) → weigh t ks ws ≡ count_by (λ x. t x.0) xs
 weigh_pages t ks ws [] up len holds = zeros t ks ws (λ i lt. sym (look_at ks ws i up lt) ∙ holds (get_or ks i 0))
 weigh_pages t ks ws (x ∷ xs) up len holds =
     let here : look ks ws x.0 ≡ 1 + pages_of xs x.0 = holds x.0 ∙ pages_own x xs in
     let there : has ks x.0 ≡ true = true_from_ne_false (has ks x.0)
-    (λ isnt. (let none : look ks ws x.0 ≡ 0 = look_absent ks ws x.0 isnt in omega arith)) in
+    (λ isnt. (omega (arith, look_absent ks ws x.0 isnt))) in
     let less : ℕ = look ks ws x.0 - 1 in
     let rest : (s : ℕ) → look ks (with_value ks ws x.0 less) s ≡ pages_of xs s =
     λ s. look_with ks ws x.0 less s len there ∙ elim (cases_eq x.0 s) [
-      | inl same ↦ ap (λ (b : Bool). cond b less (look ks ws s)) (eq-eqb x.0 s same)
-          ∙ subst (λ v. less ≡ pages_of xs v) same (omega arith)
-      | inr other ↦ ap (λ (b : Bool). cond b less (look ks ws s)) (ne_eqb x.0 s other) ∙ holds s
-          ∙ pages_other x xs s other
+      | inl same ↦ rw (eq-eqb x.0 s same, ← same) (omega arith)
+      | inr other ↦ rw (ne_eqb x.0 s other) (holds s ∙ pages_other x xs s other)
     ] in
     let ih : weigh t ks (with_value ks ws x.0 less) ≡ count_by (λ y. t y.0) xs =
     weigh_pages t ks (with_value ks ws x.0 less) xs up (length_with ks ws x.0 less ∙ len) rest in
@@ -55,12 +50,12 @@ weigh_pages t ks ws (x ∷ xs) up len holds =
     elim (cases_Bool (t x.0)) [
       | inl y ↦
           (let w' = rw y at w in
-          let total : weigh t ks ws ≡ 1 + count_by (λ z. t z.0) xs = omega (arith, ih, w', here) in
-          total ∙ sym (count_more t x xs ∙ ap (λ (b : Bool). cond b 1 0 + count_by (λ z. t z.0) xs) y))
+          let total : weigh t ks ws ≡ 1 + count_by (λ z. t z.0) xs = omega arith in
+          total ∙ sym (count_more t x xs ∙ rw y refl))
       | inr n ↦
           (let w' = rw n at w in
-          let total : weigh t ks ws ≡ 0 + count_by (λ z. t z.0) xs = omega (arith, ih, w') in
-          total ∙ sym (count_more t x xs ∙ ap (λ (b : Bool). cond b 1 0 + count_by (λ z. t z.0) xs) n))
+          let total : weigh t ks ws ≡ 0 + count_by (λ z. t z.0) xs = omega arith in
+          total ∙ sym (count_more t x xs ∙ rw n refl))
     ]
 
 -- ---- quotas and accounts of the nodes with their quotas
@@ -89,8 +84,7 @@ module _ (nodes : List Node) (c : CellMaps) (fits : Fits nodes c) (chains : HasC
       ∙ ap (account q) (above_any q nodes s)
 
   account_here : (k : ℕ) → has c.segments k ≡ true → has c.directories (account q (f k)) ≡ true
-  account_here k is =
-      (let seg : is_segment nodes k ≡ true = sym (on_segments nodes fits k) ∙ is in
+  account_here k is = (let seg : is_segment nodes k ≡ true = sym (on_segments nodes fits k) ∙ is in
       account_there q c.directories (f k) (all_there nodes c fits (f k) (chains.directories k))
       (chains.segments k (uid_shape nodes k ∙ segment_in nodes k seg)
       (directory_shape nodes k ∙ segment_not nodes k seg)))
@@ -102,26 +96,23 @@ module _ (nodes : List Node) (c : CellMaps) (fits : Fits nodes c) (chains : HasC
       | inr n ↦
           (let none : charged_to f q c.segments c.stored a ≡ 0 =
           no_weight (λ s. eqb (account q (f s)) a) c.segments c.stored
-          (λ k is. ne_eqb _ _ (λ e. both_ways (is_an_account q a) n
-          (subst (λ z. is_an_account q z ≡ true) e (account_of_chain q (f k))))) in
+          (λ k is. ne_eqb _ _ (λ e. both_ways (is_an_account q a) n (rw (← e) (account_of_chain q (f k))))) in
           rw n (sym none))
     ])
     | inr absent ↦
         (let none : charged_to f q c.segments c.stored a ≡ 0 =
         no_weight (λ s. eqb (account q (f s)) a) c.segments c.stored
-        (λ k is. ne_eqb _ _ (λ e. both_ways (has c.directories a) absent
-        (subst (λ z. has c.directories z ≡ true) e (account_here k is)))) in
+        (λ k is. ne_eqb _ _ (λ e. both_ways (has c.directories a) absent (rw (← e) (account_here k is)))) in
         let zero : load_in c a ≡ 0 = look_absent c.directories c.loads a absent in
         let used : used_in c a ≡ 0 = elim (cases_Bool (is_an_account q a)) [ inl y ↦ rw y zero | inr n ↦ rw n refl ] in
-        used ∙ sym none)
+        cc)
   ]
 
   module _ (up : IsRising c.segments) (even : length c.stored ≡ length c.segments) (xs : List (ℕ × ℕ))
       (holds : HoldCounts c xs) where
     -- a used count is that from scratch
     pub used_same : (a : ℕ) → used_in c a ≡ used_by tree xs a
-    used_same a =
-        used_weighed a ∙ weigh_pages (λ s. eqb (account q (f s)) a) c.segments c.stored xs up even holds
+    used_same a = used_weighed a ∙ weigh_pages (λ s. eqb (account q (f s)) a) c.segments c.stored xs up even holds
         ∙ ap (λ (g : ℕ → ℕ). count_by (λ x. eqb (g x.0) a) xs) (λ i. λ s. sym (account_same s) i)
         ∙ sym (used_is tree xs a)
 
@@ -133,9 +124,7 @@ module _ (nodes : List Node) (c : CellMaps) (fits : Fits nodes c) (chains : HasC
     charge_same s =
         let a : ℕ = account q (f s) in
         let own : used_in c a ≡ load_in c a = rw (account_of_chain q (f s)) refl in
-        ap (λ u. answer u (q a) a) (sym own ∙ used_same a)
-        ∙ ap (λ v. answer (used_by tree xs a) v a) (sym (quota_same a))
-        ∙ ap (λ b. answer (used_by tree xs b) (quota_at tree b) b) (sym (account_same s))
+        rw (sym own ∙ used_same a, ← quota_same a, ← account_same s) refl
 
     -- and who is above its quota
     over_same : (u : ℕ) → is_over_at tree xs u ≡ (has c.directories u && is_over c u)
@@ -153,11 +142,10 @@ lesser_same a (Some v) le = rw (le-leb a v (le v refl)) refl
 
 lesser_passes : (t : ℕ → Bool) (u v : ℕ) (o : Option ℕ) → t u ≡ true → ((w : ℕ) → o ≡ Some w → t w ≡ true)
     → Some (lesser u o) ≡ Some v → t v ≡ true
-lesser_passes t u v None here rest e = (let same : u ≡ v = cc in subst (λ z. t z ≡ true) same here)
+lesser_passes t u v None here rest e = cc
 lesser_passes t u v (Some w) here rest e = elim (cases_Bool (leb u w)) [
-  | inl le ↦ (let z : Some u ≡ Some v = rw le at e in let same : u ≡ v = cc in subst (λ z. t z ≡ true) same here)
-  | inr gt ↦ (let z : Some w ≡ Some v = rw gt at e in let same : w ≡ v =
-      cc in subst (λ z. t z ≡ true) same (rest w refl))
+  | inl le ↦ (let z : Some u ≡ Some v = rw le at e in cc)
+  | inr gt ↦ (let z : Some w ≡ Some v = rw gt at e in let passed = rest w refl in cc)
 ]
 
 least_passes : (t : ℕ → Bool) (us : List ℕ) (v : ℕ) → least_where t us ≡ Some v → t v ≡ true
@@ -173,8 +161,8 @@ least_some t [] a is h least = cc
 least_some t (u ∷ us) a is h least = elim (cases_eq u a) [
   | inl same ↦
       (let here : t u ≡ true = rw same is in
-      rw here (ap (λ (x : ℕ). Some x) (lesser_same u (least_where t us)
-      (λ v e. (let le : a ≤ v = least v (least_passes t us v e) in omega arith)) ∙ same)))
+      rw here (cc (lesser_same u (least_where t us) (λ v e. (let le : a ≤ v = least v (least_passes t us v e) in omega
+      arith)))))
   | inr other ↦
       (let ih : least_where t us ≡ Some a = least_some t us a is (rw (ne_eqb u a other) at h) least in
       elim (cases_Bool (t u)) [
@@ -191,10 +179,10 @@ first_found p (k ∷ ks) a up e = elim (cases_Bool (p k)) [
       (let z : Some k ≡ Some a = rw here at e in
       let same : k ≡ a = cc in (
         or_left (eqb k a) (has ks a) (eq-eqb k a same),
-        subst (λ z. p z ≡ true) same here,
+        rw (← same) here,
         λ b h is. elim (or_cases (eqb k b) (has ks b) h) [
-          | inl first ↦ (let eq : k ≡ b = eqb-true k b first in omega arith)
-          | inr rest ↦ (let lt : k < b = later k ks up b rest in omega arith)
+          | inl first ↦ (omega (arith, eqb-true k b first))
+          | inr rest ↦ (omega (arith, later k ks up b rest))
         ],
       ))
   | inr off ↦
@@ -202,18 +190,15 @@ first_found p (k ∷ ks) a up e = elim (cases_Bool (p k)) [
         or_right (eqb k a) (has ks a) ih.0,
         ih.1,
         λ b h is. elim (or_cases (eqb k b) (has ks b) h) [
-          | inl first ↦ (let eq : k ≡ b = eqb-true k b first in absurd
-              (both_ways (p k) off (subst (λ z. p z ≡ true) (sym eq) is)))
+          | inl first ↦ (let eq : k ≡ b = eqb-true k b first in absurd (both_ways (p k) off (rw eq is)))
           | inr rest ↦ ih.2 b rest is
         ],
       ))
 ]
 
 least_first : (t p : ℕ → Bool) (ks us : List ℕ) → IsRising ks → ((u : ℕ) → t u ≡ (has ks u && p u))
-    → ((u : ℕ) → has ks u ≡ true → has us u ≡ true)
-    → (o : Option ℕ) → find p ks ≡ o → least_where t us ≡ o
-least_first t p ks us up is more None e =
-    least_none t us (λ u. is u ∙ false_from_ne_true _ (λ y.
+    → ((u : ℕ) → has ks u ≡ true → has us u ≡ true) → (o : Option ℕ) → find p ks ≡ o → least_where t us ≡ o
+least_first t p ks us up is more None e = least_none t us (λ u. is u ∙ false_from_ne_true _ (λ y.
     (let both = and_parts (has ks u) (p u) y in passes p ks u both.0 both.1 e)))
 least_first t p ks us up is more (Some a) e =
     let found = first_found p ks a up e in
@@ -231,29 +216,20 @@ uids_there r (n ∷ ns) u e = elim (cases_Bool (eqb n.uid u)) [
 ]
 
 moved_node : (r q : ℕ → ℕ) (g v n : ℕ) → g ≢ v → r g ≡ q g + n → r v ≡ q v - n → ((b : ℕ) → b ≢ g → b ≢ v → r b ≡ q b)
-    → (m : Node)
-    → as_term r m ≡ with_quota_of v (λ x. x - n) (with_quota_of g (λ x. x + n) (as_term q m))
+    → (m : Node) → as_term r m ≡ with_quota_of v (λ x. x - n) (with_quota_of g (λ x. x + n) (as_term q m))
 moved_node r q g v n other to from rest m = elim (cases_eq m.uid g) [
-  | inl is_g ↦
-      rw (eq-eqb m.uid g is_g, ne_eqb m.uid v (λ e. other (sym is_g ∙ e)))
-      (ap (λ (x : ℕ). record (as_term q m) { quota = x }) (ap r is_g ∙ to ∙ ap (λ u. q u + n) (sym is_g)))
+  | inl is_g ↦ rw (eq-eqb m.uid g is_g, ne_eqb m.uid v (λ e. other (cc)), is_g, to) refl
   | inr far ↦ elim (cases_eq m.uid v) [
-    | inl is_v ↦
-        rw (ne_eqb m.uid g far, eq-eqb m.uid v is_v)
-        (ap (λ (x : ℕ). record (as_term q m) { quota = x }) (ap r is_v ∙ from ∙ ap (λ u. q u - n) (sym is_v)))
-    | inr away ↦ rw (ne_eqb m.uid g far, ne_eqb m.uid v away)
-        (ap (λ (x : ℕ). record (as_term q m) { quota = x }) (rest m.uid far away))
+    | inl is_v ↦ rw (ne_eqb m.uid g far, eq-eqb m.uid v is_v, is_v, from) refl
+    | inr away ↦ rw (ne_eqb m.uid g far, ne_eqb m.uid v away, rest m.uid far away) refl
   ]
 ]
 
 moved_nodes : (r q : ℕ → ℕ) (g v n : ℕ) → g ≢ v → r g ≡ q g + n → r v ≡ q v - n → ((b : ℕ) → b ≢ g → b ≢ v → r b ≡ q b)
-    → (ns : List Node)
-    → with_quotas r ns ≡ with_moved (with_quotas q ns) v g n
+    → (ns : List Node) → with_quotas r ns ≡ with_moved (with_quotas q ns) v g n
 moved_nodes r q g v n other to from rest [] = refl
 moved_nodes r q g v n other to from rest (m ∷ ms) =
-    ap (λ (x : Term). x ∷ with_quotas r ms) (moved_node r q g v n other to from rest m)
-    ∙ ap (λ (xs : List Term). with_quota_of v (λ x. x - n) (with_quota_of g (λ x. x + n) (as_term q m)) ∷ xs)
-    (moved_nodes r q g v n other to from rest ms)
+    rw (moved_node r q g v n other to from rest m, moved_nodes r q g v n other to from rest ms) refl
 
 -- After a move the cells fit the tree whatever is answered, and the sum of quotas is as it was. Where it is done, the
 -- nodes with their quotas are those of the tree once quota has moved.
@@ -263,9 +239,10 @@ pub record AfterMove (nodes : List Node) (c new : CellMaps) (d n : ℕ) (down : 
   pub total : sum new.quotas ≡ sum c.quotas
   pub shown : OnOk r (with_quotas (quota_in new) nodes ≡ tree_moved (with_quotas (quota_in c) nodes) d down n)
 
-module _ (nodes : List Node) (c : CellMaps) (table : IsTable c) (fits : Fits nodes c)
-    (chains : HasChains (shapes nodes)) (d n : ℕ)
+module _ {nodes : List Node} {c : CellMaps} (settled : Settled nodes c) {d n : ℕ}
     (dir : is_directory nodes d ≡ true) (ne : d ≢ 1) (some : 0 < n) where
+  open settled use {table, fits, chains}
+
   abbrev up : ℕ → List ℕ
   up = above (shapes nodes)
 
@@ -281,67 +258,58 @@ module _ (nodes : List Node) (c : CellMaps) (table : IsTable c) (fits : Fits nod
   here_s : has c.directories (superior_of up d) ≡ true
   here_s = on_directories nodes fits (superior_of up d) ∙ above_d.directory
 
-  d_not_s : d ≢ superior_of up d
-  d_not_s e = (let lt : superior_of up d < d = above_d.below in omega arith)
-
   up_same : above nodes_now ≡ up
   up_same = λ i. λ u. above_any (quota_in c) nodes u i
 
-  tree_pair : (g v : ℕ) → g ≢ v → has c.directories g ≡ true → has c.directories v ≡ true → n ≤ quota_in c v
-      → with_quotas (quota_in (with_quota (with_quota c (up g) g (quota_in c g + n)) (up v) v (quota_in c v - n)))
-      nodes ≡ with_moved nodes_now v g n
-  tree_pair g v other here_g here_v enough =
-      moved_nodes _ (quota_in c) g v n other (q2_g nodes c table fits chains g v n other here_g here_v some enough)
-      (q2_v nodes c table fits chains g v n other here_g here_v some enough)
-      (q2_other nodes c table fits chains g v n other here_g here_v some enough) nodes
+  -- who gets the pages, and who gives them
+  moving : (down : Bool) → n ≤ quota_in c (giver_of up d down)
+      → Moving nodes c (getter_of up d down) (giver_of up d down) n
+  moving true enough = record {
+    settled = settled;
+    other = λ e. (let lt = above_d.below in omega arith);
+    here_g = here_d;
+    here_v = here_s;
+    some = some;
+    enough = enough;
+  }
+  moving false enough = record {
+    settled = settled;
+    other = λ e. (let lt = above_d.below in omega arith);
+    here_g = here_s;
+    here_v = here_d;
+    some = some;
+    enough = enough;
+  }
 
   -- the cells once quota has moved are those of the tree once it has
   pub moved_tree : (down : Bool) → n ≤ quota_in c (giver_of up d down)
       → with_quotas (quota_in (moved c up d down n)) nodes ≡ tree_moved nodes_now d down n
-  moved_tree true enough = tree_pair d (superior_of up d) d_not_s here_d here_s enough
-      ∙ ap (λ (h : ℕ → List ℕ). with_moved nodes_now (giver_of h d true) (getter_of h d true) n) (sym up_same)
-  moved_tree false enough = tree_pair (superior_of up d) d (λ e. d_not_s (sym e)) here_s here_d enough
-      ∙ ap (λ (h : ℕ → List ℕ). with_moved nodes_now (giver_of h d false) (getter_of h d false) n) (sym up_same)
+  moved_tree down enough =
+      let m = moving down enough in
+      moved_nodes _ (quota_in c) (getter_of up d down) (giver_of up d down) n m.other (q2_g m) (q2_v m)
+      (q2_other m) nodes
+      ∙ ap (λ (h : ℕ → List ℕ). with_moved nodes_now (giver_of h d down) (getter_of h d down) n) (sym up_same)
 
-  fits_moved : (down : Bool) → n ≤ quota_in c (giver_of up d down) → Fits nodes (moved c up d down n)
-  fits_moved true enough = fits2 nodes c table fits chains d (superior_of up d) n d_not_s here_d here_s some enough
-  fits_moved false enough = fits2 nodes c table fits chains (superior_of up d) d n (λ e. d_not_s (sym e)) here_s here_d
-      some enough
-
-  total_moved : (down : Bool) → n ≤ quota_in c (giver_of up d down) → sum (moved c up d down n).quotas ≡ sum c.quotas
-  total_moved true enough = conserved nodes c table fits chains d (superior_of up d) n d_not_s here_d here_s some enough
-  total_moved false enough = conserved nodes c table fits chains (superior_of up d) d n (λ e. d_not_s (sym e)) here_s
-      here_d some enough
-
-  pub after_move : (down : Bool) (new : CellMaps) (r : Result (Unit {0}) MoveFault) → r ≡ move_answer c up d down n
-      → OnOk r (new ≡ moved c up d down n)
-      → OnErr r (new ≡ c) → AfterMove nodes c new d n down r
-  after_move down new (Err e) is ok err = record {
-    fits = subst (Fits nodes) (sym err) fits;
-    total = ap (λ (x : CellMaps). sum x.quotas) err;
-    shown = tt;
-  }
-  after_move down new (Ok tt) is ok err =
-      let enough : n ≤ quota_in c (giver_of up d down) = (answer_ok c up d down n (sym is)).0 in
-      record {
-        fits = subst (Fits nodes) (sym ok) (fits_moved down enough);
-        total = ap (λ (x : CellMaps). sum x.quotas) ok ∙ total_moved down enough;
-        shown = ap (λ (x : CellMaps). with_quotas (quota_in x) nodes) ok ∙ moved_tree down enough;
-      }
+  pub after_move : (down : Bool) {new : CellMaps} (r : Result (Unit {0}) MoveFault) → r ≡ move_answer c up d down n
+      → OnOk r (new ≡ moved c up d down n) → OnErr r (new ≡ c) → AfterMove nodes c new d n down r
+  after_move down (Err e) is ok err = rw err assumption
+  after_move down (Ok tt) is ok err =
+      let enough = (answer_ok c up d down n (sym is)).0 in
+      rw ok assumption (fits2 (moving down enough), conserved (moving down enough), moved_tree down enough)
 
   module _ (xs : List (ℕ × ℕ)) (holds : HoldCounts c xs) where
     over_moved : (down : Bool) → n ≤ quota_in c (giver_of up d down) → over_in (tree_moved nodes_now d down n) xs
         ≡ first_over (moved c up d down n)
     unfolding over_in
-    over_moved down enough =
-        ap (λ ns. least_where (is_over_at ns xs) (map (λ n. n.uid) ns)) (sym (moved_tree down enough))
-        ∙ least_first (is_over_at (with_quotas (quota_in (moved c up d down n)) nodes) xs)
-        (is_over (moved c up d down n)) c.directories
-        (map (λ n. n.uid) (with_quotas (quota_in (moved c up d down n)) nodes)) table.rising
-        (over_same nodes (moved c up d down n) (fits_moved down enough) chains table.segments_rise table.stored_count
-        xs holds)
-        (λ u is. uids_there (quota_in (moved c up d down n)) nodes u (sym (on_directories nodes fits u) ∙ is))
-        (first_over (moved c up d down n)) refl
+    over_moved down enough = cc (
+      moved_tree down enough,
+      least_first (is_over_at (with_quotas (quota_in (moved c up d down n)) nodes) xs)
+          (is_over (moved c up d down n)) c.directories (map (λ n. n.uid) (with_quotas
+          (quota_in (moved c up d down n))
+          nodes)) table.rising (over_same nodes (moved c up d down n) (fits2 (moving down enough)) chains
+          table.segments_rise table.stored_count xs holds) (λ u is. uids_there (quota_in (moved c up d down n))
+          nodes u (sym (on_directories nodes fits u) ∙ is)) (first_over (moved c up d down n)) refl,
+    )
 
     -- so the answer is that by counts from scratch
     pub answer_same : (down : Bool) → move_answer c up d down n ≡ scratch_answer nodes_now xs d down n
@@ -356,7 +324,6 @@ module _ (nodes : List Node) (c : CellMaps) (table : IsTable c) (fits : Fits nod
 
 -- a move keeps what is stored
 pub stored_kept : (c new : CellMaps) (up : ℕ → List ℕ) (d : ℕ) (down : Bool) (n : ℕ) (r : Result (Unit {0}) MoveFault)
-    → OnOk r (new ≡ moved c up d down n)
-    → OnErr r (new ≡ c) → (s : ℕ) → stored_in new s ≡ stored_in c s
-stored_kept c new up d down n (Ok tt) ok err s = ap (λ (x : CellMaps). stored_in x s) ok
-stored_kept c new up d down n (Err e) ok err s = ap (λ (x : CellMaps). stored_in x s) err
+    → OnOk r (new ≡ moved c up d down n) → OnErr r (new ≡ c) → (s : ℕ) → stored_in new s ≡ stored_in c s
+stored_kept c new up d down n (Ok tt) ok err s = cc
+stored_kept c new up d down n (Err e) ok err s = cc

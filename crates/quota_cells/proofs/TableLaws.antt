@@ -1,5 +1,5 @@
 -- Tables by uid: the uids that are there, and what stands beside them.
-use Rattle.quota_cells.proofs.Prelude.{◌≡◌, ℕ, suc, zero, ◌+◌, ◌-◌, ◌<◌, ◌≤◌, Bool, true, false, eqb, List, [], ◌∷◌, ◌++◌, length, length-append, length-replicate, replicate, refl, sym, ap, subst, ◌∙◌, arith, get_or, set, inl, inr, cases_Bool, cases_eq, cases_lt, eq-eqb, ne_eqb, lt-ltb, le-ltb, false_from_ne_true, get_or-set_same, get_or-set_other, look, has, with_value, with_beside, without_beside, IsRising, NumberMap, beside, no_numbers, numbers_of, uids_from, with_uid, without_uid}
+use Rattle.quota_cells.proofs.Prelude.{◌≡◌, ℕ, suc, zero, ◌+◌, ◌-◌, ◌<◌, ◌≤◌, Bool, true, false, eqb, List, [], ◌∷◌, ◌++◌, length, length-append, length-replicate, replicate, refl, sym, ap, ◌∙◌, arith, get_or, set, inl, inr, cases_Bool, cases_eq, cases_lt, eq-eqb, ne_eqb, lt-ltb, le-ltb, false_from_ne_true, get_or-set_same, get_or-set_other, look, has, with_value, with_beside, without_beside, IsRising, NumberMap, beside, no_numbers, numbers_of, uids_from, with_uid, without_uid}
 use Rattle.quota_cells.proofs.PadLaws.{blanks_next, set_end}
 
 -- ---- uids in order, none below this one
@@ -10,7 +10,7 @@ Rises f (k ∷ ks) = (f ≤ k) × Rises (k + 1) ks
 
 lower : (f g : ℕ) (ks : List ℕ) → f ≤ g → Rises g ks → Rises f ks
 lower f g [] le r = tt
-lower f g (k ∷ ks) le r = (omega (arith, le, r.0), r.1)
+lower f g (k ∷ ks) le r = (omega arith, r.1)
 
 below_absent : (f x : ℕ) (ks : List ℕ) → Rises f ks → x < f → has ks x ≡ false
 below_absent f x [] r lt = refl
@@ -62,18 +62,17 @@ there_within bs u is = within bs u (sym (is_there bs u) ∙ is)
     within : (bs : List Bool) (u : ℕ) → get_or bs u false ≡ true → u < length bs
     within [] u e = cc
     within (b ∷ bs) zero e = omega arith
-    within (b ∷ bs) (suc u) e = (let ih : u < length bs = within bs u e in omega arith)
+    within (b ∷ bs) (suc u) e = (omega (arith, within bs u e))
 
 pub past_absent : (bs : List Bool) (u : ℕ) → length bs ≤ u → has (uids_from 0 bs) u ≡ false
-past_absent bs u le = false_from_ne_true (has (uids_from 0 bs) u)
-    (λ is. (let lt : u < length bs = there_within bs u is in omega arith))
+past_absent bs u le = false_from_ne_true (has (uids_from 0 bs) u) (λ is. (omega (arith, there_within bs u is)))
 
 -- no uid is there after those that the table holds
 none_past : (bs : List Bool) (f n : ℕ) → uids_from f (bs ++ replicate n false) ≡ uids_from f bs
 unfolding uids_from
 none_past [] f zero = refl
 none_past [] f (suc n) = none_past [] (f + 1) n
-none_past (true ∷ bs) f n = ap (λ (ks : List ℕ). f ∷ ks) (none_past bs (f + 1) n)
+none_past (true ∷ bs) f n = rw (none_past bs (f + 1) n) refl
 none_past (false ∷ bs) f n = none_past bs (f + 1) n
 
 first_beside : (f x : ℕ) (ks : List ℕ) → Rises f ks → x < f → x ∷ ks ≡ with_beside ks ks x x
@@ -86,12 +85,11 @@ entered_from : (f u x : ℕ) (bs : List Bool) → x ≡ f + u → u < length bs 
 unfolding uids_from
 entered_from f u x [] e lt off = absurd (omega arith)
 entered_from f zero x (true ∷ bs) e lt off = cc
-entered_from f (suc u) x (true ∷ bs) e lt off = rw (le-ltb x f (omega arith)) (ap (λ (ks : List ℕ). f ∷ ks)
-    (entered_from (f + 1) u x bs (omega arith) (omega arith) off))
+entered_from f (suc u) x (true ∷ bs) e lt off =
+    rw (le-ltb x f (omega arith), entered_from (f + 1) u x bs (omega arith) (omega arith) off) refl
 entered_from f zero x (false ∷ bs) e lt off =
     let same : f ≡ x = omega arith in
-    ap (λ k. k ∷ uids_from (f + 1) bs) same
-    ∙ first_beside (f + 1) x (uids_from (f + 1) bs) (rises (f + 1) bs) (omega arith)
+    rw (← first_beside (f + 1) x (uids_from (f + 1) bs) (rises (f + 1) bs) (omega arith), same) refl
 entered_from f (suc u) x (false ∷ bs) e lt off = entered_from (f + 1) u x bs (omega arith) (omega arith) off
 
 left_from : (f u x : ℕ) (bs : List Bool) → x ≡ f + u → get_or bs u false ≡ true
@@ -99,8 +97,8 @@ left_from : (f u x : ℕ) (bs : List Bool) → x ≡ f + u → get_or bs u false
 unfolding uids_from
 left_from f u x [] e on = cc
 left_from f zero x (true ∷ bs) e on = rw (eq-eqb f x (omega arith)) refl
-left_from f (suc u) x (true ∷ bs) e on = rw (ne_eqb f x (λ q. omega arith)) (ap (λ (ks : List ℕ). f ∷ ks)
-    (left_from (f + 1) u x bs (omega arith) on))
+left_from f (suc u) x (true ∷ bs) e on =
+    rw (ne_eqb f x (λ q. omega arith), left_from (f + 1) u x bs (omega arith) on) refl
 left_from f zero x (false ∷ bs) e on = cc
 left_from f (suc u) x (false ∷ bs) e on = left_from (f + 1) u x bs (omega arith) on
 
@@ -117,7 +115,7 @@ uid_left bs u on = left_from 0 u u bs (omega arith) (sym (is_there bs u) ∙ on)
 pub look_beside : (table ks : List ℕ) (u : ℕ) → has ks u ≡ true → look ks (beside table ks) u ≡ get_or table u 0
 look_beside table [] u is = cc
 look_beside table (k ∷ ks) u is = elim (cases_eq k u) [
-  | inl same ↦ rw (eq-eqb k u same) (ap (λ x. get_or table x 0) same)
+  | inl same ↦ rw (eq-eqb k u same, same) refl
   | inr other ↦ (let far : eqb k u ≡ false = ne_eqb k u other in rw far (look_beside table ks u (rw far at is)))
 ]
 
@@ -125,10 +123,7 @@ kept_beside : (table ks : List ℕ) (f u v : ℕ) → Rises f ks → u < f → b
 kept_beside table [] f u v r lt = refl
 kept_beside table (k ∷ ks) f u v r lt =
     let le : f ≤ k = r.0 in
-    rw (
-      get_or-set_other table u k v 0 (λ q. omega arith),
-      kept_beside table ks (k + 1) u v r.1 (omega arith),
-    ) refl
+    rw (get_or-set_other table u k v 0 (λ q. omega arith), kept_beside table ks (k + 1) u v r.1 (omega arith)) refl
 
 set_from : (table ks : List ℕ) (f u v : ℕ) → Rises f ks → has ks u ≡ true → u < length table
     → beside (set table u v) ks ≡ with_value ks (beside table ks) u v
@@ -142,8 +137,7 @@ set_from table (k ∷ ks) f u v r is lt = elim (cases_eq k u) [
   ) refl
   | inr other ↦
       (let far : eqb k u ≡ false = ne_eqb k u other in
-      rw (far, get_or-set_other table u k v 0 other) (ap (λ (vs : List ℕ). get_or table k 0 ∷ vs)
-      (set_from table ks (k + 1) u v r.1 (rw far at is) lt)))
+      rw (far, get_or-set_other table u k v 0 other, set_from table ks (k + 1) u v r.1 (rw far at is) lt) refl)
 ]
 
 entered_beside : (table ks : List ℕ) (f u : ℕ) → Rises f ks → has ks u ≡ false → u < length table
@@ -159,8 +153,11 @@ entered_beside table (k ∷ ks) f u r off lt = elim (cases_lt u k) [
   | inr more ↦ elim (cases_eq k u) [
     | inl same ↦ (let clash : true ≡ false = rw (eq-eqb k u same) at off in cc)
     | inr other ↦
-        rw (le-ltb u k more, get_or-set_other table u k 0 0 other) (ap (λ (vs : List ℕ). get_or table k 0 ∷ vs)
-        (entered_beside table ks (k + 1) u r.1 (rw (ne_eqb k u other) at off) lt))
+        rw (
+          le-ltb u k more,
+          get_or-set_other table u k 0 0 other,
+          entered_beside table ks (k + 1) u r.1 (rw (ne_eqb k u other) at off) lt,
+        ) refl
   ]
 ]
 
@@ -169,7 +166,7 @@ pub left_beside : (table ks : List ℕ) (u : ℕ)
 left_beside table [] u = refl
 left_beside table (k ∷ ks) u = elim (cases_Bool (eqb k u)) [
   | inl is ↦ rw is refl
-  | inr isnt ↦ rw isnt (ap (λ (vs : List ℕ). get_or table k 0 ∷ vs) (left_beside table ks u))
+  | inr isnt ↦ rw (isnt, left_beside table ks u) refl
 ]
 
 -- a list that rises does so from 0
@@ -197,56 +194,50 @@ both uids values = record { uids = uids; values = values }
 
 pub blank : (bs : List Bool) (values : List ℕ) → bs ≡ [] → numbers_of bs values ≡ no_numbers
 unfolding uids_from
-blank bs values is = ap (λ (ks : List ℕ). both ks (beside values ks)) (ap (uids_from 0) is)
+blank bs values is = cc
 
 module _ (bs : List Bool) (values : List ℕ) (now : NumberMap) (view : numbers_of bs values ≡ now) where
   abbrev us : List ℕ
   us = uids_from 0 bs
 
   pub there_now : (u : ℕ) → has now.uids u ≡ true → has us u ≡ true
-  there_now u is = subst (λ (m : NumberMap). has m.uids u ≡ true) (sym view) is
+  there_now u is = rw (← view) at is
 
   absent_now : (u : ℕ) → has now.uids u ≡ false → has us u ≡ false
-  absent_now u off = subst (λ (m : NumberMap). has m.uids u ≡ false) (sym view) off
+  absent_now u off = rw (← view) at off
 
   pub now_rises : IsRising now.uids
-  now_rises = subst (λ (m : NumberMap). IsRising m.uids) view (uids_rise bs)
+  now_rises = rw (← view) (uids_rise bs)
 
   pub number_read : (u x : ℕ) → x ≡ get_or values u 0 → has now.uids u ≡ true → x ≡ look now.uids now.values u
-  number_read u x read is = read ∙ sym (look_beside values us u (there_now u is))
-      ∙ ap (λ (m : NumberMap). look m.uids m.values u) view
+  number_read u x read is = rw (read, ← view) (sym (look_beside values us u (there_now u is)))
 
   pub number_set : (p u v : ℕ) → p ≡ u → has now.uids u ≡ true → u < length values
       → numbers_of bs (set values p v) ≡ record now { values = with_value now.uids now.values u v }
-  number_set p u v same is lt = ap (λ q. numbers_of bs (set values q v)) same
-      ∙ ap (both us) (set_in_order values us (uids_rise bs) u v (there_now u is) lt)
-      ∙ ap (λ (m : NumberMap). record m { values = with_value m.uids m.values u v }) view
+  number_set p u v same is lt = rw (same, ← view) (cc (set_in_order values us (uids_rise bs) u v (there_now u is) lt))
 
   pub number_entered : (u : ℕ) → has now.uids u ≡ false → u < length bs → u < length values
       → numbers_of (set bs u true) (set values u 0) ≡ with_uid now u
-  number_entered u off lt in_values = ap (λ (ks : List ℕ). both ks (beside (set values u 0) ks))
-      (uid_entered bs u lt (absent_now u off))
-      ∙ ap (both (with_beside us us u u)) (entered_in_order values us (uids_rise bs) u (absent_now u off) in_values)
-      ∙ ap (λ (m : NumberMap). with_uid m u) view
+  number_entered u off lt in_values = rw (uid_entered bs u lt (absent_now u off), ← view)
+      (cc (entered_in_order values us (uids_rise bs) u (absent_now u off) in_values))
 
   -- of a uid after those that the table holds
   pub number_reached : (front : List Bool) (u : ℕ) → has now.uids u ≡ false → length bs ≤ u
       → front ≡ bs ++ replicate (u - length bs) false → u < length values
       → numbers_of (front ++ true ∷ []) (set values u 0) ≡ with_uid now u
-  number_reached front u off past is in_values = ap (λ (ks : List ℕ). both ks (beside (set values u 0) ks))
-      (ap (uids_from 0) grown ∙ uid_entered wide u in_wide (ap (λ (ks : List ℕ). has ks u) same ∙ absent_now u off)
-      ∙ ap (λ (ks : List ℕ). with_beside ks ks u u) same)
-      ∙ ap (both (with_beside us us u u)) (entered_in_order values us (uids_rise bs) u (absent_now u off) in_values)
-      ∙ ap (λ (m : NumberMap). with_uid m u) view
+  number_reached front u off past is in_values =
+      rw (grown, uid_entered wide u in_wide (rw same (absent_now u off)), same, ← view)
+      (cc (entered_in_order values us (uids_rise bs) u (absent_now u off) in_values))
     where
       wide : List Bool
       wide = front ++ false ∷ []
 
       long : length front ≡ u
-      long =
-          let all = ap length is ∙ length-append bs (replicate (u - length bs) false) in
-          let many = length-replicate (u - length bs) false in
-          omega (arith, all, many, past)
+      long = omega (
+        arith,
+        ap length is ∙ length-append bs (replicate (u - length bs) false),
+        length-replicate (u - length bs) false,
+      )
 
       in_wide : u < length wide
       in_wide =
@@ -254,14 +245,10 @@ module _ (bs : List Bool) (values : List ℕ) (now : NumberMap) (view : numbers_
           omega (arith, all, long)
 
       same : uids_from 0 wide ≡ us
-      same = ap (uids_from 0) (blanks_next bs front u false is past) ∙ none_past bs 0 (u + 1 - length bs)
+      same = cc (blanks_next bs front u false is past, none_past bs 0 (u + 1 - length bs))
 
       grown : front ++ true ∷ [] ≡ set wide u true
       grown = sym (set_end front u false true (sym long))
 
-  pub number_left : (p u : ℕ) → p ≡ u → has now.uids u ≡ true → numbers_of (set bs p false) values
-      ≡ without_uid now u
-  number_left p u same is = ap (λ q. numbers_of (set bs q false) values) same
-      ∙ ap (λ (ks : List ℕ). both ks (beside values ks)) (uid_left bs u (there_now u is))
-      ∙ ap (both (without_beside us us u)) (left_beside values us u)
-      ∙ ap (λ (m : NumberMap). without_uid m u) view
+  pub number_left : (p u : ℕ) → p ≡ u → has now.uids u ≡ true → numbers_of (set bs p false) values ≡ without_uid now u
+  number_left p u same is = rw (same, uid_left bs u (there_now u is), ← view) (cc (left_beside values us u))

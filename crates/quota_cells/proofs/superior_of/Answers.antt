@@ -15,17 +15,8 @@ returns c =
     ∙ c.superiors-up.ensures.plain in
     let first : IsBelow c.args.t.now.nodes c.args.dir (get_or (above (shapes c.args.t.now.nodes) c.args.dir) 0 0) =
     top c.args.t.now.nodes c.superiors-up.ensures.chains c.args.dir c.requires.directory c.requires.branch in
-    let below : IsBelow c.args.t.now.nodes c.args.dir (get_or c.as_slice.result.now 0 0) =
-    subst (λ (xs : List ℕ). IsBelow c.args.t.now.nodes c.args.dir (get_or xs 0 0)) (sym up) first in
+    let below : IsBelow c.args.t.now.nodes c.args.dir (get_or c.as_slice.result.now 0 0) = rw up first in
     record {
-      lies = record {
-        directory = c.requires.directory;
-        branch = c.requires.branch;
-        is = ap (λ (xs : List ℕ). get_or xs 0 0) (sym up);
-        chain = below.chain;
-        below = below.below;
-        upper = below.directory;
-        chains = c.superiors-up.ensures.chains;
-      };
+      lies = assumption (ap (λ (xs : List ℕ). get_or xs 0 0) (sym up));
       there = directory_in c.args.t.now.nodes _ below.directory;
     }

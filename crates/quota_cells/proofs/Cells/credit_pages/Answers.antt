@@ -1,48 +1,45 @@
-use Rattle.quota_cells.proofs.Prelude.{◌≡◌, ◌-◌, ℕ, List, sym, ap, subst, ◌∙◌, above, shapes, quota_in, stored_in, Fits, IsTable, credited, on_segments}
+use Rattle.quota_cells.proofs.Prelude.{◌≡◌, ◌-◌, ℕ, List, ap, subst, ◌∙◌, above, shapes, quota_in, stored_in, IsTable, credited, on_segments}
 use Rattle.quota_cells.proofs.ColumnLaws.{look_with}
-use Rattle.quota_cells.proofs.FitLaws.{there, falls, room_credited, fits_credited, table_credited}
+use Rattle.quota_cells.proofs.FitLaws.{Settled, there, falls, room_credited, fits_credited, table_credited}
 use Rattle.quota_cells.proofs.Cells.credit_pages.Goals as goal
 
 pub take_pages-requires : goal.take_pages-requires
 take_pages-requires c =
-    let table : IsTable c.args.self.now = subst IsTable c.self.view_is c.self.invariant in
-    let up : c.as_slice.result.now ≡ above (shapes c.args.t.now.nodes) c.args.seg = c.as_slice.ensures.value
-    ∙ c.superiors-up.ensures.plain in
+    let settled : Settled c.args.t.now.nodes c.args.self.now = record {
+      table = rw c.self.view_is at c.self.invariant;
+      fits = c.requires.fits;
+      chains = c.superiors-up.ensures.chains;
+    } in
+    let up = c.as_slice.ensures.value ∙ c.superiors-up.ensures.plain in
     record {
-      segment = (on_segments c.args.t.now.nodes c.requires.fits c.args.seg ∙ c.requires.segment);
-      there = rw up (there c.args.t.now.nodes c.args.self.now table c.requires.fits c.superiors-up.ensures.chains
-          c.args.seg);
-      falls = rw up (falls c.args.t.now.nodes c.args.self.now table c.requires.fits c.superiors-up.ensures.chains
-          c.args.seg);
-      loads = rw up (room_credited c.args.t.now.nodes c.args.self.now table c.requires.fits
-          c.superiors-up.ensures.chains c.args.seg c.args.pages
-          c.requires.segment c.requires.stored);
+      segment = (cc (on_segments c.args.t.now.nodes c.requires.fits c.args.seg));
+      there = rw up (there settled c.args.seg);
+      falls = rw up (falls settled c.args.seg);
+      loads = rw up (room_credited settled c.args.seg c.args.pages c.requires.stored);
       stored = c.requires.stored;
-      table = rw up (table_credited c.args.t.now.nodes c.args.self.now table c.requires.fits
-          c.superiors-up.ensures.chains c.args.seg c.args.pages
-          c.requires.segment);
+      table = rw up (table_credited settled c.args.seg c.args.pages);
     }
 
 -- the cells once the pages are taken
 taken : (c : goal.After-take_pages) → c.take_pages.new.self
     ≡ credited c.args.self.now (above (shapes c.args.t.now.nodes) c.args.seg) c.args.seg c.args.pages
-taken c = c.take_pages.ensures ∙ ap (λ (xs : List ℕ). credited c.args.self.now xs c.args.seg c.args.pages)
-    (c.as_slice.ensures.value ∙ c.superiors-up.ensures.plain)
+taken c = cc
 
 pub returns-clause-stored : goal.returns-clause-stored
 returns-clause-stored c s =
     let table : IsTable c.args.self.now = subst IsTable c.self.view_is c.self.invariant in
     ap (λ x. stored_in x s) (taken c) ∙ look_with c.args.self.now.segments c.args.self.now.stored c.args.seg
     (stored_in c.args.self.now c.args.seg - c.args.pages) s table.stored_count
-    (on_segments c.args.t.now.nodes c.requires.fits c.args.seg ∙ c.requires.segment)
+    (cc (on_segments c.args.t.now.nodes c.requires.fits c.args.seg))
 
 pub returns-clause-quotas : goal.returns-clause-quotas
 returns-clause-quotas c = ap quota_in c.take_pages.ensures
 
 pub returns-clause-fits : goal.returns-clause-fits
 returns-clause-fits c =
-    let table : IsTable c.args.self.now = subst IsTable c.self.view_is c.self.invariant in
-    subst (Fits c.args.t.now.nodes) (sym (taken c))
-    (fits_credited c.args.t.now.nodes c.args.self.now table c.requires.fits c.superiors-up.ensures.chains c.args.seg
-    c.args.pages c.requires.segment
-    c.requires.stored)
+    let settled : Settled c.args.t.now.nodes c.args.self.now = record {
+      table = rw c.self.view_is at c.self.invariant;
+      fits = c.requires.fits;
+      chains = c.superiors-up.ensures.chains;
+    } in
+    rw (taken c) (fits_credited settled c.args.seg c.args.pages c.requires.segment c.requires.stored)

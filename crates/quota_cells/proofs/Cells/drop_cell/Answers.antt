@@ -14,15 +14,11 @@ left_table d s now uid seen table there quota stored =
 pub invariant_of-self : goal.invariant_of-self
 invariant_of-self c =
     let dir : has c.self.inside.directories.directories c.args.uid ≡ true = sym c.has.ensures ∙ c.if-has.true in
-    subst (λ (m : CellMaps). IsTable (both_maps m c.self.inside.segments)) (sym c.leave.ensures)
-    (rw dir at (left_table c.self.inside.directories c.self.inside.segments c.args.self.now c.args.uid c.self.view_is
-    c.self.invariant c.requires.cell c.requires.quota
-    c.requires.stored))
+    rw c.leave.ensures (rw dir at (left_table c.self.inside.directories c.self.inside.segments c.args.self.now
+    c.args.uid c.self.view_is c.self.invariant c.requires.cell c.requires.quota c.requires.stored))
 
 pub invariant_of-self-else-has : goal.invariant_of-self-else-has
 invariant_of-self-else-has c =
     let off : has c.self.inside.directories.directories c.args.uid ≡ false = sym c.has.ensures ∙ c.if-has.false in
-    subst (λ (m : NumberMap). IsTable (both_maps c.self.inside.directories m)) (sym c.leave-else-has.ensures)
-    (rw off at (left_table c.self.inside.directories c.self.inside.segments c.args.self.now c.args.uid c.self.view_is
-    c.self.invariant c.requires.cell c.requires.quota
-    c.requires.stored))
+    rw c.leave-else-has.ensures (rw off at (left_table c.self.inside.directories c.self.inside.segments c.args.self.now
+    c.args.uid c.self.view_is c.self.invariant c.requires.cell c.requires.quota c.requires.stored))

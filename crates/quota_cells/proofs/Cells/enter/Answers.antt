@@ -1,4 +1,4 @@
-use Rattle.quota_cells.proofs.Prelude.{◌≡◌, ℕ, Bool, false, List, ◌∷◌, sym, subst, Node, is_in, shapes, HasChains, CellMaps, Enters, Fits}
+use Rattle.quota_cells.proofs.Prelude.{◌≡◌, ℕ, Bool, false, List, ◌∷◌, Node, is_in, shapes, HasChains, CellMaps, Enters, Fits}
 use Rattle.quota_cells.proofs.EnterLaws.{enters_entered, fits_entered}
 use Rattle.quota_cells.proofs.Cells.enter.Goals as goal
 
@@ -6,17 +6,14 @@ fitted : (nodes : List Node) (n : Node) (old new : CellMaps) (uid : ℕ) (dir : 
     → is_in nodes uid ≡ false
     → HasChains (shapes nodes) → Fits nodes old → Enters old new uid dir → Fits (n ∷ nodes) new
 fitted nodes n old new uid dir is_uid is_dir absent chains fits enters =
-    let enters' : Enters old new n.uid n.dir = subst (λ u. Enters old new u n.dir) (sym is_uid)
-    (subst (λ b. Enters old new uid b) (sym is_dir) enters) in
-    fits_entered nodes n old new fits chains (subst (λ u. is_in nodes u ≡ false) (sym is_uid) absent) enters'
+    fits_entered nodes n old new fits chains (rw is_uid absent) (rw (is_uid, is_dir) enters)
 
 pub returns-clause-enters : goal.returns-clause-enters
-returns-clause-enters c = subst (λ (d : CellMaps). Enters c.args.self.now d c.args.uid c.args.dir)
-    (sym c.add_cell.ensures.cells)
+returns-clause-enters c = rw c.add_cell.ensures.cells
     (enters_entered c.args.self.now c.add_cell.ensures.table c.args.uid c.requires.absent c.args.dir)
 
 pub returns-clause-fits : goal.returns-clause-fits
 returns-clause-fits c nodes n uid dir absent chains fits =
     fitted nodes n c.args.self.now c.add_cell.new.self c.args.uid c.args.dir uid dir absent chains fits
-    (subst (λ (d : CellMaps). Enters c.args.self.now d c.args.uid c.args.dir) (sym c.add_cell.ensures.cells)
+    (rw c.add_cell.ensures.cells
     (enters_entered c.args.self.now c.add_cell.ensures.table c.args.uid c.requires.absent c.args.dir))

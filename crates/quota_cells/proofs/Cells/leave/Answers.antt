@@ -1,16 +1,12 @@
-use Rattle.quota_cells.proofs.Prelude.{sym, subst, CellMaps, Leaves}
 use Rattle.quota_cells.proofs.EnterLaws.{leaves_left, fits_left}
 use Rattle.quota_cells.proofs.Cells.leave.Goals as goal
 
 pub returns-clause-leaves : goal.returns-clause-leaves
-returns-clause-leaves c = subst (λ (d : CellMaps). Leaves c.args.self.now d c.args.uid) (sym c.drop_cell.ensures.cells)
+returns-clause-leaves c = rw c.drop_cell.ensures.cells
     (leaves_left c.args.self.now c.drop_cell.ensures.table c.args.uid c.requires.cell c.requires.quota
     c.requires.stored)
 
 pub returns-clause-fits : goal.returns-clause-fits
-returns-clause-fits c nodes same fewer fits =
-    fits_left nodes c.args.uid c.args.self.now c.drop_cell.new.self fits
-    (subst (λ (d : CellMaps). Leaves c.args.self.now d c.args.uid) (sym c.drop_cell.ensures.cells)
-    (leaves_left c.args.self.now c.drop_cell.ensures.table c.args.uid c.requires.cell c.requires.quota
-    c.requires.stored))
-    same fewer
+returns-clause-fits c nodes same fewer fits = fits_left nodes c.args.uid c.args.self.now c.drop_cell.new.self fits
+    (rw c.drop_cell.ensures.cells (leaves_left c.args.self.now c.drop_cell.ensures.table c.args.uid c.requires.cell
+    c.requires.quota c.requires.stored)) same fewer

@@ -6,7 +6,5 @@ pub returns : goal.returns
 returns c stored holds =
     let up : c.as_slice.result.now ≡ above (shapes c.args.t.now.nodes) c.args.seg = c.as_slice.ensures.value
     ∙ c.superiors-up.ensures.plain in
-    c.room_for.ensures.answer ∙ ap (charge_fault c.args.self.now) up
-    ∙ charge_same c.args.t.now.nodes c.args.self.now c.requires.fits c.superiors-up.ensures.chains
-    c.room_for.ensures.table.segments_rise
-    c.room_for.ensures.table.stored_count stored holds c.args.seg
+    cc (charge_same c.args.t.now.nodes c.args.self.now c.requires.fits c.superiors-up.ensures.chains
+    c.room_for.ensures.table.segments_rise c.room_for.ensures.table.stored_count stored holds c.args.seg)

@@ -15,8 +15,7 @@ down c =
     (rw back at c.unsigned_abs.ensures.value)
 
 -- and so with those that go up from it
-up : (c : goal.After-unsigned_abs-else-is_positive)
-    → (c.unsigned_abs-else-is_positive.result
+up : (c : goal.After-unsigned_abs-else-is_positive) → (c.unsigned_abs-else-is_positive.result
     ≤ quota_in c.args.self.now (giver_of (above (shapes c.args.t.now.nodes)) c.args.dir false))
     × (first_over (moved c.args.self.now (above (shapes c.args.t.now.nodes)) c.args.dir false
     c.unsigned_abs-else-is_positive.result) ≡ None)
@@ -44,8 +43,6 @@ returns-in_err-move_refusal-clause-answer c =
     let back = to_z-of_z w32 c.args.amount c.ranges.amount in
     let answer : c.move_refusal.result ≡ move_answer c.args.self.now (above (shapes c.args.t.now.nodes)) c.args.dir
     (is_positive c.args.amount) (unsigned_abs c.args.amount) = rw back at c.move_refusal.ensures.answer in
-    let was = c.in_err-move_refusal.was in
-    let given = c.from_residual.ensures in
     grind (arith, common_steps)
 
 pub returns-then-is_positive-clause-answer : goal.returns-then-is_positive-clause-answer

@@ -1,6 +1,10 @@
 use Rattle.quota_cells.proofs.Prelude.{◌≡◌, ◌∙◌, w32, to_z-of_z, is_positive, unsigned_abs, above, shapes, move_answer}
+use Rattle.quota_cells.proofs.FitLaws.{Settled}
 use Rattle.quota_cells.proofs.ScratchLaws.{AfterMove, after_move, answer_same, stored_kept}
 use Rattle.quota_cells.proofs.Cells.move_quota.Goals as goal
+
+settled : (c : goal.After-move_between) → Settled c.args.t.now.nodes c.args.self.now
+settled c = assumption
 
 answered : (c : goal.After-move_between) → c.move_between.result
     ≡ move_answer c.args.self.now (above (shapes c.args.t.now.nodes)) c.args.dir (is_positive c.args.amount)
@@ -10,18 +14,14 @@ answered c = rw (to_z-of_z w32 c.args.amount c.ranges.amount) at c.move_between.
 kept : (c : goal.After-move_between)
     → AfterMove c.args.t.now.nodes c.args.self.now c.move_between.new.self c.args.dir (unsigned_abs c.args.amount)
     (is_positive c.args.amount) c.move_between.result
-kept c =
-    after_move c.args.t.now.nodes c.args.self.now c.move_between.ensures.table c.requires.fits
-    c.superior_of-superior.ensures.lies.chains c.args.dir (unsigned_abs c.args.amount) c.requires.directory
-    c.requires.branch c.requires.amount (is_positive c.args.amount) c.move_between.new.self c.move_between.result
-    (answered c) (rw (to_z-of_z w32 c.args.amount c.ranges.amount) at c.move_between.ensures.ok)
+kept c = after_move (settled c) c.requires.directory c.requires.branch c.requires.amount (is_positive c.args.amount)
+    c.move_between.result (answered c) (rw (to_z-of_z w32 c.args.amount c.ranges.amount) at c.move_between.ensures.ok)
     c.move_between.ensures.err
 
 pub returns-clause-scratch : goal.returns-clause-scratch
 returns-clause-scratch c stored holds = answered c
-    ∙ answer_same c.args.t.now.nodes c.args.self.now c.move_between.ensures.table c.requires.fits
-    c.superior_of-superior.ensures.lies.chains c.args.dir (unsigned_abs c.args.amount) c.requires.directory
-    c.requires.branch c.requires.amount stored holds (is_positive c.args.amount)
+    ∙ answer_same (settled c) c.requires.directory c.requires.branch c.requires.amount stored holds
+    (is_positive c.args.amount)
 
 pub returns-clause-tree : goal.returns-clause-tree
 returns-clause-tree c = (kept c).shown

@@ -1,17 +1,14 @@
-use Rattle.quota_cells.proofs.Prelude.{◌≡◌, ◌≤◌, ℕ, true, sym, ap, subst, covers, CellMaps, quota_in, load_in, IsTable, credited, both_maps}
+use Rattle.quota_cells.proofs.Prelude.{ap, CellMaps, IsTable, credited, both_maps}
 use Rattle.quota_cells.proofs.Cells.take_pages.Goals as goal
 
 pub count-requires-clause-room : goal.count-requires-clause-room
-count-requires-clause-room c = subst (λ (m : CellMaps). (e : ℕ) → covers (quota_in m) c.args.up.now e ≡ true
-    → c.args.pages ≤ load_in m e)
-    (sym c.self.view_is) c.requires.loads
+count-requires-clause-room c = rw (← c.self.view_is) at c.requires.loads
 
 pub invariant_of-self : goal.invariant_of-self
 invariant_of-self c =
     let s : CellMaps = both_maps c.self.inside.directories c.self.inside.segments in
     let table : IsTable (credited s c.args.up.now c.args.seg c.args.pages) =
-    subst (λ (m : CellMaps). IsTable (credited m c.args.up.now c.args.seg c.args.pages)) (sym c.self.view_is)
-    c.requires.table in
+    rw (← c.self.view_is) at c.requires.table in
     rw (c.count.ensures, c.set.ensures, c.look.ensures) table
 
 pub returns : goal.returns

@@ -1,5 +1,5 @@
-use Rattle.quota_cells.proofs.Prelude.{subst, ◌∙◌, IsTable, given, CanGive, directories_of, directory_in, on_directories}
-use Rattle.quota_cells.proofs.OverLaws.{gives}
+use Rattle.quota_cells.proofs.Prelude.{◌∙◌, IsTable, given, CanGive, directories_of, directory_in, on_directories}
+use Rattle.quota_cells.proofs.OverLaws.{Moving, gives}
 use Rattle.quota_cells.proofs.Cells.transfer.Goals as goal
 
 pub superiors-above_getter-requires : goal.superiors-above_getter-requires
@@ -17,11 +17,19 @@ can : (c : goal.After-as_slice-2)
 can c =
     let up_g = c.as_slice.ensures.value ∙ c.superiors-above_getter.ensures.plain in
     let up_v = c.as_slice-2.ensures.value ∙ c.superiors-above_giver.ensures.plain in
-    rw (up_g, up_v) (gives c.args.t.now.nodes c.args.self.now (subst IsTable c.self.view_is c.self.invariant)
-    c.requires.fits c.superiors-above_getter.ensures.chains c.args.getter c.args.giver c.args.pages c.requires.other
-    (on_directories c.args.t.now.nodes c.requires.fits c.args.getter ∙ c.requires.getter)
-    (on_directories c.args.t.now.nodes c.requires.fits c.args.giver ∙ c.requires.giver) c.requires.pages
-    c.requires.enough c.requires.none)
+    let moving : Moving c.args.t.now.nodes c.args.self.now c.args.getter c.args.giver c.args.pages = record {
+      settled = record {
+        table = rw c.self.view_is at c.self.invariant;
+        fits = c.requires.fits;
+        chains = c.superiors-above_getter.ensures.chains;
+      };
+      other = c.requires.other;
+      here_g = cc (on_directories c.args.t.now.nodes c.requires.fits c.args.getter);
+      here_v = cc (on_directories c.args.t.now.nodes c.requires.fits c.args.giver);
+      some = c.requires.pages;
+      enough = c.requires.enough;
+    } in
+    rw (up_g, up_v) (gives moving c.requires.none)
 
 pub give-requires-clause-can : goal.give-requires-clause-can
 give-requires-clause-can c = (can c).0

@@ -6,6 +6,6 @@ pub loop-preserved : goal.loop-preserved
 loop-preserved g c =
     let past : length c.args.held.now.items ≤ c.loop.counter = c.loop.invariant.2 in (
       c.push_reserved.ensures.items ∙ blanks_next _ _ c.loop.counter c.args.blank c.loop.invariant.0 past,
-      c.push_reserved.ensures.capacity ∙ c.loop.invariant.1,
-      omega (arith, past),
+      cc,
+      omega arith,
     )

@@ -5,13 +5,11 @@ use Rattle.quota_cells.proofs.by_uid.ByUid.number.Goals as goal
 pub returns-in-Some : goal.returns-in-Some
 returns-in-Some c =
     let read : c.in-Some.number.now ≡ get_or c.self.inside.held.items c.args.uid 0 = grind (arith, common_steps) in
-    read ∙ sym (padded_read c.self.inside.held.items c.args.uid)
-    ∙ ap (λ (xs : List ℕ). get_or xs c.args.uid 0) c.self.view_is
+    cc (padded_read c.self.inside.held.items c.args.uid)
 
 pub returns-in-None : goal.returns-in-None
 returns-in-None c =
     let past : length c.self.inside.held.items ≤ c.args.uid = grind (arith, common_steps) in
     let none : get_or c.self.inside.held.items c.args.uid 0 ≡ 0 =
     get_or_past c.self.inside.held.items c.args.uid 0 past in
-    sym none ∙ sym (padded_read c.self.inside.held.items c.args.uid)
-    ∙ ap (λ (xs : List ℕ). get_or xs c.args.uid 0) c.self.view_is
+    cc (padded_read c.self.inside.held.items c.args.uid)

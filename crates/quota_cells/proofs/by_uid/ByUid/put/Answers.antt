@@ -5,21 +5,18 @@ use Rattle.quota_cells.proofs.by_uid.ByUid.put.Goals as goal
 pub returns-then-uid-len-clause-number : goal.returns-then-uid-len-clause-number
 returns-then-uid-len-clause-number c =
     let lt : c.args.uid < length c.self.inside.held.items = grind (arith, common_steps) in
-    padded_set c.self.inside.held.items c.args.uid c.args.number lt
-    ∙ ap (λ (xs : List ℕ). set xs c.args.uid c.args.number) c.self.view_is
+    cc (padded_set c.self.inside.held.items c.args.uid c.args.number lt)
 
 pub returns-then-uid-len-clause-size : goal.returns-then-uid-len-clause-size
-returns-then-uid-len-clause-size c = sym (ap (λ (xs : List ℕ). length xs) c.self.view_is)
-    ∙ padded_long c.self.inside.held.items (omega (arith, c.self.invariant.0, c.self.inside.held.ok.0))
+returns-then-uid-len-clause-size c = cc (padded_long c.self.inside.held.items
+    (omega (arith, c.self.invariant.0, c.self.inside.held.ok.0)))
 
 pub returns-else-uid-len-clause-number : goal.returns-else-uid-len-clause-number
 returns-else-uid-len-clause-number c =
     let past : length c.self.inside.held.items ≤ c.args.uid = grind (arith, common_steps) in
-    ap padded c.push_reserved.ensures.items
-    ∙ padded_put c.self.inside.held.items c.reach.new.held.items c.args.uid c.args.number past c.requires
-    c.reach.ensures.items
-    ∙ ap (λ (xs : List ℕ). set xs c.args.uid c.args.number) c.self.view_is
+    cc (padded_put c.self.inside.held.items c.reach.new.held.items c.args.uid c.args.number past c.requires
+    c.reach.ensures.items)
 
 pub returns-else-uid-len-clause-size : goal.returns-else-uid-len-clause-size
-returns-else-uid-len-clause-size c = sym (ap (λ (xs : List ℕ). length xs) c.self.view_is)
-    ∙ padded_long c.self.inside.held.items (omega (arith, c.self.invariant.0, c.self.inside.held.ok.0))
+returns-else-uid-len-clause-size c = cc (padded_long c.self.inside.held.items
+    (omega (arith, c.self.invariant.0, c.self.inside.held.ok.0)))

@@ -1,12 +1,11 @@
-use Rattle.quota_cells.proofs.Prelude.{◌≡◌, true, get_or, sym, ap, subst, ◌∙◌, has, look, CellMaps, NumberMap, beside, cell_in}
+use Rattle.quota_cells.proofs.Prelude.{◌≡◌, true, get_or, sym, ap, ◌∙◌, has, look, CellMaps, NumberMap, beside, cell_in}
 use Rattle.quota_cells.proofs.TableLaws.{look_beside}
 use Rattle.quota_cells.proofs.directories.Directories.cell_there.Goals as goal
 
 pub returns-clause-cell : goal.returns-clause-cell
 returns-clause-cell c =
     let quotas : NumberMap = c.self.inside.quotas in
-    let there : has quotas.uids c.args.uid ≡ true =
-    subst (λ (m : CellMaps). has m.directories c.args.uid ≡ true) (sym c.self.view_is) c.requires in
+    let there : has quotas.uids c.args.uid ≡ true = rw (← c.self.view_is) at c.requires in
     let quota = c.at.ensures in
     let load : c.number.result ≡ look quotas.uids (beside c.self.inside.loads quotas.uids) c.args.uid =
     c.number.ensures ∙ ap (λ p. get_or c.self.inside.loads p 0) c.place-place.ensures.is

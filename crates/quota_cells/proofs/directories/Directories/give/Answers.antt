@@ -15,8 +15,7 @@ change-requires-2-clause-can c =
     record {
       there = rw c.change.ensures c.requires.giver_placed.there;
       falls = c.requires.giver_placed.falls;
-      appears = λ none some e covered. absurd (omega (arith, c.requires.enough, c.requires.some, kept, none));
-      vanishes = λ none e covered. subst (λ (m : CellMaps). load_in m e + load_in m c.args.giver.directory < 2 ^ 32)
-          (sym changed) (c.requires.vanishes (omega (arith, c.requires.enough, less, none)) e
+      appears = λ none some e covered. absurd (omega arith);
+      vanishes = λ none e covered. rw changed (c.requires.vanishes (omega (arith, c.requires.enough, less, none)) e
           (subst (λ (m : CellMaps). covers (quota_in m) c.args.giver.above.now e ≡ true) changed covered));
     }

@@ -4,5 +4,4 @@ use Rattle.quota_cells.proofs.numbers.Numbers.at.Goals as goal
 
 pub returns : goal.returns
 returns c = number_read c.self.inside.there.items c.self.inside.values c.args.self.now c.self.view_is c.args.uid
-    c.number.result (c.number.ensures ∙ ap (λ p. get_or c.self.inside.values p 0) c.place-place.ensures.is)
-    c.requires
+    c.number.result (cc) c.requires

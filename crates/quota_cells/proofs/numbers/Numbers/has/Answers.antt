@@ -5,11 +5,9 @@ use Rattle.quota_cells.proofs.numbers.Numbers.has.Goals as goal
 pub returns-in-Some : goal.returns-in-Some
 returns-in-Some c =
     let read : c.in-Some.there.now ≡ get_or c.self.inside.there.items c.args.uid false = grind (arith, common_steps) in
-    read ∙ sym (is_there c.self.inside.there.items c.args.uid)
-    ∙ ap (λ (m : NumberMap). has m.uids c.args.uid) c.self.view_is
+    cc (is_there c.self.inside.there.items c.args.uid)
 
 pub returns-in-None : goal.returns-in-None
 returns-in-None c =
     let past : length c.self.inside.there.items ≤ c.args.uid = grind (arith, common_steps) in
-    sym (past_absent c.self.inside.there.items c.args.uid past)
-    ∙ ap (λ (m : NumberMap). has m.uids c.args.uid) c.self.view_is
+    cc (past_absent c.self.inside.there.items c.args.uid past)

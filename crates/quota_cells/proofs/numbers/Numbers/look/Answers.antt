@@ -2,5 +2,4 @@ use Rattle.quota_cells.proofs.Prelude.{sym, ◌∙◌, look_absent}
 use Rattle.quota_cells.proofs.numbers.Numbers.look.Goals as goal
 
 pub returns-then-not-has : goal.returns-then-not-has
-returns-then-not-has c =
-    sym (look_absent c.args.self.now.uids c.args.self.now.values c.args.uid (sym c.has.ensures ∙ c.if-not-has.true))
+returns-then-not-has c = sym (look_absent c.args.self.now.uids c.args.self.now.values c.args.uid (cc))

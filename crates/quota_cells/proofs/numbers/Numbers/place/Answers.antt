@@ -3,12 +3,11 @@ use Rattle.quota_cells.proofs.TableLaws.{now_rises, there_now, there_within}
 use Rattle.quota_cells.proofs.numbers.Numbers.place.Goals as goal
 
 pub returns-clause-within : goal.returns-clause-within
-returns-clause-within c =
-    let within : c.args.uid < length c.self.inside.there.items =
-    there_within c.self.inside.there.items c.args.uid
-    (there_now c.self.inside.there.items c.self.inside.values c.args.self.now c.self.view_is c.args.uid
-    c.requires) in
-    omega (arith, within, c.self.invariant.0, c.self.inside.there.ok.0)
+returns-clause-within c = omega (
+  arith,
+  there_within c.self.inside.there.items c.args.uid
+      (there_now c.self.inside.there.items c.self.inside.values c.args.self.now c.self.view_is c.args.uid c.requires),
+)
 
 pub returns-clause-rising : goal.returns-clause-rising
 returns-clause-rising c = now_rises c.self.inside.there.items c.self.inside.values c.args.self.now c.self.view_is

@@ -3,12 +3,6 @@ use Rattle.quota_cells.proofs.TableLaws.{number_set}
 use Rattle.quota_cells.proofs.numbers.Numbers.set.Goals as goal
 
 pub returns : goal.returns
-returns c =
-    ap (λ (v : List ℕ). numbers_of c.self.inside.there.items v) c.put.ensures.number
-    ∙ number_set c.self.inside.there.items c.self.inside.values c.args.self.now c.self.view_is c.place-place.result
-    c.args.uid c.args.value c.place-place.ensures.is c.requires (omega (
-      arith,
-      c.place-place.ensures.is,
-      c.place-place.ensures.within,
-      c.put.ensures.size,
-    ))
+returns c = cc (number_set c.self.inside.there.items c.self.inside.values c.args.self.now c.self.view_is
+    c.place-place.result c.args.uid c.args.value c.place-place.ensures.is c.requires
+    (omega (arith, c.place-place.ensures.is, c.place-place.ensures.within, c.put.ensures.size)))
