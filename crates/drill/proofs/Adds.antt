@@ -13,8 +13,7 @@ adds_append frames (x ∷ xs) ys p q = (adds_append frames xs ys p.0 q, p.1, p.2
 
 pub adds_reverse : (frames : ℕ) (es : List Made) → AreAdds frames es → AreAdds frames (reverse es)
 adds_reverse frames [] ok = tt
-adds_reverse frames (e ∷ es) ok =
-    subst (AreAdds frames) (sym (reverse-append (e ∷ []) es))
+adds_reverse frames (e ∷ es) ok = subst (AreAdds frames) (sym (reverse-append (e ∷ []) es))
     (adds_append frames (reverse es) (e ∷ []) (adds_reverse frames es ok.0) (tt, ok.1, ok.2))
 
 tail_of : List (ℕ × Touch) → List (ℕ × Touch)
@@ -89,8 +88,7 @@ adds_word t w page is size =
     × (length (touched u page) ≡ 1024) in
     subst P (sym is) (
       get_or-set_same page 0 ((get_or page 0 0 + w) % 2 ^ 36) 0 (omega arith),
-      length-set page 0
-          ((get_or page 0 0 + w) % 2 ^ 36) ∙ size,
+      length-set page 0 ((get_or page 0 0 + w) % 2 ^ 36) ∙ size,
     )
 
 adds_if : (b : Bool) (t : Touch) (w : ℕ) (page : List ℕ) → t ≡ Add 0 w → length page ≡ 1024 → get_or page 0 0 < 2 ^ 36
@@ -120,8 +118,7 @@ adds_here frames e es ok = subst (λ t. AreAdds frames (mine_if t e es)) (eq-eqb
 
 -- touches of which those of each processor are adds
 pub adds_all : (cpus frames : ℕ) (plan : Watch) (es : List Made) → AreOfBindings cpus plan es
-    → ((c : ℕ) → c < cpus → AreAdds frames (mine c es))
-    → AreAdds frames es
+    → ((c : ℕ) → c < cpus → AreAdds frames (mine c es)) → AreAdds frames es
 adds_all cpus frames plan [] ok each = tt
 adds_all cpus frames plan (e ∷ es) ok each =
     let here = adds_here frames e (mine e.cpu es) (each e.cpu ok.1) in (

@@ -24,28 +24,22 @@ ended_point : (e : Made) (bs : List Bound) → AreInTurn bs
 ended_point e [] turn = (λ lt. absurd (omega arith), λ le. refl)
 ended_point e (b ∷ bs) turn =
     let rest = ended_point e bs turn.0 in
-    dite (ℕ_discrete e.frame b.frame)
-    (λ (same : e.frame ≡ b.frame).
+    dite (ℕ_discrete e.frame b.frame) (λ (same : e.frame ≡ b.frame).
     let count = ended_here e.frame b bs same in
     let w = weight_here e b.frame b.binding same in
     let number : b.binding ≡ ended_of e.frame bs = turn.1 ∙ ap (λ f. ended_of f bs) (sym same) in
-    dite (ℕ_discrete e.binding b.binding)
-    (λ (here : e.binding ≡ b.binding).
+    dite (ℕ_discrete e.binding b.binding) (λ (here : e.binding ≡ b.binding).
     let v = at_here (added e.touch) e.binding b.binding here in
     let z = rest.1 (omega arith) in
-    (λ lt. omega (arith, w, v, z), λ le. absurd (omega (arith, count))))
-    (λ (else : e.binding ≢ b.binding).
+    (λ lt. omega (arith, w, v, z), λ le. absurd (omega (arith, count)))) (λ (else : e.binding ≢ b.binding).
     let v = at_else (added e.touch) e.binding b.binding else in (
       λ lt. (let z = rest.0 (omega (arith, count)) in omega (arith, w, v, z)),
-      λ le.
-          (let z = rest.1 (omega (arith, count)) in omega (arith, w, v, z)),
-    )))
-    (λ (other : e.frame ≢ b.frame).
+      λ le. (let z = rest.1 (omega (arith, count)) in omega (arith, w, v, z)),
+    ))) (λ (other : e.frame ≢ b.frame).
     let count = ended_else e.frame b bs other in
     let w = weight_else e b.frame b.binding other in (
       λ lt. (let z = rest.0 (omega (arith, count)) in omega (arith, w, z)),
-      λ le.
-          (let z = rest.1 (omega (arith, count)) in omega (arith, w, z)),
+      λ le. (let z = rest.1 (omega (arith, count)) in omega (arith, w, z)),
     ))
 
 -- a touch of a frame's last binding is counted once among the last ones
@@ -60,8 +54,7 @@ last_point e c n lt =
     ∙ (point_sum (at_point (added e.touch) e.binding (c e.frame)) e.frame n).0 lt
 
 one_binding : (e : Made) (bs : List Bound) (c : ℕ → ℕ) (n : ℕ) → AreInTurn bs → ((f : ℕ) → c f ≡ ended_of f bs)
-    → e.frame < n → e.binding ≤ c e.frame
-    → ended_sum (weight e) bs + last_sum (λ f. weight e f (c f)) n ≡ added e.touch
+    → e.frame < n → e.binding ≤ c e.frame → ended_sum (weight e) bs + last_sum (λ f. weight e f (c f)) n ≡ added e.touch
 one_binding e bs c n turn count frame binding =
     let ended = ended_point e bs turn in
     let last = last_point e c n frame in
@@ -75,8 +68,7 @@ one_binding e bs c n turn count frame binding =
 
 -- all that was added to all bindings is all that was added
 pub bindings_sum : (cpus frames : ℕ) (plan : Watch) (es : List Made) (bs : List Bound) → AreInTurn bs
-    → ((f : ℕ) → current plan f ≡ ended_of f bs)
-    → AreOfBindings cpus plan es → AreAdds frames es
+    → ((f : ℕ) → current plan f ≡ ended_of f bs) → AreOfBindings cpus plan es → AreAdds frames es
     → ended_sum (weigh_of es) bs + last_sum (λ f. weigh_of es f (current plan f)) frames ≡ weigh es
 bindings_sum cpus frames plan [] bs turn count ok adds = let e = ended_zero bs in let l =
     last_zero frames in omega (arith, e, l)

@@ -19,8 +19,7 @@ reverse_more x xs = reverse-append (x ∷ []) xs
 
 reverse_deeds : (es : List Made) → map deed (reverse es) ≡ reverse (map deed es)
 reverse_deeds [] = refl
-reverse_deeds (e ∷ es) =
-    ap (λ (l : List Made). map deed l) (reverse_more e es) ∙ map_append (reverse es) (e ∷ [])
+reverse_deeds (e ∷ es) = ap (λ (l : List Made). map deed l) (reverse_more e es) ∙ map_append (reverse es) (e ∷ [])
     ∙ ap (λ (l : List (ℕ × Touch)). l ++ deed e ∷ []) (reverse_deeds es) ∙ sym (reverse_more (deed e) (map deed es))
 
 reverse_done : (frames x n : ℕ) → reverse (done frames x n) ≡ work_of frames x n
@@ -40,8 +39,7 @@ work_take frames x k zero le = let e : k ≡ 0 = omega arith in ap (λ m. take m
     ∙ ap (work_of frames x) (sym e)
 work_take frames x k (suc n) le =
     let count = work_count frames x n in
-    dite (ℕ_discrete k (suc n))
-    (λ (here : k ≡ suc n).
+    dite (ℕ_discrete k (suc n)) (λ (here : k ≡ suc n).
     let all = work_count frames x (suc n) in
     take_all k (work_of frames x (suc n)) (omega (arith, all)) ∙ ap (work_of frames x) (sym here))
     (λ (other : k ≢ suc n). take-append-le k (work_of frames x n) (add_at frames x n ∷ []) (omega (arith, count))
@@ -53,9 +51,7 @@ first_of_work : (pages : PagesModel) (seed adds cpu : ℕ) (made : List Made) �
 first_of_work pages seed adds cpu made ok =
     let x : ℕ = seed + cpu in
     let count : length (reverse made) ≡ length made = length-reverse made in
-    reverse_deeds made
-    ∙ ap (λ (l : List (ℕ × Touch)). reverse l) ok.deeds
-    ∙ reverse_done pages.frames x (length made)
+    reverse_deeds made ∙ ap (λ (l : List (ℕ × Touch)). reverse l) ok.deeds ∙ reverse_done pages.frames x (length made)
     ∙ sym (work_take pages.frames x (length made) adds ok.few)
     ∙ ap (λ n. take n (work_of pages.frames x adds)) (sym count)
 
@@ -95,8 +91,7 @@ pub record AtClose (pages : PagesModel) (seed adds : ℕ) (ps : List PassModel) 
   pub after : All (IsLeftAfterAll shown) (all_bindings left shown)
 
 module _ (pages : PagesModel) (seed adds : ℕ) (ps : List PassModel) (keeper : KeeperModel) (shown : Holder)
-    (left : List (List ℕ))
-    (end : AtClose pages seed adds ps keeper shown left) where
+    (left : List (List ℕ)) (end : AtClose pages seed adds ps keeper shown left) where
   -- the touches of each processor
   own_work : (c : ℕ) → c < pages.cpus → IsWorkTo pages seed adds c (touches_at ps keeper.holder c)
   own_work c below =
@@ -149,8 +144,7 @@ module _ (pages : PagesModel) (seed adds : ℕ) (ps : List PassModel) (keeper : 
       let one : Binding = record {
         frame = b.frame;
         number = b.binding;
-        given =
-            page_given shown.ended b.frame b.binding;
+        given = page_given shown.ended b.frame b.binding;
         left = b.left;
       } in
       let before : List Binding = ended_bindings (page_given shown.ended) bs in
@@ -167,8 +161,7 @@ module _ (pages : PagesModel) (seed adds : ℕ) (ps : List PassModel) (keeper : 
         frame = f;
         number = current shown.watch f;
         given = page_given shown.ended f (current shown.watch f);
-        left =
-            get_or left f [];
+        left = get_or left f [];
       } in
       let before : List Binding = last_bindings f left shown in
       let rest = last_words f (all_front (IsLeftAfterAll shown) before (one ∷ []) all) in
@@ -179,13 +172,11 @@ module _ (pages : PagesModel) (seed adds : ℕ) (ps : List PassModel) (keeper : 
   -- of a measure of touches that adds up: what the processors did is what their passes made
   made_all : (measure : List Made → ℕ) (share : Made → ℕ) → measure [] ≡ 0
       → ((e : Made) (es : List Made) → measure (e ∷ es) ≡ measure es + share e)
-      → ((es : List Made) → measure (reverse es) ≡ measure es)
-      → measure (in_order shown) ≡ made_by_all measure ps
+      → ((es : List Made) → measure (reverse es) ≡ measure es) → measure (in_order shown) ≡ made_by_all measure ps
   made_all measure share none more turned =
       let touched = cpus_sum measure share none more pages.cpus shown.watch (in_order shown) end.one_thread.bindings in
       let each = last_same (λ c. measure (mine c (in_order shown))) (λ c. measure (touches_at ps keeper.holder c))
-      pages.cpus
-      (λ c below. ap measure (mine_is c below) ∙ turned (touches_at ps keeper.holder c)) in
+      pages.cpus (λ c below. ap measure (mine_is c below) ∙ turned (touches_at ps keeper.holder c)) in
       let range = last_range (λ c. measure (touches_at ps keeper.holder c)) pages.cpus 0 in
       let at : 0 + pages.cpus ≡ pages.cpus = omega arith in
       let from = ap (last_sum (λ c. measure (touches_at ps keeper.holder c))) at in
@@ -211,8 +202,7 @@ module _ (pages : PagesModel) (seed adds : ℕ) (ps : List PassModel) (keeper : 
       let frames = ap (last_sum (λ f. weigh_of (in_order shown) f (current shown.watch f))) end.count in
       let same = ap words_left ended_is in
       let bindings = bindings_sum pages.cpus pages.frames shown.watch (in_order shown) shown.ended
-      end.one_thread.in_turn end.one_thread.last
-      end.one_thread.bindings all_adds in
+      end.one_thread.in_turn end.one_thread.last end.one_thread.bindings all_adds in
       let made = made_all weigh (λ e. added e.touch) refl (λ e es. refl) weigh_reverse in
       let missing = made_missing pages seed adds 0 ps end.done in
       let cpus = ap (last_sum (λ i. words_to adds)) end.all in

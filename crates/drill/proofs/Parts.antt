@@ -33,22 +33,17 @@ pub record IsWorkTo (pages : PagesModel) (seed adds cpu : ℕ) (made : List Made
   pub few : length made ≤ adds
 
 pub parts_work : (pages : PagesModel) (seed adds : ℕ) (ps : List PassModel) (first : ℕ) (k : Holder)
-    → AreDone pages seed adds first ps
-    → first + length ps ≤ length k.parts
+    → AreDone pages seed adds first ps → first + length ps ≤ length k.parts
     → (c : ℕ) → first ≤ c → c < first + length ps → IsWorkTo pages seed adds c (touches_at ps k c)
 parts_work pages seed adds [] first k all room c from to = absurd (omega arith)
-parts_work pages seed adds (p ∷ ps) first k all room c from to =
-    dite (ℕ_discrete c first)
-    (λ (here : c ≡ first).
+parts_work pages seed adds (p ∷ ps) first k all room c from to = dite (ℕ_discrete c first) (λ (here : c ≡ first).
     let cpu : p.walker.walk.cpu ≡ c = all.1 ∙ sym here in
     let own : IsWorkTo pages seed adds p.walker.walk.cpu p.walker.made = record { deeds = all.2.made; few = all.3 } in
     subst (IsWorkTo pages seed adds c) (sym (part_here p ps k c cpu (omega arith)))
-    (subst (λ i. IsWorkTo pages seed adds i p.walker.made) cpu own))
-    (λ (else : c ≢ first).
+    (subst (λ i. IsWorkTo pages seed adds i p.walker.made) cpu own)) (λ (else : c ≢ first).
     let other : c ≢ p.walker.walk.cpu = (λ is. else (is ∙ all.1)) in
     subst (IsWorkTo pages seed adds c) (sym (part_else p ps k c other))
-    (parts_work pages seed adds ps (first + 1) k all.0 (omega arith) c (omega arith)
-    (omega arith)))
+    (parts_work pages seed adds ps (first + 1) k all.0 (omega arith) c (omega arith) (omega arith)))
 
 -- a measure of the touches of each pass, added up
 abbrev pub made_by_all : (List Made → ℕ) → List PassModel → ℕ
@@ -60,16 +55,14 @@ abbrev pub made_sum : List PassModel → ℕ
 made_sum ps = made_by_all weigh ps
 
 pub parts_sum : (measure : List Made → ℕ) (pages : PagesModel) (seed adds : ℕ) (ps : List PassModel) (first : ℕ)
-    (k : Holder) → AreDone pages seed adds first ps
-    → first + length ps ≤ length k.parts
+    (k : Holder) → AreDone pages seed adds first ps → first + length ps ≤ length k.parts
     → range_sum (λ c. measure (touches_at ps k c)) first (length ps) ≡ made_by_all measure ps
 parts_sum measure pages seed adds [] first k all room = refl
 parts_sum measure pages seed adds (p ∷ ps) first k all room =
     let here = ap measure (part_here p ps k first all.1 (omega arith)) in
     let rest = parts_sum measure pages seed adds ps (first + 1) k all.0 (omega arith) in
     let same = range_same (λ c. measure (touches_at (p ∷ ps) k c)) (λ c. measure (touches_at ps k c)) (length ps)
-    (first + 1)
-    (λ c le. let cpu = all.1 in ap measure (part_else p ps k c (λ is. absurd (omega arith)))) in
+    (first + 1) (λ c le. let cpu = all.1 in ap measure (part_else p ps k c (λ is. absurd (omega arith)))) in
     omega (arith, here, rest, same)
 
 pub count_all : (ps : List PassModel) → made_by_all (λ (es : List Made). length es) ps ≡ made_count ps

@@ -13,8 +13,7 @@ unfolding tail_of
 snoc_parts xs ys x y e =
     let turned : x ∷ reverse xs ≡ y ∷ reverse ys = sym (reverse-append xs (x ∷ [])) ∙ ap (λ l. reverse l) e
     ∙ reverse-append ys (y ∷ []) in (
-      sym (reverse-reverse xs) ∙ ap (λ l. reverse (tail_of l)) turned
-          ∙ reverse-reverse ys,
+      sym (reverse-reverse xs) ∙ ap (λ l. reverse (tail_of l)) turned ∙ reverse-reverse ys,
       ap (λ l. get_or l 0 x) turned,
     )
 
@@ -38,8 +37,7 @@ each_push ok xs x each last place d lt =
     let l = length-append xs (x ∷ []) in
     dite (ℕ_discrete place (length xs))
     (λ (here : place ≡ length xs). subst (λ p. ok p (get_or (xs ++ x ∷ []) p d)) (sym here)
-    (subst (ok (length xs)) (sym (get_or-append_seam xs x [] d)) last))
-    (λ (other : place ≢ length xs).
+    (subst (ok (length xs)) (sym (get_or-append_seam xs x [] d)) last)) (λ (other : place ≢ length xs).
     let below : place < length xs = omega (arith, l) in
     subst (ok place) (sym (get_or_append_left xs (x ∷ []) d place below)) (each place d below))
 
@@ -55,8 +53,7 @@ pub fresh_push : (pages : PagesModel) (roles seated : List Role) (passes rest : 
     (pass : PassModel) (n m cpu : ℕ)
     → passes ≡ rest ++ option_to_list r → r ≡ Some pass → passes ≡ first_passes pages n → All (IsPassOf pages) passes
     → EachRole (RoleFresh pages pages.cpus) roles → seated ≡ roles
-    ++ Works (record { pass = pass; cpu = cpu; done = 0 }) ∷ [] → n ≡ m + 1 → cpu ≡ m
-    → n + length roles ≡ pages.cpus
+    ++ Works (record { pass = pass; cpu = cpu; done = 0 }) ∷ [] → n ≡ m + 1 → cpu ≡ m → n + length roles ≡ pages.cpus
     → EachRole (RoleFresh pages pages.cpus) seated × (rest ≡ first_passes pages m) × All (IsPassOf pages) rest
 unfolding new_pass
 fresh_push pages roles seated passes rest r pass n m cpu popped some first all each pushed less number count =
@@ -69,8 +66,7 @@ fresh_push pages roles seated passes rest r pass n m cpu popped some first all e
     record {
       pass = of;
       cpu = ap (λ p. p.walker.walk.cpu) parts.1 ∙ sym number;
-      made =
-          ap (λ p. p.walker.made) parts.1;
+      made = ap (λ p. p.walker.made) parts.1;
       done = refl;
     } in (
       subst (EachRole (RoleFresh pages pages.cpus)) (sym pushed) (each_push (RoleFresh pages pages.cpus) roles
@@ -98,11 +94,9 @@ count_more (q ∷ qs) p = let e = count_more qs p in omega (arith, e)
 
 -- a worker's pass was put into the row
 pub done_push : (pages : PagesModel) (seed adds cpus : ℕ) (roles rest : List Role) (r : Option Role) (role : Role)
-    (w : Worker) (row now : List PassModel)
-    → roles ≡ rest ++ option_to_list r → r ≡ Some role → role ≡ Works w
+    (w : Worker) (row now : List PassModel) → roles ≡ rest ++ option_to_list r → r ≡ Some role → role ≡ Works w
     → EachRole (RoleDone pages seed adds cpus) roles → All (IsPassOf pages) row → AreDone pages seed adds 0 row → now
-    ≡ row ++ w.pass ∷ []
-    → length rest + 1 + length row ≡ cpus
+    ≡ row ++ w.pass ∷ [] → length rest + 1 + length row ≡ cpus
     → EachRole (RoleDone pages seed adds cpus) rest × All (IsPassOf pages) now × AreDone pages seed adds 0 now
     × (missing adds now ≡ missing adds row + (words_to adds - words_to w.done))
     × (made_count now ≡ made_count row + w.done) × (w.done ≤ adds)
@@ -133,8 +127,7 @@ done_push pages seed adds cpus roles rest r role w row now popped some works eac
     )
 
 done_at : (pages : PagesModel) (seed adds first : ℕ) (ps : List PassModel) → AreDone pages seed adds first ps
-    → (i : ℕ) (d : PassModel) → i < length ps
-    → (get_or ps i d).walker.walk.cpu ≡ first + i
+    → (i : ℕ) (d : PassModel) → i < length ps → (get_or ps i d).walker.walk.cpu ≡ first + i
 done_at pages seed adds first [] all i d lt = absurd (omega arith)
 done_at pages seed adds first (p ∷ ps) all zero d lt = all.1 ∙ (let e : first ≡ first + 0 = omega arith in e)
 done_at pages seed adds first (p ∷ ps) all (suc i) d lt = let e =
@@ -146,6 +139,5 @@ pub done_all : (pages : PagesModel) (seed adds : ℕ) (ps : List PassModel) → 
 done_all pages seed adds ps all count cpu below = (
   cpu,
   omega arith,
-  λ d.
-      (let e = done_at pages seed adds 0 ps all cpu d (omega arith) in omega (arith, e)),
+  λ d. (let e = done_at pages seed adds 0 ps all cpu d (omega arith) in omega (arith, e)),
 )

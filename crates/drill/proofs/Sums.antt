@@ -74,16 +74,13 @@ at_else w k i other = ap (λ t. cond t w 0) (ne_eqb k i other)
 
 pub point_sum : (w k n : ℕ) → (k < n → last_sum (at_point w k) n ≡ w) × (n ≤ k → last_sum (at_point w k) n ≡ 0)
 point_sum w k zero = (λ lt. absurd (omega arith), λ le. refl)
-point_sum w k (suc n) = let e = point_sum w k n in dite (ℕ_discrete k n)
-    (λ (same : k ≡ n).
+point_sum w k (suc n) = let e = point_sum w k n in dite (ℕ_discrete k n) (λ (same : k ≡ n).
     let h = at_here w k n same in
     let z = e.1 (omega arith) in
-    (λ lt. omega (arith, h, z), λ le. absurd (omega arith)))
-    (λ (other : k ≢ n).
+    (λ lt. omega (arith, h, z), λ le. absurd (omega arith))) (λ (other : k ≢ n).
     let h = at_else w k n other in (
       λ lt. (let z = e.0 (omega arith) in omega (arith, h, z)),
-      λ le.
-          (let z = e.1 (omega arith) in omega (arith, h, z)),
+      λ le. (let z = e.1 (omega arith) in omega (arith, h, z)),
     ))
 
 pub same_few : (w n : ℕ) → w ≤ 70000 → last_sum (λ i. w) n ≤ n * 70000

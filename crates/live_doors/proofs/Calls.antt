@@ -2,43 +2,43 @@
 use Rattle.live_doors.proofs.Prelude.{◌≡◌, ℕ, suc, zero, ◌+◌, ◌<◌, ◌≤◌, List, [], ◌∷◌, ◌++◌, length, None, refl, sym, ap, subst, ◌∙◌, arith, get_or, take, drop, All, All-append, length-replicate, common_steps, Me, TableId, Walk, Watch, View, Walking, Keeping, blank, first_watch, first_passes, AreNew, DoorsModel, PassModel, KeeperModel, IsPassOf, IsKeeperOf, OnlyNoted, HasNoted, having_noted, EntryRows, KeeperRows, AreEntriesOf, AreRowsOf, PassFits, KeeperFits, walk_of, watch_of}
 
 -- a pass whose fields are those of its view
-pub pass_fits : (m : Me (Unit {0}) View) (q : Walk) (e : EntryRows) → m ≡ (Walking q, []) → AreEntriesOf e q
+pub pass_fits : {m : Me (Unit {0}) View} {q : Walk} {e : EntryRows} → m ≡ (Walking q, []) → AreEntriesOf e q
     → PassFits m e
-pass_fits m q e is entries = subst (λ x. PassFits x e) (sym is) record { seat = refl; entries = entries }
+pass_fits {e} is entries = subst (λ x. PassFits x e) (sym is) assumption
 
 -- a seat of doors has no slot in hand
 pub without_slots : {V S : Type 0} (m : V × List S) (v : V) → m ≡ (v, []) → m.1 ≡ []
-without_slots m v is = ap (λ x. x.1) is
+without_slots m v is = cc
 
 -- it came with the same doors as before
-pub pass_stays_of : (doors : DoorsModel) (now : PassModel) (t t' : TableId) (m m' : Me (Unit {0}) View) (q : Walk)
+pub pass_stays_of : {doors : DoorsModel} {now : PassModel} {t t' : TableId} (m : Me (Unit {0}) View)
+    {m' : Me (Unit {0}) View} {q : Walk}
     → record { table = t; walk = walk_of m.0 } ≡ now → IsPassOf doors now → t' ≡ t → m' ≡ (Walking q, [])
     → length q.held ≡ length (walk_of m.0).held → q.cpu ≡ (walk_of m.0).cpu
     → IsPassOf doors record { table = t'; walk = walk_of m'.0 }
-pass_stays_of doors now t t' m m' q view ok same is row cpu = record {
-  table = same ∙ ap (λ v. v.table) view ∙ ok.table;
-  frames = ap (λ x. length (walk_of x.0).held) is ∙ row ∙ ap (λ v. length v.walk.held) view ∙ ok.frames;
-  cpu = subst (λ k. k < doors.cpus) (sym (ap (λ x. (walk_of x.0).cpu) is ∙ cpu ∙ ap (λ v. v.walk.cpu) view)) ok.cpu;
+pass_stays_of {doors} m view ok same is row cpu = record {
+  table = cc;
+  frames = cc;
+  cpu = rw (ap (λ x. (walk_of x.0).cpu) is ∙ cpu ∙ ap (λ v. v.walk.cpu) view) ok.cpu;
 }
 
 -- a keeper whose fields are those of its view
-pub keeper_fits : (m : Me (Unit {0}) View) (w : Watch) (r : KeeperRows) (cleared : ℕ) → m ≡ (Keeping w, [])
+pub keeper_fits : {m : Me (Unit {0}) View} {w : Watch} {r : KeeperRows} {cleared : ℕ} → m ≡ (Keeping w, [])
     → AreRowsOf r w → HasNoted w cleared → KeeperFits m r cleared
-keeper_fits m w r cleared is rows noted =
-    subst (λ x. KeeperFits x r cleared) (sym is) record { seat = refl; rows = rows; cleared = noted }
+keeper_fits {r} {cleared} is rows noted = subst (λ x. KeeperFits x r cleared) (sym is) assumption
 
 -- it came with the same doors as before
-pub keeper_stays_of : (doors : DoorsModel) (now : KeeperModel) (t t' : TableId) (cleared cleared' : ℕ)
-    (m m' : Me (Unit {0}) View) (w : Watch)
+pub keeper_stays_of : {doors : DoorsModel} {now : KeeperModel} {t t' : TableId} (cleared cleared' : ℕ)
+    (m : Me (Unit {0}) View) {m' : Me (Unit {0}) View} {w : Watch}
     → record { table = t; watch = watch_of m.0; cleared = cleared } ≡ now → IsKeeperOf doors now → t' ≡ t
     → m' ≡ (Keeping w, []) → length w.doors ≡ length (watch_of m.0).doors → length w.since ≡ length (watch_of m.0).since
     → length w.noted ≡ length (watch_of m.0).noted
     → IsKeeperOf doors record { table = t'; watch = watch_of m'.0; cleared = cleared' }
-keeper_stays_of doors now t t' cleared cleared' m m' w view ok same is a b c = record {
-  table = same ∙ ap (λ v. v.table) view ∙ ok.table;
-  frames = ap (λ x. length (watch_of x.0).doors) is ∙ a ∙ ap (λ v. length v.watch.doors) view ∙ ok.frames;
-  since = ap (λ x. length (watch_of x.0).since) is ∙ b ∙ ap (λ v. length v.watch.since) view ∙ ok.since;
-  cpus = ap (λ x. length (watch_of x.0).noted) is ∙ c ∙ ap (λ v. length v.watch.noted) view ∙ ok.cpus;
+keeper_stays_of cleared cleared' m view ok same is a b c = record {
+  table = cc;
+  frames = cc;
+  since = cc;
+  cpus = cc;
 }
 
 -- what the keeper has noted once it has read the acknowledgements of the first few processors, each at least the stamp
@@ -50,12 +50,12 @@ pub record NotedSoFar (old now : Watch) (stamp cpu : ℕ) : Type 0 where
 module _ (old now next : Watch) (stamp at cpu seen : ℕ) (so : NotedSoFar old now stamp cpu)
     (is : next ≡ having_noted at cpu seen now) where
   pub only_noted : OnlyNoted old next
-  only_noted = record {
-    made = ap (λ w. w.made) is ∙ so.only.made;
-    request = ap (λ w. w.request) is ∙ so.only.request;
-    doors = ap (λ w. w.doors) is ∙ so.only.doors;
-    since = ap (λ w. w.since) is ∙ so.only.since;
-  }
+  only_noted = assumption (
+    ap (λ w. w.made) is ∙ so.only.made,
+    ap (λ w. w.request) is ∙ so.only.request,
+    ap (λ w. w.doors) is ∙ so.only.doors,
+    ap (λ w. w.since) is ∙ so.only.since,
+  )
 
 -- the keeper so far, as it asks
 pub record ClearSoFar (doors : DoorsModel) (old now : KeeperModel) (stamp cpu : ℕ) : Type 0 where
@@ -64,23 +64,21 @@ pub record ClearSoFar (doors : DoorsModel) (old now : KeeperModel) (stamp cpu : 
   pub cleared : now.cleared ≡ old.cleared
 
 -- every new pass came with its doors
-pub all_first : (doors : DoorsModel) (n : ℕ) → n ≤ doors.cpus → All (IsPassOf doors) (first_passes doors n)
-all_first doors zero few = λ k d inside. absurd (omega arith)
-all_first doors (suc n) few = All-append (IsPassOf doors) (first_passes doors n) _ (all_first doors n (omega arith))
-    (λ k d inside. let at : k
-    ≡ 0 = omega arith in subst (λ j. IsPassOf doors (get_or
+pub all_first : {doors : DoorsModel} (n : ℕ) → n ≤ doors.cpus → All (IsPassOf doors) (first_passes doors n)
+all_first zero few = λ k d inside. absurd (omega arith)
+all_first {doors} (suc n) few = All-append (IsPassOf doors) (first_passes doors n) _ (all_first n (omega arith))
+    (λ k d inside. let at : k ≡ 0 = omega arith in subst (λ j. IsPassOf doors (get_or
     (record { table = doors.table; walk = blank doors.frames n } ∷ []) j d)) (sym at) record
     { table = refl; frames = length-replicate doors.frames None; cpu = omega arith })
 
 -- what is there at the start, once every pass is made
-pub opened : (doors : DoorsModel) (keeper : KeeperModel) (passes : List PassModel) (frames cpus door : ℕ)
-    → doors.frames ≡ frames → doors.cpus ≡ cpus
-    → keeper ≡ record {
+pub opened : {doors : DoorsModel} {keeper : KeeperModel} {passes : List PassModel} {frames cpus door : ℕ}
+    → doors.frames ≡ frames → doors.cpus ≡ cpus → keeper ≡ record {
       table = doors.table;
       watch = record (first_watch frames cpus door) { made = doors.cpus };
       cleared = 0;
     } → passes ≡ first_passes doors doors.cpus → AreNew frames cpus door doors keeper passes
-opened doors keeper passes frames cpus door f c is row = record {
+opened {doors} {frames} {cpus} {door} f c is row = record {
   size = (f, c);
   keeper_of = subst (IsKeeperOf doors) (sym is) record {
     table = refl;
@@ -89,14 +87,14 @@ opened doors keeper passes frames cpus door f c is row = record {
     cpus = length-replicate cpus 0 ∙ sym c;
   };
   watch = (
-    ap (λ k. k.watch) is ∙ ap (λ n. record (first_watch frames cpus door) { made = n }) c,
-    ap (λ k. k.cleared) is,
+    cc,
+    cc,
   );
-  first = row ∙ ap (first_passes doors) c;
-  passes_of = subst (All (IsPassOf doors)) (sym row) (all_first doors doors.cpus (omega arith));
+  first = cc;
+  passes_of = rw row (all_first doors.cpus (omega arith));
 }
 
 -- a slice that was written whole
-pub written_whole : (new items : List ℕ) (n : ℕ) → n ≡ length items → length new ≡ length items
+pub written_whole : {new : List ℕ} (items : List ℕ) {n : ℕ} → n ≡ length items → length new ≡ length items
     → take n (new ++ drop (length new) items) ≡ new
-written_whole new items n is same = grind (arith, common_steps, is, same)
+written_whole items is same = grind (arith, common_steps)

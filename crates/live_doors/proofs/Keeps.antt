@@ -12,8 +12,7 @@ InOrder z s = Kept z s.words s.views
 module _ (z : Size) where
   -- a pass has looked at a word
   pass_looked : (words : List ℕ) (views : List View) (id i : ℕ) (p p' : Walk) → (h : Kept z words views)
-      → get_elem? views id ≡ some (Walking p)
-      → p'.cpu ≡ p.cpu
+      → get_elem? views id ≡ some (Walking p) → p'.cpu ≡ p.cpu
       → (PassOk z.frames z.cpus words h.plan p → PassOk z.frames z.cpus words h.plan p')
       → Kept z (set words i (get_or words i 0)) (set views id (Walking p'))
   pass_looked words views id i p p' h at same ok =
@@ -25,7 +24,7 @@ module _ (z : Size) where
         seat_of = h.seat_of;
         plan_ok = h.plan_ok;
         seats_ok = seats_stay (SeatOk z.frames z.cpus words h.plan h.keeper h.seat_of) views id (Walking p') (
-          ap h.seat_of same ∙ mine.0,
+          cc,
           ok mine.1,
         ) (λ j v _ e. h.seats_ok j v e);
       }
@@ -82,8 +81,7 @@ module _ (z : Size) where
           seat_of = h.seat_of;
           plan_ok = plan_acknowledged z.frames z.cpus s.words h.plan p h.plan_ok mine.1;
           seats_ok = seats_stay (SeatOk z.frames z.cpus (set s.words (ack_at z.frames p.cpu) p.stamp) h.plan h.keeper
-              h.seat_of) s.views id
-              (Walking (acknowledged p))
+              h.seat_of) s.views id (Walking (acknowledged p))
               (mine.0, acknowledged_ok z.frames z.cpus s.words h.plan p h.plan_ok mine.1)
               (λ j v other e. stays s.words h.plan h.keeper h.seat_of mine.0 j v other (h.seats_ok j v e));
         },
@@ -91,8 +89,7 @@ module _ (z : Size) where
       )
     where
       stays : (words : List ℕ) (plan : Watch) (keeper : ℕ) (seat_of : ℕ → ℕ) → seat_of p.cpu ≡ id → (j : ℕ) (v : View)
-          → j ≢ id
-          → SeatOk z.frames z.cpus words plan keeper seat_of j v
+          → j ≢ id → SeatOk z.frames z.cpus words plan keeper seat_of j v
           → SeatOk z.frames z.cpus (set words (ack_at z.frames p.cpu) p.stamp) plan keeper seat_of j v
       stays words plan keeper seat_of here j (Walking q) other k = (
         k.0,
@@ -104,22 +101,19 @@ module _ (z : Size) where
 
   -- the keeper's step: its plan becomes another, beside words in which each pass is in order
   keeper_stepped : (words words' : List ℕ) (views : List View) (id : ℕ) (w w' : Watch) → (h : Kept z words views)
-      → get_elem? views id ≡ some (Keeping w)
-      → (PlanOk z.frames z.cpus words w → PlanOk z.frames z.cpus words' w')
+      → get_elem? views id ≡ some (Keeping w) → (PlanOk z.frames z.cpus words w → PlanOk z.frames z.cpus words' w')
       → (PlanOk z.frames z.cpus words w → (q : Walk) → PassOk z.frames z.cpus words w q
-      → PassOk z.frames z.cpus words' w' q)
-      → Kept z words' (set views id (Keeping w'))
+      → PassOk z.frames z.cpus words' w' q) → Kept z words' (set views id (Keeping w'))
   keeper_stepped words words' views id w w' h at plan pass =
       let mine = h.seats_ok id (Keeping w) at in
-      let was : PlanOk z.frames z.cpus words w = subst (PlanOk z.frames z.cpus words) (sym mine.1) h.plan_ok in
+      let was : PlanOk z.frames z.cpus words w = rw mine.1 h.plan_ok in
       record {
         plan = w';
         keeper = h.keeper;
         seat_of = h.seat_of;
         plan_ok = plan was;
         seats_ok = seats_stay (SeatOk z.frames z.cpus words' w' h.keeper h.seat_of) views id (Keeping w') (mine.0, refl)
-            (λ j v other e. stays h.keeper h.seat_of mine.0 (pass was) j v other
-            (subst (λ k. SeatOk z.frames z.cpus words k h.keeper h.seat_of j v) (sym mine.1) (h.seats_ok j v e)));
+            (λ j v other e. stays h.keeper h.seat_of mine.0 (pass was) j v other (rw mine.1 (h.seats_ok j v e)));
       }
     where
       stays : (keeper : ℕ) (seat_of : ℕ → ℕ) → keeper ≡ id
@@ -127,7 +121,7 @@ module _ (z : Size) where
           → (j : ℕ) (v : View) → j ≢ id
           → SeatOk z.frames z.cpus words w keeper seat_of j v → SeatOk z.frames z.cpus words' w' keeper seat_of j v
       stays keeper seat_of here pass j (Walking q) other k = (k.0, pass q k.1)
-      stays keeper seat_of here pass j (Keeping u) other k = absurd (other (sym k.0 ∙ here))
+      stays keeper seat_of here pass j (Keeping u) other k = absurd (other (cc))
       stays keeper seat_of here pass j Spent other k = tt
 
   pub closes : (slots id f : ℕ) (w : Watch) → f < z.frames → get_or w.doors f 0 % 2 ≡ 0
@@ -152,8 +146,7 @@ module _ (z : Size) where
     keeps,
     tt,
     keeper_stepped s.words (set s.words 0 (w.request + 1)) s.views id w (raised w) h at
-        (plan_raised z.frames z.cpus s.words w)
-        (λ _ q ok. pass_raised z.frames z.cpus s.words w q ok),
+        (plan_raised z.frames z.cpus s.words w) (λ _ q ok. pass_raised z.frames z.cpus s.words w q ok),
     refl,
   )
 
@@ -164,79 +157,51 @@ module _ (z : Size) where
       let at : ℕ = ack_at z.frames c in
       let n : ℕ = get_or s.words (ack_at z.frames c) 0 in
       let mine = h.seats_ok id (Keeping w) here in
-      let low : get_or w.noted c 0 ≤ n =
-      subst (λ k. get_or k.noted c 0 ≤ n) (sym mine.1) (h.plan_ok.noted c inside) in (
+      let low : get_or w.noted c 0 ≤ n = rw mine.1 (h.plan_ok.noted c inside) in (
         Keeping (having_noted at c n w),
         keeps,
         tt,
         keeper_stepped s.words (set s.words (ack_at z.frames c) n) s.views id w (having_noted at c n w) h here
-            (λ k. subst (λ ws. PlanOk z.frames z.cpus ws (having_noted at c n w))
-            (sym (set-get_or s.words (ack_at z.frames c) 0))
-            (plan_noted z.frames z.cpus s.words w at c n inside refl k))
-            (λ _ q ok. subst (λ ws. PassOk z.frames z.cpus ws (having_noted at c n w) q)
-            (sym (set-get_or s.words (ack_at z.frames c) 0))
-            ok),
+            (λ k. rw (set-get_or s.words (ack_at z.frames c) 0) (plan_noted z.frames z.cpus s.words w at c n inside refl
+            k)) (λ _ q ok. rw (set-get_or s.words (ack_at z.frames c) 0) ok),
         λ d e. let same : c ≡ d = omega arith in (
-          subst (λ k. get_or w.noted k 0 ≤ n) same low,
-          ap
-              (λ k. (Keeping (having_noted at k n w), [])) same,
+          rw (← same) low,
+          cc,
         ),
       )
 
   -- the same at a seat that is known to be a pass's or the keeper's
-  pub fills_at : (slots id f : ℕ) (m : Me (Unit {0}) View) → m ≡ (Walking (walk_of m.0), []) → f < z.frames
+  pub fills_at : {slots : ℕ} (id f : ℕ) {m : Me (Unit {0}) View} → m ≡ (Walking (walk_of m.0), []) → f < z.frames
       → Allows (InOrder z) slots id m (1 + f) (λ n. n) (Fills (step slots (1 + f) 0 0 none) m)
-  fills_at slots id f m is inside = subst (λ x. Allows (InOrder z) slots id x (1 + f) (λ n. n)
-      (Fills (step slots (1 + f) 0 0 none) x)) (sym is)
-      (fills slots id f (walk_of m.0) inside)
+  fills_at {slots} id f {m} is inside = rw is (fills slots id f (walk_of m.0) inside)
 
-  pub forgets_at : (slots id : ℕ) (m : Me (Unit {0}) View) → m ≡ (Walking (walk_of m.0), [])
+  pub forgets_at : {slots : ℕ} (id : ℕ) {m : Me (Unit {0}) View} → m ≡ (Walking (walk_of m.0), [])
       → Allows (InOrder z) slots id m 0 (λ n. n) (Forgets (step slots 0 0 0 none) m)
-  forgets_at slots id m is = subst (λ x. Allows (InOrder z) slots id x 0 (λ n. n) (Forgets (step slots 0 0 0 none) x))
-      (sym is) (forgets slots id (walk_of m.0))
+  forgets_at {slots} id {m} is = rw is (forgets slots id (walk_of m.0))
 
-  pub acknowledges_at : (slots id i n : ℕ) (m : Me (Unit {0}) View) → m ≡ (Walking (walk_of m.0), []) → i
-      ≡ ack_at z.frames (walk_of m.0).cpu
-      → n ≡ (walk_of m.0).stamp
+  pub acknowledges_at : {slots : ℕ} (id : ℕ) {i n : ℕ} {m : Me (Unit {0}) View} → m ≡ (Walking (walk_of m.0), []) → i
+      ≡ ack_at z.frames (walk_of m.0).cpu → n ≡ (walk_of m.0).stamp
       → Allows (InOrder z) slots id m i (λ _. n) (λ _. Acknowledges (step slots i n 0 none) m n)
-  acknowledges_at slots id i n m is word stamp =
-      subst (λ (x : ℕ × ℕ). Allows (InOrder z) slots id m x.0 (λ _. x.1)
+  acknowledges_at {slots} id {m} is word stamp = subst (λ (x : ℕ × ℕ). Allows (InOrder z) slots id m x.0 (λ _. x.1)
       (λ _. Acknowledges (step slots x.0 x.1 0 none) m x.1)) (λ k. (sym word k, sym stamp k))
-      (subst (λ x. Allows (InOrder z) slots id x (ack_at z.frames (walk_of m.0).cpu) (λ _. (walk_of m.0).stamp)
-      (λ _. Acknowledges (step slots (ack_at z.frames (walk_of m.0).cpu) (walk_of m.0).stamp 0 none) x
-      (walk_of m.0).stamp)) (sym is)
-      (acknowledges slots id (walk_of m.0)))
+      (rw is (acknowledges slots id (walk_of m.0)))
 
-  pub closes_at : (slots id f n : ℕ) (m : Me (Unit {0}) View) → m ≡ (Keeping (watch_of m.0), []) → f < z.frames
-      → get_or (watch_of m.0).doors f 0 % 2 ≡ 0
-      → n ≡ get_or (watch_of m.0).doors f 0 + 1
+  pub closes_at : {slots : ℕ} (id f : ℕ) {n : ℕ} {m : Me (Unit {0}) View} → m ≡ (Keeping (watch_of m.0), [])
+      → f < z.frames → get_or (watch_of m.0).doors f 0 % 2 ≡ 0 → n ≡ get_or (watch_of m.0).doors f 0 + 1
       → Allows (InOrder z) slots id m (1 + f) (λ _. n) (λ _. Closes (step slots (1 + f) n 0 none) m n)
-  closes_at slots id f n m is inside even word =
-      subst (λ k. Allows (InOrder z) slots id m (1 + f) (λ _. k) (λ _. Closes (step slots (1 + f) k 0 none) m k))
-      (sym word)
-      (subst (λ x. Allows (InOrder z) slots id x (1 + f) (λ _. get_or (watch_of m.0).doors f 0 + 1)
-      (λ _. Closes (step slots (1 + f) (get_or (watch_of m.0).doors f 0 + 1) 0 none) x
-      (get_or (watch_of m.0).doors f 0 + 1))) (sym is)
-      (closes slots id f (watch_of m.0) inside even))
+  closes_at {slots} id f {m} is inside even word = rw (word, is) (closes slots id f (watch_of m.0) inside even)
 
-  pub raises_at : (slots id n : ℕ) (m : Me (Unit {0}) View) → m ≡ (Keeping (watch_of m.0), []) → n
-      ≡ (watch_of m.0).request + 1
-      → Allows (InOrder z) slots id m 0 (λ _. n) (λ _. Raises (step slots 0 n 0 none) m n)
-  raises_at slots id n m is word =
-      subst (λ k. Allows (InOrder z) slots id m 0 (λ _. k) (λ _. Raises (step slots 0 k 0 none) m k)) (sym word)
-      (subst (λ x. Allows (InOrder z) slots id x 0 (λ _. (watch_of m.0).request + 1)
-      (λ _. Raises (step slots 0 ((watch_of m.0).request + 1) 0 none) x ((watch_of m.0).request + 1))) (sym is)
-      (raises slots id (watch_of m.0)))
+  pub raises_at : {slots : ℕ} (id : ℕ) {n : ℕ} {m : Me (Unit {0}) View} → m ≡ (Keeping (watch_of m.0), []) → n
+      ≡ (watch_of m.0).request + 1 → Allows (InOrder z) slots id m 0 (λ _. n) (λ _. Raises (step slots 0 n 0 none) m n)
+  raises_at {slots} id {m} is word = rw (word, is) (raises slots id (watch_of m.0))
 
-  pub looks_at : (slots id i c : ℕ) (m : Me (Unit {0}) View) → m ≡ (Keeping (watch_of m.0), []) → i ≡ ack_at z.frames c
-      → c < z.cpus
-      → length (watch_of m.0).doors ≡ z.frames → Allows (InOrder z) slots id m i (λ n. n)
+  pub looks_at : {slots : ℕ} (id : ℕ) {i : ℕ} (c : ℕ) {m : Me (Unit {0}) View} → m ≡ (Keeping (watch_of m.0), [])
+      → i ≡ ack_at z.frames c
+      → c < z.cpus → length (watch_of m.0).doors ≡ z.frames → Allows (InOrder z) slots id m i (λ n. n)
       (Looks (step slots i 0 0 none) m)
-  looks_at slots id i c m is word inside row =
+  looks_at {slots} id c {m} is word inside row =
       subst (λ k. Allows (InOrder z) slots id m k (λ n. n) (Looks (step slots k 0 0 none) m)) (sym word)
-      (subst (λ x. Allows (InOrder z) slots id x (ack_at z.frames c) (λ n. n)
-      (Looks (step slots (ack_at z.frames c) 0 0 none) x)) (sym is)
-      (looks slots id c (watch_of m.0) inside row))
+      (rw is (looks slots id c (watch_of m.0) inside row))
 
 -- where the last of a longer list stands
 snoc_place : {V : Type 0} (l : List V) (a b : V) (j : ℕ) → get_elem? (l ++ a ∷ []) j ≡ some b
@@ -253,7 +218,7 @@ module _ (z : Size) where
       → Splits (InOrder z) id (Keeping w) (keeper_with_pass (Keeping w)) (pass_of_keeper (Keeping w))
   admits id w room row s h at =
       let mine = h.seats_ok id (Keeping w) at in
-      let was : PlanOk z.frames z.cpus s.words w = subst (PlanOk z.frames z.cpus s.words) (sym mine.1) h.plan_ok in
+      let was : PlanOk z.frames z.cpus s.words w = rw mine.1 h.plan_ok in
       let longer : List View = set s.views id (keeper_with_pass (Keeping w)) in
       let seat_of : ℕ → ℕ = valued w.made (length longer) h.seat_of in
       record {
@@ -261,42 +226,34 @@ module _ (z : Size) where
         keeper = h.keeper;
         seat_of = seat_of;
         plan_ok = plan_admits z.frames z.cpus s.words w room was;
-        seats_ok = λ j v e. ⊎_elim
-            (λ (old : get_elem? longer j ≡ some v).
+        seats_ok = λ j v e. ⊎_elim (λ (old : get_elem? longer j ≡ some v).
             seats_stay (SeatOk z.frames z.cpus s.words (record w { made = w.made + 1 }) h.keeper seat_of) s.views id
             (keeper_with_pass (Keeping w)) (
               mine.0,
               refl,
-            )
-            (λ i u other there. stays s.words h.keeper h.seat_of (length longer) mine.0 i u other
-            (subst (λ k. SeatOk z.frames z.cpus s.words k h.keeper h.seat_of i u) (sym mine.1) (h.seats_ok i u there)))
-            j v old)
-            (λ (new : (j ≡ length longer) × (pass_of_keeper (Keeping w) ≡ v)).
+            ) (λ i u other there. stays s.words h.keeper h.seat_of (length longer) mine.0 i u other
+            (rw mine.1 (h.seats_ok i u there)))
+            j v old) (λ (new : (j ≡ length longer) × (pass_of_keeper (Keeping w) ≡ v)).
             subst (λ (x : ℕ × View). SeatOk z.frames z.cpus s.words (record w { made = w.made + 1 }) h.keeper seat_of
             x.0 x.1) (λ i. (sym new.0 i, new.1 i)) (
               valued_here w.made (length longer) h.seat_of,
-              subst (λ n. PassOk z.frames z.cpus s.words (record w { made = w.made + 1 }) (blank n w.made)) (sym row)
-                  (blank_ok z.frames z.cpus s.words w room was),
-            ))
-            (snoc_place longer (pass_of_keeper (Keeping w)) v j e);
+              rw row (blank_ok z.frames z.cpus s.words w room was),
+            )) (snoc_place longer (pass_of_keeper (Keeping w)) v j e);
       }
     where
       stays : (words : List ℕ) (keeper : ℕ) (seat_of : ℕ → ℕ) (new : ℕ) → keeper ≡ id → (j : ℕ) (v : View) → j ≢ id
           → SeatOk z.frames z.cpus words w keeper seat_of j v
           → SeatOk z.frames z.cpus words (record w { made = w.made + 1 }) keeper (valued w.made new seat_of) j v
       stays words keeper seat_of new here j (Walking q) other k = (
-        valued_else w.made q.cpu new seat_of (λ e. let m = k.1.made in omega arith) ∙ k.0,
+        valued_else w.made q.cpu new seat_of (λ e. omega arith) ∙ k.0,
         pass_admits z.frames z.cpus words w q k.1,
       )
-      stays words keeper seat_of new here j (Keeping u) other k = absurd (other (sym k.0 ∙ here))
+      stays words keeper seat_of new here j (Keeping u) other k = absurd (other (cc))
       stays words keeper seat_of new here j Spent other k = tt
 
-  pub admits_at : (id : ℕ) (m : Me (Unit {0}) View) → m ≡ (Keeping (watch_of m.0), []) → (watch_of m.0).made < z.cpus
-      → length (watch_of m.0).doors ≡ z.frames
-      → Splits (InOrder z) id m.0 (keeper_with_pass m.0) (pass_of_keeper m.0)
-  admits_at id m is room row = subst (λ x. Splits (InOrder z) id x (keeper_with_pass x) (pass_of_keeper x))
-      (sym (ap (λ y. y.0) is))
-      (admits id (watch_of m.0) room row)
+  pub admits_at : (id : ℕ) {m : Me (Unit {0}) View} → m ≡ (Keeping (watch_of m.0), []) → (watch_of m.0).made < z.cpus
+      → length (watch_of m.0).doors ≡ z.frames → Splits (InOrder z) id m.0 (keeper_with_pass m.0) (pass_of_keeper m.0)
+  admits_at id {m} is room row = rw (ap (λ y. y.0) is) (admits id (watch_of m.0) room row)
 
   -- a seat takes in another, which knows nothing any more
   pub takes_in : (id other : ℕ) (v u : View) → Joins (InOrder z) id v other u v Spent
@@ -307,8 +264,7 @@ module _ (z : Size) where
     plan_ok = h.plan_ok;
     seats_ok = seats_stay (SeatOk z.frames z.cpus s.words h.plan h.keeper h.seat_of) (set s.views id v) other Spent tt
         (λ j w _ e. seats_stay (SeatOk z.frames z.cpus s.words h.plan h.keeper h.seat_of) s.views id v
-        (h.seats_ok id v at) (λ i y _ e'. h.seats_ok i y e') j w
-        e);
+        (h.seats_ok id v at) (λ i y _ e'. h.seats_ok i y e') j w e);
   }
 
   door_word : (door f : ℕ) → f < z.frames → get_or (first_words z.frames z.cpus door) (door_at f) 0
@@ -318,7 +274,7 @@ module _ (z : Size) where
       let acks : List ℕ = replicate z.cpus 0 in
       let l : length row ≡ z.frames = length-replicate z.frames door in
       let one : door_at f ≡ suc f = omega arith in
-      ap (λ i. get_or (0 ∷ (row ++ acks)) i 0) one ∙ get_or_append_left row acks 0 f (omega arith)
+      cc (get_or_append_left row acks 0 f (omega arith))
 
   ack_word : (door c : ℕ) → c < z.cpus → get_or (first_words z.frames z.cpus door) (ack_at z.frames c) 0 ≡ 0
   ack_word door c inside =
@@ -347,10 +303,9 @@ module _ (z : Size) where
       made = omega arith;
       request = refl;
       doors = λ f inside. door_word z.door f inside;
-      least = λ f inside. subst (λ k. 1 ≤ k) (sym (get_or-replicate z.frames f z.door 0 inside)) least;
+      least = λ f inside. rw (get_or-replicate z.frames f z.door 0 inside) least;
       noted = λ c inside. subst (λ k. k ≤ get_or (first_words z.frames z.cpus z.door) (ack_at z.frames c) 0)
-          (sym (get_or-replicate z.cpus c 0 0 inside))
-          (omega arith);
+          (sym (get_or-replicate z.cpus c 0 0 inside)) (omega arith);
       unmade = λ c above inside. ack_word z.door c inside;
     };
     seats_ok = one;
@@ -360,8 +315,7 @@ module _ (z : Size) where
           → SeatOk z.frames z.cpus (first_words z.frames z.cpus z.door) (first_watch z.frames z.cpus z.door) 0 (λ c. 0)
           j v
       one zero v e = subst (SeatOk z.frames z.cpus (first_words z.frames z.cpus z.door)
-          (first_watch z.frames z.cpus z.door) 0 (λ c. 0) 0)
-          (some-injective _ _ e) (refl, refl)
+          (first_watch z.frames z.cpus z.door) 0 (λ c. 0) 0) (some-injective _ _ e) (refl, refl)
       one (suc j) v e = absurd (some-ne-none v (sym e))
 
   pub opens_at : (words : List ℕ) → words ≡ first_words z.frames z.cpus z.door → 1 ≤ z.door
@@ -381,9 +335,8 @@ none_if (Some b) never = absurd (never b refl)
 pub noted_is_clear : NotedIsClear
 noted_is_clear w stamp noted f odd since z words views seat h at id p there =
     let is = known z words views seat w h at in
-    let k : PlanOk z.frames z.cpus words w = subst (PlanOk z.frames z.cpus words) (sym is) h.plan_ok in
-    let ok : PassOk z.frames z.cpus words w p = subst (λ q. PassOk z.frames z.cpus words q p) (sym is)
-    (h.seats_ok id (Walking p) there).1 in
+    let k : PlanOk z.frames z.cpus words w = rw is h.plan_ok in
+    let ok : PassOk z.frames z.cpus words w p = rw is (h.seats_ok id (Walking p) there).1 in
     let m = ok.made in let n = k.made in let r = k.noted_row in
     none_if (get_or p.held f None) (λ b e. entry_gone z.frames z.cpus words w p f b stamp k ok
     (noted p.cpu (omega arith)) odd since e)
@@ -391,8 +344,7 @@ noted_is_clear w stamp noted f odd since z words views seat h at id p there =
 pub never_bound : NeverBoundHasNoHolder
 never_bound w f one z words views seat h at id p there =
     let is = known z words views seat w h at in
-    let ok : PassOk z.frames z.cpus words w p = subst (λ q. PassOk z.frames z.cpus words q p) (sym is)
-    (h.seats_ok id (Walking p) there).1 in
+    let ok : PassOk z.frames z.cpus words w p = rw is (h.seats_ok id (Walking p) there).1 in
     none_if (get_or p.held f None) (λ b e. entry_never z.frames z.cpus words w p f b ok one e)
 
 pub may_bind_is_free : MayBindHasNoHolder
@@ -400,36 +352,33 @@ may_bind_is_free w cleared f noted may = ⊎_elim (λ one. never_bound w f one)
     (λ (t : IsShut w f × (get_or w.since f 0 < cleared)). noted_is_clear w cleared noted f t.0 t.1) may
 
 -- at the end the words are those that the keeper knows
-elem_get_or : (l : List ℕ) (i a : ℕ) → get_elem? l i ≡ some a → get_or l i 0 ≡ a
-elem_get_or [] i a e = absurd (some-ne-none a (sym e))
-elem_get_or (x ∷ xs) zero a e = some-injective x a e
-elem_get_or (x ∷ xs) (suc i) a e = elem_get_or xs i a e
+elem_get_or : (l : List ℕ) (i : ℕ) {a : ℕ} → get_elem? l i ≡ some a → get_or l i 0 ≡ a
+elem_get_or [] i {a} e = absurd (some-ne-none a (sym e))
+elem_get_or (x ∷ xs) zero {a} e = some-injective x a e
+elem_get_or (x ∷ xs) (suc i) {a} e = elem_get_or xs i e
 
-ended_plan : (z : Size) (id : ℕ) (m : Me (Unit {0}) View) (words : List ℕ) (slots : List (Unit {0})) → m
+ended_plan : {z : Size} {id : ℕ} {m : Me (Unit {0}) View} {words : List ℕ} (slots : List (Unit {0})) → m
     ≡ (Keeping (watch_of m.0), [])
     → Final (Seen (InOrder z) id m.0) words slots → PlanOk z.frames z.cpus words (watch_of m.0)
-ended_plan z id m words slots is end =
+ended_plan {z} {id} {m} slots is end =
     let s = end.0 in
     let h : Kept z s.words s.views = end.1.0 in
     let at : get_elem? s.views id ≡ some (Keeping (watch_of m.0)) = end.1.1 ∙ ap (λ x. some x.0) is in
-    subst (λ ws. PlanOk z.frames z.cpus ws (watch_of m.0)) end.2
-    (subst (PlanOk z.frames z.cpus s.words) (sym (known z s.words s.views id (watch_of m.0) h at))
-    h.plan_ok)
+    rw (← end.2, known z s.words s.views id (watch_of m.0) h at) h.plan_ok
 
-pub ended_request : (z : Size) (id : ℕ) (m : Me (Unit {0}) View) (words : List ℕ) (slots : List (Unit {0})) (found : ℕ)
-    → m ≡ (Keeping (watch_of m.0), [])
-    → Final (Seen (InOrder z) id m.0) words slots → get_elem? words 0 ≡ some found
+pub ended_request : {z : Size} {id : ℕ} {m : Me (Unit {0}) View} {words : List ℕ} (slots : List (Unit {0})) {found : ℕ}
+    → m ≡ (Keeping (watch_of m.0), []) → Final (Seen (InOrder z) id m.0) words slots → get_elem? words 0 ≡ some found
     → found ≡ (watch_of m.0).request
-ended_request z id m words slots found is end there = let k =
-    ended_plan z id m words slots is end in sym (elem_get_or words 0 found there) ∙ k.request
+ended_request {z} {id} {m} {words} slots {found} is end there = let k =
+    ended_plan {z = z} {id = id} {m = m} {words = words} slots is end in cc (elem_get_or words 0 {a = found} there)
 
-pub ended_doors : (z : Size) (id : ℕ) (m : Me (Unit {0}) View) (words doors : List ℕ) (slots : List (Unit {0})) → m
+pub ended_doors : {z : Size} {id : ℕ} {m : Me (Unit {0}) View} {words doors : List ℕ} (slots : List (Unit {0})) → m
     ≡ (Keeping (watch_of m.0), [])
     → Final (Seen (InOrder z) id m.0) words slots → length doors ≡ length (watch_of m.0).doors
     → ((f : ℕ) → f < length doors → get_elem? words (f + 1) ≡ some (get_or doors f 0)) → doors ≡ (watch_of m.0).doors
-ended_doors z id m words doors slots is end same read =
-    let k = ended_plan z id m words slots is end in
+ended_doors {z} {id} {m} {words} {doors} slots is end same read =
+    let k = ended_plan {z = z} {id = id} {m = m} {words = words} slots is end in
     ext_get_or 0 doors (watch_of m.0).doors same (λ f inside.
     let r = k.doors_row in let at : door_at f ≡ f + 1 = omega arith in
-    sym (elem_get_or words (f + 1) (get_or doors f 0) (read f inside)) ∙ sym (ap (λ i. get_or words i 0) at)
+    sym (elem_get_or words (f + 1) {a = get_or doors f 0} (read f inside)) ∙ sym (ap (λ i. get_or words i 0) at)
     ∙ k.doors f (omega arith))

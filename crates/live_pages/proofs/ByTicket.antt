@@ -1,5 +1,5 @@
 -- By their tickets the touches of the processors give the one list of all touches.
-use Rattle.live_pages.proofs.Prelude.{◌≡◌, ◌≢◌, ℕ, suc, zero, ◌+◌, ◌<◌, ◌≤◌, Bool, true, false, eqb, ◌&&◌, List, [], ◌∷◌, ◌++◌, length, reverse, refl, sym, ap, subst, ◌∙◌, arith, get_or, All, eq-eqb, ne_eqb, append-nil, length-append, length-reverse, reverse-append, All-nil, All-cons, All-append, Watch, Made, Bound, Part, Out, Holder, answer, Given, page_given, is_of, touched_if, after, IsLegal, AreBelow, mine, mine_if, with_ticket, by_ticket, touching, after_all, AreOfOneThread, current, AreOfBindings, HaveLeft, BookOk, AllIn, touches_in, touches_in_first, all_touches, in_order, pages_after, ended_bindings, last_bindings, IsLeftAfterAll, HasNext, IsOfOneThread}
+use Rattle.live_pages.proofs.Prelude.{◌≡◌, ◌≢◌, ℕ, suc, zero, ◌+◌, ◌<◌, ◌≤◌, Bool, true, false, eqb, List, [], ◌∷◌, ◌++◌, length, reverse, refl, sym, ap, ◌∙◌, arith, get_or, All, eq-eqb, ne_eqb, append-nil, length-append, length-reverse, reverse-append, All-nil, All-cons, All-append, Watch, Made, Bound, Part, Out, Holder, answer, Given, page_given, is_of, touched_if, after, IsLegal, AreBelow, mine, mine_if, with_ticket, by_ticket, touching, after_all, AreOfOneThread, current, AreOfBindings, HaveLeft, BookOk, AllIn, touches_in, touches_in_first, in_order, pages_after, ended_bindings, last_bindings, IsLeftAfterAll, HasNext, IsOfOneThread}
 use mathlib.Core.Logic.{dite}
 use native.Mathlib.Decide.{ℕ_discrete}
 use Rattle.live_pages.proofs.Replay.{mine_here, mine_else, all_below, count_below, count_all}
@@ -15,40 +15,32 @@ after_all_more (x ∷ xs) e pages f b = after_all_more xs e (touching x pages) f
 
 pub replayed : (given : Given) (log : List Made) (f b : ℕ) → after_all (reverse log) given f b ≡ after given f b log
 replayed given [] f b = refl
-replayed given (e ∷ es) f b = ap (λ l. after_all l given f b) (reverse_more e es)
-    ∙ after_all_more (reverse es) e given f b
-    ∙ ap (touched_if (is_of f b e) e.touch) (replayed given es f b)
+replayed given (e ∷ es) f b =
+    rw (reverse_more e es, after_all_more (reverse es) e given f b, replayed given es f b) refl
 
-one_thread_more : (n : ℕ) (pages : Given) (es : List Made) (e : Made) → AreOfOneThread n pages es → e.ticket
-    ≡ n + length es
-    → e.word ≡ answer e.touch (after_all es pages e.frame e.binding) → AreOfOneThread n pages (es ++ e ∷ [])
+one_thread_more : (n : ℕ) (pages : Given) (es : List Made) (e : Made) → AreOfOneThread n pages es
+    → e.ticket ≡ n + length es → e.word ≡ answer e.touch (after_all es pages e.frame e.binding)
+    → AreOfOneThread n pages (es ++ e ∷ [])
 one_thread_more n pages [] e ok ticket word = ((omega arith), word, tt)
-one_thread_more n pages (x ∷ xs) e ok ticket word = (
-  ok.0,
-  ok.1,
-  one_thread_more (n + 1) (touching x pages) xs e ok.2
-      (omega arith) word,
-)
+one_thread_more n pages (x ∷ xs) e ok ticket word =
+    (ok.0, ok.1, one_thread_more (n + 1) (touching x pages) xs e ok.2 (omega arith) word)
 
 pub of_one_thread : (given : Given) (log : List Made) → IsLegal given log → AreOfOneThread 0 given (reverse log)
 of_one_thread given [] legal = tt
-of_one_thread given (e ∷ es) legal =
-    subst (AreOfOneThread 0 given) (sym (reverse_more e es))
-    (one_thread_more 0 given (reverse es) e (of_one_thread given es legal.0)
-    (let l = length-reverse es in let t = legal.2 in
-    omega arith) (legal.1 ∙ ap (answer e.touch) (sym (replayed given es e.frame e.binding))))
+of_one_thread given (e ∷ es) legal = rw (reverse_more e es)
+    (one_thread_more 0 given (reverse es) e (of_one_thread given es legal.0) (omega (arith, length-reverse es))
+    (rw (replayed given es e.frame e.binding) legal.1))
 
 bindings_more : (cpus : ℕ) (plan : Watch) (es : List Made) (e : Made) → AreOfBindings cpus plan es → e.cpu < cpus
-    → e.binding ≤ current plan e.frame
-    → AreOfBindings cpus plan (es ++ e ∷ [])
+    → e.binding ≤ current plan e.frame → AreOfBindings cpus plan (es ++ e ∷ [])
 bindings_more cpus plan [] e ok cpu binding = (tt, cpu, binding)
 bindings_more cpus plan (x ∷ xs) e ok cpu binding = (bindings_more cpus plan xs e ok.0 cpu binding, ok.1, ok.2)
 
 pub bindings_in_order : (cpus : ℕ) (plan : Watch) (log : List Made) → AreOfBindings cpus plan log
     → AreOfBindings cpus plan (reverse log)
 bindings_in_order cpus plan [] ok = tt
-bindings_in_order cpus plan (e ∷ es) ok = subst (AreOfBindings cpus plan) (sym (reverse_more e es))
-    (bindings_more cpus plan (reverse es) e (bindings_in_order cpus plan es ok.0) ok.1 ok.2)
+bindings_in_order cpus plan (e ∷ es) ok =
+    rw (reverse_more e es) (bindings_more cpus plan (reverse es) e (bindings_in_order cpus plan es ok.0) ok.1 ok.2)
 
 if_append : (t : Bool) (e : Made) (xs ys : List Made) → mine_if t e (xs ++ ys) ≡ mine_if t e xs ++ ys
 if_append true e xs ys = refl
@@ -56,14 +48,13 @@ if_append false e xs ys = refl
 
 mine_append : (cpu : ℕ) (xs ys : List Made) → mine cpu (xs ++ ys) ≡ mine cpu xs ++ mine cpu ys
 mine_append cpu [] ys = refl
-mine_append cpu (e ∷ es) ys = ap (mine_if (eqb e.cpu cpu) e) (mine_append cpu es ys)
-    ∙ if_append (eqb e.cpu cpu) e (mine cpu es) (mine cpu ys)
+mine_append cpu (e ∷ es) ys = rw (mine_append cpu es ys) (if_append (eqb e.cpu cpu) e (mine cpu es) (mine cpu ys))
 
-ticket_append : (ticket : ℕ) (xs ys : List Made) → with_ticket ticket (xs ++ ys) ≡ with_ticket ticket xs
-    ++ with_ticket ticket ys
+ticket_append : (ticket : ℕ) (xs ys : List Made)
+    → with_ticket ticket (xs ++ ys) ≡ with_ticket ticket xs ++ with_ticket ticket ys
 ticket_append ticket [] ys = refl
-ticket_append ticket (e ∷ es) ys = ap (mine_if (eqb e.ticket ticket) e) (ticket_append ticket es ys)
-    ∙ if_append (eqb e.ticket ticket) e (with_ticket ticket es) (with_ticket ticket ys)
+ticket_append ticket (e ∷ es) ys = rw (ticket_append ticket es ys)
+    (if_append (eqb e.ticket ticket) e (with_ticket ticket es) (with_ticket ticket ys))
 
 if_reverse : (t : Bool) (e : Made) (es : List Made) → reverse (mine_if t e es) ≡ reverse es ++ mine_if t e []
 if_reverse true e es = reverse_more e es
@@ -71,47 +62,31 @@ if_reverse false e es = sym (append-nil (reverse es))
 
 pub mine_in_order : (cpu : ℕ) (log : List Made) → reverse (mine cpu log) ≡ mine cpu (reverse log)
 mine_in_order cpu [] = refl
-mine_in_order cpu (e ∷ es) =
-    if_reverse (eqb e.cpu cpu) e (mine cpu es) ∙ ap (λ l. l ++ mine_if (eqb e.cpu cpu) e []) (mine_in_order cpu es)
-    ∙ sym (mine_append cpu (reverse es) (e ∷ [])) ∙ ap (mine cpu) (sym (reverse_more e es))
+mine_in_order cpu (e ∷ es) = rw (reverse_more e es, mine_append cpu (reverse es) (e ∷ []), ← mine_in_order cpu es)
+    (if_reverse (eqb e.cpu cpu) e (mine cpu es))
 
 -- the touches of a processor that drew a ticket, found either way
-ticket_if : (ticket : ℕ) (t : Bool) (e : Made) (es : List Made) → with_ticket ticket (mine_if t e es)
-    ≡ mine_if (t && eqb e.ticket ticket) e (with_ticket ticket es)
-ticket_if ticket true e es = refl
-ticket_if ticket false e es = refl
-
-mine_if_if : (cpu : ℕ) (t : Bool) (e : Made) (es : List Made) → mine cpu (mine_if t e es)
-    ≡ mine_if (t && eqb e.cpu cpu) e (mine cpu es)
-mine_if_if cpu true e es = refl
-mine_if_if cpu false e es = refl
-
-and_swap : (s t : Bool) → (s && t) ≡ (t && s)
-and_swap true true = refl
-and_swap true false = refl
-and_swap false true = refl
-and_swap false false = refl
-
 ticket_mine : (ticket cpu : ℕ) (es : List Made) → with_ticket ticket (mine cpu es) ≡ mine cpu (with_ticket ticket es)
 ticket_mine ticket cpu [] = refl
 ticket_mine ticket cpu (e ∷ es) =
-    ticket_if ticket (eqb e.cpu cpu) e (mine cpu es) ∙ ap (λ t. mine_if t e (with_ticket ticket (mine cpu es)))
-    (and_swap (eqb e.cpu cpu) (eqb e.ticket ticket))
-    ∙ ap (mine_if (eqb e.ticket ticket && eqb e.cpu cpu) e) (ticket_mine ticket cpu es)
-    ∙ sym (mine_if_if cpu (eqb e.ticket ticket) e (with_ticket ticket es))
+    let ih = ticket_mine ticket cpu es in
+    dite (ℕ_discrete e.cpu cpu) (λ (own : e.cpu ≡ cpu). rw (eq-eqb e.cpu cpu own) (dite (ℕ_discrete e.ticket ticket)
+    (λ (here : e.ticket ≡ ticket). rw (eq-eqb e.ticket ticket here, eq-eqb e.cpu cpu own, ih) refl)
+    (λ (else : e.ticket ≢ ticket). rw (ne_eqb e.ticket ticket else) ih)))
+    (λ (other : e.cpu ≢ cpu). rw (ne_eqb e.cpu cpu other) (dite (ℕ_discrete e.ticket ticket)
+    (λ (here : e.ticket ≡ ticket). rw (eq-eqb e.ticket ticket here, ne_eqb e.cpu cpu other) ih)
+    (λ (else : e.ticket ≢ ticket). rw (ne_eqb e.ticket ticket else) ih)))
 
 -- the touches of the first processors, processor by processor
 abbrev gathered : ℕ → List Made → List Made
 gathered zero es = []
 gathered (suc n) es = gathered n es ++ mine n es
 
-gathered_ticket : (ticket n : ℕ) (es : List Made) → with_ticket ticket (gathered n es)
-    ≡ gathered n (with_ticket ticket es)
+gathered_ticket : (ticket n : ℕ) (es : List Made)
+    → with_ticket ticket (gathered n es) ≡ gathered n (with_ticket ticket es)
 gathered_ticket ticket zero es = refl
 gathered_ticket ticket (suc n) es =
-    ticket_append ticket (gathered n es) (mine n es) ∙ ap (λ l. l ++ with_ticket ticket (mine n es))
-    (gathered_ticket ticket n es)
-    ∙ ap (λ l. gathered n (with_ticket ticket es) ++ l) (ticket_mine ticket n es)
+    rw (ticket_append ticket (gathered n es) (mine n es), gathered_ticket ticket n es, ticket_mine ticket n es) refl
 
 gathered_none : (n : ℕ) → gathered n [] ≡ []
 gathered_none zero = refl
@@ -121,85 +96,66 @@ gathered_one : (n : ℕ) (e : Made) → (e.cpu < n → gathered n (e ∷ []) ≡
 gathered_one zero e = ((λ l. absurd (omega arith)), λ l. refl)
 gathered_one (suc n) e =
     let before = gathered_one n e in (
-      (λ l. dite (ℕ_discrete e.cpu n)
-          (λ (same : e.cpu ≡ n). ap (λ xs. xs ++ mine n (e ∷ [])) (before.1 (omega arith)) ∙ mine_here n e [] same)
-          (λ (other : e.cpu ≢ n). ap (λ xs. gathered n (e ∷ []) ++ xs) (mine_else n e [] other)
-          ∙ append-nil (gathered n (e ∷ [])) ∙ before.0 (omega arith))),
-      λ l. ap (λ xs. gathered n (e ∷ []) ++ xs) (mine_else n e [] (λ same. omega arith))
-          ∙ append-nil (gathered n (e ∷ [])) ∙ before.1 (omega arith),
+      (λ l. dite (ℕ_discrete e.cpu n) (λ (same : e.cpu ≡ n). rw (before.1 (omega arith), mine_here n e [] same) refl)
+          (λ (other : e.cpu ≢ n). rw (before.0 (omega arith), mine_else n e [] other) refl)),
+      λ l. rw (before.1 (omega arith), mine_else n e [] (λ same. omega arith)) refl,
     )
 
-ticket_here : (ticket : ℕ) (e : Made) (es : List Made) → e.ticket ≡ ticket → with_ticket ticket (e ∷ es) ≡ e
-    ∷ with_ticket ticket es
-ticket_here ticket e es same = ap (λ t. mine_if t e (with_ticket ticket es)) (eq-eqb e.ticket ticket same)
+ticket_here : (ticket : ℕ) (e : Made) (es : List Made) → e.ticket ≡ ticket
+    → with_ticket ticket (e ∷ es) ≡ e ∷ with_ticket ticket es
+ticket_here ticket e es same = rw (eq-eqb e.ticket ticket same) refl
 
-ticket_else : (ticket : ℕ) (e : Made) (es : List Made) → e.ticket ≢ ticket → with_ticket ticket (e ∷ es)
-    ≡ with_ticket ticket es
-ticket_else ticket e es other = ap (λ t. mine_if t e (with_ticket ticket es)) (ne_eqb e.ticket ticket other)
+ticket_else : (ticket : ℕ) (e : Made) (es : List Made) → e.ticket ≢ ticket
+    → with_ticket ticket (e ∷ es) ≡ with_ticket ticket es
+ticket_else ticket e es other = rw (ne_eqb e.ticket ticket other) refl
 
 ticket_above : (n ticket : ℕ) (es : List Made) → AreBelow n es → n ≤ ticket → with_ticket ticket es ≡ []
 ticket_above n ticket [] ok up = refl
-ticket_above n ticket (e ∷ es) ok up = ticket_else ticket e es (λ is. let low = ok.1 in omega arith)
-    ∙ ticket_above n ticket es ok.0 up
+ticket_above n ticket (e ∷ es) ok up = ticket_else ticket e es (λ is. omega arith) ∙ ticket_above n ticket es ok.0 up
 
 -- a ticket was drawn by one touch at most, which is by a processor that there is
 gathered_once : (ticket cpus : ℕ) (plan : Watch) (given : Given) (log : List Made) → IsLegal given log
-    → AreOfBindings cpus plan log
-    → gathered cpus (with_ticket ticket log) ≡ with_ticket ticket log
+    → AreOfBindings cpus plan log → gathered cpus (with_ticket ticket log) ≡ with_ticket ticket log
 gathered_once ticket cpus plan given [] legal ok = gathered_none cpus
-gathered_once ticket cpus plan given (e ∷ es) legal ok =
-    dite (ℕ_discrete e.ticket ticket)
-    (λ (same : e.ticket ≡ ticket).
-    let one : with_ticket ticket (e ∷ es) ≡ e ∷ [] = ticket_here ticket e es same
-    ∙ ap (λ l. e ∷ l) (ticket_above (length es) ticket es (all_below given es legal.0)
-    (let t = legal.2 in omega arith)) in
-    ap (gathered cpus) one ∙ (gathered_one cpus e).0 ok.1 ∙ sym one)
-    (λ (other : e.ticket ≢ ticket).
-    let rest = ticket_else ticket e es other in
-    ap (gathered cpus) rest ∙ gathered_once ticket cpus plan given es legal.0 ok.0 ∙ sym rest)
+gathered_once ticket cpus plan given (e ∷ es) legal ok = dite (ℕ_discrete e.ticket ticket)
+    (λ (same : e.ticket ≡ ticket). rw (
+      ticket_here ticket e es same,
+      ticket_above (length es) ticket es (all_below given es legal.0) (omega arith),
+    ) ((gathered_one cpus e).0 ok.1)) (λ (other : e.ticket ≢ ticket).
+    rw (ticket_else ticket e es other) (gathered_once ticket cpus plan given es legal.0 ok.0))
 
 by_same : (n : ℕ) (xs ys : List Made) → ((ticket : ℕ) → ticket < n → with_ticket ticket xs ≡ with_ticket ticket ys)
     → by_ticket n xs ≡ by_ticket n ys
 by_same zero xs ys same = refl
-by_same (suc n) xs ys same = ap (λ l. l ++ with_ticket n xs)
-    (by_same n xs ys (λ ticket below. same ticket (omega arith)))
-    ∙ ap (λ l. by_ticket n ys ++ l) (same n (omega arith))
+by_same (suc n) xs ys same = rw (by_same n xs ys (λ ticket below. same ticket (omega arith)), same n (omega arith)) refl
 
 by_ticket_is : (given : Given) (log : List Made) → IsLegal given log → by_ticket (length log) log ≡ reverse log
 by_ticket_is given [] legal = refl
 by_ticket_is given (e ∷ es) legal =
-    ap (λ l. l ++ with_ticket (length es) (e ∷ es)) (by_same (length es) (e ∷ es) es
-    (λ ticket below. ticket_else ticket e es (λ is. let t = legal.2 in
-    omega arith)) ∙ by_ticket_is given es legal.0)
-    ∙ ap (λ l. reverse es ++ l) (ticket_here (length es) e es legal.2 ∙ ap (λ l. e ∷ l)
-    (ticket_above (length es) (length es) es (all_below given es legal.0) (omega arith)))
-    ∙ sym (reverse_more e es)
+    let before = by_same (length es) (e ∷ es) es (λ ticket below. ticket_else ticket e es
+    (λ is. omega arith)) ∙ by_ticket_is given es legal.0 in
+    let last = ticket_above (length es) (length es) es (all_below given es legal.0) (omega arith) in
+    rw (before, ticket_here (length es) e es legal.2, last) (sym (reverse_more e es))
 
 count_gathered : (n : ℕ) (es : List Made) → length (gathered n es) ≡ count_below n es
 count_gathered zero es = refl
-count_gathered (suc n) es = let a = length-append (gathered n es) (mine n es) in let b =
-    count_gathered n es in omega arith
+count_gathered (suc n) es = rw (length-append, count_gathered n es) refl
 
 first_gathered : (n : ℕ) (parts : List Part) (log : List Made)
     → ((cpu : ℕ) → cpu < n → touches_in (get_or parts cpu Out) ≡ mine cpu log)
     → touches_in_first n parts ≡ gathered n log
 first_gathered zero parts log own = refl
-first_gathered (suc n) parts log own = ap (λ l. l ++ touches_in (get_or parts n Out))
-    (first_gathered n parts log (λ cpu below. own cpu (omega arith)))
-    ∙ ap (λ l. gathered n log ++ l) (own n (omega arith))
+first_gathered (suc n) parts log own =
+    rw (first_gathered n parts log (λ cpu below. own cpu (omega arith)), own n (omega arith)) refl
 
 -- the touches in order of ticket are the list of all touches, the first one first
 pub in_order_is : (cpus : ℕ) (k : Holder) (given : Given) (log : List Made) → length k.parts ≡ cpus → IsLegal given log
     → AreOfBindings cpus k.watch log
     → ((cpu : ℕ) → cpu < cpus → touches_in (get_or k.parts cpu Out) ≡ mine cpu log) → in_order k ≡ reverse log
 in_order_is cpus k given log row legal ok own =
-    let all : all_touches k ≡ gathered cpus log = ap (λ n. touches_in_first n k.parts) row
-    ∙ first_gathered cpus k.parts log own in
-    let count : length (gathered cpus log) ≡ length log = count_gathered cpus log ∙ count_all cpus k.watch log ok in
-    ap (λ l. by_ticket (length l) l) all ∙ ap (λ n. by_ticket n (gathered cpus log)) count
-    ∙ by_same (length log) (gathered cpus log) log (λ ticket below. gathered_ticket ticket cpus log
-    ∙ gathered_once ticket cpus k.watch given log legal ok)
-    ∙ by_ticket_is given log legal
+    rw (row, first_gathered cpus k.parts log own, count_gathered cpus log ∙ count_all cpus k.watch log ok)
+    (by_same (length log) (gathered cpus log) log (λ ticket below. gathered_ticket ticket cpus log
+    ∙ gathered_once ticket cpus k.watch given log legal ok) ∙ by_ticket_is given log legal)
 
 -- the bindings that have ended
 have_next : (k : Holder) (log : List Made) (bs : List Bound) → HaveLeft (page_given k.ended) k.watch log bs
@@ -213,14 +169,7 @@ ended_are_left : (k : Holder) (log : List Made) → ((f b : ℕ) → pages_after
 ended_are_left k log same [] ok = All-nil (IsLeftAfterAll k)
 ended_are_left k log same (b ∷ bs) ok =
     All-append (IsLeftAfterAll k) (ended_bindings (page_given k.ended) bs) _ (ended_are_left k log same bs ok.0)
-    (All-cons (IsLeftAfterAll k) record {
-      frame = b.frame;
-      number = b.binding;
-      given =
-          page_given k.ended b.frame b.binding;
-      left = b.left;
-    } [] (ok.2
-    ∙ sym (same b.frame b.binding)) (All-nil (IsLeftAfterAll k)))
+    (All-cons (IsLeftAfterAll k) _ [] (ok.2 ∙ sym (same b.frame b.binding)) (All-nil (IsLeftAfterAll k)))
 
 -- the bindings whose pages are left
 pub last_are_left : (n : ℕ) (pages : List (List ℕ)) (k : Holder)
@@ -229,35 +178,25 @@ pub last_are_left : (n : ℕ) (pages : List (List ℕ)) (k : Holder)
 last_are_left zero pages k is = All-nil (IsLeftAfterAll k)
 last_are_left (suc n) pages k is =
     All-append (IsLeftAfterAll k) (last_bindings n pages k) _ (last_are_left n pages k (λ f below. is f (omega arith)))
-    (All-cons (IsLeftAfterAll k) record {
-      frame = n;
-      number = current k.watch n;
-      given =
-          page_given k.ended n (current k.watch n);
-      left = get_or pages n [];
-    } []
-    (is n (omega arith)) (All-nil (IsLeftAfterAll k)))
+    (All-cons (IsLeftAfterAll k) _ [] (is n (omega arith)) (All-nil (IsLeftAfterAll k)))
 
 module _ (frames cpus : ℕ) (words : List ℕ) (k : Holder) (log : List Made)
     (book : BookOk frames cpus words k (page_given k.ended) log) (all : AllIn cpus k)
   where
     part_is : (cpu : ℕ) → cpu < cpus → touches_in (get_or k.parts cpu Out) ≡ mine cpu log
-    part_is cpu inside = let there = all cpu inside in ap touches_in there.1 ∙ book.taken_in cpu there.0 there.1
+    part_is cpu inside = let there = all cpu inside in cc (book.taken_in cpu there.0 there.1)
 
     in_order_now : in_order k ≡ reverse log
     in_order_now = in_order_is cpus k (page_given k.ended) log book.parts book.legal book.bindings part_is
 
     pub pages_are : (f b : ℕ) → pages_after k f b ≡ after (page_given k.ended) f b log
-    pages_are f b = ap (λ l. after_all l (page_given k.ended) f b) in_order_now ∙ replayed (page_given k.ended) log f b
+    pages_are f b = rw in_order_now (replayed (page_given k.ended) log f b)
 
     pub all_of_one_thread : IsOfOneThread cpus k
     all_of_one_thread = record {
-      words = subst (AreOfOneThread 0 (page_given k.ended)) (sym in_order_now)
-          (of_one_thread (page_given k.ended) log book.legal);
-      own = λ cpu inside. ap (λ l. reverse l) (part_is cpu inside) ∙ mine_in_order cpu log
-          ∙ ap (mine cpu) (sym in_order_now);
-      bindings = subst (AreOfBindings cpus k.watch) (sym in_order_now)
-          (bindings_in_order cpus k.watch log book.bindings);
+      words = rw in_order_now (of_one_thread (page_given k.ended) log book.legal);
+      own = λ cpu inside. rw (part_is cpu inside, in_order_now) (mine_in_order cpu log);
+      bindings = rw in_order_now (bindings_in_order cpus k.watch log book.bindings);
       given = have_next k log k.ended book.left;
       zeros = book.zeros;
       in_turn = book.in_turn;

@@ -7,4 +7,3 @@ pub mod ByTicket
 pub mod Ends
 pub mod AllIn
 pub mod Calls
-pub mod WorkedRow

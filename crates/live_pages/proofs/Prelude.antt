@@ -1,9 +1,9 @@
 -- The names that the proofs of this crate take from elsewhere.
 pub use Rattle.std.proofs.Common.{All, Bool, IsTrue, List, None, Option, Some, [], ap, arith, cond, eqb, false, get_or, inl, inr, length, map, mul-le-mul_right, option_to_list, refl, replicate, reverse, rules, set, slice_index_or, subst, suc, suc-mul, sym, true, vec_capacity, vec_len, zero, ℕ, ⊎_elim, ◌%◌, ◌&&◌, ◌*◌, ◌++◌, ◌+◌, ◌/◌, ◌<◌, ◌^◌, ◌∙◌, ◌∷◌, ◌≡◌, ◌≢◌, ◌≤◌, ◌⊎◌}
 pub use Rattle.std.proofs.lemmas.Bool.{eq-eqb, ne_eqb}
-pub use Rattle.std.proofs.lemmas.List.{append-nil, get_or-append-add, get_or-replicate, get_or-set_other, get_or-set_same, get_or_append_left, length-append, length-replicate, length-reverse, length-set, reverse-append, set-get_or}
+pub use Rattle.std.proofs.lemmas.List.{append-nil, append_assoc, get_or-append-add, get_or-replicate, get_or-set_other, get_or-set_same, get_or_append_left, get_or_push, length-append, length-replicate, length-reverse, length-set, length_push, replicate-append-replicate, reverse-append, set-get_or}
 pub use Rattle.std.proofs.lemmas.List.Elements.{All-append, All-cons, All-nil, All-pop}
-pub use Rattle.std.proofs.lemmas.Option.{none-some}
+pub use Rattle.std.proofs.lemmas.Option.{none-some, same_Some}
 pub use Rattle.std.specs.Mem.Slots.{slots_filled, slots_items, slots_len}
 pub use Rattle.laws.proofs.Bools.{and_false}
 pub use Rattle.laws.proofs.Places.{valued, valued_else, valued_here}

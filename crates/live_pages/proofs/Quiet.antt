@@ -1,93 +1,11 @@
 -- The steps that leave turns, tickets and pages alone: they keep the rule as they keep that of the doors.
-use Rattle.live_pages.proofs.Prelude.{◌≡◌, ◌≢◌, ℕ, suc, zero, ◌+◌, ◌/◌, ◌%◌, ◌<◌, ◌≤◌, Bool, true, false, eqb, List, [], ◌∷◌, length, Option, refl, sym, ap, subst, ◌∙◌, arith, get_or, set, set-get_or, get_or-set_same, get_or-set_other, length-set, State, step, keeps, Allows, set_else, Walk, Watch, having_noted, forgotten, acknowledged, shut, raised, door_at, ack_at, filled_if, filled, PlanOk, PassOk, filled_ok, forgotten_ok, plan_acknowledged, acknowledged_ok, pass_stays, plan_shut, pass_shut, plan_raised, pass_raised, plan_noted, seats_stay, Held, Size, Made, Hand, Free, Has, Walker, Holder, View, Passing, Keeping, Spent, Given, after, mine, turn_at, ticket_at, current, hand_of, walking, watching, Fills, Forgets, Acknowledges, Closes, Raises, Looks, BookOk, SlotsOk, TurnsOk, HandOk, HoldsHand, WalkerOk, SeatOk, Kept}
+use Rattle.live_pages.proofs.Prelude.{◌≡◌, List, Option, [], ap, arith, get_or, length, refl, set, suc, sym, zero, ℕ, ◌%◌, ◌+◌, ◌/◌, ◌<◌, ◌∙◌, ◌∷◌, ◌≢◌, ◌≤◌, get_or-set_other, get_or-set_same, length-set, set-get_or, acknowledged, forgotten, having_noted, raised, shut, PassOk, PlanOk, acknowledged_ok, filled_ok, filled_row, forgotten_ok, pass_raised, pass_shut, pass_stays, plan_acknowledged, plan_noted, plan_raised, plan_shut, seats_stay, ack_at, door_at, filled, Walk, Watch, set_else, Allows, State, keeps, step, BookOk, HandOk, Kept, SeatOk, SlotsOk, TurnsOk, WalkerOk, after, mine, Acknowledges, Closes, Fills, Forgets, Looks, Raises, Seat, current, hand_of, ticket_at, turn_at, walking, watching, Held, Size, Hand, Free, Has, Holder, Out, View, Keeping, Passing, Spent, Walker}
 use mathlib.Core.Logic.{dite}
 use mathlib.Core.Option as M
 use native.Mathlib.Decide.{ℕ_discrete}
 use lib.ListN.{get_elem?}
+use Rattle.live_pages.specs.Kept.{Known}
 use Rattle.live_pages.proofs.Replay.{bindings_stay, left_stays}
-
-pub set_at : {V : Type 0} (l : List V) (i : ℕ) (a b : V) → get_elem? l i ≡ M.some a → get_elem? (set l i b) i ≡ M.some b
-set_at [] i a b e = absurd (M.some-ne-none a (sym e))
-set_at (x ∷ xs) zero a b e = refl
-set_at (x ∷ xs) (suc i) a b e = set_at xs i a b e
-
--- the words of turns and tickets are the same
-abbrev pub Quiet : ℕ → ℕ → List ℕ → List ℕ → Type 0
-Quiet frames cpus words words' = (length words' ≡ length words)
-    × ((i : ℕ) → 1 + frames + cpus ≤ i → get_or words' i 0 ≡ get_or words i 0)
-
-pub quiet_set : (frames cpus : ℕ) (words : List ℕ) (i n : ℕ) → i < 1 + frames + cpus
-    → Quiet frames cpus words (set words i n)
-quiet_set frames cpus words i n low = (
-  length-set words i n,
-  λ j above. get_or-set_other words i j n 0
-      (λ e. omega arith),
-)
-
-le_of_same : {x y : ℕ} → x ≡ y → y ≤ x
-le_of_same e = omega arith
-
-module _ (frames cpus : ℕ) (words words' : List ℕ) (given : Given) (log : List Made)
-    (quiet : Quiet frames cpus words words') where
-  pub book_quiet : (plan : Holder) (w : Watch) → PlanOk frames cpus words' w
-      → ((f : ℕ) → current w f ≡ current plan.watch f) → w.made ≡ plan.watch.made
-      → BookOk frames cpus words plan given log → BookOk frames cpus words' (record plan { watch = w }) given log
-  book_quiet plan w ok same made b = record {
-    plan_ok = ok;
-    room = (let l = quiet.0 in let r = b.room in omega arith);
-    parts = b.parts;
-    ticket = quiet.1 (ticket_at frames cpus) (omega arith) ∙ b.ticket;
-    legal = b.legal;
-    bindings = bindings_stay cpus plan.watch w log (λ f. le_of_same (same f)) b.bindings;
-    few = b.few;
-    left = left_stays given plan.watch w log plan.ended (λ f. le_of_same (same f)) b.left;
-    zeros = b.zeros;
-    given_is = b.given_is;
-    in_turn = b.in_turn;
-    last = λ f. same f ∙ b.last f;
-    unmade = λ c above. b.unmade c (subst (λ m. m ≤ c) made above);
-    taken_in = b.taken_in;
-  }
-
-  turn_stays : (f : ℕ) → get_or words' (turn_at frames cpus f) 0 ≡ get_or words (turn_at frames cpus f) 0
-  turn_stays f = quiet.1 (turn_at frames cpus f) (omega arith)
-
-  pub slots_quiet : (homes : List (M.Option (Option Held))) (plan w : Watch) → ((f : ℕ) → current w f ≡ current plan f)
-      → SlotsOk frames cpus words homes plan given log → SlotsOk frames cpus words' homes w given log
-  slots_quiet homes plan w same ok f inside free =
-      let old = ok f inside (sym (turn_stays f) ∙ free) in
-      (old.0, old.1, old.2 ∙ ap (λ b. after given f b log) (sym (same f)))
-
-  pub hand_quiet : (holder : ℕ → ℕ) (plan w : Watch) (seat : ℕ) (hand : Hand) → ((f : ℕ) → current w f ≡ current plan f)
-      → HandOk frames cpus words plan holder given log seat hand
-      → HandOk frames cpus words' w holder given log seat hand
-  hand_quiet holder plan w seat Free same ok = tt
-  hand_quiet holder plan w seat (Has f page) same ok =
-      (ok.0, ok.1, (λ e. ok.2 (sym (turn_stays f) ∙ e)), ok.3 ∙ ap (λ b. after given f b log) (sym (same f)))
-
-  pub turns_quiet : (views : List View) (holder : ℕ → ℕ) (id : ℕ) (v v' : View) → get_elem? views id ≡ M.some v
-      → hand_of v' ≡ hand_of v
-      → TurnsOk frames cpus words views holder → TurnsOk frames cpus words' (set views id v') holder
-  turns_quiet views holder id v v' at same ok f inside taken =
-      let old = ok f inside (λ e. taken (turn_stays f ∙ e)) in
-      dite (ℕ_discrete (holder f) id)
-      (λ (here : holder f ≡ id).
-      let is : old.0 ≡ v = M.some-injective _ _ (sym old.2 ∙ ap (get_elem? views) here ∙ at) in
-      (v', old.1, ap (get_elem? (set views id v')) here ∙ set_at views id v v' at, same ∙ sym (ap hand_of is) ∙ old.3))
-      (λ (other : holder f ≢ id). (old.0, old.1, set_else views id (holder f) v' other ∙ old.2, old.3))
-
-  pub walker_quiet : (plan : Holder) (w : Watch) (holder : ℕ → ℕ) (seat : ℕ) (q : Walker)
-      → ((f : ℕ) → current w f ≡ current plan.watch f)
-      → PassOk frames cpus words' w q.walk → WalkerOk frames cpus words plan holder given log seat q
-      → WalkerOk frames cpus words' (record plan { watch = w }) holder given log seat q
-  walker_quiet plan w holder seat q same pass ok = record {
-    all = ok.all;
-    pass_ok = pass;
-    made = ok.made;
-    hand_ok = hand_quiet holder plan.watch w seat q.hand same ok.hand_ok;
-    holds = ok.holds;
-    out = ok.out;
-  }
 
 abbrev pub Board : Type 0
 Board = State (Option Held) View
@@ -95,258 +13,292 @@ Board = State (Option Held) View
 abbrev pub InOrder : Size → Board → Type 0
 InOrder z s = Kept z s.words s.homes s.views
 
+-- ---- what stands behind a table
+
+abbrev pub BookStands : Size → List ℕ → Known → Type 0
+BookStands z words n = BookOk z.frames z.cpus words n.plan n.given n.log
+
+abbrev pub HandStands : Size → List ℕ → Known → ℕ → Hand → Type 0
+HandStands z words n seat hand = HandOk z.frames z.cpus words n.plan.watch n.holder n.given n.log seat hand
+
+abbrev pub WalkerStands : Size → List ℕ → Known → ℕ → Walker → Type 0
+WalkerStands z words n seat q = WalkerOk z.frames z.cpus words n.plan n.holder n.given n.log seat q
+
+abbrev pub Stands : Size → List ℕ → Known → ℕ → View → Type 0
+Stands z words n seat v = SeatOk z.frames z.cpus words n.plan n.keeper n.seat_of n.holder n.given n.log seat v
+
+-- the rule, by what is known
+pub record KeptBy (z : Size) (words : List ℕ) (homes : List (M.Option (Option Held))) (views : List View) (n : Known)
+    : Type 0 where
+  pub book_ok : BookStands z words n
+  pub slots_ok : SlotsOk z.frames z.cpus words homes n.plan.watch n.given n.log
+  pub turns_ok : TurnsOk z.frames z.cpus words views n.holder
+  pub seats_ok : (seat : ℕ) (v : View) → get_elem? views seat ≡ M.some v → Stands z words n seat v
+
+pub kept : {z : Size} {words : List ℕ} {homes : List (M.Option (Option Held))} {views : List View} {n : Known}
+    → KeptBy z words homes views n → Kept z words homes views
+kept {n = n} k = record {
+  known = n;
+  book_ok = k.book_ok;
+  slots_ok = k.slots_ok;
+  turns_ok = k.turns_ok;
+  seats_ok = k.seats_ok;
+}
+
+module _ {z : Size} {words : List ℕ} {homes : List (M.Option (Option Held))} {views : List View}
+    (h : Kept z words homes views) where
+  pub as_known : KeptBy z words homes views h.known
+  as_known = assumption
+
+  -- the plan is what the keeper knows
+  pub as_keeper : (id : ℕ) {k : Holder} → get_elem? views id ≡ M.some (Keeping k)
+      → KeptBy z words homes views (record h.known { plan = k })
+  as_keeper id {k} at = rw (h.seats_ok id (Keeping k) at).1 as_known
+
+-- ---- what a step leaves as it was
+
+pub set_at : {V : Type 0} (l : List V) (i : ℕ) (a b : V) → get_elem? l i ≡ M.some a → get_elem? (set l i b) i ≡ M.some b
+set_at [] i a b e = absurd (M.some-ne-none a (sym e))
+set_at (x ∷ xs) zero a b e = refl
+set_at (x ∷ xs) (suc i) a b e = set_at xs i a b e
+
+-- a seat has the turn of a frame
+abbrev pub HasTurn : List View → ℕ → ℕ → Type 0
+HasTurn views seat f = (v : View) × (page : List ℕ) × (get_elem? views seat ≡ M.some v) × (hand_of v ≡ Has f page)
+
+-- it has it still where one view is another, which has that turn if the one before had it
+pub turn_stays : (views : List View) (id seat f : ℕ) (v v' : View) → get_elem? views id ≡ M.some v
+    → ((page : List ℕ) → hand_of v ≡ Has f page → (page' : List ℕ) × (hand_of v' ≡ Has f page'))
+    → HasTurn views seat f → HasTurn (set views id v') seat f
+turn_stays views id seat f v v' at still (u, page, there, has) = dite (ℕ_discrete seat id) (λ (here : seat ≡ id).
+    let is : u ≡ v = M.some-injective _ _ (sym there ∙ ap (get_elem? views) here ∙ at) in
+    let mine = still page (cc) in
+    (v', mine.0, rw here (set_at views id v v' at), mine.1))
+    (λ (other : seat ≢ id). (u, page, set_else views id seat v' other ∙ there, has))
+
+module _ (z : Size) (words words' : List ℕ) (n n' : Known) (seat : ℕ)
+    (turns : (f : ℕ) (page : List ℕ) → HandStands z words n seat (Has f page)
+    → HandStands z words' n' seat (Has f page)) where
+  pub hand_stays : (hand : Hand) → HandStands z words n seat hand → HandStands z words' n' seat hand
+  hand_stays Free ok = tt
+  hand_stays (Has f page) ok = turns f page ok
+
+  -- A seat stays in order with its turn, if it is the keeper's only with the plan, and if it is a pass's with its
+  -- processor's seat, entries, touches and part.
+  pub seat_stays : (v : View)
+      → ((q : Walker) → n.seat_of q.walk.cpu ≡ seat → WalkerStands z words n seat q → (n'.seat_of q.walk.cpu ≡ seat)
+      × PassOk z.frames z.cpus words' n'.plan.watch q.walk × (q.made ≡ mine q.walk.cpu n'.log)
+      × (get_or n'.plan.parts q.walk.cpu Out ≡ Out)) → (n.keeper ≡ seat → (n'.keeper ≡ seat) × (n.plan ≡ n'.plan))
+      → Stands z words n seat v → Stands z words' n' seat v
+  seat_stays (Passing q) pass plans (here, ok) =
+      let now = pass q here ok in (
+        now.0,
+        assumption (hand_stays q.hand ok.hand_ok),
+      )
+  seat_stays (Keeping u) pass plans (here, is, ok) = ((plans here).0, is ∙ (plans here).1, hand_stays u.hand ok)
+  seat_stays (Spent u) pass plans ok = tt
+
+-- ---- steps on the words of doors, stamps and acknowledgements
+
+-- the words of turns and tickets are the same, and so are the current bindings and how many passes were made
+pub record Quiet (z : Size) (words words' : List ℕ) (plan w : Watch) : Type 0 where
+  pub count : length words' ≡ length words
+  pub above : (i : ℕ) → 1 + z.frames + z.cpus ≤ i → get_or words' i 0 ≡ get_or words i 0
+  pub same : (f : ℕ) → current w f ≡ current plan f
+  pub made : w.made ≡ plan.made
+
+pub quiet_set : {z : Size} {words : List ℕ} {plan w : Watch} (i n : ℕ) → i < 1 + z.frames + z.cpus
+    → ((f : ℕ) → current w f ≡ current plan f) → w.made ≡ plan.made → Quiet z words (set words i n) plan w
+quiet_set {words = words} i n low same made = record {
+  count = length-set words i n;
+  above = λ j up. get_or-set_other words i j n 0 (λ e. omega arith);
+  same = same;
+  made = made;
+}
+
+abbrev pub with_watch : Known → Watch → Known
+with_watch n w = record n { plan = record n.plan { watch = w } }
+
+module _ {z : Size} {words words' : List ℕ} {homes : List (M.Option (Option Held))} {views : List View} {n : Known}
+    {w : Watch} (h : KeptBy z words homes views n) (quiet : Quiet z words words' n.plan.watch w) where
+  turn_same : (f : ℕ) → get_or words' (turn_at z.frames z.cpus f) 0 ≡ get_or words (turn_at z.frames z.cpus f) 0
+  turn_same f = quiet.above (turn_at z.frames z.cpus f) (omega arith)
+
+  pub turn_quiet : (seat f : ℕ) (page : List ℕ) → HandStands z words n seat (Has f page)
+      → HandStands z words' (with_watch n w) seat (Has f page)
+  turn_quiet seat f page ok = (ok.0, ok.1, (λ e. ok.2 (sym (turn_same f) ∙ e)), cc (quiet.same f))
+
+  -- a seat has another view, which is in order, with the same turn
+  pub quiet_kept : (id : ℕ) (v v' : View) → get_elem? views id ≡ M.some v → hand_of v' ≡ hand_of v
+      → PlanOk z.frames z.cpus words' w → Stands z words' (with_watch n w) id v'
+      → ((seat : ℕ) (q : Walker) → seat ≢ id → n.seat_of q.walk.cpu ≡ seat
+      → PassOk z.frames z.cpus words n.plan.watch q.walk → PassOk z.frames z.cpus words' w q.walk)
+      → ((seat : ℕ) → seat ≢ id → n.keeper ≡ seat → n.plan.watch ≡ w) → Kept z words' homes (set views id v')
+  quiet_kept id v v' at hand plan own passes plans = record {
+    known = with_watch n w;
+    book_ok =
+        let b = h.book_ok in
+        record {
+          plan_ok = plan;
+          room = (omega arith);
+          parts = b.parts;
+          ticket = quiet.above (ticket_at z.frames z.cpus) (omega arith) ∙ b.ticket;
+          legal = b.legal;
+          bindings = bindings_stay z.cpus n.plan.watch w n.log (λ f. omega (arith, quiet.same f)) b.bindings;
+          few = b.few;
+          left = left_stays n.given n.plan.watch w n.log n.plan.ended (λ f. omega (arith, quiet.same f)) b.left;
+          zeros = b.zeros;
+          given_is = b.given_is;
+          in_turn = b.in_turn;
+          last = λ f. quiet.same f ∙ b.last f;
+          unmade = λ c above. b.unmade c (rw quiet.made at above);
+          taken_in = b.taken_in;
+        };
+    slots_ok = λ f inside free.
+        let old = h.slots_ok f inside (sym (turn_same f) ∙ free) in
+        (old.0, old.1, cc (quiet.same f));
+    turns_ok = λ f inside busy. turn_stays views id (n.holder f) f v v' at (λ page has. (page, hand ∙ has))
+        (h.turns_ok f inside (λ e. busy (turn_same f ∙ e)));
+    seats_ok = seats_stay (Stands z words' (with_watch n w)) views id v' own (λ seat u other there.
+        seat_stays z words words' n (with_watch n w) seat (turn_quiet seat) u
+        (λ q here ok. (here, passes seat q other here ok.pass_ok, ok.made, ok.out))
+        (λ is. (is, ap (λ x. record n.plan { watch = x }) (plans seat other is))) (h.seats_ok seat u there));
+  }
+
 module _ (z : Size) where
   -- a pass without a turn has read or stored a word
-  pub pass_stepped : (words words' : List ℕ) (homes : List (M.Option (Option Held))) (views : List View) (id : ℕ)
-      (w : Walker) (change : Walk → Walk)
-      → (h : Kept z words homes views) → get_elem? views id ≡ M.some (Passing w) → w.hand ≡ Free
-      → (change w.walk).cpu ≡ w.walk.cpu → Quiet z.frames z.cpus words words'
-      → (PassOk z.frames z.cpus words h.known.plan.watch w.walk → PlanOk z.frames z.cpus words' h.known.plan.watch)
-      → (PassOk z.frames z.cpus words h.known.plan.watch w.walk → PassOk z.frames z.cpus words' h.known.plan.watch
-      (change w.walk))
+  pub pass_stepped : {words words' : List ℕ} {homes : List (M.Option (Option Held))} {views : List View} (id : ℕ)
+      {w : Walker} (change : Walk → Walk) (h : Kept z words homes views) → get_elem? views id ≡ M.some (Passing w)
+      → w.hand ≡ Free → (change w.walk).cpu ≡ w.walk.cpu → Quiet z words words' h.known.plan.watch h.known.plan.watch
+      → PlanOk z.frames z.cpus words' h.known.plan.watch
+      → PassOk z.frames z.cpus words' h.known.plan.watch (change w.walk)
       → ((q : Walk) → q.cpu ≢ w.walk.cpu → PassOk z.frames z.cpus words h.known.plan.watch q
       → PassOk z.frames z.cpus words' h.known.plan.watch q)
       → Kept z words' homes (set views id (Passing (walking change w)))
-  pass_stepped words words' homes views id w change h at free cpu quiet plan own others =
+  pass_stepped id {w} change h at free cpu quiet plan own others =
       let mine = h.seats_ok id (Passing w) at in
-      record {
-        known = h.known;
-        book_ok = book_quiet z.frames z.cpus words words' h.known.given h.known.log quiet h.known.plan
-            h.known.plan.watch (plan mine.1.pass_ok)
-            (λ f. refl) refl h.book_ok;
-        slots_ok = slots_quiet z.frames z.cpus words words' h.known.given h.known.log quiet homes h.known.plan.watch
-            h.known.plan.watch
-            (λ f. refl) h.slots_ok;
-        turns_ok = turns_quiet z.frames z.cpus words words' h.known.given h.known.log quiet views h.known.holder id
-            (Passing w)
-            (Passing (walking change w)) at refl h.turns_ok;
-        seats_ok = seats_stay (SeatOk z.frames z.cpus words' h.known.plan h.known.keeper h.known.seat_of
-            h.known.holder h.known.given h.known.log) views id
-            (Passing (walking change w)) (
-              ap h.known.seat_of cpu ∙ mine.0,
-              record {
-                all = mine.1.all;
-                pass_ok = own mine.1.pass_ok;
-                made = mine.1.made ∙ ap (λ c. Rattle.live_pages.specs.Touches.mine c h.known.log) (sym cpu);
-                hand_ok = subst (HandOk z.frames z.cpus words' h.known.plan.watch h.known.holder h.known.given
-                    h.known.log id) (sym free) tt;
-                holds = subst (λ k. HoldsHand k (change w.walk)) (sym free) tt;
-                out = ap (λ c. get_or h.known.plan.parts c
-                    Rattle.live_pages.specs.declared.views.Part.TheVariants.Out) cpu
-                    ∙ mine.1.out;
-              },
-            )
-            (λ j v other e. stays h.known.plan h.known.keeper h.known.seat_of h.known.holder h.known.given h.known.log
-            mine.0 others j v other
-            (h.seats_ok j v e));
-      }
-    where
-      stays : (plan : Holder) (keeper : ℕ) (seat_of holder : ℕ → ℕ) (given : Given) (log : List Made)
-          → seat_of w.walk.cpu ≡ id
-          → ((q : Walk) → q.cpu ≢ w.walk.cpu → PassOk z.frames z.cpus words plan.watch q
-          → PassOk z.frames z.cpus words' plan.watch q) → (j : ℕ) (v : View)
-          → j ≢ id → SeatOk z.frames z.cpus words plan keeper seat_of holder given log j v
-          → SeatOk z.frames z.cpus words' plan keeper seat_of holder given log j v
-      stays plan keeper seat_of holder given log here others j (Passing q) other k = (
-        k.0,
-        walker_quiet z.frames z.cpus words words' given log quiet plan plan.watch holder j q (λ f. refl)
-            (others q.walk (λ e. other (sym k.0 ∙ ap seat_of e ∙ here)) k.1.pass_ok) k.1,
-      )
-      stays plan keeper seat_of holder given log here others j (Keeping u) other k = (
-        k.0,
-        k.1,
-        hand_quiet z.frames z.cpus words words' given log quiet holder plan.watch plan.watch j u.hand (λ f. refl) k.2,
-      )
-      stays plan keeper seat_of holder given log here others j (Spent u) other k = tt
+      quiet_kept (as_known h) quiet id (Passing w) (Passing (walking change w)) at refl plan (
+        rw cpu mine.0,
+        record {
+          all = mine.1.all;
+          pass_ok = own;
+          made = rw cpu mine.1.made;
+          hand_ok = rw free tt;
+          holds = rw free tt;
+          out = rw cpu mine.1.out;
+        },
+      ) (λ seat q other here. others q.walk (λ e. other (cc))) (λ seat other is. refl)
 
   -- the keeper has read or stored a word, and no frame's current binding is another
-  pub keeper_stepped : (words words' : List ℕ) (homes : List (M.Option (Option Held))) (views : List View) (id : ℕ)
-      (k : Holder) (change : Watch → Watch)
-      → (h : Kept z words homes views) → get_elem? views id ≡ M.some (Keeping k)
-      → Quiet z.frames z.cpus words words' → ((f : ℕ) → current (change k.watch) f ≡ current k.watch f)
-      → (change k.watch).made ≡ k.watch.made
+  pub keeper_stepped : {words words' : List ℕ} {homes : List (M.Option (Option Held))} {views : List View} (id : ℕ)
+      {k : Holder} (change : Watch → Watch) → Kept z words homes views → get_elem? views id ≡ M.some (Keeping k)
+      → Quiet z words words' k.watch (change k.watch)
       → (PlanOk z.frames z.cpus words k.watch → PlanOk z.frames z.cpus words' (change k.watch))
       → (PlanOk z.frames z.cpus words k.watch → (q : Walk) → PassOk z.frames z.cpus words k.watch q
       → PassOk z.frames z.cpus words' (change k.watch) q)
       → Kept z words' homes (set views id (Keeping (watching change k)))
-  keeper_stepped words words' homes views id k change h at quiet same made plan pass =
-      let mine = h.seats_ok id (Keeping k) at in
-      let book : BookOk z.frames z.cpus words k h.known.given h.known.log =
-      subst (λ p. BookOk z.frames z.cpus words p h.known.given h.known.log) (sym mine.1) h.book_ok in
-      let slots : SlotsOk z.frames z.cpus words homes k.watch h.known.given h.known.log =
-      subst (λ p. SlotsOk z.frames z.cpus words homes p.watch h.known.given h.known.log) (sym mine.1) h.slots_ok in
-      let hand : HandOk z.frames z.cpus words k.watch h.known.holder h.known.given h.known.log id k.hand =
-      subst (λ p. HandOk z.frames z.cpus words p.watch h.known.holder h.known.given h.known.log id k.hand) (sym
-      mine.1) mine.2 in
-      record {
-        known = record h.known { plan = watching change k };
-        book_ok = book_quiet z.frames z.cpus words words' h.known.given h.known.log quiet k (change k.watch) (plan
-            book.plan_ok)
-            same made book;
-        slots_ok = slots_quiet z.frames z.cpus words words' h.known.given h.known.log quiet homes k.watch (change
-            k.watch) same
-            slots;
-        turns_ok = turns_quiet z.frames z.cpus words words' h.known.given h.known.log quiet views h.known.holder id
-            (Keeping k)
-            (Keeping (watching change k)) at refl h.turns_ok;
-        seats_ok = seats_stay (SeatOk z.frames z.cpus words' (watching change k) h.known.keeper h.known.seat_of
-            h.known.holder h.known.given
-            h.known.log) views id
-            (Keeping (watching change k)) (
-              mine.0,
-              refl,
-              hand_quiet z.frames z.cpus words words' h.known.given h.known.log quiet h.known.holder k.watch
-                  (change k.watch) id k.hand same hand,
-            )
-            (λ j v other e. stays h.known.keeper h.known.seat_of h.known.holder h.known.given h.known.log mine.0 (pass
-            book.plan_ok) j v other
-            (subst (λ p. SeatOk z.frames z.cpus words p h.known.keeper h.known.seat_of h.known.holder h.known.given
-            h.known.log j v) (sym mine.1)
-            (h.seats_ok j v e)));
-      }
-    where
-      stays : (keeper : ℕ) (seat_of holder : ℕ → ℕ) (given : Given) (log : List Made) → keeper ≡ id
-          → ((q : Walk) → PassOk z.frames z.cpus words k.watch q → PassOk z.frames z.cpus words' (change k.watch) q)
-          → (j : ℕ) (v : View) → j ≢ id
-          → SeatOk z.frames z.cpus words k keeper seat_of holder given log j v
-          → SeatOk z.frames z.cpus words' (watching change k) keeper seat_of holder given log j v
-      stays keeper seat_of holder given log here pass j (Passing q) other s = (
-        s.0,
-        walker_quiet z.frames z.cpus words words' given log quiet k (change k.watch) holder j q same
-            (pass q.walk s.1.pass_ok) s.1,
-      )
-      stays keeper seat_of holder given log here pass j (Keeping u) other s = absurd (other (sym s.0 ∙ here))
-      stays keeper seat_of holder given log here pass j (Spent u) other s = tt
+  keeper_stepped {words} {words'} id {k} change h at quiet plan pass =
+      let n = record h.known { plan = k } in
+      let by = as_keeper h id at in
+      let mine = by.seats_ok id (Keeping k) at in
+      quiet_kept by quiet id (Keeping k) (Keeping (watching change k)) at refl (plan by.book_ok.plan_ok) (
+        mine.0,
+        refl,
+        hand_stays z words words' n (with_watch n (change k.watch)) id (turn_quiet by quiet id) k.hand mine.2,
+      ) (λ seat q other here. pass by.book_ok.plan_ok q.walk) (λ seat other is. absurd (other (cc)))
 
-  pub fills : (slots id f : ℕ) (w : Walker) → w.hand ≡ Free → f < z.frames
-      → Allows (InOrder z) slots id (Passing w, []) (door_at f) (λ n. n)
-      (Fills (step slots (door_at f) 0 0 M.none) (Passing w, []))
-  fills slots id f w free inside s h homes at fits =
-      let n : ℕ = get_or s.words (door_at f) 0 in (
-        Passing (walking (filled f n) w),
-        keeps,
-        tt,
-        subst (λ ws. Kept z ws s.homes (set s.views id (Passing (walking (filled f n) w))))
-            (sym (set-get_or s.words (door_at f) 0))
-            (pass_stepped s.words s.words s.homes s.views id w (filled f n) h at free (cpu_stays (eqb (n % 2) 0) n)
-            (refl, λ i _. refl) (λ _. h.book_ok.plan_ok)
-            (λ ok. filled_ok z.frames z.cpus s.words h.known.plan.watch w.walk f n inside refl h.book_ok.plan_ok ok)
-            (λ q _ ok. ok)),
-        λ g e. (
-          least s.words h.known.plan.watch h.book_ok.plan_ok,
-          ap (λ j. (Passing (walking (filled j n) w), []))
-              (omega arith),
-        ),
-      )
-    where
-      cpu_stays : (even : Bool) (n : ℕ) → (filled_if even f n w.walk).cpu ≡ w.walk.cpu
-      cpu_stays true n = refl
-      cpu_stays false n = refl
+  module _ (slots id : ℕ) {m : Seat} where
+    pub fills : (f : ℕ) {w : Walker} → m ≡ (Passing w, []) → w.hand ≡ Free → f < z.frames
+        → Allows (InOrder z) slots id m (door_at f) (λ n. n) (Fills (step slots (door_at f) 0 0 M.none) m)
+    fills f {w} is free inside = rw is (λ s h homes at fits.
+        let n : ℕ = get_or s.words (door_at f) 0 in
+        let k = h.book_ok.plan_ok in
+        let own = h.seats_ok id (Passing w) at in (
+          Passing (walking (filled f n) w),
+          keeps,
+          tt,
+          rw (set-get_or s.words (door_at f) 0) (pass_stepped id (filled f n) h at free (filled_row f n w.walk).1
+              (record { count = refl; above = λ i up. refl; same = λ g. refl; made = refl }) k
+              (filled_ok _ _ _ _ w.walk f n inside refl k own.1.pass_ok) (λ q other ok. ok)),
+          λ g e. (
+            (omega (arith, k.doors f inside, k.least f inside)),
+            (let same : f ≡ g = omega arith in rw same),
+          ),
+        ))
 
-      least : (words : List ℕ) (plan : Watch) → PlanOk z.frames z.cpus words plan → 1 ≤ get_or words (door_at f) 0
-      least words plan k = subst (λ i. 1 ≤ i) (sym (k.doors f inside)) (k.least f inside)
+    pub forgets : {w : Walker} → m ≡ (Passing w, []) → w.hand ≡ Free
+        → Allows (InOrder z) slots id m 0 (λ n. n) (Forgets (step slots 0 0 0 M.none) m)
+    forgets {w} is free = rw is (λ s h homes at fits.
+        let n : ℕ = get_or s.words 0 0 in
+        let own = h.seats_ok id (Passing w) at in (
+          Passing (walking (forgotten n) w),
+          keeps,
+          tt,
+          rw (set-get_or s.words 0 0) (pass_stepped id (forgotten n) h at free refl
+              (record { count = refl; above = λ i up. refl; same = λ g. refl; made = refl }) h.book_ok.plan_ok
+              (forgotten_ok _ _ _ _ w.walk n refl h.book_ok.plan_ok own.1.pass_ok) (λ q other ok. ok)),
+          λ e. refl,
+        ))
 
-  pub forgets : (slots id : ℕ) (w : Walker) → w.hand ≡ Free → Allows (InOrder z) slots id (
-    Passing w,
-    [],
-  ) 0 (λ n. n) (Forgets (step slots 0 0 0 M.none) (Passing w, []))
-  forgets slots id w free s h homes at fits =
-      let n : ℕ = get_or s.words 0 0 in (
-        Passing (walking (forgotten n) w),
-        keeps,
-        tt,
-        subst (λ ws. Kept z ws s.homes (set s.views id (Passing (walking (forgotten n) w))))
-            (sym (set-get_or s.words 0 0))
-            (pass_stepped s.words s.words s.homes s.views id w (forgotten n) h at free refl (
-              refl,
-              λ i _. refl,
-            ) (λ _. h.book_ok.plan_ok) (λ ok. forgotten_ok z.frames z.cpus s.words h.known.plan.watch w.walk n refl
-            h.book_ok.plan_ok ok)
-            (λ q _ ok. ok)),
-        λ _. refl,
-      )
+    pub acknowledges : (i n : ℕ) {w : Walker} → m ≡ (Passing w, []) → w.hand ≡ Free → w.walk.cpu < z.cpus
+        → i ≡ ack_at z.frames w.walk.cpu → n ≡ w.walk.stamp
+        → Allows (InOrder z) slots id m i (λ _. n) (λ _. Acknowledges (step slots i n 0 M.none) m n)
+    acknowledges i n {w} is free inside word stamp = rw (is, word, stamp) (λ s h homes at fits.
+        let k = h.book_ok.plan_ok in
+        let own = (h.seats_ok id (Passing w) at).1.pass_ok in (
+          Passing (walking acknowledged w),
+          keeps,
+          tt,
+          pass_stepped id acknowledged h at free refl
+              (quiet_set (ack_at z.frames w.walk.cpu) _ (omega arith) (λ f. refl) refl)
+              (plan_acknowledged _ _ _ _ w.walk k own) (acknowledged_ok _ _ _ _ w.walk k own)
+              (λ q other. pass_stays z.frames z.cpus s.words h.known.plan.watch q (ack_at z.frames w.walk.cpu)
+              w.walk.stamp (λ e. other (omega arith))),
+          refl,
+        ))
 
-  pub acknowledges : (slots id : ℕ) (w : Walker) → w.hand ≡ Free → w.walk.cpu < z.cpus
-      → Allows (InOrder z) slots id (Passing w, []) (ack_at z.frames w.walk.cpu) (λ _. w.walk.stamp)
-      (λ _. Acknowledges (step slots (ack_at z.frames w.walk.cpu) w.walk.stamp 0 M.none) (Passing w, []) w.walk.stamp)
-  acknowledges slots id w free inside s h homes at fits = (
-    Passing (walking acknowledged w),
-    keeps,
-    tt,
-    pass_stepped s.words (set s.words (ack_at z.frames w.walk.cpu) w.walk.stamp) s.homes s.views id w acknowledged h at
-        free refl
-        (quiet_set z.frames z.cpus s.words (ack_at z.frames w.walk.cpu) w.walk.stamp (omega arith))
-        (λ ok. plan_acknowledged z.frames z.cpus s.words h.known.plan.watch w.walk h.book_ok.plan_ok ok)
-        (λ ok. acknowledged_ok z.frames z.cpus s.words h.known.plan.watch w.walk h.book_ok.plan_ok ok)
-        (λ q other ok. pass_stays z.frames z.cpus s.words h.known.plan.watch q (ack_at z.frames w.walk.cpu) w.walk.stamp
-        (λ e. other (omega arith)) ok),
-    refl,
-  )
+    pub closes : (f n : ℕ) {k : Holder} → m ≡ (Keeping k, []) → f < z.frames → get_or k.watch.doors f 0 % 2 ≡ 0
+        → f < length k.watch.doors → n ≡ get_or k.watch.doors f 0 + 1
+        → Allows (InOrder z) slots id m (door_at f) (λ _. n) (λ _. Closes (step slots (door_at f) n 0 M.none) m n)
+    closes f n {k} is inside even row word = rw (is, word) (λ s h homes at fits. (
+      Keeping (watching (shut f) k),
+      keeps,
+      tt,
+      keeper_stepped id (shut f) h at (quiet_set (door_at f) _ (omega arith) same refl)
+          (plan_shut _ _ _ _ f inside) (λ p q. pass_shut _ _ _ _ f q inside even p),
+      λ g e. (let here : f ≡ g = omega arith in rw here),
+    ))
+      where
+        half : (x y : ℕ) → y ≡ x + 1 → x % 2 ≡ 0 → y / 2 ≡ x / 2
+        half x y e even = omega arith
 
-  pub closes : (slots id f : ℕ) (k : Holder) → f < z.frames → get_or k.watch.doors f 0 % 2 ≡ 0
-      → f < length k.watch.doors
-      → Allows (InOrder z) slots id (Keeping k, []) (door_at f) (λ _. get_or k.watch.doors f 0 + 1)
-      (λ _. Closes (step slots (door_at f) (get_or k.watch.doors f 0 + 1) 0 M.none) (Keeping k, [])
-      (get_or k.watch.doors f 0 + 1))
-  closes slots id f k inside even row s h homes at fits = (
-    Keeping (watching (shut f) k),
-    keeps,
-    tt,
-    keeper_stepped s.words (set s.words (door_at f) (get_or k.watch.doors f 0 + 1)) s.homes s.views id k (shut f) h at
-        (quiet_set z.frames z.cpus s.words (door_at f) (get_or k.watch.doors f 0 + 1) (omega arith)) same refl
-        (plan_shut z.frames z.cpus s.words k.watch f inside)
-        (λ p q ok. pass_shut z.frames z.cpus s.words k.watch f q inside even p ok),
-    λ g e. ap (λ j. (Keeping (watching (shut j) k), [])) (omega arith),
-  )
-    where
-      half : (x y : ℕ) → y ≡ x + 1 → x % 2 ≡ 0 → y / 2 ≡ x / 2
-      half x y e even = omega arith
+        same : (g : ℕ) → current (shut f k.watch) g ≡ current k.watch g
+        same g = dite (ℕ_discrete g f) (λ (here : g ≡ f). rw here
+            (half _ _ (get_or-set_same k.watch.doors f (get_or k.watch.doors f 0 + 1) 0 row) even))
+            (λ (other : g ≢ f). cc (get_or-set_other k.watch.doors f g (get_or k.watch.doors f 0 + 1) 0 other))
 
-      same : (g : ℕ) → current (shut f k.watch) g ≡ current k.watch g
-      same g = dite (ℕ_discrete g f)
-          (λ (is : g ≡ f). subst (λ j. current (shut f k.watch) j ≡ current k.watch j) (sym is)
-          (half (get_or k.watch.doors f 0) (get_or (set k.watch.doors f (get_or k.watch.doors f 0 + 1)) f 0)
-          (get_or-set_same k.watch.doors f (get_or k.watch.doors f 0 + 1) 0 row) even))
-          (λ (other : g ≢ f). ap (λ x. x / 2) (get_or-set_other k.watch.doors f g (get_or k.watch.doors f 0 + 1) 0
-          other))
+    pub raises : (n : ℕ) {k : Holder} → m ≡ (Keeping k, []) → n ≡ k.watch.request + 1
+        → Allows (InOrder z) slots id m 0 (λ _. n) (λ _. Raises (step slots 0 n 0 M.none) m n)
+    raises n {k} is word = rw (is, word) (λ s h homes at fits. (
+      Keeping (watching raised k),
+      keeps,
+      tt,
+      keeper_stepped id raised h at (quiet_set 0 _ (omega arith) (λ f. refl) refl) (plan_raised _ _ _ k.watch)
+          (λ p. pass_raised z.frames z.cpus s.words k.watch),
+      refl,
+    ))
 
-  pub raises : (slots id : ℕ) (k : Holder) → Allows (InOrder z) slots id (
-    Keeping k,
-    [],
-  ) 0 (λ _. k.watch.request + 1) (λ _. Raises (step slots 0 (k.watch.request + 1) 0 M.none) (Keeping k, [])
-      (k.watch.request + 1))
-  raises slots id k s h homes at fits = (
-    Keeping (watching raised k),
-    keeps,
-    tt,
-    keeper_stepped s.words (set s.words 0 (k.watch.request + 1)) s.homes s.views id k raised h at
-        (quiet_set z.frames z.cpus s.words 0 (k.watch.request + 1) (omega arith)) (λ f. refl) refl
-        (plan_raised z.frames z.cpus s.words k.watch)
-        (λ _ q ok. pass_raised z.frames z.cpus s.words k.watch q ok),
-    refl,
-  )
-
-  pub looks : (slots id c : ℕ) (k : Holder) → c < z.cpus → length k.watch.doors ≡ z.frames
-      → Allows (InOrder z) slots id (Keeping k, []) (ack_at z.frames c) (λ n. n)
-      (Looks (step slots (ack_at z.frames c) 0 0 M.none) (Keeping k, []))
-  looks slots id c k inside row s h homes here fits =
-      let at : ℕ = ack_at z.frames c in
-      let n : ℕ = get_or s.words (ack_at z.frames c) 0 in
-      let mine = h.seats_ok id (Keeping k) here in
-      let low : get_or k.watch.noted c 0 ≤ n = subst (λ p. get_or p.watch.noted c 0 ≤ n) (sym mine.1)
-      (h.book_ok.plan_ok.noted c inside) in (
-        Keeping (watching (having_noted at c n) k),
-        keeps,
-        tt,
-        subst (λ ws. Kept z ws s.homes (set s.views id (Keeping (watching (having_noted at c n) k))))
-            (sym (set-get_or s.words (ack_at z.frames c) 0))
-            (keeper_stepped s.words s.words s.homes s.views id k (having_noted at c n) h here (
-              refl,
-              λ i _. refl,
-            ) (λ f. refl) refl (λ p. plan_noted z.frames z.cpus s.words k.watch at c n inside refl p)
-            (λ _ q ok. ok)),
-        λ d e. let same : c ≡ d = omega arith in (
-          subst (λ j. get_or k.watch.noted j 0 ≤ n) same low,
-          ap (λ j. (Keeping (watching (having_noted at j n) k), [])) same,
-        ),
-      )
+    pub looks : (i c : ℕ) {k : Holder} → m ≡ (Keeping k, []) → i ≡ ack_at z.frames c → c < z.cpus
+        → length k.watch.doors ≡ z.frames → Allows (InOrder z) slots id m i (λ n. n) (Looks (step slots i 0 0 M.none) m)
+    looks i c {k} is word inside row = rw (is, word) (λ s h homes here fits.
+        let at : ℕ = ack_at z.frames c in
+        let n : ℕ = get_or s.words at 0 in (
+          Keeping (watching (having_noted at c n) k),
+          keeps,
+          tt,
+          rw (set-get_or s.words at 0) (keeper_stepped id (having_noted at c n) h here
+              (record { count = refl; above = λ j up. refl; same = λ f. refl; made = refl })
+              (plan_noted _ _ _ k.watch at c n inside refl) (λ p q ok. ok)),
+          λ d e. (let same : c ≡ d = omega arith in
+              rw (← same) ((as_keeper h id here).book_ok.plan_ok.noted c inside, refl)),
+        ))

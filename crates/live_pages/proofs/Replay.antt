@@ -1,5 +1,5 @@
 -- Touches replayed: what one more touch, or one more binding, changes.
-use Rattle.live_pages.proofs.Prelude.{◌≡◌, ◌≢◌, ℕ, suc, zero, ◌+◌, ◌*◌, ◌^◌, ◌<◌, ◌≤◌, ◌⊎◌, Bool, true, false, cond, eqb, ◌&&◌, List, [], ◌∷◌, length, refl, sym, ap, subst, ◌∙◌, arith, inl, inr, ⊎_elim, suc-mul, mul-le-mul_right, eq-eqb, ne_eqb, Watch, Made, Bound, touched, answer, Given, is_of, touched_if, after, IsLegal, AreBelow, mine, mine_if, current, AreOfBindings, HaveLeft, and_false}
+use Rattle.live_pages.proofs.Prelude.{◌≡◌, ◌≢◌, ℕ, suc, zero, ◌+◌, ◌*◌, ◌^◌, ◌<◌, ◌≤◌, ◌⊎◌, Bool, true, false, cond, eqb, ◌&&◌, List, [], ◌∷◌, length, refl, sym, ap, ◌∙◌, arith, inl, inr, ⊎_elim, suc-mul, mul-le-mul_right, eq-eqb, ne_eqb, Watch, Made, Bound, touched, answer, Given, is_of, touched_if, after, IsLegal, AreBelow, mine, mine_if, current, AreOfBindings, HaveLeft, and_false}
 use mathlib.Core.Logic.{dite}
 use native.Mathlib.Decide.{ℕ_discrete}
 use Rattle.live_doors.specs.declared.rule.TheConstants.{MOST_CPUS}
@@ -7,174 +7,122 @@ use Rattle.live_doors.specs.declared.rule.TheConstants.{MOST_CPUS}
 -- a touch of this binding
 pub after_here : (given : Given) (f b : ℕ) (e : Made) (es : List Made) → e.frame ≡ f → e.binding ≡ b
     → after given f b (e ∷ es) ≡ touched e.touch (after given f b es)
-after_here given f b e es frame binding = ap (λ t. touched_if t e.touch (after given f b es))
-    (ap (λ t. t && eqb e.binding b) (eq-eqb e.frame f frame)
-    ∙ eq-eqb e.binding b binding)
+after_here given f b e es frame binding = rw (eq-eqb e.frame f frame, eq-eqb e.binding b binding) refl
 
 -- a touch of another frame
-pub after_frame : (given : Given) (f b : ℕ) (e : Made) (es : List Made) → e.frame ≢ f → after given f b (e ∷ es)
-    ≡ after given f b es
-after_frame given f b e es frame = ap (λ t. touched_if t e.touch (after given f b es))
-    (ap (λ t. t && eqb e.binding b) (ne_eqb e.frame f frame))
+pub after_frame : (given : Given) (f b : ℕ) (e : Made) (es : List Made) → e.frame ≢ f
+    → after given f b (e ∷ es) ≡ after given f b es
+after_frame given f b e es frame = rw (ne_eqb e.frame f frame) refl
 
 -- a touch of another binding
-pub after_binding : (given : Given) (f b : ℕ) (e : Made) (es : List Made) → e.binding ≢ b → after given f b (e ∷ es)
-    ≡ after given f b es
-after_binding given f b e es binding = ap (λ t. touched_if t e.touch (after given f b es))
-    (ap (λ t. eqb e.frame f && t) (ne_eqb e.binding b binding)
-    ∙ and_false (eqb e.frame f))
+pub after_binding : (given : Given) (f b : ℕ) (e : Made) (es : List Made) → e.binding ≢ b
+    → after given f b (e ∷ es) ≡ after given f b es
+after_binding given f b e es binding = rw (ne_eqb e.binding b binding, and_false (eqb e.frame f)) refl
 
 -- only what the binding itself was given counts
-pub after_given : (given given' : Given) (f b : ℕ) (es : List Made) → given' f b ≡ given f b → after given' f b es
-    ≡ after given f b es
+pub after_given : (given given' : Given) (f b : ℕ) (es : List Made) → given' f b ≡ given f b
+    → after given' f b es ≡ after given f b es
 after_given given given' f b [] same = same
-after_given given given' f b (e ∷ es) same = ap (touched_if (is_of f b e) e.touch)
-    (after_given given given' f b es same)
+after_given given given' f b (e ∷ es) same = cc (after_given given given' f b es same)
 
 -- frame f's binding b is given this page
 abbrev pub regiven : ℕ → ℕ → List ℕ → Given → Given
 regiven f b page given g c = cond (eqb g f && eqb c b) page (given g c)
 
 pub regiven_here : (f b : ℕ) (page : List ℕ) (given : Given) → regiven f b page given f b ≡ page
-regiven_here f b page given = ap (λ t. cond t page (given f b))
-    (ap (λ t. t && eqb b b) (eq-eqb f f refl) ∙ eq-eqb b b refl)
+regiven_here f b page given = rw (eq-eqb f f refl, eq-eqb b b refl) refl
 
 pub regiven_frame : (f b : ℕ) (page : List ℕ) (given : Given) (g c : ℕ) → g ≢ f → regiven f b page given g c ≡ given g c
-regiven_frame f b page given g c other = ap (λ t. cond t page (given g c)) (ap (λ t. t && eqb c b) (ne_eqb g f other))
+regiven_frame f b page given g c other = rw (ne_eqb g f other) refl
 
-pub regiven_binding : (f b : ℕ) (page : List ℕ) (given : Given) (g c : ℕ) → c ≢ b → regiven f b page given g c
-    ≡ given g c
-regiven_binding f b page given g c other = ap (λ t. cond t page (given g c))
-    (ap (λ t. eqb g f && t) (ne_eqb c b other) ∙ and_false (eqb g f))
+pub regiven_binding : (f b : ℕ) (page : List ℕ) (given : Given) (g c : ℕ) → c ≢ b
+    → regiven f b page given g c ≡ given g c
+regiven_binding f b page given g c other = rw (ne_eqb c b other, and_false (eqb g f)) refl
 
 -- another page for a binding that no touch is of changes no other page, and no touch
 pub after_else : (f b : ℕ) (page : List ℕ) (given : Given) (g c : ℕ) (es : List Made) → (g ≢ f) ⊎ (c ≢ b)
     → after (regiven f b page given) g c es ≡ after given g c es
 after_else f b page given g c es other = after_given given (regiven f b page given) g c es
-    (⊎_elim (λ (o : g ≢ f). regiven_frame f b page given g c o) (λ (o : c ≢ b). regiven_binding f b page given g c o)
-    other)
-
-not_after : (b c : ℕ) → b ≤ c → b ≢ c + 1
-not_after b c low e = omega arith
+    (⊎_elim (regiven_frame f b page given g c) (regiven_binding f b page given g c) other)
 
 -- no touch is yet of the binding after the current one
 pub after_next : (cpus : ℕ) (plan : Watch) (f : ℕ) (page : List ℕ) (given : Given) (es : List Made)
-    → AreOfBindings cpus plan es
-    → after (regiven f (current plan f + 1) page given) f (current plan f + 1) es ≡ page
+    → AreOfBindings cpus plan es → after (regiven f (current plan f + 1) page given) f (current plan f + 1) es ≡ page
 after_next cpus plan f page given [] ok = regiven_here f (current plan f + 1) page given
-after_next cpus plan f page given (e ∷ es) ok =
-    dite (ℕ_discrete e.frame f)
-    (λ (same : e.frame ≡ f). let low = subst (λ g. e.binding ≤ current plan g) same ok.2 in
-    after_binding (regiven f (current plan f + 1) page given) f (current plan f + 1) e es
-    (not_after e.binding (current plan f) low)
-    ∙ after_next cpus plan f page given es ok.0)
-    (λ (other : e.frame ≢ f). after_frame (regiven f (current plan f + 1) page given) f (current plan f + 1) e es other
-    ∙ after_next cpus plan f page given es ok.0)
+after_next cpus plan f page given (e ∷ es) ok = dite (ℕ_discrete e.frame f)
+    (λ (same : e.frame ≡ f). let low = rw same at ok.2 in
+    after_binding (regiven f (current plan f + 1) page given) f (current plan f + 1) e es (λ is. omega arith))
+    (after_frame (regiven f (current plan f + 1) page given) f (current plan f + 1) e es)
+    ∙ after_next cpus plan f page given es ok.0
 
 -- a binding that was had is not the next one of frame f
 not_next : (plan : Watch) (f g b : ℕ) → b ≤ current plan g → (g ≢ f) ⊎ (b ≢ current plan f + 1)
-not_next plan f g b low = dite (ℕ_discrete g f) (λ (same : g ≡ f). inr
-    (not_after b (current plan f) (subst (λ k. b ≤ current plan k) same low)))
-    (λ (other : g ≢ f). inl other)
+not_next plan f g b low = dite (ℕ_discrete g f)
+    (λ (same : g ≡ f). inr (λ is. let up = rw same at low in omega arith)) (λ (other : g ≢ f). inl other)
 
 pub legal_next : (cpus : ℕ) (plan : Watch) (f : ℕ) (page : List ℕ) (given : Given) (es : List Made)
-    → AreOfBindings cpus plan es → IsLegal given es
-    → IsLegal (regiven f (current plan f + 1) page given) es
+    → AreOfBindings cpus plan es → IsLegal given es → IsLegal (regiven f (current plan f + 1) page given) es
 legal_next cpus plan f page given [] ok legal = tt
 legal_next cpus plan f page given (e ∷ es) ok legal = (
   legal_next cpus plan f page given es ok.0 legal.0,
-  legal.1 ∙ ap (answer e.touch) (sym (after_else f (current plan f + 1) page given e.frame e.binding es
-      (not_next plan f e.frame e.binding ok.2))),
+  cc (after_else f (current plan f + 1) page given e.frame e.binding es (not_next plan f e.frame e.binding ok.2)),
   legal.2,
 )
 
-lt_le : {x y : ℕ} → x < y → x ≤ y
-lt_le l = omega arith
-
-lt_next : {x y : ℕ} → x < y → x + 1 ≤ y
-lt_next l = omega arith
-
-le_both : {x y n : ℕ} → x ≤ y → n ≤ x → n ≤ y
-le_both a b = omega arith
-
-lt_both : {x y n : ℕ} → x ≤ y → n < x → n < y
-lt_both a b = omega arith
-
 pub left_next : (plan : Watch) (f : ℕ) (page : List ℕ) (given : Given) (log : List Made) (bs : List Bound)
-    → HaveLeft given plan log bs
-    → HaveLeft (regiven f (current plan f + 1) page given) plan log bs
+    → HaveLeft given plan log bs → HaveLeft (regiven f (current plan f + 1) page given) plan log bs
 left_next plan f page given log [] ok = tt
 left_next plan f page given log (b ∷ bs) ok = (
   left_next plan f page given log bs ok.0,
   ok.1,
   ok.2 ∙ sym (after_else f (current plan f + 1) page given b.frame b.binding log
-      (not_next plan f b.frame b.binding (lt_le ok.1))),
+      (not_next plan f b.frame b.binding (omega arith))),
   ok.3 ∙ sym (after_else f (current plan f + 1) page given b.frame (b.binding + 1) []
-      (not_next plan f b.frame (b.binding + 1) (lt_next ok.1))),
+      (not_next plan f b.frame (b.binding + 1) (omega arith))),
 )
 
 -- where no frame's current binding is lower, touches and ended bindings stay in order
 pub bindings_stay : (cpus : ℕ) (plan plan' : Watch) (es : List Made) → ((f : ℕ) → current plan f ≤ current plan' f)
-    → AreOfBindings cpus plan es
-    → AreOfBindings cpus plan' es
+    → AreOfBindings cpus plan es → AreOfBindings cpus plan' es
 bindings_stay cpus plan plan' [] up ok = tt
-bindings_stay cpus plan plan' (e ∷ es) up ok = (
-  bindings_stay cpus plan plan' es up ok.0,
-  ok.1,
-  le_both (up e.frame)
-      ok.2,
-)
+bindings_stay cpus plan plan' (e ∷ es) up ok =
+    let more = up e.frame in let low = ok.2 in (bindings_stay cpus plan plan' es up ok.0, ok.1, omega arith)
 
 pub left_stays : (given : Given) (plan plan' : Watch) (log : List Made) (bs : List Bound)
-    → ((f : ℕ) → current plan f ≤ current plan' f)
-    → HaveLeft given plan log bs → HaveLeft given plan' log bs
+    → ((f : ℕ) → current plan f ≤ current plan' f) → HaveLeft given plan log bs → HaveLeft given plan' log bs
 left_stays given plan plan' log [] up ok = tt
-left_stays given plan plan' log (b ∷ bs) up ok = (
-  left_stays given plan plan' log bs up ok.0,
-  lt_both (up b.frame)
-      ok.1,
-  ok.2,
-  ok.3,
-)
-
-not_below : (x y : ℕ) → y < x → y ≡ x → ⊥
-not_below x y l e = omega arith
+left_stays given plan plan' log (b ∷ bs) up ok =
+    let more = up b.frame in let low = ok.1 in (left_stays given plan plan' log bs up ok.0, omega arith, ok.2, ok.3)
 
 -- one more touch of a current binding leaves the bindings that have ended
-pub left_touched : (given : Given) (plan : Watch) (log : List Made) (bs : List Bound) (e : Made) → e.binding
-    ≡ current plan e.frame → HaveLeft given plan log bs
-    → HaveLeft given plan (e ∷ log) bs
+pub left_touched : (given : Given) (plan : Watch) (log : List Made) (bs : List Bound) (e : Made)
+    → e.binding ≡ current plan e.frame → HaveLeft given plan log bs → HaveLeft given plan (e ∷ log) bs
 left_touched given plan log [] e is ok = tt
 left_touched given plan log (b ∷ bs) e is ok = (
   left_touched given plan log bs e is ok.0,
   ok.1,
-  ok.2
-      ∙ dite (ℕ_discrete e.frame b.frame)
-      (λ (same : e.frame ≡ b.frame). sym (after_binding given b.frame b.binding e log
-      (λ hit. not_below (current plan b.frame) b.binding ok.1 (sym hit ∙ is ∙ ap (current plan) same))))
-      (λ (other : e.frame ≢ b.frame). sym (after_frame given b.frame b.binding e log other)),
+  ok.2 ∙ sym (dite (ℕ_discrete e.frame b.frame)
+      (λ (same : e.frame ≡ b.frame). after_binding given b.frame b.binding e log
+      (λ hit. let low = ok.1 in let now = rw same at is in omega arith)) (after_frame given b.frame b.binding e log)),
   ok.3,
 )
 
 -- the touches of one processor, with one more
 pub mine_here : (cpu : ℕ) (e : Made) (es : List Made) → e.cpu ≡ cpu → mine cpu (e ∷ es) ≡ e ∷ mine cpu es
-mine_here cpu e es same = ap (λ t. mine_if t e (mine cpu es)) (eq-eqb e.cpu cpu same)
+mine_here cpu e es same = rw (eq-eqb e.cpu cpu same) refl
 
 pub mine_else : (cpu : ℕ) (e : Made) (es : List Made) → e.cpu ≢ cpu → mine cpu (e ∷ es) ≡ mine cpu es
-mine_else cpu e es other = ap (λ t. mine_if t e (mine cpu es)) (ne_eqb e.cpu cpu other)
+mine_else cpu e es other = rw (ne_eqb e.cpu cpu other) refl
 
 -- the tickets of the touches are below their count, and so are those of one processor
 below_more : (n m : ℕ) (es : List Made) → n ≤ m → AreBelow n es → AreBelow m es
 below_more n m [] up ok = tt
-below_more n m (e ∷ es) up ok = (below_more n m es up ok.0, lt_both up ok.1)
+below_more n m (e ∷ es) up ok = let low = ok.1 in (below_more n m es up ok.0, omega arith)
 
 pub all_below : (given : Given) (log : List Made) → IsLegal given log → AreBelow (length log) log
 all_below given [] legal = tt
-all_below given (e ∷ es) legal = (
-  below_more (length es) (suc (length es)) es (omega arith)
-      (all_below given es legal.0),
-  (let t = legal.2 in omega arith),
-)
+all_below given (e ∷ es) legal = let t = legal.2 in
+    (below_more (length es) (suc (length es)) es (omega arith) (all_below given es legal.0), omega arith)
 
 below_if : (t : Bool) (n : ℕ) (e : Made) (es : List Made) → AreBelow n es → e.ticket < n → AreBelow n (mine_if t e es)
 below_if true n e es ok low = (ok, low)
@@ -184,11 +132,10 @@ mine_below : (n cpu : ℕ) (es : List Made) → AreBelow n es → AreBelow n (mi
 mine_below n cpu [] ok = tt
 mine_below n cpu (e ∷ es) ok = below_if (eqb e.cpu cpu) n e (mine cpu es) (mine_below n cpu es ok.0) ok.1
 
-pub own_below : (given : Given) (log made : List Made) (n cpu : ℕ) → IsLegal given log → made ≡ mine cpu log → n
-    ≡ length log → AreBelow n made
-own_below given log made n cpu legal own count = subst (λ (x : ℕ × List Made). AreBelow x.0 x.1)
-    (λ i. (sym count i, sym own i))
-    (mine_below (length log) cpu log (all_below given log legal))
+pub own_below : (given : Given) (log made : List Made) (n cpu : ℕ) → IsLegal given log → made ≡ mine cpu log
+    → n ≡ length log → AreBelow n made
+own_below given log made n cpu legal own count =
+    rw (count, own) (mine_below (length log) cpu log (all_below given log legal))
 
 -- how many touches are of the first n processors
 abbrev pub count_below : ℕ → List Made → ℕ
@@ -197,7 +144,7 @@ count_below (suc n) es = count_below n es + length (mine n es)
 
 count_none : (n : ℕ) → count_below n [] ≡ 0
 count_none zero = refl
-count_none (suc n) = let h = count_none n in omega arith
+count_none (suc n) = omega (arith, count_none n)
 
 count_more : (n : ℕ) (e : Made) (es : List Made) → (e.cpu < n → count_below n (e ∷ es) ≡ count_below n es + 1)
     × (n ≤ e.cpu → count_below n (e ∷ es) ≡ count_below n es)
@@ -205,30 +152,25 @@ count_more zero e es = ((λ l. absurd (omega arith)), λ l. refl)
 count_more (suc n) e es =
     let before = count_more n e es in (
       (λ l. dite (ℕ_discrete e.cpu n)
-          (λ (same : e.cpu ≡ n). let a = before.1 (omega arith) in let b =
-          ap (λ xs. length xs) (mine_here n e es same) in omega arith)
-          (λ (other : e.cpu ≢ n). let a = before.0 (omega arith) in let b =
-          ap (λ xs. length xs) (mine_else n e es other) in omega arith)),
-      λ l. let a = before.1 (omega arith) in let b = ap (λ xs. length xs) (mine_else n e es (λ same. omega arith)) in
-          omega arith,
+          (λ (same : e.cpu ≡ n). rw (before.1 (omega arith), mine_here n e es same) (omega arith))
+          (λ (other : e.cpu ≢ n). rw (before.0 (omega arith), mine_else n e es other) (omega arith))),
+      λ l. rw (before.1 (omega arith), mine_else n e es (λ same. omega arith)) refl,
     )
 
-pub count_all : (cpus : ℕ) (plan : Watch) (es : List Made) → AreOfBindings cpus plan es → count_below cpus es
-    ≡ length es
+pub count_all : (cpus : ℕ) (plan : Watch) (es : List Made) → AreOfBindings cpus plan es
+    → count_below cpus es ≡ length es
 count_all cpus plan [] ok = count_none cpus
-count_all cpus plan (e ∷ es) ok = let a = (count_more cpus e es).0 ok.1 in let b =
-    count_all cpus plan es ok.0 in omega arith
+count_all cpus plan (e ∷ es) ok = rw ((count_more cpus e es).0 ok.1, count_all cpus plan es ok.0) (omega arith)
 
 count_few : (n m : ℕ) (es : List Made) → ((cpu : ℕ) → length (mine cpu es) ≤ m) → count_below n es ≤ n * m
 count_few zero m es few = omega arith
-count_few (suc n) m es few = let a = count_few n m es few in let b = few n in let c = suc-mul n m in omega arith
+count_few (suc n) m es few = omega (arith, count_few n m es few, few n, suc-mul n m)
 
 -- so the tickets do not wrap
 pub tickets_fit : (cpus : ℕ) (plan : Watch) (es : List Made) → cpus ≤ MOST_CPUS → AreOfBindings cpus plan es
-    → ((cpu : ℕ) → length (mine cpu es) ≤ 2 ^ 32)
-    → length es ≤ MOST_CPUS * 2 ^ 32
+    → ((cpu : ℕ) → length (mine cpu es) ≤ 2 ^ 32) → length es ≤ MOST_CPUS * 2 ^ 32
 tickets_fit cpus plan es low ok few =
     let a : count_below cpus es ≤ cpus * 2 ^ 32 = count_few cpus (2 ^ 32) es few in
     let b = count_all cpus plan es ok in
     let c : cpus * 2 ^ 32 ≤ MOST_CPUS * 2 ^ 32 = mul-le-mul_right (2 ^ 32) low in
-    let d = le_both c a in subst (λ k. k ≤ MOST_CPUS * 2 ^ 32) b d
+    rw (← b) (omega arith)

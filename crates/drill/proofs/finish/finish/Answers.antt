@@ -5,8 +5,7 @@ use Rattle.drill.proofs.finish.finish.Goals as goal
 
 pub close-ended-requires-clause-all : goal.close-ended-requires-clause-all
 close-ended-requires-clause-all c = done_all c.args.pages c.args.size.seed c.args.size.adds c.args.row.items
-    c.requires.row.0 (c.requires.row.1
-    ∙ c.requires.size.0)
+    c.requires.row.0 (c.requires.row.1 ∙ c.requires.size.0)
 
 pub returns-clause-end : goal.returns-clause-end
 returns-clause-end c =
@@ -31,10 +30,8 @@ returns-clause-end c =
     let at : c.with_pages-total.result ≡ ((s + u) % 2 ^ 36 + first_words (length ended.pages.items) ended.pages.items)
     % 2 ^ 36 =
     c.with_pages-total.ensures ∙ ap (λ x. (x + first_words (length c.deref.result.now) c.deref.result.now) % 2 ^ 36)
-    c.plus.ensures
-    ∙ ap (λ l. ((s + u) % 2 ^ 36 + first_words (length l) l) % 2 ^ 36) c.deref.ensures.value in record {
-      front = λ cpu below.
-          subst (λ f. AreFirstOf (work_of f (size.seed + cpu) size.adds) (made_by cpu ended.shown))
+    c.plus.ensures ∙ ap (λ l. ((s + u) % 2 ^ 36 + first_words (length l) l) % 2 ^ 36) c.deref.ensures.value in record {
+      front = λ cpu below. subst (λ f. AreFirstOf (work_of f (size.seed + cpu) size.adds) (made_by cpu ended.shown))
           (sym c.requires.size.1) (front _ _ _ _ _ _ _ end cpu (omega arith));
       total = total _ _ _ _ _ _ _ end s u c.with_pages-total.result c.requires.kept.sum c.requires.unmade at
           ∙ ap (λ f. sum (sums_of f size.adds size.seed c.args.pages.cpus)) (sym c.requires.size.1)

@@ -12,8 +12,7 @@ loop-role-preserved c =
     (let k = rest.ok.0 in let l = row.ok.0 in let e = c.loop-role.invariant.1 in
     omega (arith, k, l, e, less)) in
     let step = done_push c.args.pages.now size.seed size.adds size.cpus c.loop-role.roles.items rest.items c.pop.result
-    c.in-Some.role c.in-Works.worker
-    row.items c.push_reserved.new.self.items
+    c.in-Some.role c.in-Works.worker row.items c.push_reserved.new.self.items
     c.pop.ensures.items c.in-Some.is c.in-Works.is c.loop-role.invariant.0 c.loop-role.invariant.3
     c.loop-role.invariant.4 c.push_reserved.ensures.items count
     in

@@ -14,8 +14,7 @@ loop-pass-init c =
       search rules,
       omega (arith, count, none),
       omega (arith, count, room, len),
-      c.requires.passes
-          ∙ ap (first_passes pages) (sym count),
+      c.requires.passes ∙ ap (first_passes pages) (sym count),
       c.requires.passes_of,
     )
 
@@ -28,8 +27,7 @@ loop-pass-preserved c =
     (let l = roles.ok.0 in let e = c.loop-pass.invariant.1 in omega (arith, l, e)) in
     let less : n ≡ vec_len c.pop.new.self + 1 = search rules in
     let step = fresh_push c.args.pages.now roles.items c.push_reserved.new.self.items before.items c.pop.new.self.items
-    c.pop.result c.in-Some.pass n
-    (vec_len c.pop.new.self) (vec_len c.pop.new.self)
+    c.pop.result c.in-Some.pass n (vec_len c.pop.new.self) (vec_len c.pop.new.self)
     c.pop.ensures.items c.in-Some.is c.loop-pass.invariant.3 c.loop-pass.invariant.4 c.loop-pass.invariant.0
     (search rules) less (search rules) count in
     (step.0, search rules, search rules, step.1, step.2)

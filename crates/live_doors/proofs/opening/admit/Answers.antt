@@ -6,6 +6,5 @@ pub split_seat-seat-requires : goal.split_seat-seat-requires
 split_seat-seat-requires c = (
   search rules,
   search rules,
-  admits_at c.doors.inside.table.shared.key _ c.keeper.inside.seat.me c.keeper.invariant.seat
-      (search rules) (search rules),
+  admits_at c.doors.inside.table.shared.key _ c.keeper.invariant.seat (search rules) (search rules),
 )

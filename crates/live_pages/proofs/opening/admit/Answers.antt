@@ -1,11 +1,10 @@
 use Rattle.live_pages.proofs.Prelude.{rules}
-use Rattle.live_pages.proofs.Calls.{admits_at}
+use Rattle.live_pages.proofs.Ends.{admits}
 use Rattle.live_pages.proofs.opening.admit.Goals as goal
 
 pub split_seat-seat-requires : goal.split_seat-seat-requires
 split_seat-seat-requires c = (
   search rules,
   search rules,
-  admits_at c.pages.inside.table.shared.key _ c.keeper.inside.seat.me c.keeper.invariant.seat
-      (search rules) (search rules) (search rules),
+  admits c.pages.inside.table.shared.key _ c.keeper.invariant.seat (search rules) (search rules) (search rules),
 )

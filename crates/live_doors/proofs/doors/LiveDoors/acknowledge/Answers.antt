@@ -6,6 +6,5 @@ pub store-requires : goal.store-requires
 store-requires c = (
   search rules,
   search rules,
-  acknowledges_at c.self.inside.table.shared.key _ _ _ _ c.pass.inside.seat.me c.pass.invariant.seat
-      (search rules) (ap (λ x. x.1) c.acknowledgement-word.ensures ∙ c.pass.invariant.entries.stamp),
+  acknowledges_at c.self.inside.table.shared.key _ c.pass.invariant.seat (search rules) (cc),
 )

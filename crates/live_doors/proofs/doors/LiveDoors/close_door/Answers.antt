@@ -6,8 +6,6 @@ pub store-requires : goal.store-requires
 store-requires c = (
   search rules,
   search rules,
-  rw c.door_word.ensures (closes_at c.self.inside.table.shared.key _ _ c.args.f _ c.keeper.inside.seat.me
-      c.keeper.invariant.seat (search rules)
-      (search rules) (c.shut-door.ensures.word
-      ∙ ap (λ l. get_or l c.args.f 0 + 1) c.keeper.invariant.rows.doors)),
+  rw c.door_word.ensures (closes_at c.self.inside.table.shared.key _ c.args.f c.keeper.invariant.seat (search rules)
+      (search rules) (cc)),
 )

@@ -7,21 +7,18 @@ pub load-word-requires : goal.load-word-requires
 load-word-requires c = (
   search rules,
   search rules,
-  rw c.door_word.ensures
-      (fills_at c.self.inside.table.shared.key _ _ c.args.f c.pass.inside.seat.me c.pass.invariant.seat (search rules)),
+  rw c.door_word.ensures (fills_at c.self.inside.table.shared.key _ c.args.f c.pass.invariant.seat (search rules)),
 )
 
 pub invariant_of-pass : goal.invariant_of-pass
-invariant_of-pass c =
-    pass_fits c.load-word.new.seat.me _ _ (c.load-word.ensures.2 c.args.f c.door_word.ensures).1
+invariant_of-pass c = pass_fits (c.load-word.ensures.2 c.args.f c.door_word.ensures).1
     (rw c.enter.ensures.entries (entries_filled c.args.f c.load-word.result c.pass.inside.entries
     (walk_of c.pass.inside.seat.me.0) c.pass.invariant.entries))
 
 pub returns-clause-pass : goal.returns-clause-pass
 returns-clause-pass c =
     let row = filled_row c.args.f c.load-word.result (walk_of c.pass.inside.seat.me.0) in
-    pass_stays_of c.args.self.now c.args.pass.now _ c.load-word.new.seat.table_id c.pass.inside.seat.me
-    c.load-word.new.seat.me _ c.pass.view_is c.requires.pass c.load-word.ensures.0
+    pass_stays_of c.pass.inside.seat.me c.pass.view_is c.requires.pass c.load-word.ensures.0
     (c.load-word.ensures.2 c.args.f c.door_word.ensures).1 row.0 row.1
 
 pub returns-clause-bound : goal.returns-clause-bound

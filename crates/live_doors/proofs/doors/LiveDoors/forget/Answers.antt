@@ -6,6 +6,5 @@ pub load-stamp-requires : goal.load-stamp-requires
 load-stamp-requires c = (
   search rules,
   search rules,
-  forgets_at c.self.inside.table.shared.key _ _
-      c.pass.inside.seat.me c.pass.invariant.seat,
+  forgets_at c.self.inside.table.shared.key _ c.pass.invariant.seat,
 )

@@ -7,20 +7,17 @@ pub load-requires : goal.load-requires
 load-requires c = (
   search rules,
   search rules,
-  looks_at c.self.inside.table.shared.key _ _ _ c.args.cpu c.keeper.inside.seat.me c.keeper.invariant.seat
+  looks_at c.self.inside.table.shared.key _ c.args.cpu c.keeper.invariant.seat
       (search rules) (search rules) (search rules),
 )
 
 pub invariant_of-keeper : goal.invariant_of-keeper
 invariant_of-keeper c =
     let told = c.load.ensures.2 c.args.cpu (search rules) in
-    keeper_fits c.load.new.seat.me _ _ _ told.1 (rows_noted _ c.args.cpu c.load.result c.keeper.inside.rows
+    keeper_fits told.1 (rows_noted _ c.args.cpu c.load.result c.keeper.inside.rows
     (watch_of c.keeper.inside.seat.me.0) c.keeper.invariant.rows) (noted_still (watch_of c.keeper.inside.seat.me.0)
     c.args.cpu c.load.result _ c.keeper.invariant.cleared told.0)
 
 pub returns-clause-keeper : goal.returns-clause-keeper
-returns-clause-keeper c =
-    keeper_stays_of c.args.self.now c.args.keeper.now _ c.load.new.seat.table_id _ _ c.keeper.inside.seat.me
-    c.load.new.seat.me _ c.keeper.view_is
-    c.requires.keeper c.load.ensures.0
-    (c.load.ensures.2 c.args.cpu (search rules)).1 refl refl (length-set _ _ _)
+returns-clause-keeper c = keeper_stays_of _ _ c.keeper.inside.seat.me c.keeper.view_is
+    c.requires.keeper c.load.ensures.0 (c.load.ensures.2 c.args.cpu (search rules)).1 refl refl (length-set _ _ _)

@@ -6,6 +6,5 @@ pub store-requires : goal.store-requires
 store-requires c = (
   search rules,
   search rules,
-  raises_at c.self.inside.table.shared.key _ _ _ c.keeper.inside.seat.me
-      c.keeper.invariant.seat (search rules),
+  raises_at c.self.inside.table.shared.key _ c.keeper.invariant.seat (search rules),
 )

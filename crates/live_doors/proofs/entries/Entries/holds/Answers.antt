@@ -2,7 +2,5 @@ use Rattle.live_doors.proofs.Prelude.{ℕ, Some, None, ◌≡◌, get_or, subst,
 use Rattle.live_doors.proofs.entries.Entries.holds.Goals as goal
 
 pub returns : goal.returns
-returns c =
-    subst (λ t. IsTrue t ↔ ((b : ℕ) × (get_or c.args.self.now.held c.args.f None ≡ Some b))) (sym c.is_some.ensures)
-    (holds_entry c.self.inside.held.items c.args.self.now.held c.args.f c.index.result.now c.index.ensures
-    (ap (λ e. e.held) c.self.view_is) c.requires)
+returns c = rw c.is_some.ensures (holds_entry c.self.inside.held.items c.args.self.now.held c.args.f c.index.result.now
+    c.index.ensures (ap (λ e. e.held) c.self.view_is) c.requires)

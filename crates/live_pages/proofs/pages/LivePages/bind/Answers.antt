@@ -1,14 +1,16 @@
-use Rattle.live_pages.proofs.Prelude.{rules, ◌≡◌, ◌+◌, ◌*◌, ◌/◌, [], Some, sym, ap, refl, ◌∙◌, subst, get_or, set, length-set, HasNoted, MayBind, Keeping, holder_of, rebound}
+use Rattle.live_pages.proofs.Prelude.{rules, Some, [], ap, get_or, refl, set, subst, sym, ◌*◌, ◌+◌, ◌/◌, ◌∙◌, ◌≡◌, length-set, HasNoted, MayBind, rebound, holder_of, Keeping}
+use Rattle.live_pages.proofs.Turning.{keeper_takes, keeper_gives}
+use Rattle.live_pages.proofs.Changing.{binds}
 use Rattle.live_pages.proofs.Ends.{may_bind_is_free}
-use Rattle.live_pages.proofs.Calls.{told_with, swapped, keeper_takes_at, binds_in_hand, keeper_gives_in_hand, bound_now, rebound_now, keeper_fits, keeper_stays_of, rows_admitted}
+use Rattle.live_pages.proofs.Calls.{told_with, swapped, bound_now, rebound_now, keeper_fits, keeper_stays_of, rows_admitted}
 use Rattle.live_pages.proofs.pages.LivePages.bind.Goals as goal
 
 pub compare_exchange-requires : goal.compare_exchange-requires
 compare_exchange-requires c = (
   search rules,
   search rules,
-  keeper_takes_at c.self.inside.table.shared.key _ _ c.keeper.inside.seat.me _ c.args.f
-      c.keeper.inside.cleared c.keeper.invariant.seat c.keeper.invariant.hand c.keeper.invariant.cleared
+  keeper_takes c.self.inside.table.shared.key _ _ _ c.args.f c.keeper.inside.cleared c.keeper.invariant.seat
+      c.keeper.invariant.hand c.keeper.invariant.cleared
       (subst (λ v. MayBind v.holder.watch v.cleared c.args.f) (sym c.keeper.view_is) c.requires.may_bind)
       (search rules) (search rules),
 )
@@ -16,7 +18,7 @@ compare_exchange-requires c = (
 pub swap_page-old-requires-clause-hand : goal.swap_page-old-requires-clause-hand
 swap_page-old-requires-clause-hand c =
     let got = (c.compare_exchange.ensures.2 c.args.f (search rules)).1 in
-    (got.0, ap (λ x. x.1) (told_with c.keeper.invariant.seat got.1))
+    (got.0, cc (told_with c.keeper.invariant.seat got.1))
 
 pub store-requires : goal.store-requires
 store-requires c =
@@ -26,11 +28,9 @@ store-requires c =
     in (
       search rules,
       search rules,
-      rw c.door_word.ensures (binds_in_hand c.self.inside.table.shared.key _ _ c.swap_page-old.new.seat.me
-          (search rules) c.args.f _ c.keeper.inside.cleared _ c.swap_page-old.ensures.new.0 got.0.page there refl
-          c.keeper.invariant.cleared
-          (subst (λ v. MayBind v.holder.watch v.cleared c.args.f) (sym c.keeper.view_is) c.requires.may_bind)
-          door),
+      rw c.door_word.ensures (binds c.self.inside.table.shared.key _ _ c.args.f _ c.keeper.inside.cleared got.0.page
+          there refl c.keeper.invariant.cleared
+          (subst (λ v. MayBind v.holder.watch v.cleared c.args.f) (sym c.keeper.view_is) c.requires.may_bind) door),
     )
 
 pub store-requires-2 : goal.store-requires-2
@@ -40,46 +40,36 @@ store-requires-2 c =
     let bound = bound_now there (c.store.ensures.2 c.args.f _ [] (ap (λ x. x.1) there)) in (
       search rules,
       search rules,
-      keeper_gives_in_hand c.self.inside.table.shared.key _ _ c.store.new.seat.me (search rules) _ c.args.f _
-          c.swap_page-old.ensures.new.0 bound refl (search rules),
+      keeper_gives c.self.inside.table.shared.key _ _ (search rules) _ c.args.f bound refl (search rules),
     )
 
 -- the frame is bound to the page, and the turn is given back
 done : (c : goal.After-store-2) → c.store-2.new.seat.me
     ≡ (Keeping (rebound c.args.f c.args.page c.swap_page-old.result (holder_of c.keeper.inside.seat.me.0)), [])
 done c =
-    let k = holder_of c.keeper.inside.seat.me.0 in
     let new = c.swap_page-old.ensures.new in
     let got = (c.compare_exchange.ensures.2 c.args.f (search rules)).1 in
     let turn = told_with c.keeper.invariant.seat got.1 in
     let there = swapped turn new.1 in
-    let left = c.swap_page-old.ensures.old got.0 (ap (λ x. x.1) turn) in
-    let bound = bound_now there (c.store.ensures.2 c.args.f new.0 [] (ap (λ x. x.1) there)) in
-    rebound_now k new.0.page got.0.page bound
-    (c.store-2.ensures.2 (c.args.f, Some new.0) [] (ap (λ x. x.1) bound)) c.keeper.invariant.hand
-    ∙ ap (λ p. (Keeping (rebound c.args.f p got.0.page k), [])) new.2
-    ∙ ap (λ p. (Keeping (rebound c.args.f c.args.page p k), [])) (sym left)
+    let bound = bound_now there (c.store.ensures.2 c.args.f new.0 [] (cc)) in
+    rw (← new.2, c.swap_page-old.ensures.old got.0 (cc)) (rebound_now _ new.0.page got.0.page bound
+    (c.store-2.ensures.2 (c.args.f, Some new.0) [] (cc)) c.keeper.invariant.hand)
 
 pub invariant_of-keeper : goal.invariant_of-keeper
 invariant_of-keeper c =
     let rows = c.admit-door.ensures.rows
     ∙ ap (λ n. record c.keeper.inside.rows { doors = set c.keeper.inside.rows.doors c.args.f n })
     c.admit-door.ensures.word in
-    keeper_fits c.store-2.new.seat.me _ _ _ (done c) c.keeper.invariant.hand (rw rows (rows_admitted c.args.f
-    c.keeper.inside.rows (holder_of c.keeper.inside.seat.me.0).watch c.keeper.invariant.rows))
+    keeper_fits (done c) c.keeper.invariant.hand (rw rows (rows_admitted c.args.f c.keeper.invariant.rows))
     c.keeper.invariant.cleared
 
 pub returns-clause-keeper : goal.returns-clause-keeper
-returns-clause-keeper c =
-    keeper_stays_of c.args.self.now c.args.keeper.now _ c.store-2.new.seat.table_id _ _ c.keeper.inside.seat.me
-    c.store-2.new.seat.me _ c.keeper.view_is c.requires.keeper
-    (c.store-2.ensures.0 ∙ c.store.ensures.0 ∙ c.swap_page-old.ensures.seat.0 ∙ c.compare_exchange.ensures.0)
+returns-clause-keeper c = keeper_stays_of c.keeper.view_is c.requires.keeper (cc)
     (done c) (length-set _ _ _) refl refl refl
 
 pub returns-clause-bound : goal.returns-clause-bound
-returns-clause-bound c = ap (λ x. holder_of x.0) (done c)
-    ∙ ap (λ v. rebound c.args.f c.args.page c.swap_page-old.result v.holder) c.keeper.view_is
+returns-clause-bound c = rw (done c, ← c.keeper.view_is) refl
 
 pub returns-clause-no_holder : goal.returns-clause-no_holder
 returns-clause-no_holder c = may_bind_is_free c.args.keeper.now.holder c.args.keeper.now.cleared c.args.f
-    (subst (λ v. HasNoted v.holder.watch v.cleared) c.keeper.view_is c.keeper.invariant.cleared) c.requires.may_bind
+    (rw (← c.keeper.view_is) c.keeper.invariant.cleared) c.requires.may_bind

@@ -1,13 +1,13 @@
 use Rattle.live_pages.proofs.Prelude.{rules, [], refl, ap, ◌≡◌, ◌∙◌, Walk, filled, filled_row, entries_filled, when_bound, when_admitted, when_closed, Passing, walking, walker_of}
-use Rattle.live_pages.proofs.Calls.{told_alone, fills_at, pass_fits, pass_stays_of}
+use Rattle.live_pages.proofs.Quiet.{fills}
+use Rattle.live_pages.proofs.Calls.{told_alone, pass_fits, pass_stays_of}
 use Rattle.live_pages.proofs.pages.LivePages.fill.Goals as goal
 
 pub load-word-requires : goal.load-word-requires
 load-word-requires c = (
   search rules,
   search rules,
-  rw c.door_word.ensures
-      (fills_at c.self.inside.table.shared.key _ _ c.pass.inside.seat.me c.args.f c.pass.invariant.seat
+  rw c.door_word.ensures (fills c.self.inside.table.shared.key _ _ c.args.f c.pass.invariant.seat
       c.pass.invariant.hand (search rules)),
 )
 
@@ -23,15 +23,14 @@ seen c = ap (λ x. walker_of x.0) (read c) ∙ ap (λ v. walking (filled c.args.
     c.pass.view_is
 
 pub invariant_of-pass : goal.invariant_of-pass
-invariant_of-pass c = pass_fits c.load-word.new.seat.me _ _ _ (read c) c.pass.invariant.hand (rw c.enter.ensures.entries
+invariant_of-pass c = pass_fits (read c) c.pass.invariant.hand (rw c.enter.ensures.entries
     (entries_filled c.args.f c.load-word.result c.pass.inside.entries (walker_of c.pass.inside.seat.me.0).walk
     c.pass.invariant.entries)) c.pass.invariant.touches
 
 pub returns-clause-pass : goal.returns-clause-pass
 returns-clause-pass c =
     let row = filled_row c.args.f c.load-word.result (walker_of c.pass.inside.seat.me.0).walk in
-    pass_stays_of c.args.self.now c.args.pass.now _ c.load-word.new.seat.table_id c.pass.inside.seat.me
-    c.load-word.new.seat.me _ c.pass.view_is c.requires.pass c.load-word.ensures.0 (read c) row.0 row.1 refl
+    pass_stays_of c.pass.view_is c.requires.pass c.load-word.ensures.0 (read c) row.0 row.1 refl
 
 pub returns-clause-bound : goal.returns-clause-bound
 returns-clause-bound c = when_bound c.enter.result c.load-word.result

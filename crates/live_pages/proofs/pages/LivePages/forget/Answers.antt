@@ -1,11 +1,10 @@
 use Rattle.live_pages.proofs.Prelude.{rules}
-use Rattle.live_pages.proofs.Calls.{forgets_at}
+use Rattle.live_pages.proofs.Quiet.{forgets}
 use Rattle.live_pages.proofs.pages.LivePages.forget.Goals as goal
 
 pub load-stamp-requires : goal.load-stamp-requires
 load-stamp-requires c = (
   search rules,
   search rules,
-  forgets_at c.self.inside.table.shared.key _ _ c.pass.inside.seat.me c.pass.invariant.seat
-      c.pass.invariant.hand,
+  forgets c.self.inside.table.shared.key _ _ c.pass.invariant.seat c.pass.invariant.hand,
 )
