@@ -10,31 +10,31 @@ use Rattle.script.specs.declared.refusals.Cause.TheVariants as cause
 pub record Keeps {A : Type 0} (P : A → Type 0) (r : Result A Cause) : Type 0 where
   pub kept : (x : A) → r ≡ Ok x → P x
 
-keeps_ok : {A : Type 0} (P : A → Type 0) (x : A) → P x → Keeps P (Ok x)
-keeps_ok P x h = record { kept = λ y e. let same : x ≡ y = cc in subst P same h }
+keeps_ok : {A : Type 0} {P : A → Type 0} {x : A} → P x → Keeps P (Ok x)
+keeps_ok {x = x} h = record { kept = λ y e. let same : x ≡ y = cc in rw same at h }
 
-keeps_err : {A : Type 0} (P : A → Type 0) (e : Cause) → Keeps P (Err e)
-keeps_err P e = record { kept = λ y z. absurd (cc) }
+keeps_err : {A : Type 0} {P : A → Type 0} {e : Cause} → Keeps P (Err e)
+keeps_err = record { kept = λ y z. absurd (cc) }
 
-then_keeps : {A B : Type 0} (Q : A → Type 0) (P : B → Type 0) (r : Result A Cause) (f : A → Result B Cause) → Keeps Q r
+then_keeps : {A B : Type 0} {Q : A → Type 0} {P : B → Type 0} {r : Result A Cause} {f : A → Result B Cause} → Keeps Q r
     → ((x : A) → Q x → Keeps P (f x)) → Keeps P (r >>= f)
-then_keeps Q P (Ok x) f h k = k x (h.kept x refl)
-then_keeps Q P (Err e) f h k = keeps_err P e
+then_keeps {r = Ok x} h k = k x (h.kept x refl)
+then_keeps {r = Err e} h k = keeps_err
 
-any_keeps : {A B : Type 0} (P : B → Type 0) (r : Result A Cause) (f : A → Result B Cause) → ((x : A) → Keeps P (f x))
+any_keeps : {A B : Type 0} {P : B → Type 0} (r : Result A Cause) {f : A → Result B Cause} → ((x : A) → Keeps P (f x))
     → Keeps P (r >>= f)
-any_keeps P (Ok x) f k = k x
-any_keeps P (Err e) f k = keeps_err P e
+any_keeps (Ok x) k = k x
+any_keeps (Err e) k = keeps_err
 
-found_keeps : {A : Type 0} (P : A → Type 0) (why : Cause) (o : Option A) → ((x : A) → o ≡ Some x → P x)
+found_keeps : {A : Type 0} {P : A → Type 0} (why : Cause) (o : Option A) → ((x : A) → o ≡ Some x → P x)
     → Keeps P (found_or why o)
-found_keeps P why None h = keeps_err P why
-found_keeps P why (Some x) h = keeps_ok P x (h x refl)
+found_keeps why None h = keeps_err
+found_keeps why (Some x) h = keeps_ok (h x refl)
 
-either_keeps : {A : Type 0} (P : A → Type 0) (b : Bool) (r s : Result A Cause) → Keeps P r → Keeps P s
+either_keeps : {A : Type 0} {P : A → Type 0} (b : Bool) {r s : Result A Cause} → Keeps P r → Keeps P s
     → Keeps P (cond b r s)
-either_keeps P true r s h k = h
-either_keeps P false r s h k = k
+either_keeps true h k = h
+either_keeps false h k = k
 
 -- ---- values
 
@@ -46,11 +46,11 @@ unfolding number_in
 number_keeps low high text = at (decimal_value text)
   where
     test : (n : ℕ) (b : Bool) → is_from low high n ≡ b → Keeps (From low high) (only_if cause.Number b n)
-    test n true h = keeps_ok (From low high) n h
-    test n false h = keeps_err (From low high) cause.Number
+    test n true h = keeps_ok h
+    test n false h = keeps_err
 
     at : (o : Option ℕ) → Keeps (From low high) (in_range low high o)
-    at None = keeps_err (From low high) cause.Number
+    at None = keeps_err
     at (Some n) = test n (is_from low high n) refl
 
 up_to_most : (most n : ℕ) → is_from 0 most n ≡ true → nat_le n most ≡ true
@@ -60,7 +60,7 @@ abbrev IsAPath : List (List ℕ) → Type 0
 IsAPath p = is_path p ≡ true
 
 path_keeps : (text : List ℕ) → Keeps IsAPath (path_in text)
-path_keeps text = found_keeps IsAPath cause.Path (path_of text) (λ p e. (path_only text p e).1)
+path_keeps text = found_keeps cause.Path (path_of text) (λ p e. (path_only text p e).1)
 
 -- digits stand for a number below the power of 8 of their count
 below_power : (ds : List ℕ) (n i k : ℕ) → list_all is_octal_digit ds ≡ true → n < 8 ^ i → i + length ds ≡ k
@@ -91,13 +91,13 @@ word_fits text w e = test (is_octal text) refl e
     test false h e = absurd (cc)
 
 word_keeps : (text : List ℕ) → Keeps IsAWord (word_in text)
-word_keeps text = found_keeps IsAWord cause.Number (octal_value text) (word_fits text)
+word_keeps text = found_keeps cause.Number (octal_value text) (word_fits text)
 
 abbrev IsARow : Row → Type 0
 IsARow r = is_row r ≡ true
 
 row_keeps : (text : List ℕ) → Keeps IsARow (row_in text)
-row_keeps text = found_keeps IsARow cause.Name _ (λ r e. row_read text r (sym e))
+row_keeps text = found_keeps cause.Name _ (λ r e. row_read text r (sym e))
 
 -- the number of a volume is below how many there are
 volume_below : (n : ℕ) (vs : List VolumeLine) (name : List ℕ) (k : ℕ) → number_from n vs name ≡ Some k
@@ -116,9 +116,7 @@ Below volumes n = nat_lt n volumes ≡ true
 
 volume_keeps : (vs : List VolumeLine) (text : List ℕ) → Keeps (Below (length vs)) (volume_in vs text)
 unfolding volume_in
-volume_keeps vs text =
-    any_keeps (Below (length vs)) (name_in text) _ (λ name.
-    found_keeps (Below (length vs)) cause.Unknown (number_from 0 vs name)
+volume_keeps vs text = any_keeps (name_in text) (λ name. found_keeps cause.Unknown (number_from 0 vs name)
     (λ n e. let below = volume_below 0 vs name n e in grind (arith, nat_tests)))
 
 abbrev IsAnAmount : ℤ → Type 0
@@ -126,15 +124,9 @@ IsAnAmount a = is_from 1 16384 (unsigned_abs a) ≡ true
 
 amount_keeps : (text : List ℕ) → Keeps IsAnAmount (amount_in text)
 unfolding amount_in
-amount_keeps [] = keeps_err IsAnAmount cause.Number
-amount_keeps (sign ∷ digits) =
-    either_keeps IsAnAmount (eqb sign 43) _ _
-    (then_keeps (From 1 16384) IsAnAmount (number_in 1 16384 digits) _ (number_keeps 1 16384 digits)
-    (λ n h. keeps_ok IsAnAmount (pos n) h))
-    (either_keeps IsAnAmount (eqb sign 45) _ _
-    (then_keeps (From 1 16384) IsAnAmount (number_in 1 16384 digits) _ (number_keeps 1 16384 digits)
-    (λ n h. keeps_ok IsAnAmount (neg_ℤ (pos n)) (minus n h)))
-    (keeps_err IsAnAmount cause.Number))
+amount_keeps [] = keeps_err
+amount_keeps (sign ∷ digits) = either_keeps (eqb sign 43) (then_keeps (number_keeps 1 16384 digits) (λ n h. keeps_ok h))
+    (either_keeps (eqb sign 45) (then_keeps (number_keeps 1 16384 digits) (λ n h. keeps_ok (minus n h))) (keeps_err))
   where
     minus : (n : ℕ) → is_from 1 16384 n ≡ true → is_from 1 16384 (unsigned_abs (neg_ℤ (pos n))) ≡ true
     minus zero h = h
@@ -144,7 +136,7 @@ amount_keeps (sign ∷ digits) =
 
 path_alone_keeps : (fields : List (List ℕ)) → Keeps IsAPath (path_alone fields)
 unfolding path_alone
-path_alone_keeps fields = any_keeps IsAPath (one_field fields) _ (λ f. path_keeps f)
+path_alone_keeps fields = any_keeps (one_field fields) (λ f. path_keeps f)
 
 record IsPathAndNumber (low high : ℕ) (p : List (List ℕ) × ℕ) : Type 0 where
   path : is_path p.0 ≡ true
@@ -153,33 +145,25 @@ record IsPathAndNumber (low high : ℕ) (p : List (List ℕ) × ℕ) : Type 0 wh
 path_and_number_keeps : (low high : ℕ) (fields : List (List ℕ))
     → Keeps (IsPathAndNumber low high) (path_and_number low high fields)
 unfolding path_and_number
-path_and_number_keeps low high fields =
-    any_keeps (IsPathAndNumber low high) (two_fields fields) _ (λ f.
-    then_keeps IsAPath (IsPathAndNumber low high) (path_in f.0) _ (path_keeps f.0) (λ path p.
-    then_keeps (From low high) (IsPathAndNumber low high) (number_in low high f.1) _ (number_keeps low high f.1)
-    (λ n h. keeps_ok (IsPathAndNumber low high) (path, n) (record { path = p; number = h }))))
+path_and_number_keeps low high fields = any_keeps (two_fields fields) (λ f. then_keeps (path_keeps f.0) (λ path p.
+    then_keeps (number_keeps low high f.1) (λ n h. keeps_ok (record { path = p; number = h }))))
 
 abbrev IsAPlace : ℕ × ℕ → Type 0
 IsAPlace p = is_place p.0 p.1 ≡ true
 
 place_keeps : (number offset : List ℕ) → Keeps IsAPlace (place_in number offset)
 unfolding place_in
-place_keeps number offset =
-    then_keeps (From 0 255) IsAPlace (number_in 0 255 number) _ (number_keeps 0 255 number) (λ n h.
-    then_keeps (From 0 999999) IsAPlace (number_in 0 999999 offset) _ (number_keeps 0 999999 offset) (λ o k.
-    keeps_ok IsAPlace (n, o) (and_from (nat_le n 255) (nat_le o 999999) (up_to_most 255 n h)
-    (up_to_most 999999 o k))))
+place_keeps number offset = then_keeps (number_keeps 0 255 number) (λ n h.
+    then_keeps (number_keeps 0 999999 offset) (λ o k.
+    keeps_ok (and_from (nat_le n 255) (nat_le o 999999) (up_to_most 255 n h) (up_to_most 999999 o k))))
 
 abbrev IsPlaceAndWord : ℕ × ℕ × ℕ → Type 0
 IsPlaceAndWord p = (is_place p.0 p.1 && is_word p.2) ≡ true
 
 place_and_word_keeps : (fields : List (List ℕ)) → Keeps IsPlaceAndWord (place_and_word fields)
 unfolding place_and_word
-place_and_word_keeps fields =
-    any_keeps IsPlaceAndWord (three_fields fields) _ (λ f.
-    then_keeps IsAPlace IsPlaceAndWord (place_in f.0 f.1) _ (place_keeps f.0 f.1) (λ p h.
-    then_keeps IsAWord IsPlaceAndWord (word_in f.2) _ (word_keeps f.2) (λ w k.
-    keeps_ok IsPlaceAndWord (p.0, p.1, w) (and_from (is_place p.0 p.1) (is_word w) h k))))
+place_and_word_keeps fields = any_keeps (three_fields fields) (λ f. then_keeps (place_keeps f.0 f.1) (λ p h.
+    then_keeps (word_keeps f.2) (λ w k. keeps_ok (and_from (is_place p.0 p.1) (is_word w) h k))))
 
 -- ---- commands
 
@@ -192,47 +176,38 @@ pub record Goes (volumes : ℕ) (c : Command) : Type 0 where
 alone_keeps : (volumes : ℕ) (make : List (List ℕ) → Command) (fields : List (List ℕ))
     → ((path : List (List ℕ)) → is_path path ≡ true → Goes volumes (make path))
     → Keeps (Goes volumes) (path_alone fields >>= (λ path. Ok (make path)))
-alone_keeps volumes make fields goes = then_keeps IsAPath (Goes volumes) (path_alone fields) _
-    (path_alone_keeps fields) (λ path p. keeps_ok (Goes volumes) (make path) (goes path p))
+alone_keeps volumes make fields goes = then_keeps (path_alone_keeps fields) (λ path p. keeps_ok (goes path p))
 
 -- a command of a place and a word
 placed_keeps : (volumes : ℕ) (make : ℕ → ℕ → ℕ → Command) (fields : List (List ℕ))
     → ((p : ℕ × ℕ × ℕ) → IsPlaceAndWord p → Goes volumes (make p.0 p.1 p.2))
     → Keeps (Goes volumes) (place_and_word fields >>= (λ p. Ok (make p.0 p.1 p.2)))
-placed_keeps volumes make fields goes = then_keeps IsPlaceAndWord (Goes volumes) (place_and_word fields) _
-    (place_and_word_keeps fields) (λ p h. keeps_ok (Goes volumes) (make p.0 p.1 p.2) (goes p h))
+placed_keeps volumes make fields goes = then_keeps (place_and_word_keeps fields) (λ p h. keeps_ok (goes p h))
 
 -- a command of a path and a number
 numbered_keeps : (volumes low high : ℕ) (make : List (List ℕ) → ℕ → Command) (fields : List (List ℕ))
     → ((p : List (List ℕ) × ℕ) → IsPathAndNumber low high p → Goes volumes (make p.0 p.1))
     → Keeps (Goes volumes) (path_and_number low high fields >>= (λ p. Ok (make p.0 p.1)))
-numbered_keeps volumes low high make fields goes = then_keeps (IsPathAndNumber low high) (Goes volumes)
-    (path_and_number low high fields) _ (path_and_number_keeps low high fields)
-    (λ p h. keeps_ok (Goes volumes) (make p.0 p.1) (goes p h))
+numbered_keeps volumes low high make fields goes = then_keeps (path_and_number_keeps low high fields)
+    (λ p h. keeps_ok (goes p h))
 
 -- a command of several fields, of which one is a path
 pathed_keeps : {F : Type 0} (volumes : ℕ) (r : Result F Cause) (first : F → List ℕ)
     (f : F → List (List ℕ) → Result Command Cause)
     → ((x : F) (path : List (List ℕ)) → is_path path ≡ true → Keeps (Goes volumes) (f x path))
     → Keeps (Goes volumes) (r >>= (λ x. path_in (first x) >>= f x))
-pathed_keeps volumes r first f k = any_keeps (Goes volumes) r _ (λ x. then_keeps IsAPath (Goes volumes)
-    (path_in (first x)) (f x) (path_keeps (first x)) (k x))
+pathed_keeps volumes r first f k = any_keeps r (λ x. then_keeps (path_keeps (first x)) (k x))
 
 mkdir_keeps : (vs : List VolumeLine) (fields : List (List ℕ)) → Keeps (Goes (length vs)) (mkdir_of vs fields)
 unfolding mkdir_of is_command
-mkdir_keeps vs fields =
-    pathed_keeps (length vs) (two_fields fields) (λ f. f.0) _ (λ f path p.
-    then_keeps (Below (length vs)) (Goes (length vs)) (volume_in vs f.1) _ (volume_keeps vs f.1) (λ volume v.
-    keeps_ok (Goes (length vs)) (command.MkDir path volume)
+mkdir_keeps vs fields = pathed_keeps (length vs) (two_fields fields) (λ f. f.0) _ (λ f path p.
+    then_keeps (volume_keeps vs f.1) (λ volume v. keeps_ok
     (record { range = and_from (is_path path) (nat_lt volume (length vs)) p v; going = refl })))
 
 mkseg_keeps : (vs : List VolumeLine) (fields : List (List ℕ)) → Keeps (Goes (length vs)) (mkseg_of vs fields)
 unfolding mkseg_of is_command
-mkseg_keeps vs fields =
-    pathed_keeps (length vs) (three_fields fields) (λ f. f.0) _ (λ f path p.
-    then_keeps (From 1 256) (Goes (length vs)) (number_in 1 256 f.1) _ (number_keeps 1 256 f.1) (λ pages n.
-    then_keeps (Below (length vs)) (Goes (length vs)) (volume_in vs f.2) _ (volume_keeps vs f.2) (λ volume v.
-    keeps_ok (Goes (length vs)) (command.MkSeg path pages volume) (record {
+mkseg_keeps vs fields = pathed_keeps (length vs) (three_fields fields) (λ f. f.0) _ (λ f path p.
+    then_keeps (number_keeps 1 256 f.1) (λ pages n. then_keeps (volume_keeps vs f.2) (λ volume v. keeps_ok (record {
       range = and_from (is_path path) (is_from 1 256 pages && nat_lt volume (length vs)) p
           (and_from (is_from 1 256 pages) (nat_lt volume (length vs)) n v);
       going = refl;
@@ -240,26 +215,18 @@ mkseg_keeps vs fields =
 
 terminate_keeps : (volumes : ℕ) (fields : List (List ℕ)) → Keeps (Goes volumes) (terminate_of fields)
 unfolding terminate_of is_command
-terminate_keeps volumes fields =
-    any_keeps (Goes volumes) (one_field fields) _ (λ f.
-    then_keeps (From 0 255) (Goes volumes) (number_in 0 255 f) _ (number_keeps 0 255 f) (λ number n.
-    keeps_ok (Goes volumes) (command.Terminate number) (record { range = up_to_most 255 number n; going = refl })))
+terminate_keeps volumes fields = any_keeps (one_field fields) (λ f. then_keeps (number_keeps 0 255 f) (λ number n.
+    keeps_ok (record { range = up_to_most 255 number n; going = refl })))
 
 read_keeps : (volumes : ℕ) (fields : List (List ℕ)) → Keeps (Goes volumes) (read_of fields)
 unfolding read_of is_command
-read_keeps volumes fields =
-    any_keeps (Goes volumes) (two_fields fields) _ (λ f.
-    then_keeps IsAPlace (Goes volumes) (place_in f.0 f.1) _ (place_keeps f.0 f.1)
-    (λ p h. keeps_ok (Goes volumes) (command.Read p.0 p.1) (record { range = h; going = refl })))
+read_keeps volumes fields = any_keeps (two_fields fields) (λ f. then_keeps (place_keeps f.0 f.1)
+    (λ p h. keeps_ok (record { range = h; going = refl })))
 
 await_keeps : (volumes : ℕ) (fields : List (List ℕ)) → Keeps (Goes volumes) (await_of fields)
 unfolding await_of is_command
-await_keeps volumes fields =
-    any_keeps (Goes volumes) (four_fields fields) _ (λ f.
-    then_keeps IsAPlace (Goes volumes) (place_in f.0 f.1) _ (place_keeps f.0 f.1) (λ p h.
-    then_keeps IsAWord (Goes volumes) (word_in f.2) _ (word_keeps f.2) (λ w k.
-    then_keeps (From 1 100000) (Goes volumes) (number_in 1 100000 f.3) _ (number_keeps 1 100000 f.3) (λ tries n.
-    keeps_ok (Goes volumes) (command.Await p.0 p.1 w tries) (record {
+await_keeps volumes fields = any_keeps (four_fields fields) (λ f. then_keeps (place_keeps f.0 f.1) (λ p h.
+    then_keeps (word_keeps f.2) (λ w k. then_keeps (number_keeps 1 100000 f.3) (λ tries n. keeps_ok (record {
       range = and_from (is_place p.0 p.1) (is_word w && is_from 1 100000 tries) h
           (and_from (is_word w) (is_from 1 100000 tries) k n);
       going = refl;
@@ -267,69 +234,57 @@ await_keeps volumes fields =
 
 acl_keeps : (volumes : ℕ) (fields : List (List ℕ)) → Keeps (Goes volumes) (acl_of fields)
 unfolding acl_of is_command
-acl_keeps volumes fields =
-    pathed_keeps volumes (three_fields fields) (λ f. f.0) _ (λ f path p.
-    then_keeps IsARow (Goes volumes) (row_in f.1) _ (row_keeps f.1) (λ row r.
-    any_keeps (Goes volumes) (mode_in f.2) _ (λ mode.
-    keeps_ok (Goes volumes) (command.Acl path row mode)
+acl_keeps volumes fields = pathed_keeps volumes (three_fields fields) (λ f. f.0) _ (λ f path p.
+    then_keeps (row_keeps f.1) (λ row r. any_keeps (mode_in f.2) (λ mode. keeps_ok
     (record { range = and_from (is_path path) (is_row row) p r; going = refl }))))
 
 move_keeps : (volumes : ℕ) (fields : List (List ℕ)) → Keeps (Goes volumes) (move_of fields)
 unfolding move_of is_command
-move_keeps volumes fields =
-    pathed_keeps volumes (two_fields fields) (λ f. f.0) _ (λ f path p.
-    then_keeps IsAnAmount (Goes volumes) (amount_in f.1) _ (amount_keeps f.1) (λ amount a.
-    keeps_ok (Goes volumes) (command.Move path amount)
+move_keeps volumes fields = pathed_keeps volumes (two_fields fields) (λ f. f.0) _ (λ f path p.
+    then_keeps (amount_keeps f.1) (λ amount a. keeps_ok
     (record { range = and_from (is_path path) (is_from 1 16384 (unsigned_abs amount)) p a; going = refl })))
 
 no_end : (volumes : ℕ) (b : Bool) (r : Result Command Cause) → b ≡ false
     → Keeps (Goes volumes) (cond b r (Err cause.Order))
 no_end volumes true r h = absurd (cc)
-no_end volumes false r h = keeps_err (Goes volumes) cause.Order
+no_end volumes false r h = keeps_err
 
 other_keeps : (volumes : ℕ) (word : List ℕ) (fields : List (List ℕ)) → bytes_eq word (codes "end") ≡ false
     → Keeps (Goes volumes) (other_command_of word fields)
 unfolding other_command_of length_of truncate_of status_of is_command
-other_keeps volumes word fields h =
-    either_keeps (Goes volumes) (bytes_eq word (codes "acl")) _ _ (acl_keeps volumes fields)
-    (either_keeps (Goes volumes) (bytes_eq word (codes "length")) _ _
-    (numbered_keeps volumes 1 256 command.Length fields (λ p h. record {
+other_keeps volumes word fields h = either_keeps (bytes_eq word (codes "acl")) (acl_keeps volumes fields)
+    (either_keeps (bytes_eq word (codes "length")) (numbered_keeps volumes 1 256 command.Length fields (λ p h. record {
       range = and_from (is_path p.0) (is_from 1 256 p.1) h.path h.number;
       going = refl;
-    }))
-    (either_keeps (Goes volumes) (bytes_eq word (codes "truncate")) _ _
+    })) (either_keeps (bytes_eq word (codes "truncate"))
     (numbered_keeps volumes 0 262144 command.Truncate fields (λ p h. record {
       range = and_from (is_path p.0) (nat_le p.1 262144) h.path (up_to_most 262144 p.1 h.number);
       going = refl;
-    }))
-    (either_keeps (Goes volumes) (bytes_eq word (codes "move")) _ _ (move_keeps volumes fields)
-    (either_keeps (Goes volumes) (bytes_eq word (codes "status")) _ _
+    })) (either_keeps (bytes_eq word (codes "move")) (move_keeps volumes fields)
+    (either_keeps (bytes_eq word (codes "status"))
     (alone_keeps volumes command.Status fields (λ path p. record { range = p; going = refl }))
     (no_end volumes (bytes_eq word (codes "end")) _ h)))))
 
 reference_keeps : (volumes : ℕ) (word : List ℕ) (fields : List (List ℕ)) → bytes_eq word (codes "end") ≡ false
     → Keeps (Goes volumes) (reference_or word fields)
 unfolding reference_or write_of add_of is_command
-reference_keeps volumes word fields h =
-    either_keeps (Goes volumes) (bytes_eq word (codes "read")) _ _ (read_keeps volumes fields)
-    (either_keeps (Goes volumes) (bytes_eq word (codes "write")) _ _
+reference_keeps volumes word fields h = either_keeps (bytes_eq word (codes "read")) (read_keeps volumes fields)
+    (either_keeps (bytes_eq word (codes "write"))
     (placed_keeps volumes command.Write fields (λ p h. record { range = h; going = refl }))
-    (either_keeps (Goes volumes) (bytes_eq word (codes "add")) _ _
+    (either_keeps (bytes_eq word (codes "add"))
     (placed_keeps volumes command.Add fields (λ p h. record { range = h; going = refl }))
-    (either_keeps (Goes volumes) (bytes_eq word (codes "await")) _ _ (await_keeps volumes fields)
-    (other_keeps volumes word fields h))))
+    (either_keeps (bytes_eq word (codes "await")) (await_keeps volumes fields) (other_keeps volumes word fields h))))
 
 -- any line but that of the end
 pub command_keeps : (vs : List VolumeLine) (word : List ℕ) (fields : List (List ℕ))
     → bytes_eq word (codes "end") ≡ false → Keeps (Goes (length vs)) (command_of vs word fields)
 unfolding command_of initiate_of delete_of is_command
-command_keeps vs word fields h =
-    either_keeps (Goes (length vs)) (bytes_eq word (codes "mkdir")) _ _ (mkdir_keeps vs fields)
-    (either_keeps (Goes (length vs)) (bytes_eq word (codes "mkseg")) _ _ (mkseg_keeps vs fields)
-    (either_keeps (Goes (length vs)) (bytes_eq word (codes "initiate")) _ _
+command_keeps vs word fields h = either_keeps (bytes_eq word (codes "mkdir")) (mkdir_keeps vs fields)
+    (either_keeps (bytes_eq word (codes "mkseg")) (mkseg_keeps vs fields)
+    (either_keeps (bytes_eq word (codes "initiate"))
     (alone_keeps (length vs) command.Initiate fields (λ path p. record { range = p; going = refl }))
-    (either_keeps (Goes (length vs)) (bytes_eq word (codes "terminate")) _ _ (terminate_keeps (length vs) fields)
-    (either_keeps (Goes (length vs)) (bytes_eq word (codes "delete")) _ _
+    (either_keeps (bytes_eq word (codes "terminate")) (terminate_keeps (length vs) fields)
+    (either_keeps (bytes_eq word (codes "delete"))
     (alone_keeps (length vs) command.Delete fields (λ path p. record { range = p; going = refl }))
     (reference_keeps (length vs) word fields h)))))
 

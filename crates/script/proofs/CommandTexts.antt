@@ -1,5 +1,5 @@
 -- The text of each command is a line of fields, which is read back as the command (own).
-use Rattle.script.proofs.Prelude.{◌≡◌, ℕ, ◌<◌, ◌≤◌, true, false, ◌&&◌, nat_le, nat_lt, List, [], ◌∷◌, ◌++◌, length, Ok, codes, refl, arith, ℤ, nat_tests, decimal, is_negative, unsigned_abs, path_text, row_text, Mode, Row, octal_digits, acl_of, add_of, await_of, command_of, delete_of, end_of, initiate_of, length_of, mkdir_of, mkseg_of, move_of, other_command_of, read_of, reference_or, status_of, path_alone, path_and_number, place_and_word, place_in, terminate_of, truncate_of, write_of, is_command, is_from, is_path, is_place, is_row, is_word, is_comment, four_fields, next_field, no_fields, one_field, three_fields, two_fields, arguments_text, command_text, mode_text, path_fields_text, reference_text, sign_text, volume_name, word_text, Command, VolumeLine, and_parts, lt_from}
+use Rattle.script.proofs.Prelude.{◌≡◌, ℕ, ◌<◌, ◌≤◌, true, false, ◌&&◌, nat_le, nat_lt, List, [], ◌∷◌, ◌++◌, length, Ok, refl, arith, ℤ, nat_tests, decimal, is_negative, unsigned_abs, path_text, row_text, Mode, Row, octal_digits, acl_of, add_of, await_of, command_of, delete_of, end_of, initiate_of, length_of, mkdir_of, mkseg_of, move_of, other_command_of, read_of, reference_or, status_of, path_alone, path_and_number, place_and_word, place_in, terminate_of, truncate_of, write_of, is_command, is_from, is_path, is_place, is_row, is_word, is_comment, four_fields, next_field, no_fields, one_field, three_fields, two_fields, arguments_text, command_text, mode_text, path_fields_text, reference_text, sign_text, volume_name, word_text, Command, VolumeLine, and_parts, lt_from}
 use Rattle.script.proofs.FieldTexts.{IsField, HasFields, front_field, last_field}
 use Rattle.script.proofs.PrincipalLaws.{row_field, row_in_again}
 use Rattle.script.proofs.ValueTexts.{decimal_field, number_again, path_field, path_in_again, word_again, word_field}
@@ -34,54 +34,28 @@ within_place number offset h = (grind (arith, nat_tests), grind (arith, nat_test
 
 word_is_field : (c : Command) → IsField (word_text c)
 unfolding word_text
-word_is_field (command.MkDir path volume) = record { some = omega arith; bytes = refl }
-word_is_field (command.MkSeg path pages volume) = record { some = omega arith; bytes = refl }
-word_is_field (command.Initiate path) = record { some = omega arith; bytes = refl }
-word_is_field (command.Terminate number) = record { some = omega arith; bytes = refl }
-word_is_field (command.Read number offset) = record { some = omega arith; bytes = refl }
-word_is_field (command.Write number offset word) = record { some = omega arith; bytes = refl }
-word_is_field (command.Add number offset word) = record { some = omega arith; bytes = refl }
-word_is_field (command.Await number offset word tries) = record { some = omega arith; bytes = refl }
-word_is_field (command.Acl path row mode) = record { some = omega arith; bytes = refl }
-word_is_field (command.Length path pages) = record { some = omega arith; bytes = refl }
-word_is_field (command.Truncate path words) = record { some = omega arith; bytes = refl }
-word_is_field (command.Delete path) = record { some = omega arith; bytes = refl }
-word_is_field (command.Move path amount) = record { some = omega arith; bytes = refl }
-word_is_field (command.Status path) = record { some = omega arith; bytes = refl }
 word_is_field command.End = record { some = omega arith; bytes = refl }
+word_is_field _ = record { some = omega arith; bytes = refl }
 
 pub word_is_no_comment : (c : Command) → is_comment (word_text c) ≡ false
 unfolding word_text
-word_is_no_comment (command.MkDir path volume) = refl
-word_is_no_comment (command.MkSeg path pages volume) = refl
-word_is_no_comment (command.Initiate path) = refl
-word_is_no_comment (command.Terminate number) = refl
-word_is_no_comment (command.Read number offset) = refl
-word_is_no_comment (command.Write number offset word) = refl
-word_is_no_comment (command.Add number offset word) = refl
-word_is_no_comment (command.Await number offset word tries) = refl
-word_is_no_comment (command.Acl path row mode) = refl
-word_is_no_comment (command.Length path pages) = refl
-word_is_no_comment (command.Truncate path words) = refl
-word_is_no_comment (command.Delete path) = refl
-word_is_no_comment (command.Move path amount) = refl
-word_is_no_comment (command.Status path) = refl
 word_is_no_comment command.End = refl
+word_is_no_comment _ = refl
 
 -- a word and fields after it
-worded : (c : Command) (rest : List ℕ) (fields : List (List ℕ)) → HasFields rest fields
+worded : (c : Command) {rest : List ℕ} {fields : List (List ℕ)} → HasFields rest fields
     → HasFields (word_text c ++ (32 ∷ rest)) (word_text c ∷ fields)
-worded c rest fields h = front_field (word_text c) rest fields (word_is_field c) h
+worded c h = front_field (word_is_field c) h
 
-two : (a b : List ℕ) → IsField a → IsField b → HasFields (a ++ (32 ∷ b)) (a ∷ b ∷ [])
-two a b fa fb = front_field a b (b ∷ []) fa (last_field b fb)
+two : {a b : List ℕ} → IsField a → IsField b → HasFields (a ++ (32 ∷ b)) (a ∷ b ∷ [])
+two fa fb = front_field fa (last_field fb)
 
-three : (a b c : List ℕ) → IsField a → IsField b → IsField c → HasFields (a ++ (32 ∷ (b ++ (32 ∷ c)))) (a ∷ b ∷ c ∷ [])
-three a b c fa fb fc = front_field a (b ++ (32 ∷ c)) (b ∷ c ∷ []) fa (two b c fb fc)
+three : {a b c : List ℕ} → IsField a → IsField b → IsField c → HasFields (a ++ (32 ∷ (b ++ (32 ∷ c)))) (a ∷ b ∷ c ∷ [])
+three fa fb fc = front_field fa (two fb fc)
 
-four : (a b c d : List ℕ) → IsField a → IsField b → IsField c → IsField d
+four : {a b c d : List ℕ} → IsField a → IsField b → IsField c → IsField d
     → HasFields (a ++ (32 ∷ (b ++ (32 ∷ (c ++ (32 ∷ d)))))) (a ∷ b ∷ c ∷ d ∷ [])
-four a b c d fa fb fc fd = front_field a (b ++ (32 ∷ (c ++ (32 ∷ d)))) (b ∷ c ∷ d ∷ []) fa (three b c d fb fc fd)
+four fa fb fc fd = front_field fa (three fb fc fd)
 
 small : (n : ℕ) → n ≤ 999999 → IsField (decimal n)
 small n h = decimal_field n (omega arith)
@@ -91,78 +65,52 @@ pub command_fields : (vs : List VolumeLine) (c : Command) → AreVolumes vs → 
 unfolding command_text word_text arguments_text path_fields_text reference_text is_command
 command_fields vs (command.MkDir path volume) a h =
     let p = and_parts (is_path path) (nat_lt volume (length vs)) h in
-    worded (command.MkDir path volume) (path_text path ++ (32 ∷ volume_name vs volume))
-    (path_text path ∷ volume_name vs volume ∷ []) (two (path_text path) (volume_name vs volume)
+    worded (command.MkDir path volume) (two
     (path_field path p.0) (volume_field vs volume (lt_from volume (length vs) p.1) a.each))
 command_fields vs (command.MkSeg path pages volume) a h =
     let p = and_parts (is_path path) (is_from 1 256 pages && nat_lt volume (length vs)) h in
     let q = and_parts (is_from 1 256 pages) (nat_lt volume (length vs)) p.1 in
     let r = (within 1 256 pages q.0).1 in
-    worded (command.MkSeg path pages volume) (path_text path ++ (32 ∷ (decimal pages ++ (32 ∷ volume_name vs volume))))
-    (path_text path ∷ decimal pages ∷ volume_name vs volume ∷ [])
-    (three (path_text path) (decimal pages) (volume_name vs volume) (path_field path p.0)
+    worded (command.MkSeg path pages volume) (three (path_field path p.0)
     (small pages (omega (arith, r))) (volume_field vs volume (lt_from volume (length vs) q.1) a.each))
-command_fields vs (command.Initiate path) a h = worded (command.Initiate path) (path_text path) (path_text path ∷ [])
-    (last_field (path_text path) (path_field path h))
+command_fields vs (command.Initiate path) a h = worded (command.Initiate path) (last_field (path_field path h))
 command_fields vs (command.Terminate number) a h =
     let r = at_most number 255 h in
-    worded (command.Terminate number) (decimal number) (decimal number ∷ [])
-    (last_field (decimal number) (small number (omega (arith, r))))
+    worded (command.Terminate number) (last_field (small number (omega (arith, r))))
 command_fields vs (command.Read number offset) a h =
     let r = within_place number offset h in
-    worded (command.Read number offset) (decimal number ++ (32 ∷ decimal offset))
-    (decimal number ∷ decimal offset ∷ []) (two (decimal number) (decimal offset)
-    (small number (omega (arith, r.0))) (small offset r.1))
+    worded (command.Read number offset) (two (small number (omega (arith, r.0))) (small offset r.1))
 command_fields vs (command.Write number offset word) a h =
     let r = within_place number offset (and_parts (is_place number offset) (is_word word) h).0 in
-    worded (command.Write number offset word) (decimal number
-    ++ (32 ∷ (decimal offset ++ (32 ∷ octal_digits 12 word))))
-    (decimal number ∷ decimal offset ∷ octal_digits 12 word ∷ [])
-    (three (decimal number) (decimal offset) (octal_digits 12 word) (small number (omega (arith, r.0)))
+    worded (command.Write number offset word) (three (small number (omega (arith, r.0)))
     (small offset r.1) (word_field word))
 command_fields vs (command.Add number offset word) a h =
     let r = within_place number offset (and_parts (is_place number offset) (is_word word) h).0 in
-    worded (command.Add number offset word) (decimal number ++ (32 ∷ (decimal offset ++ (32 ∷ octal_digits 12 word))))
-    (decimal number ∷ decimal offset ∷ octal_digits 12 word ∷ [])
-    (three (decimal number) (decimal offset) (octal_digits 12 word) (small number (omega (arith, r.0)))
+    worded (command.Add number offset word) (three (small number (omega (arith, r.0)))
     (small offset r.1) (word_field word))
 command_fields vs (command.Await number offset word tries) a h =
     let p = and_parts (is_place number offset) (is_word word && is_from 1 100000 tries) h in
     let r = within_place number offset p.0 in
     let t = (within 1 100000 tries (and_parts (is_word word) (is_from 1 100000 tries) p.1).1).1 in
-    worded (command.Await number offset word tries) (decimal number
-    ++ (32 ∷ (decimal offset ++ (32 ∷ (octal_digits 12 word ++ (32 ∷ decimal tries))))))
-    (decimal number ∷ decimal offset ∷ octal_digits 12 word ∷ decimal tries ∷ [])
-    (four (decimal number) (decimal offset) (octal_digits 12 word) (decimal tries)
+    worded (command.Await number offset word tries) (four
     (small number (omega (arith, r.0))) (small offset r.1) (word_field word) (small tries (omega (arith, t))))
 command_fields vs (command.Acl path row mode) a h =
     let p = and_parts (is_path path) (is_row row) h in
-    worded (command.Acl path row mode) (path_text path ++ (32 ∷ (row_text row ++ (32 ∷ mode_text mode))))
-    (path_text path ∷ row_text row ∷ mode_text mode ∷ [])
-    (three (path_text path) (row_text row) (mode_text mode) (path_field path p.0) (row_field row p.1)
-    (mode_field mode))
+    worded (command.Acl path row mode) (three (path_field path p.0) (row_field row p.1) (mode_field mode))
 command_fields vs (command.Length path pages) a h =
     let p = and_parts (is_path path) (is_from 1 256 pages) h in
     let r = (within 1 256 pages p.1).1 in
-    worded (command.Length path pages) (path_text path ++ (32 ∷ decimal pages)) (path_text path ∷ decimal pages ∷ [])
-    (two (path_text path) (decimal pages) (path_field path p.0) (small pages (omega (arith, r))))
+    worded (command.Length path pages) (two (path_field path p.0) (small pages (omega (arith, r))))
 command_fields vs (command.Truncate path words) a h =
     let p = and_parts (is_path path) (nat_le words 262144) h in
     let r = at_most words 262144 p.1 in
-    worded (command.Truncate path words) (path_text path ++ (32 ∷ decimal words)) (path_text path ∷ decimal words ∷ [])
-    (two (path_text path) (decimal words) (path_field path p.0) (small words (omega (arith, r))))
-command_fields vs (command.Delete path) a h = worded (command.Delete path) (path_text path) (path_text path ∷ [])
-    (last_field (path_text path) (path_field path h))
+    worded (command.Truncate path words) (two (path_field path p.0) (small words (omega (arith, r))))
+command_fields vs (command.Delete path) a h = worded (command.Delete path) (last_field (path_field path h))
 command_fields vs (command.Move path amount) a h =
     let p = and_parts (is_path path) (is_from 1 16384 (unsigned_abs amount)) h in
-    worded (command.Move path amount) (path_text path ++
-    (32 ∷ (sign_text (is_negative amount) ++ decimal (unsigned_abs amount))))
-    (path_text path ∷ (sign_text (is_negative amount) ++ decimal (unsigned_abs amount)) ∷ [])
-    (two (path_text path) (sign_text (is_negative amount) ++ decimal (unsigned_abs amount)) (path_field path p.0)
-    (amount_field amount p.1))
-command_fields vs (command.Status path) a h = worded (command.Status path) (path_text path) (path_text path ∷ [])
-    (last_field (path_text path) (path_field path h))
-command_fields vs command.End a h = last_field (codes "end") (word_is_field command.End)
+    worded (command.Move path amount) (two (path_field path p.0) (amount_field amount p.1))
+command_fields vs (command.Status path) a h = worded (command.Status path) (last_field (path_field path h))
+command_fields vs command.End a h = last_field (word_is_field command.End)
 
 -- ---- each command is read back
 
@@ -192,8 +140,7 @@ read_again : (number offset : ℕ) → number ≤ 255 → offset ≤ 999999 → 
 unfolding read_of place_in two_fields one_field next_field no_fields
 read_again number offset a b = rw (
   number_again 0 255 number (omega arith) (omega arith) a,
-  number_again 0 999999
-      offset (omega arith) (omega arith) b,
+  number_again 0 999999 offset (omega arith) (omega arith) b,
 ) refl
 
 place_and_word_again : (number offset word : ℕ) → number ≤ 255 → offset ≤ 999999 → word < 68719476736
@@ -219,14 +166,12 @@ await_again : (number offset word tries : ℕ) → number ≤ 255 → offset ≤
     → is_from 1 100000 tries ≡ true → await_of (decimal number ∷ decimal offset ∷ octal_digits 12 word ∷ decimal tries
     ∷ []) ≡ Ok (command.Await number offset word tries)
 unfolding await_of place_in four_fields three_fields two_fields one_field next_field no_fields
-await_again number offset word tries a b w r = let t =
-    within 1 100000 tries r in rw (
-      number_again 0 255 number (omega arith) (omega arith) a,
-      number_again 0 999999
-          offset (omega arith) (omega arith) b,
-      word_again word w,
-      number_again 1 100000 tries (omega arith) t.0 t.1,
-    ) refl
+await_again number offset word tries a b w r = let t = within 1 100000 tries r in rw (
+  number_again 0 255 number (omega arith) (omega arith) a,
+  number_again 0 999999 offset (omega arith) (omega arith) b,
+  word_again word w,
+  number_again 1 100000 tries (omega arith) t.0 t.1,
+) refl
 
 acl_again : (path : List (List ℕ)) (row : Row) (m : Mode) → is_path path ≡ true → is_row row ≡ true
     → acl_of (path_text path ∷ row_text row ∷ mode_text m ∷ []) ≡ Ok (command.Acl path row m)

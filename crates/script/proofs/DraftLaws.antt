@@ -17,37 +17,36 @@ pub blank_is : (volumes : List VolumeLine) (bulks : List Bulk) (fails : List Fai
       who = who;
       list = list;
     })
-blank_is volumes bulks fails processes who list a b c d e f =
-    rw (a, b, c, d, f) (record {
-      sizes = record {
-        processors = (omega arith, omega arith);
-        frames = (omega arith, omega arith);
-        pools = (omega arith, omega arith, omega arith, omega arith, omega arith);
-        quota = omega arith;
-      };
-      disks = record {
-        volumes = record {
-          few = omega arith;
-          each = refl;
-          own = apart_none (λ u v. has_name u.name v);
-          records = omega arith;
-        };
-        bulks = record { each = refl; apart = apart_none (λ a b. is_before a.volume b) };
-        fails = record { each = refl; few = omega arith };
-      };
-      runs = record {
-        whole = record { each = refl; few = omega arith };
-        begun = record { who = e; each = refl; going = refl };
-        counts = record { weights = omega arith; used = omega arith };
-      };
-      stage = record {
-        some = λ h. absurd (false_not_true h);
-        early = λ h. (refl, refl, refl);
-        head = λ h. refl;
-        room = λ h. absurd (false_not_true h);
-        first = λ h. absurd (false_not_true h);
-      };
-    })
+blank_is volumes bulks fails processes who list a b c d e f = rw (a, b, c, d, f) (record {
+  sizes = record {
+    processors = (omega arith, omega arith);
+    frames = (omega arith, omega arith);
+    pools = (omega arith, omega arith, omega arith, omega arith, omega arith);
+    quota = omega arith;
+  };
+  disks = record {
+    volumes = record {
+      few = omega arith;
+      each = refl;
+      own = apart_none (λ u v. has_name u.name v);
+      records = omega arith;
+    };
+    bulks = record { each = refl; apart = apart_none (λ a b. is_before a.volume b) };
+    fails = record { each = refl; few = omega arith };
+  };
+  runs = record {
+    whole = record { each = refl; few = omega arith };
+    begun = record { who = e; each = refl; going = refl };
+    counts = record { weights = omega arith; used = omega arith };
+  };
+  stage = record {
+    some = λ h. absurd (false_not_true h);
+    early = λ h. (refl, refl, refl);
+    head = λ h. refl;
+    room = λ h. absurd (false_not_true h);
+    first = λ h. absurd (false_not_true h);
+  };
+})
 
 early_is_head : (s : Stage) → is_early s ≡ true → is_head s ≡ true
 early_is_head stage.Commands h = h
@@ -159,8 +158,7 @@ volume_added d new v h e early range other few records =
         early = λ _. nothing;
         head = λ _. nobody;
         room = λ z. absurd (false_not_true z);
-        first = λ z. subst BeginsWithInitializer (head_begun d.stage d.plan.processes (begun d) head)
-            (h.stage.first z);
+        first = λ z. subst BeginsWithInitializer (head_begun d.stage d.plan.processes (begun d) head) (h.stage.first z);
       };
     })
 

@@ -92,8 +92,7 @@ alone b [] h =
 alone b (c ∷ cs) h =
     let parts = and_parts (is_field_byte b) (list_all is_field_byte (c ∷ cs)) h in
     let next = and_parts (is_field_byte c) (list_all is_field_byte cs) parts.1 in
-    fields_byte b (c ∷ cs) (byte_is_no_space b parts.0)
-    ∙ ap (onto_field b (c ∷ cs)) (alone c cs parts.1)
+    fields_byte b (c ∷ cs) (byte_is_no_space b parts.0) ∙ ap (onto_field b (c ∷ cs)) (alone c cs parts.1)
     ∙ onto_byte b c cs (c ∷ cs) [] (byte_is_no_space c next.0)
 
 first_of : (w rest : List ℕ) → 1 ≤ length w → list_all is_field_byte w ≡ true → fields_of (w ++ (32 ∷ rest)) ≡ w
@@ -122,14 +121,12 @@ unfolding is_printable
 printable_before w rest h r = all_both is_printable_byte w (32 ∷ rest)
     (all_from is_field_byte is_printable_byte byte_is_printable w h) r
 
-pub last_field : (w : List ℕ) → IsField w → HasFields w (w ∷ [])
-last_field w h = record { printable = printable_field w h.bytes; split = only_of w h.some h.bytes }
+pub last_field : {w : List ℕ} → IsField w → HasFields w (w ∷ [])
+last_field {w} h = record { printable = printable_field w h.bytes; split = only_of w h.some h.bytes }
 
-pub front_field : (w rest : List ℕ) (fields : List (List ℕ)) → IsField w → HasFields rest fields
+pub front_field : {w rest : List ℕ} {fields : List (List ℕ)} → IsField w → HasFields rest fields
     → HasFields (w ++ (32 ∷ rest)) (w ∷ fields)
-front_field w rest fields h r =
-    record {
-      printable = printable_before w rest h.bytes r.printable;
-      split = first_of w rest h.some h.bytes
-          ∙ ap (λ (fs : List (List ℕ)). w ∷ fs) r.split;
-    }
+front_field {w} {rest} h r = record {
+  printable = printable_before w rest h.bytes r.printable;
+  split = first_of w rest h.some h.bytes ∙ ap (λ (fs : List (List ℕ)). w ∷ fs) r.split;
+}

@@ -1,5 +1,5 @@
 -- The text of what stands before the processes is read back (own).
-use Rattle.script.proofs.Prelude.{◌≡◌, ℕ, ◌+◌, ◌<◌, ◌≤◌, Bool, true, false, ◌&&◌, nat_le, nat_lt, List, [], ◌∷◌, ◌++◌, length, map, flat_map, sum_by, Ok, codes, refl, sym, ap, subst, ◌∙◌, arith, append_assoc, nat_tests, length-append, sum_by-append, decimal, list_all, list_any, AllByRecursion, is_name, DraftPlan, blank, reach, ArePools, has_name, have_own_names, have_own_volumes, is_before, is_bulk, is_fail, is_from, is_volume, IsPlan, records_of, bulk_line, fail_line, later_at, line_at, fail_in, new_volume_in, pools_in, volume_line, four_fields, next_field, no_fields, one_field, print_in, six_fields, three_fields, two_fields, Plan, bulk_text, call_text, ended, fail_text, head_text, machine_text, numbers_text, onward_text, print_text, quota_text, volume_text, volume_name, Stage, Bulk, Fail, Print, VolumeLine, and_false, and_parts, lt_from}
+use Rattle.script.proofs.Prelude.{◌≡◌, ℕ, ◌+◌, ◌<◌, ◌≤◌, Bool, true, false, ◌&&◌, nat_le, nat_lt, List, [], ◌∷◌, ◌++◌, length, map, flat_map, sum_by, Ok, codes, refl, ap, ◌∙◌, arith, append_assoc, nat_tests, length-append, sum_by-append, decimal, list_all, list_any, AllByRecursion, is_name, DraftPlan, blank, reach, ArePools, has_name, have_own_names, have_own_volumes, is_before, is_bulk, is_fail, is_from, is_volume, IsPlan, records_of, bulk_line, fail_line, later_at, line_at, fail_in, new_volume_in, pools_in, volume_line, four_fields, next_field, no_fields, one_field, print_in, six_fields, three_fields, two_fields, Plan, bulk_text, call_text, ended, fail_text, head_text, machine_text, numbers_text, onward_text, print_text, quota_text, volume_text, volume_name, Stage, Bulk, Fail, Print, VolumeLine, and_false, and_parts, lt_from}
 use Rattle.script.proofs.FieldTexts.{IsField, HasFields, front_field, last_field}
 use Rattle.script.proofs.PushLaws.{other_volumes, others_before}
 use Rattle.script.proofs.Reaching.{Reaches, reaches_both, reaches_line, reaches_nothing}
@@ -14,10 +14,8 @@ use Rattle.script.specs.declared.plan.TheConstants.{MOST_PROCESSORS}
 
 number_fields : (n : ℕ) (ns : List ℕ) → n ≤ 1000000 → AllByRecursion (λ m. m ≤ 1000000) ns
     → HasFields (decimal n ++ numbers_text ns) (map decimal (n ∷ ns))
-number_fields n [] h each = subst (λ (t : List ℕ). HasFields t (decimal n ∷ [])) (sym (nil_after (decimal n)))
-    (last_field (decimal n) (decimal_field n h))
-number_fields n (m ∷ ns) h each = front_field (decimal n) (decimal m ++ numbers_text ns) (map decimal (m ∷ ns))
-    (decimal_field n h) (number_fields m ns each.0 each.1)
+number_fields n [] h each = rw (nil_after (decimal n)) (last_field (decimal_field n h))
+number_fields n (m ∷ ns) h each = front_field (decimal_field n h) (number_fields m ns each.0 each.1)
 
 machine_word : IsField (codes "machine")
 machine_word = record { some = omega arith; bytes = refl }
@@ -31,20 +29,16 @@ after_machine processors frames pools = record blank {
 
 machine_again : (processors frames a b c d : ℕ) → 1 ≤ processors → processors ≤ MOST_PROCESSORS → 4 ≤ frames
     → frames ≤ 1024 → ArePools (a ∷ b ∷ c ∷ d ∷ []) → line_at stage.Machine blank (codes "machine")
-    (map decimal (processors ∷ frames ∷ a ∷ b ∷ c ∷ d ∷ []))
-    ≡ Ok (after_machine processors frames (a ∷ b ∷ c ∷ d ∷ []))
+    (map decimal (processors ∷ frames ∷ a ∷ b ∷ c ∷ d ∷ [])) ≡ Ok (after_machine processors frames (a ∷ b ∷ c ∷ d ∷ []))
 unfolding line_at later_at pools_in six_fields four_fields three_fields two_fields one_field next_field no_fields
 machine_again processors frames a b c d p0 p1 f0 f1 h =
     let many : nat_le (a + b + c + d) 1024 ≡ true = grind (arith, nat_tests) in
     rw (
       number_again 1 MOST_PROCESSORS processors (omega arith) p0 p1,
       number_again 4 1024 frames (omega arith) f0 f1,
-      number_again
-          12 1024 a (omega arith) (omega (arith, h)) (omega (arith, h)),
-      number_again 1 1024 b (omega arith)
-          (omega (arith, h)) (omega (arith, h)),
-      number_again 1 1024 c (omega arith) (omega (arith, h))
-          (omega (arith, h)),
+      number_again 12 1024 a (omega arith) (omega (arith, h)) (omega (arith, h)),
+      number_again 1 1024 b (omega arith) (omega (arith, h)) (omega (arith, h)),
+      number_again 1 1024 c (omega arith) (omega (arith, h)) (omega (arith, h)),
       number_again 1 1024 d (omega arith) (omega (arith, h)) (omega (arith, h)),
       many,
     ) refl
@@ -53,20 +47,11 @@ pub machine_reaches : (processors frames : ℕ) (pools : List ℕ) → 1 ≤ pro
     → 4 ≤ frames → frames ≤ 1024 → ArePools pools → Reaches blank (ended (machine_text processors frames pools))
     (after_machine processors frames pools)
 unfolding machine_text
-machine_reaches processors frames [] p0 p1 f0 f1 h = absurd h
-machine_reaches processors frames (a ∷ []) p0 p1 f0 f1 h = absurd h
-machine_reaches processors frames (a ∷ b ∷ []) p0 p1 f0 f1 h = absurd h
-machine_reaches processors frames (a ∷ b ∷ c ∷ []) p0 p1 f0 f1 h = absurd h
-machine_reaches processors frames (a ∷ b ∷ c ∷ d ∷ e ∷ es) p0 p1 f0 f1 h = absurd h
 machine_reaches processors frames (a ∷ b ∷ c ∷ d ∷ []) p0 p1 f0 f1 h =
     let fields = number_fields processors (frames ∷ a ∷ b ∷ c ∷ d ∷ []) (omega arith)
     (omega arith, (omega (arith, h), (omega (arith, h), (omega (arith, h), (omega (arith, h), tt))))) in
-    reaches_line blank (after_machine processors frames (a ∷ b ∷ c ∷ d ∷ []))
-    (machine_text processors frames (a ∷ b ∷ c ∷ d ∷ [])) (codes "machine")
-    (map decimal (processors ∷ frames ∷ a ∷ b ∷ c ∷ d ∷ []))
-    (front_field (codes "machine") (decimal processors ++ numbers_text (frames ∷ a ∷ b ∷ c ∷ d ∷ []))
-    (map decimal (processors ∷ frames ∷ a ∷ b ∷ c ∷ d ∷ [])) machine_word fields)
-    refl (machine_again processors frames a b c d p0 p1 f0 f1 h)
+    reaches_line (front_field machine_word fields) refl (machine_again processors frames a b c d p0 p1 f0 f1 h)
+machine_reaches processors frames _ p0 p1 f0 f1 h = absurd h
 
 -- ---- the quota
 
@@ -80,13 +65,8 @@ pub quota_reaches : (base : DraftPlan) (quota : ℕ) → quota ≤ 16384
     → Reaches (record base { stage = stage.Quota }) (ended (quota_text quota))
     (record base { stage = stage.FirstVolume; plan = record base.plan { quota = quota } })
 unfolding quota_text
-quota_reaches base quota h =
-    reaches_line (record base { stage = stage.Quota })
-    (record base { stage = stage.FirstVolume; plan = record base.plan { quota = quota } })
-    (quota_text quota) (codes "quota") (decimal quota ∷ [])
-    (front_field (codes "quota") (decimal quota) (decimal quota ∷ []) (record { some = omega arith; bytes = refl })
-    (last_field (decimal quota) (decimal_field quota (omega arith))))
-    refl (quota_again base quota h)
+quota_reaches base quota h = reaches_line (front_field (record { some = omega arith; bytes = refl })
+    (last_field (decimal_field quota (omega arith)))) refl (quota_again base quota h)
 
 -- ---- the volumes
 
@@ -102,13 +82,8 @@ volume_fields v h =
     let q = and_parts (is_from 1 16384 v.records) (is_from 1 4097 v.entries) p.1 in
     let r = (within 1 16384 v.records q.0).1 in
     let e = (within 1 4097 v.entries q.1).1 in
-    front_field (codes "volume") (v.name ++ (32 ∷ (decimal v.records ++ (32 ∷ decimal v.entries))))
-    (v.name ∷ decimal v.records ∷ decimal v.entries ∷ []) (record { some = omega arith; bytes = refl })
-    (front_field v.name (decimal v.records ++ (32 ∷ decimal v.entries)) (decimal v.records ∷ decimal v.entries ∷ [])
-    (name_field v.name p.0)
-    (front_field (decimal v.records) (decimal v.entries) (decimal v.entries ∷ [])
-    (decimal_field v.records (omega (arith, r))) (last_field (decimal v.entries)
-    (decimal_field v.entries (omega (arith, e))))))
+    front_field (record { some = omega arith; bytes = refl }) (front_field (name_field v.name p.0) (front_field
+    (decimal_field v.records (omega (arith, r))) (last_field (decimal_field v.entries (omega (arith, e))))))
 
 volume_line_again : (d : DraftPlan) (v : VolumeLine) → is_volume v ≡ true → list_any (has_name v.name) d.plan.volumes
     ≡ false → length d.plan.volumes < 4 → sum_by records_of d.plan.volumes + v.records ≤ 16384
@@ -125,8 +100,7 @@ volume_line_again d v h new room sum =
     rw (
       new_name_again d.plan.volumes v.name p.0 new,
       number_again 1 16384 v.records (omega arith) r.0 r.1,
-      number_again 1
-          4097 v.entries (omega arith) e.0 e.1,
+      number_again 1 4097 v.entries (omega arith) e.0 e.1,
       few,
       fits,
     ) refl
@@ -140,20 +114,16 @@ volume_at : (s : Stage) (d : DraftPlan) (fields : List (List ℕ)) → takes_vol
 unfolding line_at
 volume_at s d fields h = simp (and_false, outside s 2 3 (omega arith) h, h)
 
+-- a draft at a stage, with these volumes
+abbrev with_volumes : DraftPlan → Stage → List VolumeLine → DraftPlan
+with_volumes base s vs = record base { stage = s; plan = record base.plan { volumes = vs } }
+
 volume_reaches : (base : DraftPlan) (s : Stage) (done : List VolumeLine) (v : VolumeLine) → takes_volume s ≡ true
     → is_volume v ≡ true → list_any (has_name v.name) done ≡ false → length done < 4
-    → sum_by records_of done + v.records ≤ 16384 → Reaches
-    (record base { stage = s; plan = record base.plan { volumes = done } })
-    (ended (volume_text v))
-    (record base { stage = stage.Volumes; plan = record base.plan { volumes = done ++ v ∷ [] } })
-volume_reaches base s done v takes h new room sum =
-    reaches_line (record base { stage = s; plan = record base.plan { volumes = done } })
-    (record base { stage = stage.Volumes; plan = record base.plan { volumes = done ++ v ∷ [] } }) (volume_text v)
-    (codes "volume")
-    (v.name ∷ decimal v.records ∷ decimal v.entries ∷ []) (volume_fields v h) refl
-    (volume_at s (record base { stage = s; plan = record base.plan { volumes = done } })
-    (v.name ∷ decimal v.records ∷ decimal v.entries ∷ [])
-    takes ∙ volume_line_again (record base { stage = s; plan = record base.plan { volumes = done } }) v h new room sum)
+    → sum_by records_of done + v.records ≤ 16384
+    → Reaches (with_volumes base s done) (ended (volume_text v)) (with_volumes base stage.Volumes (done ++ v ∷ []))
+volume_reaches base s done v takes h new room sum = reaches_line (volume_fields v h) refl
+    (volume_at s (with_volumes base s done) _ takes ∙ volume_line_again (with_volumes base s done) v h new room sum)
 
 -- what holds of the volumes that stand and of those that follow
 record FitVolumes (done vs : List VolumeLine) : Type 0 where
@@ -177,45 +147,22 @@ abbrev pub volumes_text : List VolumeLine → List ℕ
 volumes_text vs = flat_map (λ v. ended (volume_text v)) vs
 
 more_volumes : (base : DraftPlan) (done vs : List VolumeLine) → FitVolumes done vs
-    → Reaches (record base { stage = stage.Volumes; plan = record base.plan { volumes = done } }) (volumes_text vs)
-    (record base { stage = stage.Volumes; plan = record base.plan { volumes = done ++ vs } })
-more_volumes base done [] h = subst (λ (t : List VolumeLine). Reaches
-    (record base { stage = stage.Volumes; plan = record base.plan { volumes = done } }) []
-    (record base { stage = stage.Volumes; plan = record base.plan { volumes = t } }))
-    (sym (nil_after done))
-    (reaches_nothing (record base { stage = stage.Volumes; plan = record base.plan { volumes = done } }))
-more_volumes base done (v ∷ vs) h =
-    reaches_both (record base { stage = stage.Volumes; plan = record base.plan { volumes = done } })
-    (record base { stage = stage.Volumes; plan = record base.plan { volumes = done ++ v ∷ [] } })
-    (record base { stage = stage.Volumes; plan = record base.plan { volumes = done ++ v ∷ vs } })
-    (ended (volume_text v)) (volumes_text vs)
+    → Reaches (with_volumes base stage.Volumes done) (volumes_text vs) (with_volumes base stage.Volumes (done ++ vs))
+more_volumes base done [] h = rw (nil_after done) reaches_nothing
+more_volumes base done (v ∷ vs) h = reaches_both
     (volume_reaches base stage.Volumes done v refl (and_parts (is_volume v) (list_all is_volume vs) h.each).0
     (others_before done v vs h.own) (omega (arith, h.few)) (omega (arith, h.sum, sum_cons v vs)))
-    (subst (λ (t : List VolumeLine). Reaches
-    (record base { stage = stage.Volumes; plan = record base.plan { volumes = done ++ v ∷ [] } })
-    (volumes_text vs) (record base { stage = stage.Volumes; plan = record base.plan { volumes = t } }))
-    (append_assoc done (v ∷ []) vs)
-    (more_volumes base (done ++ v ∷ []) vs (fit_next done v vs h)))
+    (rw (append_assoc done (v ∷ []) vs) at (more_volumes base (done ++ v ∷ []) vs (fit_next done v vs h)))
 
 volumes_reach : (base : DraftPlan) (vs : List VolumeLine) → 1 ≤ length vs → FitVolumes [] vs
-    → Reaches (record base { stage = stage.FirstVolume; plan = record base.plan { volumes = [] } }) (volumes_text vs)
-    (record base { stage = stage.Volumes; plan = record base.plan { volumes = vs } })
+    → Reaches (with_volumes base stage.FirstVolume []) (volumes_text vs) (with_volumes base stage.Volumes vs)
 volumes_reach base [] some h = absurd (omega arith)
-volumes_reach base (v ∷ vs) some h =
-    reaches_both (record base { stage = stage.FirstVolume; plan = record base.plan { volumes = [] } })
-    (record base { stage = stage.Volumes; plan = record base.plan { volumes = v ∷ [] } })
-    (record base { stage = stage.Volumes; plan = record base.plan { volumes = v ∷ vs } }) (ended (volume_text v))
-    (volumes_text vs)
+volumes_reach base (v ∷ vs) some h = reaches_both
     (volume_reaches base stage.FirstVolume [] v refl (and_parts (is_volume v) (list_all is_volume vs) h.each).0
     (others_before [] v vs h.own) (omega (arith, h.few)) (omega (arith, h.sum, sum_cons v vs)))
     (more_volumes base (v ∷ []) vs (fit_next [] v vs h))
 
 -- ---- what is printed
-
-print_fields : (p : Print) (word : List ℕ) → print_text p ≡ codes "print" ++ (32 ∷ word) → IsField word
-    → HasFields (print_text p) (codes "print" ∷ word ∷ [])
-print_fields p word e h = subst (λ (t : List ℕ). HasFields t (codes "print" ∷ word ∷ [])) (sym e)
-    (front_field (codes "print") word (word ∷ []) (record { some = omega arith; bytes = refl }) (last_field word h))
 
 print_again : (base : DraftPlan) (p : Print) (word : List ℕ) → print_in word ≡ Ok p
     → line_at stage.Volumes (record base { stage = stage.Volumes }) (codes "print") (word ∷ [])
@@ -223,23 +170,20 @@ print_again : (base : DraftPlan) (p : Print) (word : List ℕ) → print_in word
 unfolding line_at later_at one_field next_field no_fields
 print_again base p word h = rw h refl
 
-print_reaches_by : (base : DraftPlan) (p : Print) (word : List ℕ) → print_text p ≡ codes "print" ++ (32 ∷ word)
-    → IsField word → print_in word ≡ Ok p → Reaches (record base { stage = stage.Volumes }) (ended (print_text p))
+printed : (base : DraftPlan) (word : List ℕ) (p : Print) → IsField word → print_in word ≡ Ok p
+    → Reaches (record base { stage = stage.Volumes }) (ended (codes "print" ++ (32 ∷ word)))
     (record base { stage = stage.Bulks; plan = record base.plan { print = p } })
-print_reaches_by base p word e f h =
-    reaches_line (record base { stage = stage.Volumes })
-    (record base { stage = stage.Bulks; plan = record base.plan { print = p } })
-    (print_text p) (codes "print") (word ∷ []) (print_fields p word e f) refl (print_again base p word h)
+printed base word p f h = reaches_line (front_field (record { some = omega arith; bytes = refl }) (last_field f)) refl
+    (print_again base p word h)
 
 print_reaches : (base : DraftPlan) (p : Print) → Reaches (record base { stage = stage.Volumes }) (ended (print_text p))
     (record base { stage = stage.Bulks; plan = record base.plan { print = p } })
 unfolding print_text print_in
-print_reaches base print.Short = print_reaches_by base print.Short (codes "short") refl
+print_reaches base print.Short = printed base (codes "short") print.Short
     (record { some = omega arith; bytes = refl }) refl
-print_reaches base print.Replies = print_reaches_by base print.Replies (codes "replies") refl
+print_reaches base print.Replies = printed base (codes "replies") print.Replies
     (record { some = omega arith; bytes = refl }) refl
-print_reaches base print.All = print_reaches_by base print.All (codes "all") refl
-    (record { some = omega arith; bytes = refl }) refl
+print_reaches base print.All = printed base (codes "all") print.All (record { some = omega arith; bytes = refl }) refl
 
 -- ---- fast stores
 
@@ -261,11 +205,8 @@ bulk_fields : (vs : List VolumeLine) (b : Bulk) → AreVolumes vs → is_bulk (l
 unfolding bulk_text
 bulk_fields vs b a h =
     let p = bulk_parts (length vs) b h in
-    front_field (codes "bulk") (volume_name vs b.volume ++ (32 ∷ decimal b.places))
-    (volume_name vs b.volume ∷ decimal b.places ∷ []) (record { some = omega arith; bytes = refl })
-    (front_field (volume_name vs b.volume) (decimal b.places) (decimal b.places ∷ [])
-    (volume_field vs b.volume p.0 a.each) (last_field (decimal b.places)
-    (decimal_field b.places (omega (arith, p)))))
+    front_field (record { some = omega arith; bytes = refl }) (front_field
+    (volume_field vs b.volume p.0 a.each) (last_field (decimal_field b.places (omega (arith, p)))))
 
 bulk_line_again : (d : DraftPlan) (b : Bulk) → AreVolumes d.plan.volumes → is_bulk (length d.plan.volumes) b ≡ true
     → list_any (is_before b.volume) d.plan.bulks ≡ false → bulk_line d
@@ -277,8 +218,7 @@ bulk_line_again d b a h new =
     rw (
       volume_again d.plan.volumes b.volume p.0 a.each a.own,
       new,
-      number_again 1 1024 b.places (omega arith)
-          (omega (arith, p)) (omega (arith, p)),
+      number_again 1 1024 b.places (omega arith) (omega (arith, p)) (omega (arith, p)),
     ) refl
 
 bulk_at : (d : DraftPlan) (fields : List (List ℕ)) → line_at stage.Bulks d (codes "bulk") fields ≡ bulk_line d fields
@@ -292,38 +232,23 @@ record FitBulks (volumes : ℕ) (done bs : List Bulk) : Type 0 where
 abbrev pub bulks_text : List VolumeLine → List Bulk → List ℕ
 bulks_text vs bs = flat_map (λ b. ended (bulk_text vs b)) bs
 
+-- a draft with these fast stores
+abbrev with_bulks : DraftPlan → List Bulk → DraftPlan
+with_bulks base bs = record base { stage = stage.Bulks; plan = record base.plan { bulks = bs } }
+
 bulks_reach : (base : DraftPlan) (done bs : List Bulk) → AreVolumes base.plan.volumes
-    → FitBulks (length base.plan.volumes) done bs → Reaches
-    (record base { stage = stage.Bulks; plan = record base.plan { bulks = done } })
-    (bulks_text base.plan.volumes bs)
-    (record base { stage = stage.Bulks; plan = record base.plan { bulks = done ++ bs } })
-bulks_reach base done [] a h = subst
-    (λ (t : List Bulk). Reaches (record base { stage = stage.Bulks; plan = record base.plan { bulks = done } }) []
-    (record base { stage = stage.Bulks; plan = record base.plan { bulks = t } })) (sym (nil_after done))
-    (reaches_nothing (record base { stage = stage.Bulks; plan = record base.plan { bulks = done } }))
+    → FitBulks (length base.plan.volumes) done bs
+    → Reaches (with_bulks base done) (bulks_text base.plan.volumes bs) (with_bulks base (done ++ bs))
+bulks_reach base done [] a h = rw (nil_after done) reaches_nothing
 bulks_reach base done (b ∷ bs) a h =
-    let parts = and_parts (is_bulk (length base.plan.volumes) b)
-    (list_all (is_bulk (length base.plan.volumes)) bs) h.each in
-    reaches_both (record base { stage = stage.Bulks; plan = record base.plan { bulks = done } })
-    (record base { stage = stage.Bulks; plan = record base.plan { bulks = done ++ b ∷ [] } })
-    (record base { stage = stage.Bulks; plan = record base.plan { bulks = done ++ b ∷ bs } })
-    (ended (bulk_text base.plan.volumes b))
-    (bulks_text base.plan.volumes bs)
-    (reaches_line (record base { stage = stage.Bulks; plan = record base.plan { bulks = done } })
-    (record base { stage = stage.Bulks; plan = record base.plan { bulks = done ++ b ∷ [] } })
-    (bulk_text base.plan.volumes b) (codes "bulk")
-    (volume_name base.plan.volumes b.volume ∷ decimal b.places ∷ [])
-    (bulk_fields base.plan.volumes b a parts.0) refl
-    (bulk_at (record base { stage = stage.Bulks; plan = record base.plan { bulks = done } })
-    (volume_name base.plan.volumes b.volume ∷ decimal b.places ∷ [])
-    ∙ bulk_line_again (record base { stage = stage.Bulks; plan = record base.plan { bulks = done } }) b a parts.0
-    (other_volumes done b bs h.own)))
-    (subst (λ (t : List Bulk). Reaches
-    (record base { stage = stage.Bulks; plan = record base.plan { bulks = done ++ b ∷ [] } })
-    (bulks_text base.plan.volumes bs) (record base { stage = stage.Bulks; plan = record base.plan { bulks = t } }))
-    (append_assoc done (b ∷ []) bs)
-    (bulks_reach base (done ++ b ∷ []) bs a (record
-    { each = parts.1; own = ap have_own_volumes (append_assoc done (b ∷ []) bs) ∙ h.own })))
+    let fits = is_bulk (length base.plan.volumes) in
+    let parts = and_parts (fits b) (list_all fits bs) h.each in
+    reaches_both (reaches_line (bulk_fields base.plan.volumes b a parts.0) refl (bulk_at (with_bulks base done) _
+    ∙ bulk_line_again (with_bulks base done) b a parts.0 (other_volumes done b bs h.own)))
+    (rw (append_assoc done (b ∷ []) bs) at (bulks_reach base (done ++ b ∷ []) bs a (record {
+      each = parts.1;
+      own = ap have_own_volumes (append_assoc done (b ∷ []) bs) ∙ h.own;
+    })))
 
 -- ---- calls that fail
 
@@ -341,14 +266,8 @@ fail_fields : (vs : List VolumeLine) (f : Fail) → AreVolumes vs → is_fail (l
 unfolding fail_text
 fail_fields vs f a h =
     let p = fail_parts (length vs) f h in
-    front_field (codes "fail") (volume_name vs f.volume
-    ++ (32 ∷ (call_text f.write ++ (32 ∷ (decimal f.number ++ onward_text f.onward))))) (fail_fields_text vs f)
-    (record { some = omega arith; bytes = refl })
-    (front_field (volume_name vs f.volume) (call_text f.write ++ (32 ∷ (decimal f.number ++ onward_text f.onward)))
-    (call_text f.write ∷ (decimal f.number ++ onward_text f.onward) ∷ []) (volume_field vs f.volume p.0 a.each)
-    (front_field (call_text f.write) (decimal f.number ++ onward_text f.onward)
-    ((decimal f.number ++ onward_text f.onward) ∷ []) (write_field f.write)
-    (last_field (decimal f.number ++ onward_text f.onward) (call_field f.number f.onward (omega (arith, p))))))
+    front_field (record { some = omega arith; bytes = refl }) (front_field (volume_field vs f.volume p.0 a.each)
+    (front_field (write_field f.write) (last_field (call_field f.number f.onward (omega (arith, p))))))
 
 fail_line_again : (d : DraftPlan) (f : Fail) → AreVolumes d.plan.volumes → is_fail (length d.plan.volumes) f ≡ true
     → length d.plan.fails < 100 → fail_line d (fail_fields_text d.plan.volumes f)
@@ -360,8 +279,7 @@ fail_line_again d f a h room =
     rw (
       volume_again d.plan.volumes f.volume p.0 a.each a.own,
       write_again f.write,
-      call_again f.number f.onward
-          (omega (arith, p)) (omega (arith, p)),
+      call_again f.number f.onward (omega (arith, p)) (omega (arith, p)),
       few,
     ) refl
 
@@ -394,52 +312,23 @@ record FitFails (volumes : ℕ) (done fs : List Fail) : Type 0 where
 abbrev pub fails_text : List VolumeLine → List Fail → List ℕ
 fails_text vs fs = flat_map (λ f. ended (fail_text vs f)) fs
 
+-- a draft at a stage, with these calls that fail
+abbrev with_fails : DraftPlan → Stage → List Fail → DraftPlan
+with_fails base s fs = record base { stage = s; plan = record base.plan { fails = fs } }
+
 fails_reach : (base : DraftPlan) (s : Stage) (done fs : List Fail) → takes_fail s ≡ true → AreVolumes base.plan.volumes
-    → FitFails (length base.plan.volumes) done fs → Reaches
-    (record base { stage = s; plan = record base.plan { fails = done } })
-    (fails_text base.plan.volumes fs)
-    (record base { stage = stage_after_fails s fs; plan = record base.plan { fails = done ++ fs } })
-fails_reach base s done [] takes a h = subst
-    (λ (t : List Fail). Reaches (record base { stage = s; plan = record base.plan { fails = done } }) []
-    (record base { stage = s; plan = record base.plan { fails = t } })) (sym (nil_after done))
-    (reaches_nothing (record base { stage = s; plan = record base.plan { fails = done } }))
+    → FitFails (length base.plan.volumes) done fs → Reaches (with_fails base s done) (fails_text base.plan.volumes fs)
+    (with_fails base (stage_after_fails s fs) (done ++ fs))
+fails_reach base s done [] takes a h = rw (nil_after done) reaches_nothing
 fails_reach base s done (f ∷ fs) takes a h =
-    let parts = and_parts (is_fail (length base.plan.volumes) f)
-    (list_all (is_fail (length base.plan.volumes)) fs) h.each in
-    let rest : Reaches (record base { stage = stage.Fails; plan = record base.plan { fails = done ++ f ∷ [] } })
-    (fails_text base.plan.volumes fs)
-    (record base {
-      stage = stage_after_fails stage.Fails fs;
-      plan = record base.plan {
-        fails = (done ++ f ∷ [])
-            ++ fs;
-      };
-    }) =
-    fails_reach base stage.Fails (done ++ f ∷ []) fs refl a
+    let fits = is_fail (length base.plan.volumes) in
+    let parts = and_parts (fits f) (list_all fits fs) h.each in
+    let rest = fails_reach base stage.Fails (done ++ f ∷ []) fs refl a
     (record { each = parts.1; few = omega (arith, length-append done (f ∷ []), h.few) }) in
-    reaches_both (record base { stage = s; plan = record base.plan { fails = done } })
-    (record base { stage = stage.Fails; plan = record base.plan { fails = done ++ f ∷ [] } })
-    (record base { stage = stage.Fails; plan = record base.plan { fails = done ++ f ∷ fs } })
-    (ended (fail_text base.plan.volumes f))
-    (fails_text base.plan.volumes fs)
-    (reaches_line (record base { stage = s; plan = record base.plan { fails = done } })
-    (record base { stage = stage.Fails; plan = record base.plan { fails = done ++ f ∷ [] } })
-    (fail_text base.plan.volumes f) (codes "fail")
-    (fail_fields_text base.plan.volumes f)
-    (fail_fields base.plan.volumes f a parts.0) refl
-    (fail_at s (record base { stage = s; plan = record base.plan { fails = done } })
-    (fail_fields_text base.plan.volumes f) takes
-    ∙ fail_line_again (record base { stage = s; plan = record base.plan { fails = done } }) f a parts.0
-    (omega (arith, h.few))))
-    (subst (λ (t : Stage). Reaches
-    (record base { stage = stage.Fails; plan = record base.plan { fails = done ++ f ∷ [] } })
-    (fails_text base.plan.volumes fs) (record base { stage = t; plan = record base.plan { fails = done ++ f ∷ fs } }))
-    (still_fails fs)
-    (subst (λ (t : List Fail). Reaches
-    (record base { stage = stage.Fails; plan = record base.plan { fails = done ++ f ∷ [] } })
-    (fails_text base.plan.volumes fs)
-    (record base { stage = stage_after_fails stage.Fails fs; plan = record base.plan { fails = t } }))
-    (append_assoc done (f ∷ []) fs) rest))
+    reaches_both (reaches_line (fail_fields base.plan.volumes f a parts.0) refl
+    (fail_at s (with_fails base s done) _ takes
+    ∙ fail_line_again (with_fails base s done) f a parts.0 (omega (arith, h.few))))
+    (rw (append_assoc done (f ∷ []) fs, still_fails fs) at rest)
 
 -- ---- the whole head
 
@@ -462,26 +351,13 @@ head_reaches p h =
     let d4 = record d3 { stage = stage.Bulks; plan = record d3.plan { print = p.print } } in
     let d5 = record d4 { plan = record d4.plan { bulks = p.bulks } } in
     let a = are_volumes p h in
-    reaches_both blank d1 (after_head p) (ended (machine_text p.processors p.frames p.pools))
-    (ended (quota_text p.quota) ++ (volumes_text p.volumes
-    ++ (ended (print_text p.print) ++ (bulks_text p.volumes p.bulks ++ fails_text p.volumes p.fails))))
+    reaches_both
     (machine_reaches p.processors p.frames p.pools h.processors.0 h.processors.1 h.frames.0 h.frames.1 h.pools)
-    (reaches_both d1 d2 (after_head p) (ended (quota_text p.quota))
-    (volumes_text p.volumes ++ (ended (print_text p.print)
-    ++ (bulks_text p.volumes p.bulks ++ fails_text p.volumes p.fails)))
-    (quota_reaches d1 p.quota h.quota)
-    (reaches_both d2 d3 (after_head p) (volumes_text p.volumes)
-    (ended (print_text p.print) ++ (bulks_text p.volumes p.bulks ++ fails_text p.volumes p.fails))
-    (volumes_reach d2 p.volumes h.some (record {
+    (reaches_both (quota_reaches d1 p.quota h.quota) (reaches_both (volumes_reach d2 p.volumes h.some (record {
       each = h.volumes;
       own = h.names;
       few = omega (arith, h.few);
-      sum =
-          omega (arith, h.records);
-    }))
-    (reaches_both d3 d4 (after_head p) (ended (print_text p.print))
-    (bulks_text p.volumes p.bulks ++ fails_text p.volumes p.fails)
-    (print_reaches d3 p.print)
-    (reaches_both d4 d5 (after_head p) (bulks_text p.volumes p.bulks) (fails_text p.volumes p.fails)
-    (bulks_reach d4 [] p.bulks a (record { each = h.bulks; own = h.apart }))
+      sum = omega (arith, h.records);
+    })) (reaches_both (print_reaches d3 p.print)
+    (reaches_both (bulks_reach d4 [] p.bulks a (record { each = h.bulks; own = h.apart }))
     (fails_reach d5 stage.Bulks [] p.fails refl a (record { each = h.fails; few = omega (arith, h.most) }))))))

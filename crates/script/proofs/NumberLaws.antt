@@ -21,8 +21,7 @@ number_starts text = refl
 pub number_next : (text : List ℕ) (i value : ℕ) → i < length text → 48 ≤ get_or text i 0 → get_or text i 0 ≤ 57
     → decimal_value_from value (drop i text) ≡ decimal_value_from 0 text
     → decimal_value_from (value * 10 + (get_or text i 0 - 48)) (drop (i + 1) text) ≡ decimal_value_from 0 text
-number_next text i value lt low high h =
-    sym (ap (decimal_value_from value) (drop_at text i lt)
+number_next text i value lt low high h = sym (ap (decimal_value_from value) (drop_at text i lt)
     ∙ digit_step value (get_or text i 0) (drop (i + 1) text) low high) ∙ h
 
 pub number_below : (value digit i : ℕ) → value < 10 ^ i → digit ≤ 9 → value * 10 + digit < 10 ^ (i + 1)

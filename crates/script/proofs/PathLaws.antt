@@ -1,5 +1,5 @@
 -- Laws of the texts of paths (own).
-use Rattle.script.proofs.Prelude.{◌≡◌, ℕ, ◌≤◌, Bool, true, false, cond, ◌&&◌, nat_le, eqb, List, [], ◌∷◌, ◌++◌, length, Option, Some, None, Ok, Err, refl, sym, ap, subst, ◌∙◌, arith, nat_tests, common_steps, list_all, AllByRecursion, is_name, is_name_byte, names_text, path_text, IsName, IsPath, onto_piece, path_of, pieces_of, if_path, is_path, path_in, and_from, and_parts}
+use Rattle.script.proofs.Prelude.{◌≡◌, ℕ, ◌≤◌, Bool, true, false, cond, ◌&&◌, nat_le, eqb, List, [], ◌∷◌, ◌++◌, length, Option, Some, None, Ok, Err, refl, sym, ap, ◌∙◌, arith, nat_tests, common_steps, list_all, AllByRecursion, is_name, is_name_byte, names_text, path_text, IsName, IsPath, onto_piece, path_of, pieces_of, if_path, is_path, path_in, and_from, and_parts}
 use Rattle.script.specs.declared.refusals.Cause.TheVariants as cause
 
 pieces_nil : pieces_of [] ≡ [] ∷ []
@@ -17,10 +17,7 @@ pieces_byte b bs z = rw z refl
 -- the text of some pieces is that from which they come
 onto_text : (b : ℕ) (bs : List ℕ) (pieces : List (List ℕ)) → names_text pieces ≡ 62 ∷ bs
     → names_text (onto_piece b pieces) ≡ 62 ∷ b ∷ bs
-onto_text b bs [] e = absurd (apart e)
-  where
-    apart : [] ≡ 62 ∷ bs → ⊥
-    apart e = cc
+onto_text b bs [] e = absurd (cc)
 onto_text b bs (piece ∷ pieces) e = cc
 
 pieces_text : (bs : List ℕ) → names_text (pieces_of bs) ≡ 62 ∷ bs
@@ -34,10 +31,7 @@ pieces_text (b ∷ bs) = split (eqb b 62) refl (pieces_text bs)
     split false z ih = ap names_text (pieces_byte b bs z) ∙ onto_text b bs (pieces_of bs) ih
 
 some_text : (names : List (List ℕ)) (bs : List ℕ) → names_text names ≡ 62 ∷ bs → path_text names ≡ 62 ∷ bs
-some_text [] bs e = absurd (apart e)
-  where
-    apart : [] ≡ 62 ∷ bs → ⊥
-    apart e = cc
+some_text [] bs e = absurd (cc)
 some_text (name ∷ names) bs e = e
 
 -- no sign stands in a name
@@ -45,10 +39,7 @@ no_sign : (b : ℕ) → is_name_byte b ≡ true → eqb b 62 ≡ false
 no_sign b h = split (eqb b 62) refl
   where
     split : (z : Bool) → eqb b 62 ≡ z → eqb b 62 ≡ false
-    split true z = let e : b ≡ 62 = grind (arith, nat_tests) in absurd (apart (subst (λ n. is_name_byte n ≡ true) e h))
-      where
-        apart : false ≡ true → ⊥
-        apart e = cc
+    split true z = let e : b ≡ 62 = grind (arith, nat_tests) in let clash : false ≡ true = rw e at h in absurd (cc)
     split false z = z
 
 name_bytes : (name : List ℕ) → is_name name ≡ true → (1 ≤ length name) × (list_all is_name_byte name ≡ true)
@@ -113,28 +104,22 @@ path_again (name ∷ names) h =
     let whole = path_from (name ∷ names) h in
     let letters = name_bytes name whole.each.0 in
     text_again (name ++ names_text names) (grind (arith, common_steps, letters.0))
-    ∙ ap if_path (name_before name names letters.1 (names_again names (each_name names whole.each.1)))
-    ∙ rw h refl
+    ∙ ap if_path (name_before name names letters.1 (names_again names (each_name names whole.each.1))) ∙ rw h refl
 
 -- what is read is the text of a path
 pub path_only : (text : List ℕ) (names : List (List ℕ)) → path_of text ≡ Some names → (text ≡ path_text names)
     × (is_path names ≡ true)
 unfolding path_of
-path_only [] names h = absurd (apart h)
-  where
-    apart : None ≡ Some names → ⊥
-    apart e = cc
+path_only [] names h = absurd (cc)
 path_only (b ∷ []) names h = root (eqb b 62) refl h
   where
     root : (z : Bool) → eqb b 62 ≡ z → cond {A = Option (List (List ℕ))} z (Some []) None ≡ Some names
         → (b ∷ [] ≡ path_text names) × (is_path names ≡ true)
-    root true z e = let same : [] ≡ names = cc in let sign : b ≡ 62 =
-        grind (arith, nat_tests) in subst (λ ns. (b ∷ [] ≡ path_text ns) × (is_path ns ≡ true)) same
-        (ap (λ n. n ∷ []) sign, path_is [] (record { few = omega arith; each = tt }))
-    root false z e = absurd (apart e)
-      where
-        apart : None ≡ Some names → ⊥
-        apart e = cc
+    root true z e =
+        let same : [] ≡ names = cc in
+        let sign : b ≡ 62 = grind (arith, nat_tests) in
+        rw (← same) (rw sign refl, path_is [] (record { few = omega arith; each = tt }))
+    root false z e = absurd (cc)
 path_only (b ∷ c ∷ cs) names h = below (eqb b 62) refl (is_path (pieces_of (c ∷ cs))) refl h
   where
     below : (z : Bool) → eqb b 62 ≡ z → (y : Bool) → is_path (pieces_of (c ∷ cs)) ≡ y
@@ -143,16 +128,9 @@ path_only (b ∷ c ∷ cs) names h = below (eqb b 62) refl (is_path (pieces_of (
     below true z true y e =
         let same : pieces_of (c ∷ cs) ≡ names = cc in
         let sign : b ≡ 62 = grind (arith, nat_tests) in
-        subst (λ ns. (b ∷ c ∷ cs ≡ path_text ns) × (is_path ns ≡ true)) same
-        (ap (λ n. n ∷ c ∷ cs) sign ∙ sym (some_text (pieces_of (c ∷ cs)) (c ∷ cs) (pieces_text (c ∷ cs))), y)
-    below true z false y e = absurd (apart e)
-      where
-        apart : None ≡ Some names → ⊥
-        apart e = cc
-    below false z y w e = absurd (apart e)
-      where
-        apart : None ≡ Some names → ⊥
-        apart e = cc
+        rw (← same) (rw sign (sym (some_text (pieces_of (c ∷ cs)) (c ∷ cs) (pieces_text (c ∷ cs)))), y)
+    below true z false y e = absurd (cc)
+    below false z y w e = absurd (cc)
 
 -- the path of a field, as reading gives it
 pub path_read : (text : List ℕ) (names : List (List ℕ)) → text ≡ path_text names → IsPath names → path_in text

@@ -73,13 +73,11 @@ names_push vs v h e = apart_push (λ u v. has_name u.name v) (λ u v z. names_ap
 
 pub others_before : (done : List VolumeLine) (v : VolumeLine) (vs : List VolumeLine) → have_own_names (done ++ v ∷ vs)
     ≡ true → list_any (has_name v.name) done ≡ false
-others_before done v vs h =
-    apart_before (λ u v. has_name u.name v) (λ u v z. names_apart v.name u.name z) done v vs h
+others_before done v vs h = apart_before (λ u v. has_name u.name v) (λ u v z. names_apart v.name u.name z) done v vs h
 
 pub bulks_push : (bs : List Bulk) (b : Bulk) → have_own_volumes bs ≡ true → list_any (is_before b.volume) bs ≡ false
     → have_own_volumes (bs ++ b ∷ []) ≡ true
-bulks_push bs b h e =
-    apart_push (λ a b. is_before a.volume b) (λ a b z. numbers_apart b.volume a.volume z) bs b h e
+bulks_push bs b h e = apart_push (λ a b. is_before a.volume b) (λ a b z. numbers_apart b.volume a.volume z) bs b h e
 
 pub other_volumes : (done : List Bulk) (b : Bulk) (bs : List Bulk) → have_own_volumes (done ++ b ∷ bs) ≡ true
     → list_any (is_before b.volume) done ≡ false
@@ -91,8 +89,7 @@ pub end_push : (cs : List Command) (c : Command) → list_all goes_on cs ≡ tru
     → ends_once (cs ++ c ∷ []) ≡ true
 unfolding ends_once
 end_push [] c h e = e
-end_push (a ∷ []) c h e =
-    let parts = and_parts (goes_on a) true h in and_from (not (is_end a)) (is_end c) parts.0 e
+end_push (a ∷ []) c h e = let parts = and_parts (goes_on a) true h in and_from (not (is_end a)) (is_end c) parts.0 e
 end_push (a ∷ b ∷ cs) c h e =
     let parts = and_parts (goes_on a) (list_all goes_on (b ∷ cs)) h in and_from (not (is_end a))
     (ends_once (b ∷ (cs ++ c ∷ []))) parts.0 (end_push (b ∷ cs) c parts.1 e)

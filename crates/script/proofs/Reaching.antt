@@ -10,15 +10,15 @@ read_from n d text = finished (fold numbered (Ok (n, d)) (lines_of text))
 pub record Reaches (d : DraftPlan) (text : List ℕ) (e : DraftPlan) : Type 0 where
   pub reads : (n : ℕ) (rest : List ℕ) → (m : ℕ) × (read_from n d (text ++ rest) ≡ read_from m e rest)
 
-pub reaches_nothing : (d : DraftPlan) → Reaches d [] d
-reaches_nothing d = record { reads = λ n rest. (n, refl) }
+pub reaches_nothing : {d : DraftPlan} → Reaches d [] d
+reaches_nothing = record { reads = λ n rest. (n, refl) }
 
-pub reaches_both : (d e f : DraftPlan) (xs ys : List ℕ) → Reaches d xs e → Reaches e ys f → Reaches d (xs ++ ys) f
-reaches_both d e f xs ys x y =
-    record {
-      reads = λ n rest. let p = x.reads n (ys ++ rest) in let q =
-          y.reads p.0 rest in (q.0, ap (read_from n d) (append_assoc xs ys rest) ∙ p.1 ∙ q.1);
-    }
+pub reaches_both : {d e f : DraftPlan} {xs ys : List ℕ} → Reaches d xs e → Reaches e ys f → Reaches d (xs ++ ys) f
+reaches_both {d} {xs = xs} {ys = ys} x y = record {
+  reads = λ n rest.
+      let p = x.reads n (ys ++ rest) in
+      let q = y.reads p.0 rest in (q.0, ap (read_from n d) (append_assoc xs ys rest) ∙ p.1 ∙ q.1);
+}
 
 line_read : (n : ℕ) (d e : DraftPlan) (line word : List ℕ) (fields : List (List ℕ)) → HasFields line (word ∷ fields)
     → is_comment word ≡ false → line_at d.stage d word fields ≡ Ok e → numbered (Ok (n, d)) line ≡ Ok (n + 1, e)
@@ -34,13 +34,11 @@ line_step n d e line word fields rest h comment at =
     (line_read n d e line word fields h comment at)
 
 -- one line
-pub reaches_line : (d e : DraftPlan) (line word : List ℕ) (fields : List (List ℕ)) → HasFields line (word ∷ fields)
+pub reaches_line : {d e : DraftPlan} {line word : List ℕ} {fields : List (List ℕ)} → HasFields line (word ∷ fields)
     → is_comment word ≡ false → line_at d.stage d word fields ≡ Ok e → Reaches d (ended line) e
-reaches_line d e line word fields h comment at =
-    record {
-      reads = λ n rest. (
-        n + 1,
-        ap (read_from n d) (append_assoc line (10 ∷ []) rest)
-            ∙ line_step n d e line word fields rest h comment at,
-      );
-    }
+reaches_line {d} {e} {line} {word} {fields} h comment at = record {
+  reads = λ n rest. (
+    n + 1,
+    ap (read_from n d) (append_assoc line (10 ∷ []) rest) ∙ line_step n d e line word fields rest h comment at,
+  );
+}

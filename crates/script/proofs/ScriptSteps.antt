@@ -27,8 +27,7 @@ process_next volumes first xs i x old new all lt e pushed h =
     ap (λ (t : List ℕ). t ++ processes_text volumes false (drop (i + 1) xs)) pushed
     ∙ append_assoc old (process_text volumes first x) (processes_text volumes false (drop (i + 1) xs))
     ∙ ap (λ (t : List ℕ). old ++ t) (sym (ap (processes_text volumes first) (process_at xs i x lt e)
-    ∙ text_cons volumes first x (drop (i + 1) xs)))
-    ∙ h
+    ∙ text_cons volumes first x (drop (i + 1) xs))) ∙ h
 
 pub processes_end : (volumes : List VolumeLine) (first : Bool) (xs : List ProcessPlan) (i : ℕ) (out all : List ℕ)
     → length xs ≤ i → out ++ processes_text volumes first (drop i xs) ≡ all → out ≡ all

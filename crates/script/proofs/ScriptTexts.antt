@@ -1,5 +1,5 @@
 -- The text of a script is read back as the script (own).
-use Rattle.script.proofs.Prelude.{◌≡◌, ℕ, ◌+◌, ◌<◌, ◌≤◌, Bool, true, false, not, ◌&&◌, nat_le, nat_lt, List, [], ◌∷◌, ◌++◌, length, sum_by, Ok, codes, refl, sym, ap, subst, ◌∙◌, arith, append_assoc, nat_tests, length-append, sum_by-append, list_all, who_text, Who, longer, DraftPlan, has_volume, initializer_who, is_inside, lines_of, BeginsWithInitializer, ends_once, IsPlan, is_command, is_end, is_process, is_who, weight, weight_of, finished, is_whole, script_of, command_line, later_at, line_at, process_line, next_field, no_fields, one_field, Plan, ProcessPlan, begin_text, commands_text, ended, process_text, processes_text, script_text, command_text, word_text, Command, Stage, and_false, and_parts, not_true}
+use Rattle.script.proofs.Prelude.{◌≡◌, ℕ, ◌+◌, ◌<◌, ◌≤◌, Bool, true, false, not, ◌&&◌, nat_le, nat_lt, List, [], ◌∷◌, ◌++◌, length, sum_by, Ok, codes, refl, sym, ap, ◌∙◌, arith, append_assoc, nat_tests, length-append, sum_by-append, list_all, who_text, Who, longer, DraftPlan, has_volume, initializer_who, is_inside, lines_of, BeginsWithInitializer, ends_once, IsPlan, is_command, is_end, is_process, is_who, weight, weight_of, finished, is_whole, script_of, command_line, later_at, line_at, process_line, next_field, no_fields, one_field, Plan, ProcessPlan, begin_text, commands_text, ended, process_text, processes_text, script_text, command_text, word_text, Command, Stage, and_false, and_parts, not_true}
 use Rattle.script.proofs.CommandTexts.{command_again, command_fields, fields_text, word_is_no_comment}
 use Rattle.script.proofs.FieldTexts.{front_field, last_field}
 use Rattle.script.proofs.HeadTexts.{after_head, are_volumes, head_reaches, stage_after_fails, takes_after_fails, takes_fail}
@@ -25,17 +25,16 @@ behind base done u = record base {
 }
 
 going_again : (d : DraftPlan) (c : Command) → AreVolumes d.plan.volumes → is_command (length d.plan.volumes) c ≡ true
-    → is_end c
-    ≡ false → d.list.used + weight c ≤ 100000 → line_at stage.Commands d (word_text c) (fields_text d.plan.volumes c)
-    ≡ Ok (record d { list = longer d.list c })
+    → is_end c ≡ false → d.list.used + weight c ≤ 100000
+    → line_at stage.Commands d (word_text c) (fields_text d.plan.volumes c) ≡ Ok (record d { list = longer d.list c })
 unfolding line_at later_at command_line
 going_again d c a h going le =
     let few : nat_le (d.list.used + weight c) 100000 ≡ true = grind (arith, nat_tests) in
     rw (command_again d.plan.volumes c a h, few, going) refl
 
 end_again : (d : DraftPlan) (c : Command) → AreVolumes d.plan.volumes → is_command (length d.plan.volumes) c ≡ true
-    → is_end c
-    ≡ true → d.list.used + weight c ≤ 100000 → line_at stage.Commands d (word_text c) (fields_text d.plan.volumes c)
+    → is_end c ≡ true → d.list.used + weight c ≤ 100000
+    → line_at stage.Commands d (word_text c) (fields_text d.plan.volumes c)
     ≡ Ok (behind d (d.list.commands ++ c ∷ []) (d.list.used + weight c))
 unfolding line_at later_at command_line
 end_again d c a h end le =
@@ -46,17 +45,12 @@ command_reaches : (base next : DraftPlan) (done : List Command) (u : ℕ) (c : C
     → is_command (length base.plan.volumes) c ≡ true
     → line_at stage.Commands (inside base done u) (word_text c) (fields_text base.plan.volumes c) ≡ Ok next
     → Reaches (inside base done u) (ended (command_text base.plan.volumes c)) next
-command_reaches base next done u c a h again =
-    reaches_line (inside base done u) next (command_text base.plan.volumes c) (word_text c)
-    (fields_text base.plan.volumes c)
+command_reaches base next done u c a h again = reaches_line
     (command_fields base.plan.volumes c a h) (word_is_no_comment c) again
 
 never_ends : ends_once [] ≡ true → ⊥
 unfolding ends_once
-never_ends h = apart h
-  where
-    apart : false ≡ true → ⊥
-    apart e = cc
+never_ends h = cc
 
 last_ends : (c : Command) → ends_once (c ∷ []) ≡ true → is_end c ≡ true
 unfolding ends_once
@@ -80,26 +74,17 @@ commands_reach base done u all [] a h ends e le = absurd (never_ends ends)
 commands_reach base done u all (c ∷ []) a h ends e le =
     let one : u + weight c ≡ all = omega (arith, e, weight_cons c []) in
     let parts = and_parts (is_command (length base.plan.volumes) c) true h in
-    subst (λ (t : ℕ). Reaches (inside base done u) (ended (command_text base.plan.volumes c) ++ [])
-    (behind base (done ++ c ∷ []) t)) one
-    (reaches_both (inside base done u) (behind base (done ++ c ∷ []) (u + weight c))
-    (behind base (done ++ c ∷ []) (u + weight c)) (ended (command_text base.plan.volumes c)) []
-    (command_reaches base (behind base (done ++ c ∷ []) (u + weight c)) done u c a parts.0
-    (end_again (inside base done u) c a parts.0 (last_ends c ends) (omega (arith, one, le))))
-    (reaches_nothing (behind base (done ++ c ∷ []) (u + weight c))))
+    rw (← one) (reaches_both (command_reaches base (behind base (done ++ c ∷ []) (u + weight c)) done u c a parts.0
+    (end_again (inside base done u) c a parts.0 (last_ends c ends) (omega (arith, one, le)))) reaches_nothing)
 commands_reach base done u all (c ∷ d ∷ cs) a h ends e le =
     let parts = and_parts (is_command (length base.plan.volumes) c)
     (list_all (is_command (length base.plan.volumes)) (d ∷ cs)) h
     in
     let later = later_ends c d cs ends in
     let rest : u + weight c + sum_by weight (d ∷ cs) ≡ all = omega (arith, e, weight_cons c (d ∷ cs)) in
-    reaches_both (inside base done u) (inside base (done ++ c ∷ []) (u + weight c))
-    (behind base (done ++ c ∷ d ∷ cs) all) (ended (command_text base.plan.volumes c))
-    (commands_text base.plan.volumes (d ∷ cs))
-    (command_reaches base (inside base (done ++ c ∷ []) (u + weight c)) done u c a parts.0
+    reaches_both (command_reaches base (inside base (done ++ c ∷ []) (u + weight c)) done u c a parts.0
     (going_again (inside base done u) c a parts.0 later.0 (omega (arith, rest, le))))
-    (subst (λ (t : List Command). Reaches (inside base (done ++ c ∷ []) (u + weight c))
-    (commands_text base.plan.volumes (d ∷ cs)) (behind base t all)) (append_assoc done (c ∷ []) (d ∷ cs))
+    (rw (append_assoc done (c ∷ []) (d ∷ cs)) at
     (commands_reach base (done ++ c ∷ []) (u + weight c) all (d ∷ cs) a parts.1 later.1 rest le))
 
 -- ---- the first line of a process
@@ -140,12 +125,8 @@ begin_reaches : (base : DraftPlan) (s : Stage) (done : List ProcessPlan) (before
     → is_who who ≡ true → length done < 32 → Reaches (between base s done before u) (ended (begin_text false who))
     (between base stage.Commands done who u)
 unfolding begin_text
-begin_reaches base s done before who u may h room =
-    reaches_line (between base s done before u) (between base stage.Commands done who u) (begin_text false who)
-    (codes "process") (who_text who ∷ [])
-    (front_field (codes "process") (who_text who) (who_text who ∷ []) (record { some = omega arith; bytes = refl })
-    (last_field (who_text who) (who_field who h)))
-    refl
+begin_reaches base s done before who u may h room = reaches_line
+    (front_field (record { some = omega arith; bytes = refl }) (last_field (who_field who h))) refl
     (process_at s (between base s done before u) (who_text who ∷ []) may
     ∙ process_again (between base s done before u) who h room)
 
@@ -153,11 +134,8 @@ initializer_reaches : (base : DraftPlan) (s : Stage) (done : List ProcessPlan) (
     → takes_fail s ≡ true → Reaches (between base s done before u) (ended (begin_text true who))
     (between (initial base) stage.Commands done initializer_who u)
 unfolding begin_text
-initializer_reaches base s done before who u may =
-    reaches_line (between base s done before u) (between (initial base) stage.Commands done
-    initializer_who u) (begin_text true who) (codes "initializer") []
-    (last_field (codes "initializer") (record { some = omega arith; bytes = refl }))
-    refl
+initializer_reaches base s done before who u may = reaches_line
+    (last_field (record { some = omega arith; bytes = refl })) refl
     (initializer_at s (between base s done before u) may)
 
 -- ---- processes
@@ -178,10 +156,7 @@ process_reaches : (base : DraftPlan) (s : Stage) (done : List ProcessPlan) (befo
 unfolding process_text weight_of
 process_reaches base s done before u x may a h room le =
     let p = process_parts (length base.plan.volumes) x h in
-    reaches_both (between base s done before u) (between base stage.Commands done x.who u)
-    (between base stage.Processes (done ++ x ∷ []) x.who (u + weight_of x)) (ended (begin_text false x.who))
-    (commands_text base.plan.volumes x.commands)
-    (begin_reaches base s done before x.who u may p.0 room)
+    reaches_both (begin_reaches base s done before x.who u may p.0 room)
     (commands_reach (record base { plan = record base.plan { processes = done }; who = x.who }) [] u
     (u + weight_of x) x.commands a p.1 p.2 refl le)
 
@@ -192,17 +167,9 @@ first_reaches : (base : DraftPlan) (s : Stage) (before : Who) (u : ℕ) (x : Pro
 unfolding process_text weight_of
 first_reaches base s before u x may a h who le =
     let p = process_parts (length base.plan.volumes) x h in
-    reaches_both (between base s [] before u) (between (initial base) stage.Commands []
-    initializer_who u) (between (initial base) stage.Processes (x ∷ []) initializer_who
-    (u + weight_of x)) (ended (begin_text true x.who)) (commands_text base.plan.volumes x.commands)
-    (initializer_reaches base s [] before x.who u may)
-    (subst (λ (w : Who). Reaches (between (initial base) stage.Commands [] initializer_who u)
-    (commands_text base.plan.volumes x.commands) (between (initial base) stage.Processes
-    (record { who = w; commands = x.commands } ∷ []) initializer_who (u + weight_of x))) (sym who)
-    (commands_reach
+    reaches_both (initializer_reaches base s [] before x.who u may) (rw who (commands_reach
     (record base { plan = record base.plan { initializer = true; processes = [] }; who = initializer_who }) [] u
-    (u + weight_of x)
-    x.commands a p.1 p.2 refl le))
+    (u + weight_of x) x.commands a p.1 p.2 refl le))
 
 -- ---- the end
 
@@ -232,8 +199,7 @@ processes_read base s done before u (x ∷ xs) n may a h room le =
     (list_all (is_process (length base.plan.volumes)) xs) h in
     let step = (process_reaches base s done before u x may a parts.0 (omega (arith, room))
     (omega (arith, le, weight_of_cons x xs))).reads n (processes_text base.plan.volumes false xs) in
-    ap (read_from n (between base s done before u)) (text_cons base.plan.volumes false x xs)
-    ∙ step.1
+    ap (read_from n (between base s done before u)) (text_cons base.plan.volumes false x xs) ∙ step.1
     ∙ processes_read base stage.Processes (done ++ x ∷ []) x.who (u + weight_of x) xs step.0 refl a parts.1
     (omega (arith, room, length-append done (x ∷ []))) (omega (arith, le, weight_of_cons x xs))
     ∙ ap (λ (t : List ProcessPlan). Ok (record base.plan { processes = t })) (append_assoc done (x ∷ []) xs)
@@ -249,8 +215,7 @@ first_read base s before (x ∷ xs) n may a h first room le =
     (list_all (is_process (length base.plan.volumes)) xs) h in
     let step = (first_reaches base s before 0 x may a parts.0 first (omega (arith, le, weight_of_cons x xs))).reads n
     (processes_text base.plan.volumes false xs) in
-    ap (read_from n (between base s [] before 0)) (text_cons base.plan.volumes true x xs)
-    ∙ step.1
+    ap (read_from n (between base s [] before 0)) (text_cons base.plan.volumes true x xs) ∙ step.1
     ∙ processes_read (initial base) stage.Processes (x ∷ []) initializer_who (0 + weight_of x) xs
     step.0 refl a parts.1 (omega (arith, room)) (omega (arith, le, weight_of_cons x xs))
 

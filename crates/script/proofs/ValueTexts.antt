@@ -31,8 +31,7 @@ one_digit m l =
     let z : is_ascii_digit (48 + m) ≡ true = grind (arith, nat_tests) in
     record {
       digits = and_from (is_ascii_digit (48 + m)) true z refl;
-      value = value_digit 0 (48 + m) [] z
-          ∙ nil_step (0 * 10 + (48 + m - 48)) ∙ ap (λ (k : ℕ). Some k) (omega arith);
+      value = value_digit 0 (48 + m) [] z ∙ nil_step (0 * 10 + (48 + m - 48)) ∙ ap (λ (k : ℕ). Some k) (omega arith);
     }
 
 more_digits : (m : ℕ) (ds : List ℕ) → 10 ≤ m → StandsFor (m / 10) ds → StandsFor m (ds ++ (48 + m % 10) ∷ [])
@@ -72,8 +71,7 @@ digit_is_field b h = grind (arith, nat_tests)
 pub decimal_field : (n : ℕ) → n ≤ 1000000 → IsField (decimal n)
 decimal_field n h = record {
   some = omega (arith, decimal_nonempty n (omega arith));
-  bytes =
-      all_from is_ascii_digit is_field_byte digit_is_field (decimal n) (decimal_stands n (omega arith)).digits;
+  bytes = all_from is_ascii_digit is_field_byte digit_is_field (decimal n) (decimal_stands n (omega arith)).digits;
 }
 
 -- ---- words
@@ -84,8 +82,7 @@ octal_is_field b h = grind (arith, nat_tests)
 pub word_field : (w : ℕ) → IsField (octal_digits 12 w)
 word_field w = record {
   some = omega (arith, length-octal_digits 12 w);
-  bytes =
-      all_from is_octal_digit is_field_byte octal_is_field (octal_digits 12 w) (octal_digits_all 12 w);
+  bytes = all_from is_octal_digit is_field_byte octal_is_field (octal_digits 12 w) (octal_digits_all 12 w);
 }
 
 pub word_again : (w : ℕ) → w < 68719476736 → word_in (octal_digits 12 w) ≡ Ok w

@@ -36,8 +36,7 @@ number_next vs i v name lt e other h =
 
 pub number_missing : (vs : List VolumeLine) (i : ℕ) (name : List ℕ) → length vs ≤ i → number_from i (drop i vs) name
     ≡ number_from 0 vs name → None ≡ number_from 0 vs name
-number_missing vs i name end h =
-    sym (sym h ∙ ap (λ ws. number_from i ws name) (none_left vs i end) ∙ from_nil i name)
+number_missing vs i name end h = sym (sym h ∙ ap (λ ws. number_from i ws name) (none_left vs i end) ∙ from_nil i name)
 
 -- whether a volume was found
 abbrev found : Option ℕ → Bool

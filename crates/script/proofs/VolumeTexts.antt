@@ -153,8 +153,7 @@ call_field n true h =
     let f = decimal_field n h in
     record {
       some = omega (arith, length_push (decimal n) 43);
-      bytes =
-          all_both is_field_byte (decimal n) (43 ∷ []) f.bytes refl;
+      bytes = all_both is_field_byte (decimal n) (43 ∷ []) f.bytes refl;
     }
 call_field n false h = subst IsField (sym (nil_after (decimal n))) (decimal_field n h)
 
@@ -164,12 +163,10 @@ unfolding call_in
 call_again n true low high = rw (
   last_plus (decimal n),
   cut_plus (decimal n),
-  number_again 1 1000000 n (omega arith)
-      low high,
+  number_again 1 1000000 n (omega arith) low high,
 ) refl
 call_again n false low high = rw (
   nil_after (decimal n),
   no_plus n high,
-  number_again 1 1000000 n (omega arith) low
-      high,
+  number_again 1 1000000 n (omega arith) low high,
 ) refl
