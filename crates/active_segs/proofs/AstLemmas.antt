@@ -7,11 +7,10 @@ use Rattle.active_segs.proofs.PlaceLemmas.{pool_within, not_all_used, marked_set
 
 -- ---- search
 
-pub searched_within : (xs : List (Option Entry)) (index : Pairs) (uid : ℕ) (r : Option ℕ) → IsIndexed xs index → r
-    ≡ place_of index.pairs uid
-    → IfSome r (λ p. p < length xs)
-searched_within xs index uid None indexed is = tt
-searched_within xs index uid (Some p) indexed is = used_within xs p uid ((indexed.places p uid).0 (sym is))
+pub searched_within : {xs : List (Option Entry)} {index : Pairs} (uid : ℕ) (r : Option ℕ) → IsIndexed xs index
+    → r ≡ place_of index.pairs uid → IfSome r (λ p. p < length xs)
+searched_within uid None indexed is = tt
+searched_within {xs} uid (Some p) indexed is = used_within xs p uid ((indexed.places p uid).0 (sym is))
 
 -- ---- a place that is read, where something is active
 
@@ -23,7 +22,7 @@ pub used_entry : {inside old : ActiveSegs} {place : ℕ} {x : Option Entry} {ent
     → place < length old.entries → x ≡ get_or inside.entries place x → x ≡ Some entry
     → HasEntry inside.entries place entry
 used_entry {inside = inside} {place = place} {x = x} view lt read is =
-    let within : place < length inside.entries = subst (λ (v : ActiveSegs). place < length v.entries) (sym view) lt in
+    let within : place < length inside.entries = rw view lt in
     record {
       within = within;
       is = sym (get_or_default inside.entries place x None within) ∙ sym read ∙ is;
@@ -32,15 +31,13 @@ used_entry {inside = inside} {place = place} {x = x} view lt read is =
 -- ---- the calls
 
 module _ (sizes hands : List ℕ) (used : List (List Bool)) (xs : List (Option Entry)) (tables : List (List Ptw))
-    (maps : List (List Bool)) (index : Pairs)
-    (kept : IsKept sizes hands used xs tables maps index) where
+    (maps : List (List Bool)) (index : Pairs) (kept : IsKept sizes hands used xs tables maps index) where
   pub kept_activated : (place uid : ℕ) (superior : Option ℕ) (pool offset : ℕ) (used' maps' : List (List Bool))
       (index' : Pairs) (above : Option ℕ)
       → place < length xs → entry_at xs place ≡ None → ((q : ℕ) → uid_at xs q ≢ Some uid)
       → ((s : ℕ) → superior ≡ Some s → IsActive xs s)
       → IsPlaced sizes place pool offset → above ≡ place_of_superior index.pairs superior → used'
-      ≡ map_set used pool offset true → maps' ≡ noted maps above
-      place false
+      ≡ map_set used pool offset true → maps' ≡ noted maps above place false
       → SetsPlace index.pairs index'.pairs uid (Some place) → length index'.pairs ≡ length index.pairs + 1
       → index'.room ≡ index.room
       → IsKept sizes hands used' (set xs place (Some (record { uid = uid; superior = superior }))) tables maps' index'
@@ -55,41 +52,31 @@ module _ (sizes hands : List ℕ) (used : List (List Bool)) (xs : List (Option E
         pools = pools;
         entry_count = length-set xs place (Some e) ∙ entry_count;
         table_count = kept.table_count;
-        marked =
-            subst (λ (u : List (List Bool)). IsMarked sizes u (set xs place (Some e))) (sym is_used)
-            (marked_set sizes used xs place pool offset true (Some e) pools.four entry_count kept.marked placed refl);
-        inferior_maps =
-            subst (AreNoted (set xs place (Some e))) (sym is_maps)
+        marked = rw is_used (marked_set true (Some e) pools.four entry_count kept.marked placed refl);
+        inferior_maps = subst (AreNoted (set xs place (Some e))) (sym is_maps)
             (noted_activated xs maps kept.inferior_maps kept.tree place uid lt free inactive superior above at);
         indexed = indexed_activated xs index index' place lt kept.indexed room e free inactive sets count;
         tree = tree_activated xs place uid superior lt free inactive active kept.tree;
       }
 
   pub kept_deactivated : (place : ℕ) (e : Entry) (pool offset : ℕ) (used' maps' : List (List Bool)) (index' : Pairs)
-      (above : Option ℕ) (table : List Ptw)
-      → place < length xs → entry_at xs place ≡ Some e → HasNoInferior xs place
+      (above : Option ℕ) (table : List Ptw) → place < length xs → entry_at xs place ≡ Some e → HasNoInferior xs place
       → IsPlaced sizes place pool offset → above ≡ place_of_superior index.pairs e.superior → used'
-      ≡ map_set used pool offset false → maps' ≡ noted maps above
-      place true
+      ≡ map_set used pool offset false → maps' ≡ noted maps above place true
       → SetsPlace index.pairs index'.pairs e.uid None → length index'.pairs + 1 ≡ length index.pairs → index'.room
-      ≡ index.room
-      → IsKept sizes hands used' (set xs place None) (set tables place table) maps' index'
+      ≡ index.room → IsKept sizes hands used' (set xs place None) (set tables place table) maps' index'
   kept_deactivated place e pool offset used' counts' index' above table lt is leaf placed is_above is_used is_maps sets
       count room =
       let pools : HasPools sizes hands = kept.pools in
       let entry_count : length xs ≡ sum sizes = kept.entry_count in
-      let at : IsSuperiorPlace xs e.superior above =
-      subst (IsSuperiorPlace xs e.superior) (sym is_above)
+      let at : IsSuperiorPlace xs e.superior above = subst (IsSuperiorPlace xs e.superior) (sym is_above)
       (superior_of_active xs index place e kept.indexed kept.tree is) in
       record {
         pools = pools;
         entry_count = length-set xs place None ∙ entry_count;
         table_count = length-set tables place table ∙ kept.table_count;
-        marked =
-            subst (λ (u : List (List Bool)). IsMarked sizes u (set xs place None)) (sym is_used)
-            (marked_set sizes used xs place pool offset false None pools.four entry_count kept.marked placed refl);
-        inferior_maps =
-            subst (AreNoted (set xs place None)) (sym is_maps)
+        marked = rw is_used (marked_set false None pools.four entry_count kept.marked placed refl);
+        inferior_maps = subst (AreNoted (set xs place None)) (sym is_maps)
             (noted_deactivated xs maps kept.inferior_maps kept.tree place lt leaf e.superior above (ap superior_in is)
             at);
         indexed = indexed_deactivated xs index index' place lt kept.indexed room e is kept.tree.once sets count;
@@ -106,8 +93,7 @@ marked_map {sizes} {used} {entries} marked pool map lt read =
     (let maps : length used ≡ 4 = marked.maps in get_or_read used pool map (omega arith) read [])
 
 pub full_since_marked : (s : ActiveSegs) (used : List (List Bool)) (pool : ℕ) → pool < 4
-    → IsMarked s.sizes used s.entries
-    → All (λ flag. flag ≡ true) (map_of used pool) → IsFull s pool
+    → IsMarked s.sizes used s.entries → All (λ flag. flag ≡ true) (map_of used pool) → IsFull s pool
 full_since_marked s used pool lt marked all q in_pool =
     let i : ℕ = q - first_of s.sizes pool in
     let from : first_of s.sizes pool ≤ q = in_pool.from in
@@ -131,8 +117,7 @@ least_since_marked s used pool offset lt marked first =
     record {
       in_pool = record { from = omega arith; to = omega arith };
       free = none_since (entry_at s.entries (first_of s.sizes pool + offset)) free;
-      least = λ q in_pool before.
-          (let i : ℕ = q - first_of s.sizes pool in
+      least = λ q in_pool before. (let i : ℕ = q - first_of s.sizes pool in
           let from : first_of s.sizes pool ≤ q = in_pool.from in
           let to : q < first_of s.sizes pool + size_of s.sizes pool = in_pool.to in
           let within_i : i < size_of s.sizes pool = omega arith in
@@ -181,9 +166,9 @@ room_since_free s pool place shape lt least =
 
 -- ---- the victim
 
-pub hand_inside : (sizes hands : List ℕ) (pool place : ℕ) → HasPools sizes hands → pool < 4 → IsInPool sizes pool place
+pub hand_inside : {sizes hands : List ℕ} {pool place : ℕ} → HasPools sizes hands → pool < 4 → IsInPool sizes pool place
     → get_or hands pool 0 < size_of sizes pool
-hand_inside sizes hands pool place pools lt in_pool =
+hand_inside {sizes} {pool} {place} pools lt in_pool =
     let from : first_of sizes pool ≤ place = in_pool.from in
     let to : place < first_of sizes pool + size_of sizes pool = in_pool.to in
     pools.inside pool lt (omega arith)
@@ -192,24 +177,19 @@ hand_inside sizes hands pool place pools lt in_pool =
 abbrev pub segs_of : List ℕ → List ℕ → List (Option Entry) → List (List Ptw) → ActiveSegs
 segs_of sizes hands entries tables = record { sizes = sizes; hands = hands; entries = entries; tables = tables }
 
-pub place_found : (s : ActiveSegs) (pool : ℕ) (chain : List ℕ) → HasPools s.sizes s.hands → pool < 4
-    → HasOneOffChain s pool chain
-    → IsSome (first_off_chain s pool chain)
-place_found s pool chain pools lt some =
-    let inside : get_or s.hands pool 0 < size_of s.sizes pool =
-    hand_inside s.sizes s.hands pool some.place pools lt some.in_pool in
+pub place_found : {s : ActiveSegs} {pool : ℕ} {chain : List ℕ} → HasPools s.sizes s.hands → pool < 4
+    → HasOneOffChain s pool chain → IsSome (first_off_chain s pool chain)
+place_found {s} {pool} {chain} pools lt some =
+    let inside : get_or s.hands pool 0 < size_of s.sizes pool = hand_inside pools lt some.in_pool in
     round_reaches (λ place. off_chain chain (entry_at s.entries place)) (first_of s.sizes pool) (hand_of s pool)
     (first_of s.sizes pool + size_of s.sizes pool)
     some.place (omega arith) (omega arith) some.in_pool.from some.in_pool.to some.off
 
-pub found_in_pool : (s : ActiveSegs) (pool : ℕ) (chain : List ℕ) (found : ℕ) → HasPools s.sizes s.hands → pool < 4
-    → HasOneOffChain s pool chain
-    → first_off_chain s pool chain ≡ Some found → IsInPool s.sizes pool found
-found_in_pool s pool chain found pools lt some is =
-    let inside : get_or s.hands pool 0 < size_of s.sizes pool =
-    hand_inside s.sizes s.hands pool some.place pools lt some.in_pool in
-    let h =
-    round_found (λ place. off_chain chain (entry_at s.entries place)) (first_of s.sizes pool) (hand_of s pool)
+pub found_in_pool : {s : ActiveSegs} {pool : ℕ} {chain : List ℕ} (found : ℕ) → HasPools s.sizes s.hands → pool < 4
+    → HasOneOffChain s pool chain → first_off_chain s pool chain ≡ Some found → IsInPool s.sizes pool found
+found_in_pool {s} {pool} {chain} found pools lt some is =
+    let inside : get_or s.hands pool 0 < size_of s.sizes pool = hand_inside pools lt some.in_pool in
+    let h = round_found (λ place. off_chain chain (entry_at s.entries place)) (first_of s.sizes pool) (hand_of s pool)
     (first_of s.sizes pool + size_of s.sizes pool) found (omega arith) (omega arith) is in
     record { from = h.0; to = h.1 }
 
@@ -219,12 +199,10 @@ found_active s pool chain found is =
     off_is_used chain (entry_at s.entries found) (find_passes (λ place. off_chain chain (entry_at s.entries place))
     (round_pool s pool) found is)
 
-pub is_victim : (s : ActiveSegs) (pool : ℕ) (chain : List ℕ) (found leaf : ℕ) → first_off_chain s pool chain
-    ≡ Some found → StandsFor s.entries found leaf
-    → IsVictim s pool chain leaf
-is_victim s pool chain found leaf first stands = record { found = found; first = first; leaf = stands }
+pub is_victim : (s : ActiveSegs) (pool : ℕ) (chain : List ℕ) {found leaf : ℕ}
+    → first_off_chain s pool chain ≡ Some found → StandsFor s.entries found leaf → IsVictim s pool chain leaf
+is_victim s pool chain {found} {leaf} first stands = record { found = found; first = first; leaf = stands }
 
 pub is_victim_of : (s : ActiveSegs) (pool : ℕ) (chain : List ℕ) (found leaf : ℕ) → first_off_chain s pool chain
-    ≡ Some found
-    → leaf ≡ leaf_below s.entries (length s.entries) found → victim_of s pool chain ≡ Some leaf
+    ≡ Some found → leaf ≡ leaf_below s.entries (length s.entries) found → victim_of s pool chain ≡ Some leaf
 is_victim_of s pool chain found leaf first is = ap (leaf_of s.entries) first ∙ ap (λ (k : ℕ). Some k) (sym is)

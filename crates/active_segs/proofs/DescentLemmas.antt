@@ -32,15 +32,14 @@ descends_once xs zero zero place a b d e = d.1 ∙ sym e.1
 descends_once xs zero (suc m) place a b d (q, least, e) = absurd (d.0 q least.uid least.is least.inferior)
 descends_once xs (suc n) zero place a b (q, least, d) e = absurd (e.0 q least.uid least.is least.inferior)
 descends_once xs (suc n) (suc m) place a b (q, least, d) (r, least', e) =
-    descends_once xs n m q a b d (subst (λ (k : ℕ). Descends xs m k b) (sym (least_once xs place q r least least')) e)
+    descends_once xs n m q a b d (rw (least_once xs place q r least least') e)
 
 -- one victim alone
-pub victim_once : (s : ActiveSegs) (pool : ℕ) (chain : List ℕ) (a b : ℕ) → IsVictim s pool chain a
+pub victim_once : {s : ActiveSegs} {pool : ℕ} {chain : List ℕ} {a b : ℕ} → IsVictim s pool chain a
     → IsVictim s pool chain b → a ≡ b
-victim_once s pool chain a b v w =
+victim_once {s} {a} {b} v w =
     let same : v.found ≡ w.found = same_Some _ _ (sym v.first ∙ w.first) in
-    descends_once s.entries v.leaf.0 w.leaf.0 v.found a b v.leaf.1
-    (subst (λ (k : ℕ). Descends s.entries w.leaf.0 k b) (sym same) w.leaf.1)
+    descends_once s.entries v.leaf.0 w.leaf.0 v.found a b v.leaf.1 (rw same w.leaf.1)
 
 leaf_has_none : (xs : List (Option Entry)) (n place leaf : ℕ) → Descends xs n place leaf → HasNoInferior xs leaf
 unfolding Descends
@@ -70,15 +69,13 @@ off_not_there : (chain : List ℕ) (o : Option Entry) (u : ℕ) → off_chain ch
     → list_any (λ v. eqb v u) chain ≡ false
 off_not_there chain None u off is = absurd (false≢true off)
 off_not_there chain (Some e) u off is =
-    let same : e.uid ≡ u = same_Some _ _ is in subst (λ (k : ℕ). list_any (λ v. eqb v k) chain ≡ false) same
-    (not-true _ off)
+    let same : e.uid ≡ u = same_Some _ _ is in rw same at (not-true _ off)
 
 not_there_off : (chain : List ℕ) (o : Option Entry) (u : ℕ) → list_any (λ v. eqb v u) chain ≡ false → uid_in o ≡ Some u
     → off_chain chain o ≡ true
 not_there_off chain None u absent is = absurd (none-some u is)
 not_there_off chain (Some e) u absent is =
-    let same : u ≡ e.uid = sym (same_Some _ _ is) in ap not
-    (subst (λ (k : ℕ). list_any (λ v. eqb v k) chain ≡ false) same absent)
+    let same : u ≡ e.uid = sym (same_Some _ _ is) in ap not (rw same at absent)
 
 pub off_is_used : (chain : List ℕ) (o : Option Entry) → off_chain chain o ≡ true → (u : ℕ) × (uid_in o ≡ Some u)
 off_is_used chain None off = absurd (false≢true off)
@@ -90,8 +87,7 @@ off_within xs chain place off =
     used.0 used.1
 
 off_below : (xs : List (Option Entry)) (chain : List ℕ) (place q : ℕ) → HasItsSuperiors xs chain
-    → IsOffChain xs chain place → IsLeastInferior xs place q
-    → IsOffChain xs chain q
+    → IsOffChain xs chain place → IsLeastInferior xs place q → IsOffChain xs chain q
 off_below xs chain place q closed off least =
     let used : (u : ℕ) × (uid_at xs q ≡ Some u) = used_since_superior (entry_at xs q) least.uid least.inferior in
     elim (cases_Bool (list_any (λ v. eqb v used.0) chain)) [
@@ -104,8 +100,7 @@ off_below xs chain place q closed off least =
     ]
 
 off_leaf : (xs : List (Option Entry)) (chain : List ℕ) (n place leaf : ℕ) → HasItsSuperiors xs chain
-    → IsOffChain xs chain place → Descends xs n place leaf
-    → IsOffChain xs chain leaf
+    → IsOffChain xs chain place → Descends xs n place leaf → IsOffChain xs chain leaf
 unfolding Descends
 off_leaf xs chain zero place leaf closed off (none, is) = subst (IsOffChain xs chain) (sym is) off
 off_leaf xs chain (suc n) place leaf closed off (q, least, d) =
@@ -113,16 +108,14 @@ off_leaf xs chain (suc n) place leaf closed off (q, least, d) =
 
 -- ---- the first place off the chain
 
-pub victim_off : (s : ActiveSegs) (pool : ℕ) (chain : List ℕ) (a : ℕ) → HasItsSuperiors s.entries chain
+pub victim_off : {s : ActiveSegs} {pool : ℕ} {chain : List ℕ} {a : ℕ} → HasItsSuperiors s.entries chain
     → IsVictim s pool chain a → IsOffChain s.entries chain a
-victim_off s pool chain a closed v =
-    off_leaf s.entries chain v.leaf.0 v.found a closed
-    (find_passes (λ place. off_chain chain (entry_at s.entries place)) (round_pool s pool) v.found v.first)
-    v.leaf.1
+victim_off {s} {pool} {chain} {a} closed v = off_leaf s.entries chain v.leaf.0 v.found a closed
+    (find_passes (λ place. off_chain chain (entry_at s.entries place)) (round_pool s pool) v.found v.first) v.leaf.1
 
 pub victim_within : (s : ActiveSegs) (pool : ℕ) (chain : List ℕ) (a : ℕ) → HasItsSuperiors s.entries chain
     → IsVictim s pool chain a → a < length s.entries
-victim_within s pool chain a closed v = off_within s.entries chain a (victim_off s pool chain a closed v)
+victim_within s pool chain a closed v = off_within s.entries chain a (victim_off closed v)
 
 pub places_more : (i to : ℕ) → i < to → places_from i to ≡ i ∷ places_from (i + 1) to
 places_more i to lt = let n : to - i ≡ suc (to - (i + 1)) = omega arith in ap (range_with_len i) n
@@ -138,8 +131,8 @@ find_first p (y ∷ xs) ys x e = at (find_first p xs ys x) (p y) refl e
   where
     at : (find p xs ≡ Some x → find p (xs ++ ys) ≡ Some x) → (b : Bool) → p y ≡ b → cond b (Some y) (find p xs) ≡ Some x
         → cond (p y) (Some y) (find p (xs ++ ys)) ≡ Some x
-    at ih true is e' = ap (λ (b : Bool). cond b (Some y) (find p (xs ++ ys))) is ∙ e'
-    at ih false is e' = ap (λ (b : Bool). cond b (Some y) (find p (xs ++ ys))) is ∙ ih e'
+    at ih true is e' = rw is e'
+    at ih false is e' = rw is (ih e')
 
 pub find_second : (p : ℕ → Bool) (xs ys : List ℕ) → find p xs ≡ None → find p (xs ++ ys) ≡ find p ys
 find_second p [] ys e = refl
@@ -148,7 +141,7 @@ find_second p (y ∷ xs) ys e = at (find_second p xs ys) (p y) refl e
     at : (find p xs ≡ None → find p (xs ++ ys) ≡ find p ys) → (b : Bool) → p y ≡ b → cond b (Some y) (find p xs) ≡ None
         → cond (p y) (Some y) (find p (xs ++ ys)) ≡ find p ys
     at ih true is e' = absurd (none-some y (sym e'))
-    at ih false is e' = ap (λ (b : Bool). cond b (Some y) (find p (xs ++ ys))) is ∙ ih e'
+    at ih false is e' = rw is (ih e')
 
 -- what a search of a range finds is in the range
 pub found_within : (p : ℕ → Bool) (n a x : ℕ) → find p (range_with_len a n) ≡ Some x → (a ≤ x) × (x < a + n)
@@ -157,8 +150,7 @@ found_within p zero a x e = absurd (none-some x e)
 found_within p (suc n) a x e = at (found_within p n (a + 1) x) (p a) refl e
   where
     at : (find p (range_with_len (a + 1) n) ≡ Some x → (a + 1 ≤ x) × (x < a + 1 + n) × (p x ≡ true)) → (b : Bool) → p a
-        ≡ b
-        → cond b (Some a) (find p (range_with_len (a + 1) n)) ≡ Some x → (a ≤ x) × (x < a + suc n) × (p x ≡ true)
+        ≡ b → cond b (Some a) (find p (range_with_len (a + 1) n)) ≡ Some x → (a ≤ x) × (x < a + suc n) × (p x ≡ true)
     at ih true is e' = let same : a ≡ x = same_Some a x e' in (omega arith, omega arith, ap p (sym same) ∙ is)
     at ih false is e' =
         let h : (a + 1 ≤ x) × (x < a + 1 + n) × (p x ≡ true) = ih e' in
@@ -221,20 +213,18 @@ way_begins xs start grounded (u, is) = record {
 }
 
 -- the place that was come to was not passed before
-not_passed : (xs : List (Option Entry)) (start place steps : ℕ) (way : IsOnTheWay xs start place steps)
+not_passed : {xs : List (Option Entry)} {start place steps : ℕ} (way : IsOnTheWay xs start place steps)
     → list_any (eqb place) way.passed ≡ false
-not_passed xs start place steps way = elim (cases_Bool (list_any (eqb place) way.passed)) [
+not_passed {xs} {place} way = elim (cases_Bool (list_any (eqb place) way.passed)) [
   | inl there ↦
       (let was : (u : ℕ) × (uid_at xs place ≡ Some u) × (way.rank u < way.rank way.uid) = way.before place there in
       let same : was.0 ≡ way.uid = same_Some _ _ (sym was.1 ∙ way.is) in
-      let less : way.rank way.uid < way.rank way.uid =
-      subst (λ (k : ℕ). way.rank k < way.rank way.uid) same was.2 in absurd (omega arith))
+      let less : way.rank way.uid < way.rank way.uid = rw same at was.2 in absurd (omega arith))
   | inr absent ↦ absent
 ]
 
 pub way_goes_on : (xs : List (Option Entry)) (start place q steps : ℕ) → IsOnTheWay xs start place steps
-    → IsLeastInferior xs place q
-    → IsOnTheWay xs start q (steps + 1)
+    → IsLeastInferior xs place q → IsOnTheWay xs start q (steps + 1)
 way_goes_on xs start place q steps way least =
     let used : (u : ℕ) × (uid_at xs q ≡ Some u) = used_since_superior (entry_at xs q) least.uid least.inferior in
     let same : least.uid ≡ way.uid = same_Some _ _ (sym least.is ∙ way.is) in
@@ -244,14 +234,13 @@ way_goes_on xs start place q steps way least =
       rank = way.rank;
       law = way.law;
       back = λ leaf d. way.back leaf (goes_down xs place q leaf least d);
-      same = λ more.
-          (let n : more + (steps + 1) ≡ suc more + steps = omega arith in
+      same = λ more. (let n : more + (steps + 1) ≡ suc more + steps = omega arith in
           ap (λ (k : ℕ). leaf_below xs k start) n ∙ way.same (suc more) ∙ one_step_more xs more place q least);
       uid = used.0;
       is = used.1;
       passed = place ∷ way.passed;
       count = (let n : length way.passed ≡ steps = way.count in omega arith);
-      distinct = one_more_distinct place way.passed (not_passed xs start place steps way) way.distinct;
+      distinct = one_more_distinct place way.passed (not_passed way) way.distinct;
       before = λ r h. elim (or_cases (eqb r place) (list_any (eqb r) way.passed) h) [
         | inl this ↦ (
           way.uid,
@@ -270,20 +259,18 @@ way_ends xs start place steps way =
     let all : List ℕ = place ∷ way.passed in
     let below : (q : ℕ) → list_any (eqb q) all ≡ true → q < length xs =
     λ q h. elim (or_cases (eqb q place) (list_any (eqb q) way.passed) h) [
-      | inl this ↦ (let same : q ≡ place = eqb-true q place this in used_within xs q way.uid
-          (subst (λ (k : ℕ). uid_at xs k ≡ Some way.uid) (sym same) way.is))
+      | inl this ↦ (let same : q ≡ place = eqb-true q place this in used_within xs q way.uid (rw same way.is))
       | inr earlier ↦ (let was : (u : ℕ) × (uid_at xs q ≡ Some u) × (way.rank u < way.rank way.uid) =
           way.before q earlier in used_within xs q was.0 was.1)
     ] in
     let most : length all ≤ length xs =
     length-le_from_distinct_below all (length xs) (one_more_distinct place way.passed
-    (not_passed xs start place steps way) way.distinct) below in
+    (not_passed way) way.distinct) below in
     let n : length way.passed ≡ steps = way.count in omega arith
 
 -- as many steps down as there are places come to the leaf
 pub way_comes_to : (xs : List (Option Entry)) (start leaf steps : ℕ) → IsOnTheWay xs start leaf steps
-    → HasNoInferior xs leaf
-    → leaf ≡ leaf_below xs (length xs) start
+    → HasNoInferior xs leaf → leaf ≡ leaf_below xs (length xs) start
 way_comes_to xs start leaf steps way none =
     let less : steps < length xs = way_ends xs start leaf steps way in
     let n : length xs - steps + steps ≡ length xs = omega arith in
@@ -304,16 +291,14 @@ round_reaches p first hand end x low high from to on = go (find p (places_from h
         let before : x < hand =
         elim (cases_lt x hand) [
           | inl lt ↦ lt
-          | inr le ↦ absurd
-              (both_ways _ (ap is_some is) (reaches p (end - hand) hand x le (omega arith) on))
+          | inr le ↦ absurd (both_ways _ (ap is_some is) (reaches p (end - hand) hand x le (omega arith) on))
         ] in
         ap is_some (find_second p (places_from hand end) (places_from first hand) is)
         ∙ reaches p (hand - first) first x from (omega arith) on
 
 -- what is found is a place of the pool
 pub round_found : (p : ℕ → Bool) (first hand end x : ℕ) → first ≤ hand → hand ≤ end
-    → find p (places_from hand end ++ places_from first hand) ≡ Some x
-    → (first ≤ x) × (x < end) × (p x ≡ true)
+    → find p (places_from hand end ++ places_from first hand) ≡ Some x → (first ≤ x) × (x < end) × (p x ≡ true)
 round_found p first hand end x low high found = go (find p (places_from hand end)) refl
   where
     go : (o : Option ℕ) → find p (places_from hand end) ≡ o → (first ≤ x) × (x < end) × (p x ≡ true)
@@ -323,8 +308,7 @@ round_found p first hand end x low high found = go (find p (places_from hand end
         let h : (hand ≤ y) × (y < hand + (end - hand)) × (p y ≡ true) = found_within p (end - hand) hand y is in (
           let a : hand ≤ y = h.0 in omega arith,
           let b : y < hand + (end - hand) = h.1 in omega arith,
-          ap p (sym same)
-              ∙ h.2,
+          ap p (sym same) ∙ h.2,
         )
     go None is =
         let e : find p (places_from first hand) ≡ Some x =

@@ -60,19 +60,19 @@ module _ (xs : List (Option Entry)) (p uid : ℕ) (superior : Option ℕ) (lt : 
 
   -- what was active is so in its place
   still_active : (s : ℕ) → IsActive xs s → IsActive ys s
-  still_active s (r, e) = (r, uid_old r (λ same. none_there s (subst (λ (k : ℕ). uid_at xs k ≡ Some s) same e)) ∙ e)
+  still_active s (r, e) = (r, uid_old r (λ same. none_there s (rw same at e)) ∙ e)
 
   once_activated : IsOneToOne ys
   once_activated q r u e f = elim (cases_eq q p) [
     | inl at_q ↦ elim (cases_eq r p) [
       | inl at_r ↦ at_q ∙ sym at_r
       | inr off_r ↦
-          (let same : uid ≡ u = same_Some _ _ (sym uid_new ∙ subst (λ (k : ℕ). uid_at ys k ≡ Some u) at_q e) in
+          (let same : uid ≡ u = same_Some _ _ (sym uid_new ∙ (rw at_q at e)) in
           absurd (inactive r (sym (uid_old r off_r) ∙ f ∙ ap (λ (k : ℕ). Some k) (sym same))))
     ]
     | inr off_q ↦ elim (cases_eq r p) [
       | inl at_r ↦
-          (let same : uid ≡ u = same_Some _ _ (sym uid_new ∙ subst (λ (k : ℕ). uid_at ys k ≡ Some u) at_r f) in
+          (let same : uid ≡ u = same_Some _ _ (sym uid_new ∙ (rw at_r at f)) in
           absurd (inactive q (sym (uid_old q off_q) ∙ e ∙ ap (λ (k : ℕ). Some k) (sym same))))
       | inr off_r ↦ tree.once q r u (sym (uid_old q off_q) ∙ e) (sym (uid_old r off_r) ∙ f)
     ]
@@ -80,7 +80,7 @@ module _ (xs : List (Option Entry)) (p uid : ℕ) (superior : Option ℕ) (lt : 
 
   superiors_activated : SuperiorsAreActive ys
   superiors_activated q s e = elim (cases_eq q p) [
-    | inl at_q ↦ still_active s (above s (sym superior_new ∙ subst (λ (k : ℕ). superior_at ys k ≡ Some s) at_q e))
+    | inl at_q ↦ still_active s (above s (sym superior_new ∙ (rw at_q at e)))
     | inr off_q ↦ still_active s (tree.superiors q s (sym (superior_old q off_q) ∙ e))
   ]
 
@@ -94,8 +94,7 @@ module _ (xs : List (Option Entry)) (p uid : ℕ) (superior : Option ℕ) (lt : 
   grounded_activated =
       let rank : ℕ → ℕ = tree.grounded.0 in
       let rank' : ℕ → ℕ = λ u. cond (eqb u uid) (rank_in rank superior) (rank u) in
-      let old : (s : ℕ) → IsActive xs s → rank' s ≡ rank s =
-      λ s active.
+      let old : (s : ℕ) → IsActive xs s → rank' s ≡ rank s = λ s active.
       (let ne : eqb s uid ≡ false = ne_eqb s uid (λ same. inactive active.0 (active.1 ∙ ap (λ (k : ℕ). Some k) same)) in
       ap (λ (b : Bool). cond b (rank_in rank superior) (rank s)) ne) in
       let this : rank' uid ≡ rank_in rank superior = ap (λ (b : Bool). cond b (rank_in rank superior) (rank uid))
@@ -129,26 +128,23 @@ module _ (xs : List (Option Entry)) (p uid : ℕ) (superior : Option ℕ) (lt : 
 module _ (xs : List (Option Entry)) (p : ℕ) (lt : p < length xs) (leaf : HasNoInferior xs p) (tree : IsTree xs) where
   uid_left : (q u : ℕ) → uid_at (set xs p None) q ≡ Some u → (q ≢ p) × (uid_at xs q ≡ Some u)
   uid_left q u e = elim (cases_eq q p) [
-    | inl at_q ↦ absurd (none-some u (sym (ap uid_in (entry_set xs p None lt))
-        ∙ subst (λ (k : ℕ). uid_at (set xs p None) k ≡ Some u) at_q e))
+    | inl at_q ↦ absurd (none-some u (sym (ap uid_in (entry_set xs p None lt)) ∙ (rw at_q at e)))
     | inr off_q ↦ (off_q, sym (ap uid_in (entry_kept xs p None q off_q)) ∙ e)
   ]
 
   superior_left : (q u : ℕ) → superior_at (set xs p None) q ≡ Some u → (q ≢ p) × (superior_at xs q ≡ Some u)
   superior_left q u e = elim (cases_eq q p) [
-    | inl at_q ↦ absurd (none-some u (sym (ap superior_in (entry_set xs p None lt))
-        ∙ subst (λ (k : ℕ). superior_at (set xs p None) k ≡ Some u) at_q e))
+    | inl at_q ↦ absurd (none-some u (sym (ap superior_in (entry_set xs p None lt)) ∙ (rw at_q at e)))
     | inr off_q ↦ (off_q, sym (ap superior_in (entry_kept xs p None q off_q)) ∙ e)
   ]
 
   pub tree_deactivated : IsTree (set xs p None)
   tree_deactivated = record {
     once = λ q r u e f. tree.once q r u (uid_left q u e).1 (uid_left r u f).1;
-    superiors = λ q s e.
-        (let was : superior_at xs q ≡ Some s = (superior_left q s e).1 in
+    superiors = λ q s e. (let was : superior_at xs q ≡ Some s = (superior_left q s e).1 in
         let active : IsActive xs s = tree.superiors q s was in
         let r : ℕ = active.0 in
-        let off : r ≢ p = λ same. leaf q s (subst (λ (k : ℕ). uid_at xs k ≡ Some s) same active.1) was in
+        let off : r ≢ p = λ same. leaf q s (rw same at active.1) was in
         (r, ap uid_in (entry_kept xs p None r off) ∙ active.1));
     grounded = (tree.grounded.0, λ q u s e f. tree.grounded.1 q u s (uid_left q u e).1 (superior_left q s f).1);
   }

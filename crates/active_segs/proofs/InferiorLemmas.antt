@@ -17,8 +17,7 @@ superior_placed xs index indexed (Some s) above = let active : IsActive xs s =
 
 -- the superior of an active segment has a place
 pub superior_of_active : (xs : List (Option Entry)) (index : Pairs) (p : ℕ) (e : Entry) → IsIndexed xs index
-    → IsTree xs → entry_at xs p ≡ Some e
-    → IsSuperiorPlace xs e.superior (place_of_superior index.pairs e.superior)
+    → IsTree xs → entry_at xs p ≡ Some e → IsSuperiorPlace xs e.superior (place_of_superior index.pairs e.superior)
 superior_of_active xs index p e indexed tree is = superior_placed xs index indexed e.superior
     (λ s h. tree.superiors p s (ap superior_in is ∙ h))
 
@@ -57,27 +56,22 @@ module _ (xs : List (Option Entry)) (maps : List (List Bool)) (notes : AreNoted 
   -- ---- what the calls ask
 
   pub may_note : (superior above : Option ℕ) (p : ℕ) → p < length xs → entry_at xs p ≡ None
-      → IsSuperiorPlace xs superior above
-      → IfSome above (HasFlag maps p true)
-  may_note None above p lt free placed = subst (λ (o : Option ℕ). IfSome o (HasFlag maps p true)) (sym placed) tt
-  may_note (Some s) above p lt free (r, is, active) =
-      subst (λ (o : Option ℕ). IfSome o (HasFlag maps p true)) (sym is) (record {
-        known = within_maps r s active;
-        within = within_map r s p active lt;
-        is = not_noted r s p active lt free;
-      })
+      → IsSuperiorPlace xs superior above → IfSome above (HasFlag maps p true)
+  may_note None above p lt free placed = rw placed tt
+  may_note (Some s) above p lt free (r, is, active) = rw is (record {
+    known = within_maps r s active;
+    within = within_map r s p active lt;
+    is = not_noted r s p active lt free;
+  })
 
   pub may_forget : (superior above : Option ℕ) (p : ℕ) → p < length xs → superior_at xs p ≡ superior
-      → IsSuperiorPlace xs superior above
-      → IfSome above (HasFlag maps p false)
-  may_forget None above p lt is_superior placed = subst (λ (o : Option ℕ). IfSome o (HasFlag maps p false))
-      (sym placed) tt
-  may_forget (Some s) above p lt is_superior (r, is, active) =
-      subst (λ (o : Option ℕ). IfSome o (HasFlag maps p false)) (sym is) (record {
-        known = within_maps r s active;
-        within = within_map r s p active lt;
-        is = (notes.free r p (used_within xs r s active) lt).1 (s, active, is_superior);
-      })
+      → IsSuperiorPlace xs superior above → IfSome above (HasFlag maps p false)
+  may_forget None above p lt is_superior placed = rw placed tt
+  may_forget (Some s) above p lt is_superior (r, is, active) = rw is (record {
+    known = within_maps r s active;
+    within = within_map r s p active lt;
+    is = (notes.free r p (used_within xs r s active) lt).1 (s, active, is_superior);
+  })
 
   -- ---- what the maps say
 
@@ -131,9 +125,7 @@ module _ (xs : List (Option Entry)) (maps : List (List Bool)) (notes : AreNoted 
       → length (map_of (noted maps above p b) place) ≡ length (map_of maps place)
   as_long_still None p b place lt = refl
   as_long_still (Some r) p b place lt = elim (cases_eq place r) [
-    | inl same ↦
-        subst (λ (k : ℕ). length (map_of (map_set maps r p b) k) ≡ length (map_of maps k)) (sym same)
-        (ap length (map_here r p b (subst (λ (k : ℕ). k < length maps) same lt)) ∙ length-set (map_of maps r) p b)
+    | inl same ↦ rw same (ap length (map_here r p b (rw same at lt)) ∙ length-set (map_of maps r) p b)
     | inr ne ↦ ap length (map_there r p b place ne)
   ]
 
@@ -142,21 +134,18 @@ module _ (xs : List (Option Entry)) (maps : List (List Bool)) (notes : AreNoted 
   elsewhere None p b place q lt ne = refl
   elsewhere (Some r) p b place q lt ne = elim (cases_eq place r) [
     | inl same ↦
-        subst (λ (k : ℕ). in_use (map_of (map_set maps r p b) k) q ≡ in_use (map_of maps k) q) (sym same)
-        (ap (λ (m : List Bool). in_use m q) (map_here r p b (subst (λ (k : ℕ). k < length maps) same lt))
+        rw same (ap (λ (m : List Bool). in_use m q) (map_here r p b (rw same at lt))
         ∙ get_or-set_other (map_of maps r) p q b false ne)
     | inr off ↦ ap (λ (m : List Bool). in_use m q) (map_there r p b place off)
   ]
 
   flag_here : (r p : ℕ) (b : Bool) → r < length maps → p < length (map_of maps r)
       → in_use (map_of (map_set maps r p b) r) p ≡ b
-  flag_here r p b lt within = ap (λ (m : List Bool). in_use m p) (map_here r p b lt)
-      ∙ get_or-set_same (map_of maps r) p b false within
+  flag_here r p b lt within = rw (map_here r p b lt) (get_or-set_same (map_of maps r) p b false within)
 
   -- what is active in place p changes, and the flag of p in the map of its superior: the maps are as many and as long
   -- as before, and no other flag has changed
-  noted_with : (new : Option Entry) (above : Option ℕ) (p : ℕ) (b : Bool)
-      → ((place : ℕ) → place < length xs
+  noted_with : (new : Option Entry) (above : Option ℕ) (p : ℕ) (b : Bool) → ((place : ℕ) → place < length xs
       → (in_use (map_of (noted maps above p b) place) p ≡ false) ↔ IsInferior (set xs p new) place p)
       → ((place q : ℕ) → q ≢ p → IsInferior xs place q → IsInferior (set xs p new) place q)
       → ((place q : ℕ) → q ≢ p → IsInferior (set xs p new) place q → IsInferior xs place q)
@@ -169,18 +158,14 @@ module _ (xs : List (Option Entry)) (maps : List (List Bool)) (notes : AreNoted 
         as_long = λ place within. as_long_still above p b place (omega arith) ∙ notes.as_long place (omega arith)
             ∙ sym size;
         free = λ place q within within_q. elim (cases_eq q p) [
-          | inl same ↦
-              subst (λ (k : ℕ). (in_use (map_of (noted maps above p b) place) k ≡ false)
-              ↔ IsInferior (set xs p new) place k) (sym same)
-              (here place (omega arith))
+          | inl same ↦ rw same (here place (omega arith))
           | inr off ↦
               (let kept : in_use (map_of (noted maps above p b) place) q ≡ in_use (map_of maps place) q =
               elsewhere above p b place q (omega arith) off in
               let old : (in_use (map_of maps place) q ≡ false) ↔ IsInferior xs place q =
               notes.free place q (omega arith) (omega arith) in (
                 λ h. still place q off (old.0 (sym kept ∙ h)),
-                λ h. kept
-                    ∙ old.1 (was place q off h),
+                λ h. kept ∙ old.1 (was place q off h),
               ))
         ];
       }
@@ -193,7 +178,7 @@ module _ (xs : List (Option Entry)) (maps : List (List Bool)) (notes : AreNoted 
     with_new superior = set xs p (Some (record { uid = uid; superior = superior }))
 
     off_new : (place u : ℕ) → uid_at xs place ≡ Some u → place ≢ p
-    off_new place u is same = none-some u (sym (ap uid_in free) ∙ subst (λ (k : ℕ). uid_at xs k ≡ Some u) same is)
+    off_new place u is same = none-some u (sym (ap uid_in free) ∙ (rw same at is))
 
     none_there : (place : ℕ) → IsInferior xs place p → ⊥
     none_there place h = none-some h.0 (sym (ap superior_in free) ∙ h.2)
@@ -213,8 +198,7 @@ module _ (xs : List (Option Entry)) (maps : List (List Bool)) (notes : AreNoted 
         let e' : superior_at xs q ≡ Some u = sym (superior_kept xs p new q ne) ∙ e in
         elim (cases_eq place p) [
           | inl same ↦
-              (let is_uid : u ≡ uid = same_Some _ _ (sym (subst (λ (k : ℕ). uid_at (set xs p new) k ≡ Some u) same is)
-              ∙ uid_set xs p new lt) in
+              (let is_uid : u ≡ uid = same_Some _ _ (sym (rw same at is) ∙ uid_set xs p new lt) in
               absurd (inactive_has_none xs uid tree.superiors inactive q (e' ∙ ap (λ (k : ℕ). Some k) is_uid)))
           | inr off ↦ (u, sym (uid_kept xs p new place off) ∙ is, e')
         ]
@@ -225,32 +209,23 @@ module _ (xs : List (Option Entry)) (maps : List (List Bool)) (notes : AreNoted 
     unfolding with_new
     at_new None above place within placed =
         let new : Option Entry = Some (record { uid = uid; superior = None }) in (
-          λ h. absurd
-              (none_there place ((notes.free place p within lt).0
-              (subst (λ (o : Option ℕ). in_use (map_of (noted maps o p false) place) p ≡ false) placed h))),
+          λ h. absurd (none_there place ((notes.free place p within lt).0 (rw placed at h))),
           λ h. absurd (none-some h.0 (sym (superior_set xs p new lt) ∙ h.2)),
         )
     at_new (Some s) above place within (r, is, active) =
         let new : Option Entry = Some (record { uid = uid; superior = Some s }) in
-        subst (λ (o : Option ℕ). (in_use (map_of (noted maps o p false) place) p ≡ false)
-        ↔ IsInferior (set xs p new) place p) (sym is)
-        (elim (cases_eq place r) [
+        rw is (elim (cases_eq place r) [
           | inl same ↦
               (let inferior : IsInferior (set xs p new) r p =
               (s, uid_kept xs p new r (off_new r s active) ∙ active, superior_set xs p new lt) in
-              subst (λ (k : ℕ). (in_use (map_of (map_set maps r p false) k) p ≡ false) ↔ IsInferior (set xs p new) k p)
-              (sym same)
-              (λ h. inferior, λ h. flag_here r p false (within_maps r s active) (within_map r s p active lt)))
+              rw same (λ h. inferior, λ h. flag_here r p false (within_maps r s active) (within_map r s p active lt)))
           | inr off ↦ (
             λ h. absurd (none_there place ((notes.free place p within lt).0
                 (sym (ap (λ (m : List Bool). in_use m p) (map_there r p false place off)) ∙ h))),
-            λ h.
-                (let is_s : s ≡ h.0 = same_Some _ _ (sym (superior_set xs p new lt) ∙ h.2) in
+            λ h. (let is_s : s ≡ h.0 = same_Some _ _ (sym (superior_set xs p new lt) ∙ h.2) in
                 elim (cases_eq place p) [
                   | inl same ↦
-                      (let is_uid : h.0 ≡ uid = same_Some _ _
-                      (sym (subst (λ (k : ℕ). uid_at (set xs p new) k ≡ Some h.0) same h.1) ∙ uid_set xs p new lt)
-                      in
+                      (let is_uid : h.0 ≡ uid = same_Some _ _ (sym (rw same at h.1) ∙ uid_set xs p new lt) in
                       absurd (inactive r (active ∙ ap (λ (k : ℕ). Some k) (is_s ∙ is_uid))))
                   | inr other ↦ absurd (off (tree.once place r h.0 (sym (uid_kept xs p new place other) ∙ h.1)
                       (active ∙ ap (λ (k : ℕ). Some k) is_s)))
@@ -261,8 +236,7 @@ module _ (xs : List (Option Entry)) (maps : List (List Bool)) (notes : AreNoted 
     pub noted_activated : (superior above : Option ℕ) → IsSuperiorPlace xs superior above
         → AreNoted (set xs p (Some (record { uid = uid; superior = superior }))) (noted maps above p false)
     unfolding with_new
-    noted_activated superior above placed =
-        noted_with (Some (record { uid = uid; superior = superior })) above p false
+    noted_activated superior above placed = noted_with (Some (record { uid = uid; superior = superior })) above p false
         (λ place within. at_new superior above place within placed) (still_inferior superior) (was_inferior superior)
 
   -- ---- nothing is active in a place any more
@@ -270,31 +244,25 @@ module _ (xs : List (Option Entry)) (maps : List (List Bool)) (notes : AreNoted 
   module _ (tree : IsTree xs) (p : ℕ) (lt : p < length xs) (leaf : HasNoInferior xs p) where
     inferior_left : (place q : ℕ) → q ≢ p → IsInferior xs place q → IsInferior (set xs p None) place q
     inferior_left place q ne (u, is, e) =
-        let off : place ≢ p = λ same. leaf q u (subst (λ (k : ℕ). uid_at xs k ≡ Some u) same is) e in
+        let off : place ≢ p = λ same. leaf q u (rw same at is) e in
         (u, uid_kept xs p None place off ∙ is, superior_kept xs p None q ne ∙ e)
 
     inferior_before : (place q : ℕ) → q ≢ p → IsInferior (set xs p None) place q → IsInferior xs place q
     inferior_before place q ne (u, is, e) =
-        let off : place ≢ p = λ same. none-some u (sym (uid_set xs p None lt)
-        ∙ subst (λ (k : ℕ). uid_at (set xs p None) k ≡ Some u) same is) in
+        let off : place ≢ p = λ same. none-some u (sym (uid_set xs p None lt) ∙ (rw same at is)) in
         (u, sym (uid_kept xs p None place off) ∙ is, sym (superior_kept xs p None q ne) ∙ e)
 
     -- at the place that became free
     not_at_gone : (superior above : Option ℕ) (place : ℕ) → place < length xs → superior_at xs p ≡ superior
-        → IsSuperiorPlace xs superior above
-        → in_use (map_of (noted maps above p true) place) p ≢ false
+        → IsSuperiorPlace xs superior above → in_use (map_of (noted maps above p true) place) p ≢ false
     not_at_gone None above place within is_superior placed off =
-        let h : IsInferior xs place p =
-        (notes.free place p within lt).0 (subst (λ (o : Option ℕ). in_use (map_of (noted maps o p true) place) p
-        ≡ false) placed off) in
+        let h : IsInferior xs place p = (notes.free place p within lt).0 (rw placed at off) in
         none-some h.0 (sym is_superior ∙ h.2)
     not_at_gone (Some s) above place within is_superior (r, is, active) off =
-        let off' : in_use (map_of (map_set maps r p true) place) p ≡ false =
-        subst (λ (o : Option ℕ). in_use (map_of (noted maps o p true) place) p ≡ false) is off in
+        let off' : in_use (map_of (map_set maps r p true) place) p ≡ false = rw is at off in
         elim (cases_eq place r) [
           | inl same ↦
-              both_ways _ (subst (λ (k : ℕ). in_use (map_of (map_set maps r p true) k) p ≡ false) same off')
-              (flag_here r p true (within_maps r s active) (within_map r s p active lt))
+              both_ways _ (rw same at off') (flag_here r p true (within_maps r s active) (within_map r s p active lt))
           | inr ne ↦
               (let h : IsInferior xs place p =
               (notes.free place p within lt).0 (sym (ap (λ (m : List Bool). in_use m p) (map_there r p true place ne))
@@ -304,11 +272,8 @@ module _ (xs : List (Option Entry)) (maps : List (List Bool)) (notes : AreNoted 
         ]
 
     pub noted_deactivated : (superior above : Option ℕ) → superior_at xs p ≡ superior
-        → IsSuperiorPlace xs superior above
-        → AreNoted (set xs p None) (noted maps above p true)
-    noted_deactivated superior above is_superior placed =
-        noted_with None above p true
-        (λ place within. (
-          λ off. absurd (not_at_gone superior above place within is_superior placed off),
-          λ h. absurd (none-some h.0 (sym (superior_set xs p None lt) ∙ h.2)),
-        )) inferior_left inferior_before
+        → IsSuperiorPlace xs superior above → AreNoted (set xs p None) (noted maps above p true)
+    noted_deactivated superior above is_superior placed = noted_with None above p true (λ place within. (
+      λ off. absurd (not_at_gone superior above place within is_superior placed off),
+      λ h. absurd (none-some h.0 (sym (superior_set xs p None lt) ∙ h.2)),
+    )) inferior_left inferior_before

@@ -33,8 +33,7 @@ position_is {X} p xs q d within passes before = at (position p xs) refl
 
 least_inferior_is : (xs : List (Option Entry)) (place q : ℕ) → IsLeastInferior xs place q → least_inferior xs place
     ≡ Some q
-least_inferior_is xs place q least =
-    ap (least_inferior_of xs) least.is
+least_inferior_is xs place q least = ap (least_inferior_of xs) least.is
     ∙ position_is (is_inferior_of least.uid) xs q None (superior_within xs q least.uid least.inferior)
     (inferior_yes least.uid (superior_at xs q) least.inferior)
     (λ k lt. inferior_no least.uid (superior_at xs k) (least.least k lt))
@@ -52,14 +51,11 @@ no_inferior_is xs place none = at (uid_at xs place) refl
 pub one_step_more : (xs : List (Option Entry)) (steps place q : ℕ) → IsLeastInferior xs place q
     → leaf_below xs (suc steps) place ≡ leaf_below xs steps q
 unfolding leaf_below
-one_step_more xs steps place q least = ap (λ (o : Option ℕ). leaf_below xs steps (stead_of place o))
-    (least_inferior_is xs place q least)
+one_step_more xs steps place q least = rw (least_inferior_is xs place q least)
 
 -- from a leaf no step leads away
 pub stays_at_leaf : (xs : List (Option Entry)) (steps place : ℕ) → HasNoInferior xs place → leaf_below xs steps place
     ≡ place
 unfolding leaf_below
 stays_at_leaf xs zero place none = refl
-stays_at_leaf xs (suc steps) place none =
-    ap (λ (o : Option ℕ). leaf_below xs steps (stead_of place o)) (no_inferior_is xs place none)
-    ∙ stays_at_leaf xs steps place none
+stays_at_leaf xs (suc steps) place none = rw (no_inferior_is xs place none) (stays_at_leaf xs steps place none)

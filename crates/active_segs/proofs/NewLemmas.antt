@@ -42,13 +42,12 @@ kept_new sizes used xs tables maps index four few is_used is_xs is_tables is_map
                 zeros_read 4 pool in omega arith);
           };
       entry_count = ap length is_xs ∙ length-replicate (sum sizes) None;
-      table_count = ap length is_tables ∙ length_of_four (replicate 4 Null) (replicate 16 Null) (replicate 64 Null) (replicate 256 Null)
-          sizes four;
+      table_count = ap length is_tables ∙ length_of_four (replicate 4 Null) (replicate 16 Null) (replicate 64 Null)
+          (replicate 256 Null) sizes four;
       marked = record {
         maps = ap length is_used ∙ length-map sizes (λ size. replicate size false) ∙ four;
         as_long = λ pool lt. ap length (marks pool lt) ∙ length-replicate (size_of sizes pool) false;
-        flags =
-            λ pool offset lt within. ap (λ (m : List Bool). in_use m offset) (marks pool lt)
+        flags = λ pool offset lt within. ap (λ (m : List Bool). in_use m offset) (marks pool lt)
             ∙ get_or-replicate (size_of sizes pool) offset false false within
             ∙ sym (ap is_some (free (first_of sizes pool + offset)));
       };
@@ -62,12 +61,10 @@ kept_new sizes used xs tables maps index four few is_used is_xs is_tables is_map
         );
       };
       indexed = record {
-        places =
-            λ q uid. (
-              λ h. absurd (none-some q (sym (ap (λ (l : List (ℕ × ℕ)). place_of l uid) empty) ∙ h)),
-              λ h.
-                  absurd (none-some uid (sym (no_uid q) ∙ h)),
-            );
+        places = λ q uid. (
+          λ h. absurd (none-some q (sym (ap (λ (l : List (ℕ × ℕ)). place_of l uid) empty) ∙ h)),
+          λ h. absurd (none-some uid (sym (no_uid q) ∙ h)),
+        );
         count = ap length empty ∙ sym (ap (count_by is_some) is_xs ∙ none_used (sum sizes));
         room = room ∙ sym (ap length is_xs ∙ length-replicate (sum sizes) None);
       };
@@ -84,15 +81,13 @@ of_these : (n : ℕ) (table : List Ptw) (rest : List (List Ptw)) (i : ℕ) → i
     ≡ table
 of_these n table rest i lt =
     let size : length (replicate n table) ≡ n = length-replicate n table in get_or_append_left (replicate n table) rest
-    [] i (omega arith)
-    ∙ get_or-replicate n i table [] lt
+    [] i (omega arith) ∙ get_or-replicate n i table [] lt
 
 of_the_rest : (n : ℕ) (table : List Ptw) (rest : List (List Ptw)) (i : ℕ) → n ≤ i
     → table_at (replicate n table ++ rest) i ≡ table_at rest (i - n)
 of_the_rest n table rest i le =
     let size : length (replicate n table) ≡ n = length-replicate n table in get_or-append_right (replicate n table)
-    rest i [] (omega arith)
-    ∙ ap (λ (k : ℕ). table_at rest (i - k)) size
+    rest i [] (omega arith) ∙ ap (λ (k : ℕ). table_at rest (i - k)) size
 
 module _ (sizes : List ℕ) (four : length sizes ≡ 4) where
   abbrev blank : ℕ → List Ptw
@@ -108,8 +103,7 @@ module _ (sizes : List ℕ) (four : length sizes ≡ 4) where
   last_three = replicate (size_of sizes 1) (blank 16) ++ last_two
 
   regrouped : null_tables sizes ≡ replicate (size_of sizes 0) (blank 4) ++ last_three
-  regrouped =
-      append_assoc (replicate (size_of sizes 0) (blank 4) ++ replicate (size_of sizes 1) (blank 16))
+  regrouped = append_assoc (replicate (size_of sizes 0) (blank 4) ++ replicate (size_of sizes 1) (blank 16))
       (replicate (size_of sizes 2) (blank 64)) last
       ∙ append_assoc (replicate (size_of sizes 0) (blank 4)) (replicate (size_of sizes 1) (blank 16)) last_two
 

@@ -19,8 +19,7 @@ place_absent (x ∷ l) uid not_before = grind (
   arith,
   nat_tests,
   not_before 0 (omega arith),
-  place_absent l uid
-      (not_before_tail x l uid _ not_before),
+  place_absent l uid (not_before_tail x l uid _ not_before),
 )
 
 -- the first pair that has the uid gives the place
@@ -28,28 +27,24 @@ pub place_present : (l : List (ℕ × ℕ)) (uid i : ℕ) → IsFoundAt l uid i 
     ≡ Some (get_or l i (0, 0)).1
 place_present [] uid i found not_before = absurd (omega (arith, found.within))
 place_present (x ∷ l) uid zero found not_before = grind (arith, nat_tests, found.is)
-place_present (x ∷ l) uid (suc i) found not_before =
-    grind (
-      arith,
-      nat_tests,
-      not_before 0 (omega arith),
-      place_present l uid i (found_tail x l uid i found)
-          (not_before_tail x l uid i not_before),
-    )
+place_present (x ∷ l) uid (suc i) found not_before = grind (
+  arith,
+  nat_tests,
+  not_before 0 (omega arith),
+  place_present l uid i (found_tail x l uid i found) (not_before_tail x l uid i not_before),
+)
 
 -- a new pair before any pair that has the uid sets its place
 pub place_inserted : (l : List (ℕ × ℕ)) (uid place i : ℕ) → NotBefore l uid i
     → SetsPlace l (insert l i (uid, place)) uid (Some place)
 place_inserted l uid place zero not_before q = refl
 place_inserted [] uid place (suc i) not_before q = refl
-place_inserted (x ∷ l) uid place (suc i) not_before q =
-    grind (
-      arith,
-      nat_tests,
-      not_before 0 (omega arith),
-      place_inserted l uid place i
-          (not_before_tail x l uid i not_before) q,
-    )
+place_inserted (x ∷ l) uid place (suc i) not_before q = grind (
+  arith,
+  nat_tests,
+  not_before 0 (omega arith),
+  place_inserted l uid place i (not_before_tail x l uid i not_before) q,
+)
 
 ascending_tail : (x : ℕ × ℕ) (l : List (ℕ × ℕ)) → IsAscending (x ∷ l) → IsAscending l
 ascending_tail x l ascending i j lt within = ascending (suc i) (suc j) (omega arith) (omega arith)
@@ -80,8 +75,7 @@ module _ (l : List (ℕ × ℕ)) (ascending : IsAscending l) (uid : ℕ) where
   pub searched : (r : Result ℕ ℕ) → IsSearchInRange r (length l) → IsBinarySearchResult (λ pair. nat_cmp pair.0 uid) l r
       → record { found : IfOk r (IsFoundAt l uid); absent : IfErr r (BelongsAt l uid) }
   searched (Ok at) within equal = record {
-    found = record
-        { within = within; is = ranked _ uid _ (sym (equal (0, 0))) };
+    found = record { within = within; is = ranked _ uid _ (sym (equal (0, 0))) };
     absent = tt;
   }
   searched (Err at) within parted = record {

@@ -43,8 +43,7 @@ pools_apart sizes p q lt before =
     let more : first_of sizes (suc p) ≡ first_of sizes p + size_of sizes p = first_more sizes p lt in
     let up : first_of sizes (suc p) ≤ first_of sizes (suc p + (q - suc p)) = first_up sizes (suc p) (q - suc p) in
     let same : suc p + (q - suc p) ≡ q = omega arith in
-    let up' : first_of sizes (suc p) ≤ first_of sizes q =
-    subst (λ (k : ℕ). first_of sizes (suc p) ≤ first_of sizes k) same up in omega arith
+    let up' : first_of sizes (suc p) ≤ first_of sizes q = rw same at up in omega arith
 
 -- and the last one at the end
 pub pool_within : (sizes : List ℕ) (p : ℕ) → length sizes ≡ 4 → p < 4 → first_of sizes p + size_of sizes p ≤ sum sizes
@@ -69,24 +68,21 @@ placed_once sizes place p i q j four a b =
       | inl same ↦ (same, (let f : first_of sizes p ≡ first_of sizes q = ap (first_of sizes) same in omega arith))
       | inr differ ↦ elim differ [
         | inl before ↦
-            absurd
-            (let h : first_of sizes p + size_of sizes p ≤ first_of sizes q =
+            absurd (let h : first_of sizes p + size_of sizes p ≤ first_of sizes q =
             pools_apart sizes p q (let k : p < 4 = a.known in omega arith) before in omega arith)
         | inr after ↦
-            absurd
-            (let h : first_of sizes q + size_of sizes q ≤ first_of sizes p =
+            absurd (let h : first_of sizes q + size_of sizes q ≤ first_of sizes p =
             pools_apart sizes q p (let k : q < 4 = b.known in omega arith) after in omega arith)
       ]
     ]
 
 -- ---- the maps
 
-pub marked_set : (sizes : List ℕ) (used : List (List Bool)) (xs : List (Option Entry)) (place pool offset : ℕ)
-    (b : Bool) (o : Option Entry)
-    → length sizes ≡ 4 → length xs ≡ sum sizes → IsMarked sizes used xs → IsPlaced sizes place pool offset → is_some o
-    ≡ b
-    → IsMarked sizes (set used pool (set (map_of used pool) offset b)) (set xs place o)
-marked_set sizes used xs place pool offset b o four size marked placed is =
+pub marked_set : {sizes : List ℕ} {used : List (List Bool)} {xs : List (Option Entry)} {place pool offset : ℕ}
+    (b : Bool) (o : Option Entry) → length sizes ≡ 4 → length xs ≡ sum sizes → IsMarked sizes used xs
+    → IsPlaced sizes place pool offset → is_some o ≡ b → IsMarked sizes
+    (set used pool (set (map_of used pool) offset b)) (set xs place o)
+marked_set {sizes} {used} {xs} {place} {pool} {offset} b o four size marked placed is =
     let map : List Bool = set (map_of used pool) offset b in
     let lt : place < length xs = (let w : place < sum sizes =
     placed_within sizes place pool offset four placed in omega arith) in
@@ -99,8 +95,7 @@ marked_set sizes used xs place pool offset b o four size marked placed is =
       maps = length-set used pool map ∙ marked.maps;
       as_long = λ q lt_q. elim (cases_eq q pool) [
         | inl same ↦
-            subst (λ (k : ℕ). length (map_of (set used pool map) k) ≡ size_of sizes k) (sym same)
-            (ap length here ∙ length-set (map_of used pool) offset b ∙ marked.as_long pool placed.known)
+            rw same (ap length here ∙ length-set (map_of used pool) offset b ∙ marked.as_long pool placed.known)
         | inr off ↦ ap length (there q off) ∙ marked.as_long q lt_q
       ];
       flags = λ q i lt_q lt_i.
@@ -118,12 +113,10 @@ marked_set sizes used xs place pool offset b o four size marked placed is =
                   let entry : is_some (entry_at (set xs place o) place) ≡ b = ap is_some (entry_set xs place o lt)
                   ∙ is in
                   let map_is : map_of (set used pool map) q ≡ map = ap (map_of (set used pool map)) same ∙ here in
-                  let left : in_use (map_of (set used pool map) q) i ≡ b = ap (λ (m : List Bool). in_use m i) map_is
-                  ∙ ap (in_use map) same_i ∙ on in
+                  let left : in_use (map_of (set used pool map) q) i ≡ b = rw map_is (ap (in_use map) same_i ∙ on) in
                   left ∙ sym (ap (λ (k : ℕ). is_some (entry_at (set xs place o) k)) at ∙ entry))
               | inr off_i ↦
-                  (let off : first_of sizes q + i ≢ place =
-                  λ e. off_i (placed_once sizes place q i pool offset four
+                  (let off : first_of sizes q + i ≢ place = λ e. off_i (placed_once sizes place q i pool offset four
                   (record { known = lt_q; within = lt_i; is = sym e }) placed).1 in
                   let map_is : map_of (set used pool map) q ≡ map = ap (map_of (set used pool map)) same ∙ here in
                   let kept : in_use map i ≡ in_use (map_of used pool) i =
@@ -135,8 +128,7 @@ marked_set sizes used xs place pool offset b o four size marked placed is =
                   ∙ sym (ap is_some (entry_kept xs place o (first_of sizes q + i) off)))
             ]
             | inr off_q ↦
-                (let off : first_of sizes q + i ≢ place =
-                λ e. off_q (placed_once sizes place q i pool offset four
+                (let off : first_of sizes q + i ≢ place = λ e. off_q (placed_once sizes place q i pool offset four
                 (record { known = lt_q; within = lt_i; is = sym e }) placed).0 in
                 ap (λ (m : List Bool). in_use m i) (there q off_q) ∙ marked.flags q i lt_q lt_i
                 ∙ sym (ap is_some (entry_kept xs place o (first_of sizes q + i) off)))
@@ -163,18 +155,16 @@ not_all_used xs p lt free =
     let size : length (set xs p (Some e)) ≡ length xs = length-set xs p (Some e) in omega arith
 
 -- and the index has room
-pub index_has_room : (xs : List (Option Entry)) (index : Pairs) (p : ℕ) → IsIndexed xs index → p < length xs
-    → entry_at xs p ≡ None
-    → length index.pairs < index.room
-index_has_room xs index p indexed lt free =
+pub index_has_room : {xs : List (Option Entry)} {index : Pairs} (p : ℕ) → IsIndexed xs index → p < length xs
+    → entry_at xs p ≡ None → length index.pairs < index.room
+index_has_room {xs} {index} p indexed lt free =
     let few : count_by is_some xs < length xs = not_all_used xs p lt free in
     let c : length index.pairs ≡ count_by is_some xs = indexed.count in let r : index.room ≡ length xs =
     indexed.room in omega arith
 
-pub index_lacks : (xs : List (Option Entry)) (index : Pairs) (uid : ℕ) → IsIndexed xs index
-    → ((q : ℕ) → uid_at xs q ≢ Some uid)
-    → place_of index.pairs uid ≡ None
-index_lacks xs index uid indexed inactive = lacks (place_of index.pairs uid) refl
+pub index_lacks : {xs : List (Option Entry)} {index : Pairs} (uid : ℕ) → IsIndexed xs index
+    → ((q : ℕ) → uid_at xs q ≢ Some uid) → place_of index.pairs uid ≡ None
+index_lacks {xs} {index} uid indexed inactive = lacks (place_of index.pairs uid) refl
   where
     lacks : (o : Option ℕ) → place_of index.pairs uid ≡ o → place_of index.pairs uid ≡ None
     lacks None is = is
@@ -197,8 +187,7 @@ module _ (xs : List (Option Entry)) (old new : Pairs) (p : ℕ) (lt : p < length
     places = λ q u. elim (cases_eq e.uid u) [
       | inl same ↦
           (let here : place_of new.pairs u ≡ Some p = this_place e.uid u (Some p) sets same in (
-            λ h.
-                (let at : p ≡ q = same_Some p q (sym here ∙ h) in
+            λ h. (let at : p ≡ q = same_Some p q (sym here ∙ h) in
                 subst (λ (k : ℕ). uid_at (set xs p (Some e)) k ≡ Some u) at
                 (uid_set xs p (Some e) lt ∙ ap (λ (k : ℕ). Some k) same)),
             λ h. elim (cases_eq q p) [
@@ -209,21 +198,16 @@ module _ (xs : List (Option Entry)) (old new : Pairs) (p : ℕ) (lt : p < length
           ))
       | inr differ ↦
           (let there : place_of new.pairs u ≡ place_of old.pairs u = other_place e.uid u (Some p) sets differ in (
-            λ h.
-                (let was : uid_at xs q ≡ Some u = (indexed.places q u).0 (sym there ∙ h) in
-                let off : q ≢ p = λ same. none-some u (sym (ap uid_in free)
-                ∙ subst (λ (k : ℕ). uid_at xs k ≡ Some u) same was) in
+            λ h. (let was : uid_at xs q ≡ Some u = (indexed.places q u).0 (sym there ∙ h) in
+                let off : q ≢ p = λ same. none-some u (sym (ap uid_in free) ∙ (rw same at was)) in
                 uid_kept xs p (Some e) q off ∙ was),
             λ h. elim (cases_eq q p) [
-              | inl at_p ↦
-                  absurd (differ (same_Some e.uid u (sym (uid_set xs p (Some e) lt)
-                  ∙ subst (λ (k : ℕ). uid_at (set xs p (Some e)) k ≡ Some u) at_p h)))
+              | inl at_p ↦ absurd (differ (same_Some e.uid u (sym (uid_set xs p (Some e) lt) ∙ (rw at_p at h))))
               | inr off ↦ there ∙ (indexed.places q u).1 (sym (uid_kept xs p (Some e) q off) ∙ h)
             ],
           ))
     ];
-    count =
-        (let more = used_set xs p (Some e) lt in
+    count = (let more = used_set xs p (Some e) lt in
         let zero_bit : cond {A = ℕ} (is_some (entry_at xs p)) 1 0 ≡ 0 =
         ap (λ (o : Option Entry). cond {A = ℕ} (is_some o) 1 0) free in
         let c : length old.pairs ≡ count_by is_some xs = indexed.count in omega arith);
@@ -239,28 +223,23 @@ module _ (xs : List (Option Entry)) (old new : Pairs) (p : ℕ) (lt : p < length
           (let here : place_of new.pairs u ≡ None = this_place e.uid u None sets same in (
             λ h. absurd (none-some q (sym here ∙ h)),
             λ h. elim (cases_eq q p) [
-              | inl at_p ↦ absurd (none-some u (sym (uid_set xs p None lt)
-                  ∙ subst (λ (k : ℕ). uid_at (set xs p None) k ≡ Some u) at_p h))
+              | inl at_p ↦ absurd (none-some u (sym (uid_set xs p None lt) ∙ (rw at_p at h)))
               | inr off ↦ absurd (off (once q p u (sym (uid_kept xs p None q off) ∙ h)
                   (ap uid_in is ∙ ap (λ (k : ℕ). Some k) same)))
             ],
           ))
       | inr differ ↦
           (let there : place_of new.pairs u ≡ place_of old.pairs u = other_place e.uid u None sets differ in (
-            λ h.
-                (let was : uid_at xs q ≡ Some u = (indexed.places q u).0 (sym there ∙ h) in
-                let off : q ≢ p = λ same. differ (same_Some e.uid u
-                (sym (ap uid_in is) ∙ subst (λ (k : ℕ). uid_at xs k ≡ Some u) same was)) in
+            λ h. (let was : uid_at xs q ≡ Some u = (indexed.places q u).0 (sym there ∙ h) in
+                let off : q ≢ p = λ same. differ (same_Some e.uid u (sym (ap uid_in is) ∙ (rw same at was))) in
                 uid_kept xs p None q off ∙ was),
             λ h. elim (cases_eq q p) [
-              | inl at_p ↦ absurd (none-some u (sym (uid_set xs p None lt)
-                  ∙ subst (λ (k : ℕ). uid_at (set xs p None) k ≡ Some u) at_p h))
+              | inl at_p ↦ absurd (none-some u (sym (uid_set xs p None lt) ∙ (rw at_p at h)))
               | inr off ↦ there ∙ (indexed.places q u).1 (sym (uid_kept xs p None q off) ∙ h)
             ],
           ))
     ];
-    count =
-        (let less = used_set xs p None lt in
+    count = (let less = used_set xs p None lt in
         let one_bit : cond {A = ℕ} (is_some (entry_at xs p)) 1 0 ≡ 1 =
         ap (λ (o : Option Entry). cond {A = ℕ} (is_some o) 1 0) is in
         let c : length old.pairs ≡ count_by is_some xs = indexed.count in omega arith);

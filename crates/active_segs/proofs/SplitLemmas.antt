@@ -1,5 +1,5 @@
 -- What the lists of an index say together: a uid is in the one of its remainder.
-use Rattle.active_segs.proofs.Prelude.{◌≡◌, ◌≢◌, ℕ, zero, suc, ◌+◌, ◌<◌, ◌≤◌, ◌%◌, Bool, true, false, cond, eqb, List, [], ◌∷◌, ◌++◌, ◌⊎◌, length, get_or, set, replicate, Option, Some, None, inl, inr, refl, sym, ap, subst, ◌∙◌, arith, eqb_tells, get_or-set_same, get_or-set_other, get_or_read, length-set, length-replicate, get_or-replicate, length-flat_map, sum_by-set, Pairs, IsSplit, SetsPlace, empty_list, list_at, pairs_in, place_of}
+use Rattle.active_segs.proofs.Prelude.{◌≡◌, ◌≢◌, ℕ, zero, suc, ◌+◌, ◌<◌, ◌≤◌, ◌%◌, Bool, true, false, cond, eqb, List, [], ◌∷◌, ◌++◌, ◌⊎◌, length, get_or, set, replicate, Option, Some, None, inl, inr, refl, sym, ap, ◌∙◌, arith, eqb_tells, get_or-set_same, get_or-set_other, get_or_read, length-set, length-replicate, get_or-replicate, length-flat_map, sum_by-set, Pairs, IsSplit, SetsPlace, empty_list, list_at, pairs_in, place_of}
 use Rattle.std.proofs.Math.Nat.{mod-lt}
 
 place_past : (xs ys : List (ℕ × ℕ)) (u : ℕ) → place_of xs u ≡ None → place_of (xs ++ ys) u ≡ place_of ys u
@@ -32,17 +32,15 @@ place_in [] u i lt none = absurd (omega (arith, lt))
 place_in (l ∷ ls) u zero lt none = place_front l.pairs (pairs_in ls) u
     (place_nowhere ls u (λ k less. none (suc k) (omega (arith, less)) (λ e. omega (arith, e))))
 place_in (l ∷ ls) u (suc i) lt none = place_past l.pairs (pairs_in ls) u (none 0 (omega arith) (λ e. omega (arith, e)))
-    ∙ place_in ls u i (omega (arith, lt)) (λ k less ne. none (suc k) (omega (arith, less))
-    (λ e. ne (omega (arith, e))))
+    ∙ place_in ls u i (omega (arith, lt)) (λ k less ne. none (suc k) (omega (arith, less)) (λ e. ne (omega (arith, e))))
 
 remainder : (u : ℕ) → u % 256 < 256
 remainder u = mod-lt u (omega arith)
 
-pub place_split : (lists : List Pairs) (room u : ℕ) → IsSplit lists room
+pub place_split : {lists : List Pairs} {room : ℕ} (u : ℕ) → IsSplit lists room
     → place_of (pairs_in lists) u ≡ place_of (list_at lists (u % 256)).pairs u
-place_split lists room u split = let many = split.many in let less = remainder u in
-    place_in lists u (u % 256) (omega (arith, many, less))
-    (λ k lt ne. split.apart k u (omega (arith, many, lt)) ne)
+place_split {lists} u split = let many = split.many in let less = remainder u in
+    place_in lists u (u % 256) (omega (arith, many, less)) (λ k lt ne. split.apart k u (omega (arith, many, lt)) ne)
 
 -- a list holds no more than all together
 pub list_few : (lists : List Pairs) (i : ℕ) → i < length lists
@@ -77,34 +75,27 @@ module _ (lists : List Pairs) (room u : ℕ) (split : IsSplit lists room) (new :
         by : ((eqb u q ≡ true) × (u ≡ q)) ⊎ ((eqb u q ≡ false) × (u ≢ q))
             → cond (eqb u q) place (place_of (list_at lists i).pairs q) ≡ None
         by (inl e) = absurd (ne (ap (λ (x : ℕ). x % 256) e.1))
-        by (inr n) = ap (λ (b : Bool). cond b place (place_of (list_at lists i).pairs q)) n.0
-            ∙ split.apart i q (remainder u) ne
+        by (inr n) = rw n.0 (split.apart i q (remainder u) ne)
 
     pub split_changed : IsSplit changed room
     split_changed = record {
       many = length-set lists i new ∙ split.many;
       rooms = λ k lt. elim (eqb_tells k i) [
-        | inl e ↦ subst (λ (x : ℕ). (list_at changed x).room ≡ room) (sym e.1)
-            (ap (λ (l : Pairs). l.room) same_list ∙ (keeps ∙ split.rooms i (remainder u)))
-        | inr n ↦ ap (λ (l : Pairs). l.room) (other_list k n.1) ∙ split.rooms k lt
+        | inl e ↦ rw e.1 (ap (λ (l : Pairs). l.room) same_list ∙ (keeps ∙ split.rooms i (remainder u)))
+        | inr n ↦ rw (other_list k n.1) (split.rooms k lt)
       ];
       apart = λ k q lt ne. elim (eqb_tells k i) [
-        | inl e ↦ subst (λ (x : ℕ). place_of (list_at changed x).pairs q ≡ None) (sym e.1)
-            (ap (λ (l : Pairs). place_of l.pairs q) same_list
-            ∙ not_here q (λ is. ne (e.1 ∙ is)))
-        | inr n ↦ ap (λ (l : Pairs). place_of l.pairs q) (other_list k n.1) ∙ split.apart k q lt ne
+        | inl e ↦ rw e.1 (ap (λ (l : Pairs). place_of l.pairs q) same_list ∙ not_here q (λ is. ne (e.1 ∙ is)))
+        | inr n ↦ rw (other_list k n.1) (split.apart k q lt ne)
       ];
     }
 
     pub sets_changed : SetsPlace (pairs_in lists) (pairs_in changed) u place
-    sets_changed q = place_split changed room q split_changed ∙ elim (eqb_tells (q % 256) i) [
-      | inl e ↦ ap (λ (x : ℕ). place_of (list_at changed x).pairs q) e.1
-          ∙ ap (λ (l : Pairs). place_of l.pairs q) same_list ∙ sets q
-          ∙ ap (λ (x : ℕ). cond (eqb u q) place (place_of (list_at lists x).pairs q)) (sym e.1)
-          ∙ ap (cond (eqb u q) place) (sym (place_split lists room q split))
-      | inr n ↦ ap (λ (l : Pairs). place_of l.pairs q) (other_list (q % 256) n.1)
-          ∙ sym (place_split lists room q split)
-          ∙ ap (λ (b : Bool). cond b place (place_of (pairs_in lists) q)) (sym (differs q n.1))
+    sets_changed q = place_split q split_changed ∙ elim (eqb_tells (q % 256) i) [
+      | inl e ↦ rw (e.1, same_list) (sets q ∙ ap (λ (x : ℕ). cond (eqb u q) place (place_of (list_at lists x).pairs q))
+          (sym e.1) ∙ ap (cond (eqb u q) place) (sym (place_split q split)))
+      | inr n ↦ rw (other_list (q % 256) n.1) (sym (place_split q split)
+          ∙ ap (λ (b : Bool). cond b place (place_of (pairs_in lists) q)) (sym (differs q n.1)))
     ]
       where
         differs : (q : ℕ) → q % 256 ≢ i → eqb u q ≡ false
@@ -131,7 +122,7 @@ pub no_pairs : (lists : List Pairs) (room : ℕ) → lists ≡ replicate 256 (em
 no_pairs lists room is = ap pairs_in is ∙ nothing_in 256 room
 
 pub split_first : (lists : List Pairs) (room : ℕ) → lists ≡ replicate 256 (empty_list room) → IsSplit lists room
-split_first lists room is = subst (λ (ls : List Pairs). IsSplit ls room) (sym is) (record {
+split_first lists room is = rw is (record {
   many = length-replicate 256 (empty_list room);
   rooms = λ k lt. ap (λ (l : Pairs). l.room) (at k lt);
   apart = λ k u lt ne. ap (λ (l : Pairs). place_of l.pairs u) (at k lt);
@@ -148,7 +139,7 @@ module _ (lists : List Pairs) (room u : ℕ) (split : IsSplit lists room) (x : P
   is_list = get_or_read lists (u % 256) x (here lists room u split x) read (empty_list 0)
 
   pub finds_list : place_of x.pairs u ≡ place_of (pairs_in lists) u
-  finds_list = ap (λ (l : Pairs). place_of l.pairs u) is_list ∙ sym (place_split lists room u split)
+  finds_list = rw is_list (sym (place_split u split))
 
   pub list_has_room : length (pairs_in lists) < room → length x.pairs < x.room
   list_has_room less =
@@ -162,14 +153,12 @@ module _ (lists : List Pairs) (room u : ℕ) (split : IsSplit lists room) (x : P
     after = set lists (u % 256) y
 
     pub list_split : (place : Option ℕ) → SetsPlace x.pairs y.pairs u place → y.room ≡ x.room → IsSplit after room
-    list_split place sets keeps = split_changed lists room u split y place
-        (subst (λ (l : Pairs). SetsPlace l.pairs y.pairs u place) is_list sets)
+    list_split place sets keeps = split_changed lists room u split y place (rw is_list at sets)
         (keeps ∙ ap (λ (l : Pairs). l.room) is_list)
 
     pub list_sets : (place : Option ℕ) → SetsPlace x.pairs y.pairs u place → y.room ≡ x.room
         → SetsPlace (pairs_in lists) (pairs_in after) u place
-    list_sets place sets keeps = sets_changed lists room u split y place
-        (subst (λ (l : Pairs). SetsPlace l.pairs y.pairs u place) is_list sets)
+    list_sets place sets keeps = sets_changed lists room u split y place (rw is_list at sets)
         (keeps ∙ ap (λ (l : Pairs). l.room) is_list)
 
     pub list_more : length y.pairs ≡ length x.pairs + 1 → length (pairs_in after) ≡ length (pairs_in lists) + 1

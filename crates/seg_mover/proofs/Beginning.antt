@@ -11,15 +11,13 @@ pub record CanStore {D : Type 0} (old : Vols D) (from to : ℕ × ℕ) : Type 0 
   pub other : from.0 ≢ to.0
   pub pages : length (map_at old from) ≡ 256
 
-pub can_store : {D : Type 0} {old : Vols D} {uid v : ℕ} {from : ℕ × ℕ} {table : List (Option Entry)} (e : ℕ)
+pub can_store : {D : Type 0} {old : Vols D} {uid v : ℕ} {from : ℕ × ℕ} {table : List (Option Entry)} {e : ℕ}
     → CanBegin old uid from v
     → IsLeastFreeEntry (vtoc_at old v) e → HasFullMaps table → table ≡ vtoc_at old from.0 → CanStore old from (v, e)
-can_store {old = old} {v = v} {from = from} e can least full same = record {
-  vl = list_within old.vtocs v e least.within;
-  el = least.within;
-  other = can.other;
-  pages = (subst HasFullMaps same full).places from.1;
-}
+can_store {old} {v} {from} {e} can least full same = assumption (
+  list_within old.vtocs v e least.within,
+  (subst HasFullMaps same full).places from.1,
+)
 
 pub begun_start : {D : Type 0} {old : Vols D} {uid : ℕ} {from to : ℕ × ℕ} (now : Vols D) → CanBegin old uid from to.0
     → CanStore old from to → now ≡ entry_taken old to uid → IsPartBegun old now uid from to 0
@@ -29,11 +27,10 @@ begun_start {old = old} {uid = uid} {from = from} {to = to} now can store is =
     rw is (record {
       drives = refl;
       records = sym (set-get_or old.records to.0 []);
-      vtocs = ap (λ (places : List (Option ℕ)). set old.vtocs to.0 (set (vtoc_at old to.0) to.1
-          (Some (record { uid = uid; records = places })))) (sym fresh);
+      vtocs = cc;
       flags = refl;
       places = refl;
-      blank = λ p late. ap (λ (places : List (Option ℕ)). get_or places p None) fresh ∙ no_record p;
+      blank = λ p late. cc (no_record p);
       room = can.room;
       size = refl;
       long = ap length fresh ∙ length_no_records;
@@ -43,69 +40,56 @@ begun_start {old = old} {uid = uid} {from = from} {to = to} now can store is =
 
 at_place : {Y : Type 0} (f : List (Option ℕ) → Y) (m : List (Option ℕ)) (n : ℕ) (place : Option ℕ) → n < length m
     → get_or m n None ≡ place → f (drop n m) ≡ f (place ∷ drop (n + 1) m)
-at_place f m n place lt is = at_drop_more f m n None lt ∙ ap (λ (x : Option ℕ). f (x ∷ drop (n + 1) m)) is
+at_place f m n place lt is = cc (at_drop_more f m n None lt)
 
 front_more : (front more : List (Option ℕ)) (place : Option ℕ) (rest now : List (Option ℕ)) → more ≡ front ++ place ∷ []
     → now ≡ place ∷ rest → more ++ rest ≡ front ++ now
-front_more front more place rest now is then =
-    ap (λ (xs : List (Option ℕ)). xs ++ rest) is ∙ append_assoc front (place ∷ []) rest
-    ∙ ap (λ (xs : List (Option ℕ)). front ++ xs) (sym then)
+front_more front more place rest now is then = rw is (cc (append_assoc front (place ∷ []) rest))
 
 some_more : (flags : List Bool) (m : List (Option ℕ)) (n q : ℕ) → n < length m → get_or m n None ≡ Some q
     → count_by is_some (drop n m) ≡ count_by is_some (drop (n + 1) m) + 1
 some_more flags m n q lt is =
     let step = sum_by-cons (λ (place : Option ℕ). cond {A = ℕ} (is_some place) 1 0) (Some q) (drop (n + 1) m) in
-    let at : count_by is_some (drop n m) ≡ count_by is_some (Some q ∷ drop (n + 1) m) =
-    at_place (count_by is_some) m n (Some q) lt is in
-    omega (arith, step, at)
+    omega (arith, at_place (count_by is_some) m n (Some q) lt is)
 
 none_more : (m : List (Option ℕ)) (n : ℕ) → n < length m → get_or m n None ≡ None
     → count_by is_some (drop n m) ≡ count_by is_some (drop (n + 1) m)
 none_more m n lt is =
     let step = sum_by-cons (λ (place : Option ℕ). cond {A = ℕ} (is_some place) 1 0) None (drop (n + 1) m) in
-    let at : count_by is_some (drop n m) ≡ count_by is_some (None ∷ drop (n + 1) m) =
-    at_place (count_by is_some) m n None lt is in
-    omega (arith, step, at)
+    omega (arith, at_place (count_by is_some) m n None lt is)
 
 -- ---- one page more
 
 -- the entry of the new home
 pub entry_now : {D : Type 0} {old now : Vols D} {uid n : ℕ} {from to : ℕ × ℕ} → CanStore old from to
-    → IsPartBegun old now uid from to n
-    → entry_of now to ≡ Some (record { uid = uid; records = map_at now to })
+    → IsPartBegun old now uid from to n → entry_of now to ≡ Some (record { uid = uid; records = map_at now to })
 entry_now {old = old} {now = now} {uid = uid} {to = to} store part =
-    ap (λ (vtocs : List (List (Option Entry))). get_or (get_or vtocs to.0 []) to.1 None) part.vtocs
-    ∙ put_here old.vtocs to.0 to.1 (Some (record { uid = uid; records = map_at now to })) None store.vl store.el
+    cc (put_here old.vtocs to.0 to.1 (Some (record { uid = uid; records = map_at now to })) None store.vl store.el)
 
 -- and the old one's is as it was
 pub entry_kept : {D : Type 0} {old now : Vols D} {uid n : ℕ} {from to : ℕ × ℕ} → CanStore old from to
     → IsPartBegun old now uid from to n → entry_of now from ≡ entry_of old from
 entry_kept {old = old} {from = from} {to = to} store part =
-    ap (λ (vtocs : List (List (Option Entry))). get_or (get_or vtocs from.0 []) from.1 None) part.vtocs
-    ∙ ap (λ (table : List (Option Entry)). get_or table from.1 None)
-    (get_or-set_other old.vtocs to.0 from.0 _ [] store.other)
+    rw (part.vtocs, get_or-set_other old.vtocs to.0 from.0 _ [] store.other)
 
 skipped : {D : Type 0} (old now : Vols D) (uid n : ℕ) (from to : ℕ × ℕ) → CanStore old from to
     → IsPartBegun old now uid from to n → n < 256 → place_at old from n ≡ None → IsPartBegun old now uid from to (n + 1)
 skipped old now uid n from to store part lt none =
     let flags : List Bool = records_at now to.0 in
     let m : List (Option ℕ) = map_at old from in
-    let within : n < length m = omega (arith, lt, store.pages) in
-    let there : n < length (map_at now to) = omega (arith, lt, part.long) in
+    let within : n < length m = omega arith in
+    let there : n < length (map_at now to) = omega arith in
     record {
       drives = part.drives;
       records = part.records;
       vtocs = part.vtocs;
-      flags = sym (at_place (flags_taken flags) m n None within none) ∙ part.flags;
+      flags = cc (at_place (flags_taken flags) m n None within none);
       places = front_more (take n (map_at now to)) (take (n + 1) (map_at now to)) None
-          (map_taken flags (drop (n + 1) m))
-          (map_taken flags (drop n m))
-          (take_more (map_at now to) n None there
-          ∙ ap (λ (x : Option ℕ). take n (map_at now to) ++ x ∷ []) (part.blank n (omega arith)))
-          (at_place (map_taken flags) m n None within none)
-          ∙ part.places;
-      blank = λ p late. part.blank p (omega (arith, late));
-      room = omega (arith, part.room, none_more m n within none);
+          (map_taken flags (drop (n + 1) m)) (map_taken flags (drop n m))
+          (cc (take_more (map_at now to) n None there, part.blank n (omega arith)))
+          (at_place (map_taken flags) m n None within none) ∙ part.places;
+      blank = λ p late. part.blank p (omega arith);
+      room = omega (arith, none_more m n within none);
       size = part.size;
       long = part.long;
     }
@@ -127,7 +111,7 @@ stored old now uid n q r from to store part lt some is =
     let places : List (Option ℕ) = map_at now to in
     let mid : Vols _ = with_record_used now to.0 r true in
     let new : Vols _ = with_place mid to n (Some r) in
-    let within : n < length m = omega (arith, lt, store.pages) in
+    let within : n < length m = omega arith in
     let there : n < length places = omega (arith, lt, part.long) in
     let least : IsLeastFree flags r = least_is flags r is in
     let rl : to.0 < length now.records = records_within now to.0 r least.within in
@@ -143,47 +127,39 @@ stored old now uid n q r from to store part lt some is =
     let fewer = some_more flags m n q within some in
     record {
       drives = part.drives;
-      records = ap (λ (rs : List (List Bool)). set rs to.0 (set flags r true)) part.records
-          ∙ set-set old.records to.0 flags (set flags r true) ∙ ap (set old.records to.0) (sym flags_is);
-      vtocs = ap (λ (entry : Option Entry). put now.vtocs to.0 to.1 entry)
-          (renamed (entry_of now to) uid n r places (map_at new to) entry map_is)
-          ∙ ap (λ (vtocs : List (List (Option Entry))). put vtocs to.0 to.1
-          (Some (record { uid = uid; records = map_at new to }))) part.vtocs
-          ∙ put_put old.vtocs to.0 to.1 (Some (record { uid = uid; records = places }))
-          (Some (record { uid = uid; records = map_at new to })) store.vl;
-      flags = ap (λ (fs : List Bool). flags_taken fs (drop (n + 1) m)) flags_is
-          ∙ sym (at_place (flags_taken flags) m n (Some q) within some
-          ∙ ap (λ (place : Option ℕ). flags_taken (with_taken flags place) (drop (n + 1) m)) is)
-          ∙ part.flags;
-      places = ap (λ (fs : List Bool). take (n + 1) (map_at new to) ++ map_taken fs (drop (n + 1) m)) flags_is
-          ∙ front_more (take n places) (take (n + 1) (map_at new to)) (Some r)
+      records = cc (set-set old.records to.0 flags (set flags r true));
+      vtocs = cc (
+        renamed (entry_of now to) uid n r places (map_at new to) entry map_is,
+        put_put old.vtocs to.0 to.1
+            (Some (record { uid = uid; records = places })) (Some (record { uid = uid; records = map_at new to }))
+            store.vl,
+      );
+      flags = cc (at_place (flags_taken flags) m n (Some q) within some);
+      places = cc (front_more (take n places) (take (n + 1) (map_at new to)) (Some r)
           (map_taken (set flags r true) (drop (n + 1) m)) (map_taken flags (drop n m))
-          (ap (take (n + 1)) map_is ∙ take_more_set places n (Some r) there)
-          (at_place (map_taken flags) m n (Some q) within some
-          ∙ ap (λ (place : Option ℕ). place ∷ map_taken (with_taken flags place) (drop (n + 1) m)) is)
-          ∙ part.places;
-      blank = λ p late. ap (λ (ps : List (Option ℕ)). get_or ps p None) map_is
-          ∙ get_or-set_other places n p (Some r) None (λ same. absurd (omega (arith, late, same)))
-          ∙ part.blank p (omega (arith, late));
+          (ap (take (n + 1)) map_is ∙ take_more_set places n (Some r) there) (at_place (map_taken flags) m n (Some q)
+          within some ∙ ap (λ (place : Option ℕ). place ∷ map_taken (with_taken flags place) (drop (n + 1) m)) is));
+      blank = λ p late. cc (
+        get_or-set_other places n p (Some r) None (λ same. absurd (omega (arith, late, same))),
+        part.blank p (omega (arith, late)),
+      );
       room = omega (arith, used_is, more, size_is, fewer, part.room);
-      size = size_is ∙ part.size;
-      long = ap length map_is ∙ length-set places n (Some r) ∙ part.long;
+      size = cc;
+      long = cc (length-set places n (Some r));
     }
 
 -- the page's place, where it is known
 place_kept : {D : Type 0} {old now : Vols D} {uid n : ℕ} {from to : ℕ × ℕ} (place : Option ℕ) → CanStore old from to
-    → IsPartBegun old now uid from to n
-    → place_at now from n ≡ place → place_at old from n ≡ place
-place_kept {n = n} place store part is =
-    sym (ap (λ (entry : Option Entry). get_or (records_in entry) n None) (entry_kept store part)) ∙ is
+    → IsPartBegun old now uid from to n → place_at now from n ≡ place → place_at old from n ≡ place
+place_kept {n = n} place store part is = cc (entry_kept store part)
 
 -- there is a record for a page that the old file map names
 room_left : {D : Type 0} (old now : Vols D) (uid n q : ℕ) (from to : ℕ × ℕ) → CanStore old from to
     → IsPartBegun old now uid from to n → n < 256 → place_at old from n ≡ Some q
     → used_at now to.0 < length (records_at now to.0)
 room_left old now uid n q from to store part lt is =
-    let fewer = some_more [] (map_at old from) n q (omega (arith, lt, store.pages)) is in
-    omega (arith, fewer, part.room)
+    let fewer = some_more [] (map_at old from) n q (omega arith) is in
+    omega arith
 
 pub has_room : {D : Type 0} {old now : Vols D} {uid n : ℕ} {from to : ℕ × ℕ} → CanStore old from to
     → IsPartBegun old now uid from to n → n < 256 → IsSome (place_at now from n)
@@ -194,8 +170,7 @@ has_room {old = old} {now = now} {uid = uid} {n = n} {from = from} {to = to} sto
 
 -- one page more, as the call of it says
 pub begun_more : {D : Type 0} {old now : Vols D} {uid n : ℕ} {from to : ℕ × ℕ} (new : Vols D) → CanStore old from to
-    → IsPartBegun old now uid from to n → n < 256
-    → (place_at now from n ≡ None → new ≡ now)
+    → IsPartBegun old now uid from to n → n < 256 → (place_at now from n ≡ None → new ≡ now)
     → (IsSome (place_at now from n) → new ≡ page_stored now to n (least_free (records_at now to.0)))
     → IsPartBegun old new uid from to (n + 1)
 begun_more {old = old} {now = now} {uid = uid} {n = n} {from = from} {to = to} new store part lt none some =
@@ -207,30 +182,19 @@ begun_more {old = old} {now = now} {uid = uid} {n = n} {from = from} {to = to} n
         let there : IsSome (place_at now from n) = rw is refl in
         let same : place_at old from n ≡ Some q = place_kept (Some q) store part is in
         let found = least_there (records_at now to.0) (has_room store part lt there) in
-        subst (λ (x : Vols _). IsPartBegun old x uid from to (n + 1))
-        (sym (some there ∙ ap (page_stored now to n) found.1))
-        (stored old now uid n q found.0 from to store part lt same found.1)
+        rw (some there ∙ ap (page_stored now to n) found.1) (stored old now uid n q found.0 from to store part lt same
+        found.1)
 
 -- ---- all pages
 
 pub begun_end : {D : Type 0} {old now : Vols D} {uid n v e : ℕ} {from : ℕ × ℕ} → CanStore old from (v, e)
-    → IsPartBegun old now uid from (v, e) n
-    → n ≡ 256 → e ≡ entry_for old v → now ≡ begun old uid from v
+    → IsPartBegun old now uid from (v, e) n → n ≡ 256 → e ≡ entry_for old v → now ≡ begun old uid from v
 begun_end {old = old} {now = now} {uid = uid} {n = n} {v = v} {e = e} {from = from} store part last entry =
     let m : List (Option ℕ) = map_at old from in
     let flags : List Bool = records_at now v in
-    let none : drop n m ≡ [] = drop_all n m (omega (arith, last, store.pages)) in
-    let flags_is : flags ≡ flags_taken (records_at old v) m =
-    ap (flags_taken flags) (sym none) ∙ part.flags in
-    let map_is : map_at now (v, e) ≡ map_taken (records_at old v) m =
-    sym (append-nil (map_at now (v, e)))
-    ∙ ap (λ (xs : List (Option ℕ)). xs ++ []) (sym (take_all n (map_at now (v, e)) (omega (arith, last, part.long))))
-    ∙ ap (λ (xs : List (Option ℕ)). take n (map_at now (v, e)) ++ map_taken flags xs) (sym none)
-    ∙ part.places in
-    vols_same now (begun old uid from v) part.drives
-    (part.records ∙ ap (set old.records v) flags_is)
-    (part.vtocs
-    ∙ ap (λ (places : List (Option ℕ)). set old.vtocs v (set (vtoc_at old v) e
-    (Some (record { uid = uid; records = places })))) map_is
-    ∙ ap (λ (place : ℕ). set old.vtocs v (set (vtoc_at old v) place
-    (Some (record { uid = uid; records = map_taken (records_at old v) m })))) entry)
+    let none : drop n m ≡ [] = drop_all n m (omega arith) in
+    let flags_is : flags ≡ flags_taken (records_at old v) m = ap (flags_taken flags) (sym none) ∙ part.flags in
+    let map_is : map_at now (v, e) ≡ map_taken (records_at old v) m = sym (append-nil (map_at now (v, e)))
+    ∙ ap (λ (xs : List (Option ℕ)). xs ++ []) (sym (take_all n (map_at now (v, e)) (omega arith)))
+    ∙ ap (λ (xs : List (Option ℕ)). take n (map_at now (v, e)) ++ map_taken flags xs) (sym none) ∙ part.places in
+    vols_same now (begun old uid from v) part.drives (cc) (cc)

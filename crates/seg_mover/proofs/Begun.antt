@@ -1,14 +1,15 @@
 -- What a move that began leaves.
-use Rattle.seg_mover.proofs.Prelude.{◌≡◌, ℕ, ◌+◌, ◌<◌, Bool, cond, List, [], length, Option, None, Some, is_some, refl, sym, ap, ◌∙◌, arith, get_or, set, subst, count_by, map, get_or-set_same, get_or-set_other, set-set, set-get_or, length-map, sum_by-set, Entry, uid_of, records_in, IsLeastFreeEntry, Vols, HasParts, records_at, used_at, vtoc_at, KeepsTables, entry_of, uid_at, map_at, place_at, AreKept, AddsRecords, flags_taken, map_taken, flags_given, CanBegin, IsMoving, KeepsOthersThan, begun, entry_for, given_back, put, put_here, put_other, put_put, list_within}
+use Rattle.seg_mover.proofs.Prelude.{◌≡◌, ℕ, ◌+◌, ◌<◌, Bool, cond, List, [], length, Option, None, Some, is_some, refl, sym, ap, ◌∙◌, arith, get_or, set, count_by, map, get_or-set_same, get_or-set_other, set-set, set-get_or, length-map, sum_by-set, Entry, uid_of, records_in, IsLeastFreeEntry, Vols, HasParts, records_at, used_at, vtoc_at, KeepsTables, entry_of, uid_at, map_at, place_at, AreKept, AddsRecords, flags_taken, map_taken, CanBegin, IsMoving, KeepsOthersThan, begun, entry_for, given_back, put, put_here, put_other, put_put, list_within}
 use Rattle.seg_mover.proofs.Records.{HasTaken, has_taken}
 
 -- each volume has a map of its records
 pub records_there : {D : Type 0} (pages : D → List (List ℕ)) (vols : Vols D) (v : ℕ)
     → HasParts (map pages vols.drives) vols.records vols.vtocs → v < length vols.drives → v < length vols.records
-records_there pages vols v parts lt =
-    let many : length vols.records ≡ length vols.drives = sym (length-map vols.records length) ∙ ap length parts.sizes
-    ∙ length-map (map pages vols.drives) length ∙ length-map vols.drives pages in
-    omega (arith, many, lt)
+records_there pages vols v parts lt = omega (
+  arith,
+  sym (length-map vols.records length) ∙ ap length parts.sizes ∙ length-map (map pages vols.drives)
+      length ∙ length-map vols.drives pages,
+)
 
 -- what the volumes were, and what they are now
 pub record Begins {D : Type 0} (old now : Vols D) (uid : ℕ) (from to : ℕ × ℕ) : Type 0 where
@@ -23,16 +24,14 @@ pub record Begins {D : Type 0} (old now : Vols D) (uid : ℕ) (from to : ℕ × 
 pub begins : {D : Type 0} {old : Vols D} {uid v e : ℕ} {from : ℕ × ℕ} (now : Vols D) → CanBegin old uid from v
     → IsLeastFreeEntry (vtoc_at old v) e
     → v < length old.records → now ≡ begun old uid from v → e ≡ entry_for old v → Begins old now uid from (v, e)
-begins {old = old} {uid = uid} {v = v} {e = e} {from = from} now can least there is number = record {
-  can = can;
-  least = least;
-  there = there;
-  drives = ap (λ (s : Vols _). s.drives) is;
-  records = ap (λ (s : Vols _). s.records) is;
-  vtocs = ap (λ (s : Vols _). s.vtocs) is
-      ∙ ap (λ (place : ℕ). put old.vtocs v place
-      (Some (record { uid = uid; records = map_taken (records_at old v) (map_at old from) }))) (sym number);
-}
+begins {old = old} {uid = uid} {v = v} {e = e} {from = from} now can least there is number = assumption (
+  ap (λ (s : Vols _). s.drives) is,
+  ap (λ (s : Vols _). s.records) is,
+  ap (λ (s : Vols _). s.vtocs) is ∙ ap (λ (place : ℕ). put old.vtocs v place (Some (record {
+    uid = uid;
+    records = map_taken (records_at old v) (map_at old from);
+  }))) (sym number),
+)
 
 vtoc_there : {D : Type 0} {old now : Vols D} {uid : ℕ} {from to : ℕ × ℕ} → Begins old now uid from to
     → to.0 < length old.vtocs
@@ -40,11 +39,10 @@ vtoc_there {old = old} {to = to} h = list_within old.vtocs to.0 to.1 h.least.wit
 
 entry_is : {D : Type 0} {old now : Vols D} {uid : ℕ} {from to : ℕ × ℕ} → Begins old now uid from to
     → entry_of now to ≡ Some (record { uid = uid; records = map_taken (records_at old to.0) (map_at old from) })
-entry_is {old = old} {uid = uid} {from = from} {to = to} h =
-    ap (λ (vtocs : List (List (Option Entry))). get_or (get_or vtocs to.0 []) to.1 None) h.vtocs
-    ∙ put_here old.vtocs to.0 to.1
-    (Some (record { uid = uid; records = map_taken (records_at old to.0) (map_at old from) })) None (vtoc_there h)
-    h.least.within
+entry_is {old = old} {uid = uid} {from = from} {to = to} h = cc (put_here old.vtocs to.0 to.1 (Some (record {
+  uid = uid;
+  records = map_taken (records_at old to.0) (map_at old from);
+})) None (vtoc_there h) h.least.within)
 
 map_is : {D : Type 0} {old now : Vols D} {uid : ℕ} {from to : ℕ × ℕ} → Begins old now uid from to
     → map_at now to ≡ map_taken (records_at old to.0) (map_at old from)
@@ -53,8 +51,7 @@ map_is h = ap records_in (entry_is h)
 flags_are : {D : Type 0} {old now : Vols D} {uid : ℕ} {from to : ℕ × ℕ} → Begins old now uid from to
     → records_at now to.0 ≡ flags_taken (records_at old to.0) (map_at old from)
 flags_are {old = old} {from = from} {to = to} h =
-    ap (λ (rs : List (List Bool)). get_or rs to.0 []) h.records
-    ∙ get_or-set_same old.records to.0 (flags_taken (records_at old to.0) (map_at old from)) [] h.there
+    rw h.records (get_or-set_same old.records to.0 (flags_taken (records_at old to.0) (map_at old from)) [] h.there)
 
 taken : {D : Type 0} {old now : Vols D} {uid : ℕ} {from to : ℕ × ℕ} → Begins old now uid from to
     → HasTaken (records_at old to.0) (map_at old from)
@@ -81,9 +78,7 @@ begun_uid h = ap uid_of (entry_is h)
 
 pub begun_same : {D : Type 0} {old now : Vols D} {uid : ℕ} {from to : ℕ × ℕ} → Begins old now uid from to → (p : ℕ)
     → is_some (place_at now to p) ≡ is_some (place_at now from p)
-begun_same h p =
-    ap (λ (places : List (Option ℕ)). is_some (get_or places p None)) (map_is h) ∙ (taken h).same p
-    ∙ sym (ap (λ (entry : Option Entry). is_some (get_or (records_in entry) p None)) (from_kept h))
+begun_same h p = rw (map_is h) (cc ((taken h).same p, from_kept h))
 
 pub begun_adds : {D : Type 0} {old now : Vols D} {uid : ℕ} {from to : ℕ × ℕ} → Begins old now uid from to
     → AddsRecords (records_at old to.0) (records_at now to.0) (map_at now to)
@@ -91,7 +86,7 @@ begun_adds h = rw (flags_are h, map_is h) (taken h).adds
 
 pub begun_count : {D : Type 0} {old now : Vols D} {uid : ℕ} {from to : ℕ × ℕ} → Begins old now uid from to
     → used_at now to.0 ≡ used_at old to.0 + count_by is_some (map_at old from)
-begun_count h = ap (count_by (λ (flag : Bool). flag)) (flags_are h) ∙ (taken h).count
+begun_count h = cc (flags_are h, (taken h).count)
 
 -- one entry more is used
 entry_more : (table : List (Option Entry)) (e : ℕ) (x : Entry) → IsLeastFreeEntry table e
@@ -100,14 +95,13 @@ entry_more table e x least =
     let step = sum_by-set (λ (entry : Option Entry). cond {A = ℕ} (is_some entry) 1 0) table e (Some x) None
     least.within in
     let none : cond {A = ℕ} (is_some (get_or table e None)) 1 0 ≡ 0 = rw least.free refl in
-    omega (arith, step, none)
+    omega arith
 
 pub begun_entries : {D : Type 0} {old now : Vols D} {uid : ℕ} {from to : ℕ × ℕ} → Begins old now uid from to
     → count_by is_some (vtoc_at now to.0) ≡ count_by is_some (vtoc_at old to.0) + 1
 begun_entries {old = old} {to = to} h =
-    ap (λ (vtocs : List (List (Option Entry))). count_by is_some (get_or vtocs to.0 [])) h.vtocs
-    ∙ ap (count_by is_some) (get_or-set_same old.vtocs to.0 _ [] (vtoc_there h))
-    ∙ entry_more (vtoc_at old to.0) to.1 _ h.least
+    rw h.vtocs (ap (count_by is_some) (get_or-set_same old.vtocs to.0 _ [] (vtoc_there h))
+    ∙ entry_more (vtoc_at old to.0) to.1 _ h.least)
 
 pub begun_moving : {D : Type 0} {old now : Vols D} {uid : ℕ} {from to : ℕ × ℕ} → Begins old now uid from to
     → AreKept (records_at old from.0) (map_at old from)
@@ -116,13 +110,10 @@ begun_moving {old = old} {now = now} {uid = uid} {from = from} {to = to} h kept 
   source = rw h.drives h.can.source;
   target = rw h.drives h.can.target;
   other = h.can.other;
-  old_used = ap uid_of (from_kept h) ∙ h.can.used;
+  old_used = cc (from_kept h);
   new_used = begun_uid h;
   same = begun_same h;
-  old_kept = subst (λ (places : List (Option ℕ)). AreKept (records_at now from.0) places)
-      (sym (ap records_in (from_kept h)))
-      (subst (λ (flags : List Bool). AreKept flags (map_at old from))
-      (sym ((begun_others h).records from.0 h.can.other)) kept);
+  old_kept = rw (ap records_in (from_kept h)) (rw ((begun_others h).records from.0 h.can.other) kept);
   new_kept = (begun_adds h).kept;
 }
 
@@ -130,20 +121,17 @@ begun_moving {old = old} {now = now} {uid = uid} {from = from} {to = to} h kept 
 pub begun_back : {D : Type 0} {old now : Vols D} {uid : ℕ} {from to : ℕ × ℕ} → Begins old now uid from to
     → (then : Vols D) → KeepsTables now then → KeepsTables old (given_back then to)
 begun_back {old = old} {now = now} {uid = uid} {from = from} {to = to} h then kept = record {
-  records = ap (λ (vtocs : List (List (Option Entry))). set then.records to.0
-      (flags_given (records_at then to.0) (records_in (get_or (get_or vtocs to.0 []) to.1 None)))) kept.vtocs
-      ∙ ap (λ (rs : List (List Bool)). set rs to.0 (flags_given (get_or rs to.0 []) (map_at now to))) kept.records
-      ∙ ap (λ (flags : List Bool). set now.records to.0 (flags_given flags (map_at now to))) (flags_are h)
-      ∙ ap (λ (places : List (Option ℕ)). set now.records to.0
-      (flags_given (flags_taken (records_at old to.0) (map_at old from)) places)) (map_is h)
-      ∙ ap (set now.records to.0) (taken h).back
-      ∙ ap (λ (rs : List (List Bool)). set rs to.0 (records_at old to.0)) h.records
-      ∙ set-set old.records to.0 (flags_taken (records_at old to.0) (map_at old from)) (records_at old to.0)
-      ∙ set-get_or old.records to.0 [];
-  vtocs = ap (λ (vtocs : List (List (Option Entry))). put vtocs to.0 to.1 None) (kept.vtocs ∙ h.vtocs)
-      ∙ put_put old.vtocs to.0 to.1
-      (Some (record { uid = uid; records = map_taken (records_at old to.0) (map_at old from) })) None (vtoc_there h)
-      ∙ ap (λ (entry : Option Entry). put old.vtocs to.0 to.1 entry) (sym h.least.free)
-      ∙ ap (set old.vtocs to.0) (set-get_or (vtoc_at old to.0) to.1 None)
-      ∙ set-get_or old.vtocs to.0 [];
+  records = rw (kept.vtocs, kept.records, flags_are h, map_is h) (cc (
+    (taken h).back,
+    set-set old.records to.0 (flags_taken (records_at old to.0) (map_at old from)) (records_at old to.0),
+    set-get_or old.records to.0 [],
+  ));
+  vtocs = cc (
+    put_put old.vtocs to.0 to.1 (Some (record {
+      uid = uid;
+      records = map_taken (records_at old to.0) (map_at old from);
+    })) None (vtoc_there h),
+    set-get_or (vtoc_at old to.0) to.1 None,
+    set-get_or old.vtocs to.0 [],
+  );
 }

@@ -1,14 +1,14 @@
 -- What one copy does: a read of one drive, and a write of another.
-use Rattle.seg_mover.proofs.Prelude.{◌≡◌, ◌⊎◌, ℕ, ◌≤◌, List, length, Result, Ok, Err, ap, ◌∙◌, arith, get_or, map, inl, inr, sum_by, OnOk, OnErr, subst, Rose, IsOneMore, faults_at, KeepsOthers, FailedAt, CallsDrives, sum_of_map, seen_same}
+use Rattle.seg_mover.proofs.Prelude.{◌≡◌, ◌⊎◌, ℕ, ◌≤◌, List, length, Result, Ok, Err, ap, ◌∙◌, arith, get_or, map, inl, inr, sum_by, OnOk, OnErr, Rose, IsOneMore, faults_at, KeepsOthers, FailedAt, CallsDrives, sum_of_map, seen_same}
 
 -- the read failed
-pub read_failed : {D Plan T E : Type 0} (plan : D → Plan) (places faults : D → ℕ) (old new : List D) (v w : ℕ)
+pub read_failed : {D Plan T E : Type 0} (plan : D → Plan) (places faults : D → ℕ) {old new : List D} {v : ℕ} (w : ℕ)
     (result : Result T E) (e : E) → result ≡ Err e → map plan new ≡ map plan old → map places new ≡ map places old
     → length new ≡ length old → KeepsOthers old new v → sum_by faults old ≤ sum_by faults new
     → IsOneMore (faults_at faults old v) (faults_at faults new v)
     → Rose (faults_at faults old v) (faults_at faults new v) → Rose (sum_by faults old) (sum_by faults new)
     → CallsDrives plan places faults old new v w result
-read_failed plan places faults old new v w result e is plans stores count others grows once its rose = rw is (record {
+read_failed plan places faults {old} {new} w result e is plans stores count others grows once its rose = rw is (record {
   plans = plans;
   stores = stores;
   count = count;
@@ -34,8 +34,8 @@ failed_then faults old mid new v w (Err e) told others once its =
     let at : (u : ℕ) → faults_at faults mid u ≡ faults_at faults old u = λ u.
     ap (λ (counts : List ℕ). get_or counts u 0) told in
     inr (record {
-      once = subst (λ (n : ℕ). IsOneMore n (faults_at faults new w)) (at w) once;
-      rose = subst (λ (n : ℕ). Rose n (faults_at faults new w)) (at w) its;
+      once = rw (at w) at once;
+      rose = rw (at w) at its;
       others = λ u other. seen_same faults mid new u (others.same u other) ∙ at u;
     })
 
@@ -49,8 +49,7 @@ rose_then : {D T E : Type 0} (faults : D → ℕ) (old mid new : List D) (result
     → map faults mid ≡ map faults old → OnErr result (Rose (sum_by faults mid) (sum_by faults new))
     → OnErr result (Rose (sum_by faults old) (sum_by faults new))
 rose_then faults old mid new (Ok x) told rose = tt
-rose_then faults old mid new (Err e) told rose =
-    subst (λ (n : ℕ). Rose n (sum_by faults new)) (sum_of_map faults old mid told) rose
+rose_then faults old mid new (Err e) told rose = rw (sum_of_map faults old mid told) at rose
 
 pub read_then : {D Plan T E : Type 0} (plan : D → Plan) (places faults : D → ℕ) (old mid new : List D) (v w : ℕ)
     (result : Result T E) → map plan mid ≡ map plan old → map places mid ≡ map places old → length mid ≡ length old
@@ -62,11 +61,11 @@ pub read_then : {D Plan T E : Type 0} (plan : D → Plan) (places faults : D →
     → OnErr result (Rose (sum_by faults mid) (sum_by faults new)) → CallsDrives plan places faults old new v w result
 read_then plan places faults old mid new v w result plans stores count others told plans2 stores2 count2 others2 grows
     told2 once its rose = record {
-      plans = plans2 ∙ plans;
-      stores = stores2 ∙ stores;
-      count = count2 ∙ count;
+      plans = cc;
+      stores = cc;
+      count = cc;
       others = λ u notv notw. others2.same u notw ∙ others.same u notv;
-      grows = omega (arith, grows, sum_of_map faults old mid told);
+      grows = omega (arith, sum_of_map faults old mid told);
       told = told_then faults old mid new result told told2;
       failed = failed_then faults old mid new v w result told others2 once its;
       rose = rose_then faults old mid new result told rose;

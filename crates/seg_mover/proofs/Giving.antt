@@ -5,8 +5,7 @@ use Rattle.seg_mover.proofs.Places.{vtoc_within, still_used, entry_placed, map_p
 
 -- one page more
 given_one : {D : Type 0} (now : Vols D) (home : ℕ × ℕ) (n r : ℕ) → place_at now home n ≡ Some r
-    → IsSome (entry_of now home)
-    → home.0 < length now.records
+    → IsSome (entry_of now home) → home.0 < length now.records
     → given_back (with_place (with_record_used now home.0 r false) home n None) home ≡ given_back now home
 given_one now home n r is used rl =
     let mid : Vols _ = with_record_used now home.0 r false in
@@ -14,12 +13,9 @@ given_one now home n r is used rl =
     let flags : List Bool = records_at now home.0 in
     let places : List (Option ℕ) = map_at now home in
     let given : flags_given (records_at new home.0) (map_at new home) ≡ flags_given flags places =
-    ap (λ (fs : List Bool). flags_given fs (map_at new home)) (flags_used now home.0 r false rl)
-    ∙ ap (flags_given (set flags r false)) (map_placed mid home n None used)
-    ∙ given_less flags places n r is in
+    rw (flags_used now home.0 r false rl) (cc (map_placed mid home n None used, given_less flags places n r is)) in
     vols_same (given_back new home) (given_back now home) refl
-    (ap (set new.records home.0) given
-    ∙ set-set now.records home.0 (set flags r false) (flags_given flags places))
+    (cc (set-set now.records home.0 (set flags r false) (flags_given flags places)))
     (put_put now.vtocs home.0 home.1 (with_record (entry_of now home) n None) None (vtoc_within now home used))
 
 more_gone : (old new : List (Option ℕ)) (n : ℕ) → ((p : ℕ) → p < n → get_or old p None ≡ None)
@@ -27,14 +23,13 @@ more_gone : (old new : List (Option ℕ)) (n : ℕ) → ((p : ℕ) → p < n →
     → get_or new p None ≡ None
 more_gone old new n gone same here p lt = elim (cases_eq p n) [
   | inl at ↦ ap (λ (q : ℕ). get_or new q None) at ∙ here
-  | inr other ↦ same p other ∙ gone p (omega (arith, lt, other))
+  | inr other ↦ same p other ∙ gone p (omega arith)
 ]
 
 none_here : (places : List (Option ℕ)) (n : ℕ) → get_or (set places n None) n None ≡ None
 none_here places n = elim (below_or_past n (length places)) [
   | inl lt ↦ get_or-set_same places n None None lt
-  | inr past ↦ ap (λ (ps : List (Option ℕ)). get_or ps n None) (set_past places n None past)
-      ∙ get_or_past places n None past
+  | inr past ↦ rw (set_past places n None past) (get_or_past places n None past)
 ]
 
 given_some_more : {D : Type 0} (old now new : Vols D) (home : ℕ × ℕ) (n r : ℕ) → IsPartGiven old now home n
@@ -44,17 +39,14 @@ given_some_more old now new home n r part is now_is =
     let mid : Vols _ = with_record_used now home.0 r false in
     let flags : List Bool = records_at now home.0 in
     let places : List (Option ℕ) = map_at now home in
-    let rl : home.0 < length now.records =
-    records_within now home.0 r (flag_within flags r (part.kept.used n r is)) in
+    let rl : home.0 < length now.records = records_within now home.0 r (flag_within flags r (part.kept.used n r is)) in
     let map_is : map_at (with_place mid home n None) home ≡ set places n None = map_placed mid home n None part.used in
     rw now_is (record {
       used = rw (entry_placed mid home n None part.used) (still_used (entry_of now home) n None part.used);
-      kept = rw (flags_used now home.0 r false rl, map_is) (kept_less flags places n r is part.kept);
+      kept = rw (flags_used now home.0 r false rl, map_is) (kept_less n r is part.kept);
       rest = given_one now home n r is part.used rl ∙ part.rest;
       gone = more_gone places (map_at (with_place mid home n None) home) n part.gone
-          (λ p other. ap (λ (ps : List (Option ℕ)). get_or ps p None) map_is
-          ∙ get_or-set_other places n p None None other)
-          (ap (λ (ps : List (Option ℕ)). get_or ps n None) map_is ∙ none_here places n);
+          (λ p other. cc (get_or-set_other places n p None None other)) (cc (none_here places n));
     })
 
 by_place : {D : Type 0} (old now new : Vols D) (home : ℕ × ℕ) (n : ℕ) (place : Option ℕ) → IsPartGiven old now home n
@@ -78,7 +70,7 @@ pub names_none : {D : Type 0} {old now : Vols D} {home : ℕ × ℕ} → IsPartG
 names_none {now = now} {home = home} part full = record {
   none = λ p. elim (below_or_past p 256) [
     | inl lt ↦ part.gone p lt
-    | inr past ↦ get_or_past (map_at now home) p None (let long = full.places home.1 in omega (arith, long, past))
+    | inr past ↦ get_or_past (map_at now home) p None (omega (arith, full.places home.1))
   ];
 }
 
@@ -87,14 +79,13 @@ pub given_end : {D : Type 0} {old now : Vols D} {home : ℕ × ℕ} (new : Vols 
     → new ≡ with_vtoc now home.0 (set (vtoc_at now home.0) home.1 None) → new ≡ given_back old home
 given_end {old = old} {now = now} {home = home} new part full is =
     let flags : List Bool = records_at now home.0 in
-    is ∙ vols_same (with_vtoc now home.0 (set (vtoc_at now home.0) home.1 None)) (given_back now home) refl
-    (sym (ap (set now.records home.0) (given_none flags (map_at now home) (names_none part full).none)
-    ∙ set-get_or now.records home.0 [])) refl
-    ∙ part.rest
+    cc (vols_same (with_vtoc now home.0 (set (vtoc_at now home.0) home.1 None)) (given_back now home) refl
+    (sym (ap (set now.records home.0) (given_none flags (map_at now home) (names_none part full).none) ∙ set-get_or
+    now.records home.0 [])) refl)
 
 pub all_given : {D : Type 0} {old now : Vols D} {home : ℕ × ℕ} {n : ℕ} → IsPartGiven old now home n → n ≡ 256
     → IsPartGiven old now home 256
-all_given {old = old} {now = now} {home = home} part last = subst (IsPartGiven old now home) last part
+all_given {old = old} {now = now} {home = home} part last = rw (← last) part
 
 pub full_same : {table those : List (Option Entry)} → HasFullMaps table → table ≡ those → HasFullMaps those
 full_same full same = subst HasFullMaps same full

@@ -26,8 +26,7 @@ entry_placed vols home p place used =
 
 pub map_placed : {D : Type 0} (vols : Vols D) (home : ℕ × ℕ) (p : ℕ) (place : Option ℕ) → IsSome (entry_of vols home)
     → map_at (with_place vols home p place) home ≡ set (map_at vols home) p place
-map_placed vols home p place used =
-    ap records_in (entry_placed vols home p place used) ∙ map_with (entry_of vols home) p place used
+map_placed vols home p place used = cc (entry_placed vols home p place used, map_with (entry_of vols home) p place used)
 
 -- a record whose flag is known stands on a volume that is there
 pub records_within : {D : Type 0} (vols : Vols D) (v r : ℕ) → r < length (records_at vols v) → v < length vols.records

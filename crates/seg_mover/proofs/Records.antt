@@ -9,16 +9,18 @@ all_counted p (x ∷ xs) all =
     let passes : p x ≡ true = All-head (λ y. p y ≡ true) x xs all in
     let one : cond {A = ℕ} (p x) 1 0 ≡ 1 = rw passes refl in
     let step = sum_by-cons (λ y. cond (p y) 1 0) x xs in
-    omega (arith, step, one, ih)
+    omega arith
 
 pub not_full : {X : Type 0} (those xs : List (Option X)) → those ≡ xs → count_by is_some xs < length xs
     → All (λ x. is_some x ≡ true) those → ⊥
-not_full those xs same few all = let full : count_by is_some xs ≡ length xs =
-    sym (ap (count_by is_some) same) ∙ all_counted is_some those all ∙ ap length same in omega (arith, full, few)
+not_full those xs same few all = omega (
+  arith,
+  sym (ap (count_by is_some) same) ∙ all_counted is_some those all ∙ ap length same,
+)
 
 pub not_all : (flags : List Bool) → count_by (λ flag. flag) flags < length flags → All (λ flag. flag ≡ true) flags → ⊥
 not_all flags few all = let full : count_by (λ (flag : Bool). flag) flags ≡ length flags =
-    all_counted (λ flag. flag) flags all in omega (arith, full, few)
+    all_counted (λ flag. flag) flags all in omega arith
 
 -- ---- the least free record
 
@@ -28,8 +30,8 @@ least_there flags few = elim (below_or_past (position_or_len not flags) (length 
   | inl lt ↦ (position_or_len not flags, rw (lt-ltb (position_or_len not flags) (length flags) lt) refl)
   | inr past ↦ absurd (let full : count_by (λ (flag : Bool). flag) flags ≡ length flags =
       all_counted (λ flag. flag) flags (λ k d lt. by_not (get_or flags k d)
-      (fails_before_first not flags k d (omega (arith, lt, past)))) in
-      omega (arith, full, few))
+      (fails_before_first not flags k d (omega arith))) in
+      omega arith)
 ]
 
 pub least_is : (flags : List Bool) (r : ℕ) → least_free flags ≡ Some r → IsLeastFree flags r
@@ -50,7 +52,7 @@ taken_same flags r lt = get_or-set_same flags r true false lt
 pub given_same : (flags : List Bool) (r : ℕ) → in_use (set flags r false) r ≡ false
 given_same flags r = elim (below_or_past r (length flags)) [
   | inl lt ↦ get_or-set_same flags r false false lt
-  | inr past ↦ ap (λ (fs : List Bool). in_use fs r) (set_past flags r false past) ∙ get_or_past flags r false past
+  | inr past ↦ rw (set_past flags r false past) (get_or_past flags r false past)
 ]
 
 pub other_same : (flags : List Bool) (r s : ℕ) (flag : Bool) → s ≢ r → in_use (set flags r flag) s ≡ in_use flags s
@@ -65,13 +67,13 @@ still_taken flags r s lt on = elim (cases_eq s r) [
 
 -- what is taken and given back is as it was
 pub off_again : (flags : List Bool) (r : ℕ) → in_use flags r ≡ false → set (set flags r true) r false ≡ flags
-off_again flags r off = set-set flags r true false ∙ ap (set flags r) (sym off) ∙ set-get_or flags r false
+off_again flags r off = cc (set-set flags r true false, set-get_or flags r false)
 
 -- ---- the records that are taken
 
-adds_none : (less more : List Bool) (places : List (Option ℕ)) → AddsRecords less more places
+adds_none : {less more : List Bool} {places : List (Option ℕ)} → AddsRecords less more places
     → AddsRecords less more (None ∷ places)
-adds_none less more places adds = record {
+adds_none {less} {more} {places} adds = record {
   size = adds.size;
   fresh = fresh;
   kept = record { used = used; once = once };
@@ -92,10 +94,9 @@ adds_none less more places adds = record {
     once (suc p) zero r is it = cc
     once (suc p) (suc q) r is it = ap suc (adds.kept.once p q r is it)
 
-adds_some : (less more : List Bool) (places : List (Option ℕ)) (r : ℕ) → r < length less → in_use less r ≡ false
-    → AddsRecords (set less r true) more places
-    → AddsRecords less more (Some r ∷ places)
-adds_some less more places r lt off adds = record {
+adds_some : (less : List Bool) {more : List Bool} {places : List (Option ℕ)} (r : ℕ) → r < length less
+    → in_use less r ≡ false → AddsRecords (set less r true) more places → AddsRecords less more (Some r ∷ places)
+adds_some less {more} {places} r lt off adds = record {
   size = adds.size ∙ length-set less r true;
   fresh = fresh;
   kept = record { used = used; once = once };
@@ -116,14 +117,14 @@ adds_some less more places r lt off adds = record {
     apart p is = off_and_on (in_use (set less r true) r) (adds.fresh p r is) (taken_same less r lt)
 
     fresh : (p s : ℕ) → get_or (Some r ∷ places) p None ≡ Some s → in_use less s ≡ false
-    fresh zero s is = ap (in_use less) (sym (some_same r s is)) ∙ off
+    fresh zero s is = cc (some_same r s is)
     fresh (suc p) s is = elim (cases_eq s r) [
       | inl same ↦ absurd (apart p (is ∙ ap Some same))
       | inr n ↦ sym (other_same less r s true n) ∙ adds.fresh p s is
     ]
 
     used : (p s : ℕ) → get_or (Some r ∷ places) p None ≡ Some s → in_use more s ≡ true
-    used zero s is = ap (in_use more) (sym (some_same r s is)) ∙ here
+    used zero s is = cc (some_same r s is, here)
     used (suc p) s is = adds.kept.used p s is
 
     once : (p q s : ℕ) → get_or (Some r ∷ places) p None ≡ Some s → get_or (Some r ∷ places) q None ≡ Some s → p ≡ q
@@ -139,8 +140,7 @@ given_set : (flags : List Bool) (places : List (Option ℕ)) (r : ℕ) → flags
     ≡ set (flags_given flags places) r false
 given_set flags [] r = refl
 given_set flags (None ∷ places) r = given_set flags places r
-given_set flags (Some s ∷ places) r = ap (λ (fs : List Bool). flags_given fs places) (given_twice flags r s)
-    ∙ given_set (set flags s false) places r
+given_set flags (Some s ∷ places) r = rw (given_twice flags r s) (given_set (set flags s false) places r)
 
 given_some : (flags : List Bool) (places : List (Option ℕ)) (place : Option ℕ) (r : ℕ) → place ≡ Some r
     → flags_given flags (place ∷ places) ≡ flags_given (set flags r false) places
@@ -152,8 +152,7 @@ given_less flags [] n r is = cc
 given_less flags (place ∷ places) zero r is = sym (given_some flags places place r is)
 given_less flags (None ∷ places) (suc n) r is = given_less flags places n r is
 given_less flags (Some s ∷ places) (suc n) r is =
-    ap (λ (fs : List Bool). flags_given fs (set places n None)) (given_twice flags r s)
-    ∙ given_less (set flags s false) places n r is
+    cc (given_twice flags r s, given_less (set flags s false) places n r is)
 
 pub given_none : (flags : List Bool) (places : List (Option ℕ)) → ((p : ℕ) → get_or places p None ≡ None)
     → flags_given flags places ≡ flags
@@ -165,18 +164,15 @@ given_none flags (Some r ∷ places) none = absurd (not_none (Some r) r (none 0)
 put_names : (places : List (Option ℕ)) (n p r : ℕ) → get_or (set places n None) p None ≡ Some r
     → (p ≢ n) × (get_or places p None ≡ Some r)
 put_names places n p r is = elim (cases_eq p n) [
-  | inl same ↦ absurd (not_none (get_or (set places n None) p None) r
-      (ap (λ (q : ℕ). get_or (set places n None) q None) same ∙ none_put places n)
-      is)
+  | inl same ↦ absurd (not_none (get_or (set places n None) p None) r (cc (none_put places n)) is)
   | inr other ↦ (other, sym (get_or-set_other places n p None None other) ∙ is)
 ]
 
-pub kept_less : (flags : List Bool) (places : List (Option ℕ)) (n r : ℕ) → get_or places n None ≡ Some r
+pub kept_less : {flags : List Bool} {places : List (Option ℕ)} (n r : ℕ) → get_or places n None ≡ Some r
     → AreKept flags places → AreKept (set flags r false) (set places n None)
-kept_less flags places n r there kept = record {
+kept_less {flags} {places} n r there kept = record {
   used = λ p s is. (let named = put_names places n p s is in
-      other_same flags r s false (λ same. named.0 (kept.once p n r (named.1 ∙ ap Some same) there))
-      ∙ kept.used p s named.1);
+      other_same flags r s false (λ same. named.0 (kept.once p n r (cc) there)) ∙ kept.used p s named.1);
   once = λ p q s is it. kept.once p q s (put_names places n p s is).1 (put_names places n q s it).1;
 }
 
@@ -199,7 +195,7 @@ given_at flags (None ∷ places) r = elim (given_at flags places r) [
 given_at flags (Some s ∷ places) r = elim (given_at (set flags s false) places r) [
   | inl named ↦ inl (suc named.0, named.1, named.2)
   | inr other ↦ elim (cases_eq r s) [
-    | inl same ↦ inl (0, ap Some (sym same), other.1 ∙ ap (in_use (set flags s false)) same ∙ given_same flags s)
+    | inl same ↦ inl (0, ap Some (sym same), cc (given_same flags s))
     | inr n ↦ inr (none other.0 n, other.1 ∙ other_same flags s r false n)
   ]
 ]
@@ -229,7 +225,7 @@ gives flags places kept = record {
   ];
   others = λ r on. elim (given_at flags places r) [
     | inl named ↦ inr (named.0, named.1)
-    | inr other ↦ inl (other.1 ∙ on)
+    | inr other ↦ inl (cc)
   ];
 }
 
@@ -264,10 +260,10 @@ taken_none flags = record {
 taken_more_none : (flags : List Bool) (places : List (Option ℕ)) → HasTaken flags places
     → HasTaken flags (None ∷ places)
 taken_more_none flags places h = record {
-  adds = adds_none flags (flags_taken flags places) (map_taken flags places) h.adds;
+  adds = adds_none h.adds;
   same = same;
   long = ap suc h.long;
-  count = omega (arith, h.count, sum_by-cons (λ (place : Option ℕ). cond {A = ℕ} (is_some place) 1 0) None places);
+  count = omega (arith, sum_by-cons (λ (place : Option ℕ). cond {A = ℕ} (is_some place) 1 0) None places);
   back = h.back;
 }
   where
@@ -286,19 +282,18 @@ with_some flags places q r is h =
     let map_is : map_taken flags (Some q ∷ places) ≡ Some r ∷ map_taken now places =
     ap (λ (place : Option ℕ). place ∷ map_taken (with_taken flags place) places) is in
     record {
-      adds = rw (flags_is, map_is) (adds_some flags (flags_taken now places) (map_taken now places) r least.within
-          least.free h.adds);
-      same = λ p. ap (λ (those : List (Option ℕ)). is_some (get_or those p None)) map_is ∙ same p;
-      long = ap length map_is ∙ ap suc h.long;
-      count = ap (count_by (λ (flag : Bool). flag)) flags_is
-          ∙ omega (
-            arith,
-            h.count,
-            count_with flags r least.within least.free,
-            sum_by-cons (λ (place : Option ℕ). cond {A = ℕ} (is_some place) 1 0) (Some q) places,
-          );
-      back = rw (flags_is, map_is) (given_set (flags_taken now places) (map_taken now places) r
-          ∙ ap (λ (fs : List Bool). set fs r false) h.back ∙ off_again flags r least.free);
+      adds = rw (flags_is, map_is) (adds_some flags r least.within least.free h.adds);
+      same = λ p. cc (same p);
+      long = cc;
+      count = ap (count_by (λ (flag : Bool). flag)) flags_is ∙ omega (
+        arith,
+        count_with flags r least.within least.free,
+        sum_by-cons (λ (place : Option ℕ). cond {A = ℕ} (is_some place) 1 0) (Some q) places,
+      );
+      back = rw (flags_is, map_is) (cc (
+        given_set (flags_taken now places) (map_taken now places) r,
+        off_again flags r least.free,
+      ));
     }
   where
     same : (p : ℕ) → is_some (get_or (Some r ∷ map_taken (set flags r true) places) p None)
@@ -311,37 +306,37 @@ pub has_taken : (flags : List Bool) (places : List (Option ℕ))
 has_taken flags [] room = taken_none flags
 has_taken flags (None ∷ places) room =
     let step = sum_by-cons (λ (place : Option ℕ). cond {A = ℕ} (is_some place) 1 0) None places in
-    taken_more_none flags places (has_taken flags places (omega (arith, step, room)))
+    taken_more_none flags places (has_taken flags places (omega arith))
 has_taken flags (Some q ∷ places) room =
     let step = sum_by-cons (λ (place : Option ℕ). cond {A = ℕ} (is_some place) 1 0) (Some q) places in
-    let found = least_there flags (omega (arith, step, room)) in
+    let found = least_there flags (omega arith) in
     let least : IsLeastFree flags found.0 = least_is flags found.0 found.1 in
     let more = count_with flags found.0 least.within least.free in
     with_some flags places q found.0 found.1
-    (has_taken (set flags found.0 true) places (omega (arith, step, room, more, length-set flags found.0 true)))
+    (has_taken (set flags found.0 true) places (omega (arith, length-set flags found.0 true)))
 
 -- ---- how many are given back
 
-kept_tail : (flags : List Bool) (place : Option ℕ) (places : List (Option ℕ)) → AreKept flags (place ∷ places)
+kept_tail : {flags : List Bool} (place : Option ℕ) (places : List (Option ℕ)) → AreKept flags (place ∷ places)
     → AreKept flags places
-kept_tail flags place places kept = record {
+kept_tail place places kept = record {
   used = λ p r is. kept.used (suc p) r is;
   once = λ p q r is it. suc_same p q (kept.once (suc p) (suc q) r is it);
 }
   where
     suc_same : (p q : ℕ) → suc p ≡ suc q → p ≡ q
-    suc_same p q same = omega (arith, same)
+    suc_same p q same = omega arith
 
 pub count_given : (flags : List Bool) (places : List (Option ℕ)) → AreKept flags places
     → count_by (λ flag. flag) (flags_given flags places) + count_by is_some places ≡ count_by (λ flag. flag) flags
 count_given flags [] kept = omega arith
 count_given flags (None ∷ places) kept =
     let step = sum_by-cons (λ (place : Option ℕ). cond {A = ℕ} (is_some place) 1 0) None places in
-    let ih = count_given flags places (kept_tail flags None places kept) in
-    omega (arith, step, ih)
+    omega (arith, count_given flags places (kept_tail None places kept))
 count_given flags (Some r ∷ places) kept =
     let step = sum_by-cons (λ (place : Option ℕ). cond {A = ℕ} (is_some place) 1 0) (Some r) places in
-    let less = count_without flags r (kept.used 0 r refl) in
-    let ih = count_given (set flags r false) places (kept_tail (set flags r false) None places
-    (kept_less flags (Some r ∷ places) 0 r refl kept)) in
-    omega (arith, step, less, ih)
+    omega (
+      arith,
+      count_without flags r (kept.used 0 r refl),
+      count_given (set flags r false) places (kept_tail None places (kept_less 0 r refl kept)),
+    )

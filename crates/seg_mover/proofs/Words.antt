@@ -1,5 +1,5 @@
 -- The words of a segment that moves, after one more page was copied or not.
-use Rattle.seg_mover.proofs.Prelude.{◌≡◌, ◌≢◌, ◌⊎◌, ℕ, ◌+◌, ◌<◌, Bool, true, false, List, [], length, Option, None, Some, Result, Ok, Err, IsSome, is_some, refl, sym, ap, ◌∙◌, arith, get_or, map, subst, inl, inr, OnOk, IfOk, cases_eq, get_or-set_other, length-map, get_or-map, Entry, entry_at, records_in, Vols, HasParts, records_at, pages_at, with_page, KeepsTables, Mover, map_at, place_at, words_filed, words_of, IsMoving, number_or_zero, page_to_copy, is_to_copy, copied, after_copy, moved_on, HasCopied, AreCopied, below_or_past, off_and_on, some_number, put_here, put_other, flag_within}
+use Rattle.seg_mover.proofs.Prelude.{◌≡◌, ◌≢◌, ◌⊎◌, ℕ, ◌+◌, ◌<◌, Bool, true, false, List, [], length, Option, None, Some, Result, Ok, Err, IsSome, is_some, refl, sym, ap, ◌∙◌, arith, get_or, map, inl, inr, OnOk, cases_eq, get_or-set_other, length-map, get_or-map, Vols, HasParts, records_at, pages_at, with_page, KeepsTables, Mover, map_at, place_at, words_filed, words_of, IsMoving, number_or_zero, page_to_copy, is_to_copy, copied, after_copy, moved_on, HasCopied, AreCopied, below_or_past, off_and_on, some_number, put_here, put_other, flag_within}
 use Rattle.seg_mover.proofs.Begun.{records_there}
 use Rattle.seg_mover.proofs.Choosing.{least_to_copy, none_to_copy, named_from}
 
@@ -8,10 +8,11 @@ sizes_same : {D : Type 0} (pages : D → List (List ℕ)) (vols : Vols D) (v : �
     → HasParts (map pages vols.drives) vols.records vols.vtocs → v < length vols.drives
     → length (records_at vols v) ≡ length (pages_at pages vols v)
 sizes_same pages vols v parts lt =
-    let disk : v < length (map pages vols.drives) = omega (arith, lt, length-map vols.drives pages) in
-    sym (get_or-map length vols.records v [] 0 (records_there pages vols v parts lt))
-    ∙ ap (λ (ns : List ℕ). get_or ns v 0) parts.sizes
-    ∙ get_or-map length (map pages vols.drives) v [] 0 disk
+    let disk : v < length (map pages vols.drives) = omega (arith, length-map vols.drives pages) in
+    cc (
+      get_or-map length vols.records v [] 0 (records_there pages vols v parts lt),
+      get_or-map length (map pages vols.drives) v [] 0 disk,
+    )
 
 -- what a call that looks for the next page to copy leaves
 pub record Copies {D E : Type 0} (pages : D → List (List ℕ)) (old new : Vols D) (m n : Mover) (skip : List Bool)
@@ -23,12 +24,10 @@ pub record Copies {D E : Type 0} (pages : D → List (List ℕ)) (old new : Vols
 
 place_kept : {D : Type 0} {old new : Vols D} (home : ℕ × ℕ) (p : ℕ) → KeepsTables old new
     → place_at new home p ≡ place_at old home p
-place_kept home p tables = ap (λ (vtocs : List (List (Option Entry))).
-    get_or (records_in (entry_at (get_or vtocs home.0 []) home.1)) p None) tables.vtocs
+place_kept home p tables = rw tables.vtocs
 
 pub map_kept : {D : Type 0} {old new : Vols D} (home : ℕ × ℕ) → KeepsTables old new → map_at new home ≡ map_at old home
-map_kept home tables = ap (λ (vtocs : List (List (Option Entry))).
-    records_in (entry_at (get_or vtocs home.0 []) home.1)) tables.vtocs
+map_kept home tables = rw tables.vtocs
 
 -- the drives hold what they held, or one page more was copied
 after_cases : {E : Type 0} {D : Type 0} (disks now : List (List (List ℕ))) (vols : Vols D) (m : Mover)
@@ -46,8 +45,7 @@ record IsCopy {D : Type 0} (pages : D → List (List ℕ)) (old : Vols D) (m : M
   within : r < length (pages_at pages old m.to.0)
 
 copy_of : {D : Type 0} (pages : D → List (List ℕ)) (old : Vols D) (m : Mover) (skip : List Bool) (p : ℕ)
-    → IsMoving old m
-    → HasParts (map pages old.drives) old.records old.vtocs → page_to_copy old m skip ≡ Some p
+    → IsMoving old m → HasParts (map pages old.drives) old.records old.vtocs → page_to_copy old m skip ≡ Some p
     → (r : ℕ) × IsCopy pages old m p r
 copy_of pages old m skip p moving parts is =
     let least = least_to_copy old m skip p is in
@@ -57,8 +55,8 @@ copy_of pages old m skip p moving parts is =
       found.0,
       record {
         place = found.1;
-        there = omega (arith, moving.target, length-map old.drives pages);
-        within = omega (arith, within, sizes_same pages old m.to.0 parts moving.target);
+        there = omega (arith, length-map old.drives pages);
+        within = omega (arith, sizes_same pages old m.to.0 parts moving.target);
       },
     )
 
@@ -66,12 +64,10 @@ copy_of pages old m skip p moving parts is =
 here : {D : Type 0} (pages : D → List (List ℕ)) (old new : Vols D) (m : Mover) (p r : ℕ) → IsCopy pages old m p r
     → KeepsTables old new → map pages new.drives ≡ copied (map pages old.drives) old m p
     → words_of pages new m.to p ≡ words_of pages old m.from p
-here pages old new m p r copy tables is =
-    ap (λ (disks : List (List (List ℕ))). words_filed (get_or disks m.to.0 []) (place_at new m.to p)) is
-    ∙ ap (λ (place : Option ℕ). words_filed (get_or (copied (map pages old.drives) old m p) m.to.0 []) place)
-    (place_kept m.to p tables ∙ copy.place)
-    ∙ ap (λ (place : Option ℕ). get_or (get_or (put_at place) m.to.0 []) r []) copy.place
-    ∙ put_here (map pages old.drives) m.to.0 r (words_of pages old m.from p) [] copy.there copy.within
+here pages old new m p r copy tables is = rw is (cc (
+  place_kept m.to p tables,
+  put_here (map pages old.drives) m.to.0 r (words_of pages old m.from p) [] copy.there copy.within,
+))
   where
     put_at : Option ℕ → List (List (List ℕ))
     put_at place = with_page (map pages old.drives) m.to.0 (number_or_zero place) (words_of pages old m.from p)
@@ -83,147 +79,122 @@ elsewhere : {D : Type 0} (pages : D → List (List ℕ)) (old new : Vols D) (m :
     ≡ words_filed (pages_at pages old m.to.0) place
 elsewhere pages old new m p r q moving copy is other None at = refl
 elsewhere pages old new m p r q moving copy is other (Some s) at =
-    ap (λ (disks : List (List (List ℕ))). get_or (get_or disks m.to.0 []) s []) is
-    ∙ ap (λ (place : Option ℕ). get_or (get_or (with_page (map pages old.drives) m.to.0 (number_or_zero place)
-    (words_of pages old m.from p)) m.to.0 []) s []) copy.place
-    ∙ put_other (map pages old.drives) m.to.0 r (words_of pages old m.from p) [] m.to.0 s copy.there
-    (λ _ same. other (moving.new_kept.once q p s at (copy.place ∙ ap Some (sym same))))
+    rw (is, copy.place) (put_other (map pages old.drives) m.to.0 r (words_of pages old m.from p) [] m.to.0 s copy.there
+    (λ _ same. other (moving.new_kept.once q p s at (cc))))
 
 kept : {D : Type 0} (pages : D → List (List ℕ)) (old new : Vols D) (home : ℕ × ℕ) (q : ℕ) → KeepsTables old new
     → words_filed (pages_at pages new home.0) (place_at old home q)
     ≡ words_filed (pages_at pages old home.0) (place_at old home q)
     → words_of pages new home q ≡ words_of pages old home q
-kept pages old new home q tables same =
-    ap (words_filed (pages_at pages new home.0)) (place_kept home q tables) ∙ same
+kept pages old new home q tables same = cc (place_kept home q tables)
 
-pub words_others : {D E : Type 0} (pages : D → List (List ℕ)) (old new : Vols D) (m n : Mover) (skip : List Bool)
-    (result : Result Bool E)
-    → Copies pages old new m n skip result → (q : ℕ) → page_to_copy old m skip ≢ Some q
+pub words_others : {D E : Type 0} {pages : D → List (List ℕ)} {old new : Vols D} {m n : Mover} {skip : List Bool}
+    {result : Result Bool E} → Copies pages old new m n skip result → (q : ℕ) → page_to_copy old m skip ≢ Some q
     → words_of pages new m.to q ≡ words_of pages old m.to q
-words_others pages old new m n skip result h q other =
-    kept pages old new m.to q h.tables
+words_others {pages} {old} {new} {m} {skip} {result} h q other = kept pages old new m.to q h.tables
     (elim (after_cases (map pages old.drives) (map pages new.drives) old m (page_to_copy old m skip) result
     h.step.pages) [
-      | inl same ↦ ap (λ (disks : List (List (List ℕ))).
-          words_filed (get_or disks m.to.0 []) (place_at old m.to q)) same
+      | inl same ↦ rw same
       | inr one ↦ (let copy = copy_of pages old m skip one.0 h.moving h.parts one.1 in
-          elsewhere pages old new m one.0 copy.0 q h.moving copy.1 one.2 (λ same. other (one.1 ∙ ap Some (sym same)))
+          elsewhere pages old new m one.0 copy.0 q h.moving copy.1 one.2 (λ same. other (cc))
           (place_at old m.to q) refl)
     ])
 
-pub pages_source : {D E : Type 0} (pages : D → List (List ℕ)) (old new : Vols D) (m n : Mover) (skip : List Bool)
-    (result : Result Bool E)
+pub pages_source : {D E : Type 0} {pages : D → List (List ℕ)} {old new : Vols D} {m n : Mover} {skip : List Bool}
+    {result : Result Bool E}
     → Copies pages old new m n skip result → pages_at pages new m.from.0 ≡ pages_at pages old m.from.0
-pages_source pages old new m n skip result h =
+pages_source {pages} {old} {new} {m} {skip} {result} h =
     elim (after_cases (map pages old.drives) (map pages new.drives) old m (page_to_copy old m skip) result
     h.step.pages) [
       | inl same ↦ ap (λ (disks : List (List (List ℕ))). get_or disks m.from.0 []) same
-      | inr one ↦ ap (λ (disks : List (List (List ℕ))). get_or disks m.from.0 []) one.2
-          ∙ get_or-set_other (map pages old.drives) m.to.0 m.from.0 _ [] h.moving.other
+      | inr one ↦ rw one.2 (get_or-set_other (map pages old.drives) m.to.0 m.from.0 _ [] h.moving.other)
     ]
 
-words_source : {D E : Type 0} (pages : D → List (List ℕ)) (old new : Vols D) (m n : Mover) (skip : List Bool)
-    (result : Result Bool E)
+words_source : {D E : Type 0} {pages : D → List (List ℕ)} {old new : Vols D} {m n : Mover} {skip : List Bool}
+    {result : Result Bool E}
     → Copies pages old new m n skip result → (q : ℕ) → words_of pages new m.from q ≡ words_of pages old m.from q
-words_source pages old new m n skip result h q =
-    kept pages old new m.from q h.tables
-    (ap (λ (disk : List (List ℕ)). words_filed disk (place_at old m.from q))
-    (pages_source pages old new m n skip result h))
+words_source {pages} {old} {new} {m} {n} {skip} {result} h q =
+    kept pages old new m.from q h.tables (cc (pages_source h))
 
-pub words_page : {D E : Type 0} (pages : D → List (List ℕ)) (old new : Vols D) (m n : Mover) (skip : List Bool)
-    (result : Result Bool E)
-    → Copies pages old new m n skip result → (p : ℕ) → page_to_copy old m skip ≡ Some p
+pub words_page : {D E : Type 0} {pages : D → List (List ℕ)} {old new : Vols D} {m n : Mover} {skip : List Bool}
+    {result : Result Bool E} → Copies pages old new m n skip result → (p : ℕ) → page_to_copy old m skip ≡ Some p
     → OnOk result (words_of pages new m.to p ≡ words_of pages old m.from p)
-words_page pages old new m n skip (Err e) h p is = tt
-words_page {E = E} pages old new m n skip (Ok x) h p is =
+words_page {result = Err e} h p is = tt
+words_page {E} {pages} {old} {new} {m} {skip} {result = Ok x} h p is =
     let copy = copy_of pages old m skip p h.moving h.parts is in
-    here pages old new m p copy.0 copy.1 h.tables
-    (h.step.pages ∙ ap (λ (page : Option ℕ). after_copy {E = E} (map pages old.drives) old m page (Ok x)) is)
+    here pages old new m p copy.0 copy.1 h.tables (cc)
 
 -- ---- the pages that were copied
 
 -- a page of before stays as it is
-stays : {D E : Type 0} (pages : D → List (List ℕ)) (old new : Vols D) (m n : Mover) (skip : List Bool)
-    (result : Result Bool E)
-    → Copies pages old new m n skip result → AreCopied pages old m skip → (q : ℕ) → q < m.next
+stays : {D E : Type 0} {pages : D → List (List ℕ)} {old new : Vols D} {m n : Mover} {skip : List Bool}
+    {result : Result Bool E} → Copies pages old new m n skip result → AreCopied pages old m skip → (q : ℕ) → q < m.next
     → page_to_copy old m skip ≢ Some q → is_to_copy (map_at new m.from) skip q ≡ true
     → words_of pages new m.to q ≡ words_of pages new m.from q
-stays pages old new m n skip result h done q lt other wanted =
-    words_others pages old new m n skip result h q other
-    ∙ done.words q lt (sym (ap (λ (places : List (Option ℕ)). is_to_copy places skip q) (map_kept m.from h.tables))
-    ∙ wanted)
-    ∙ sym (words_source pages old new m n skip result h q)
+stays {pages} {old} {new} {m} {n} {skip} {result} h done q lt other wanted =
+    words_others h q other ∙ done.words q lt (cc (map_kept m.from h.tables)) ∙ sym (words_source h q)
 
 -- the page that is copied next isn't before it
 not_before : {D : Type 0} (old : Vols D) (m : Mover) (skip : List Bool) (q : ℕ) → q < m.next
     → page_to_copy old m skip ≢ Some q
-not_before old m skip q lt is = omega (arith, lt, (least_to_copy old m skip q is).late)
+not_before old m skip q lt is = omega (arith, (least_to_copy old m skip q is).late)
 
-same_mover : {D E : Type 0} (pages : D → List (List ℕ)) (old new : Vols D) (m n : Mover) (skip : List Bool)
-    (result : Result Bool E)
+same_mover : {D E : Type 0} {pages : D → List (List ℕ)} {old new : Vols D} {m n : Mover} {skip : List Bool}
+    {result : Result Bool E}
     → Copies pages old new m n skip result → AreCopied pages old m skip → AreCopied pages new m skip
-same_mover pages old new m n skip result h done = record {
-  words = λ q lt wanted. stays pages old new m n skip result h done q lt (not_before old m skip q lt) wanted;
+same_mover {old} {m} {skip} h done = record {
+  words = λ q lt wanted. stays h done q lt (not_before old m skip q lt) wanted;
 }
 
-one_more : {D E : Type 0} (pages : D → List (List ℕ)) (old new : Vols D) (m n : Mover) (skip : List Bool) (x : Bool)
-    (p : ℕ)
-    → Copies {E = E} pages old new m n skip (Ok x) → AreCopied pages old m skip → page_to_copy old m skip ≡ Some p
-    → AreCopied pages new (record m { next = p + 1 }) skip
-one_more pages old new m n skip x p h done is = record { words = words }
+one_more : {D E : Type 0} {pages : D → List (List ℕ)} {old new : Vols D} {m n : Mover} {skip : List Bool} {x : Bool}
+    (p : ℕ) → Copies {E = E} pages old new m n skip (Ok x) → AreCopied pages old m skip
+    → page_to_copy old m skip ≡ Some p → AreCopied pages new (record m { next = p + 1 }) skip
+one_more {pages} {old} {new} {m} {skip} p h done is = record { words = words }
   where
     wanted_then : (q : ℕ) → is_to_copy (map_at new m.from) skip q ≡ true → is_to_copy (map_at old m.from) skip q ≡ true
-    wanted_then q wanted =
-        sym (ap (λ (places : List (Option ℕ)). is_to_copy places skip q) (map_kept m.from h.tables)) ∙ wanted
+    wanted_then q wanted = cc (map_kept m.from h.tables)
 
     words : (q : ℕ) → q < p + 1 → is_to_copy (map_at new m.from) skip q ≡ true
         → words_of pages new m.to q ≡ words_of pages new m.from q
     words q lt wanted = elim (cases_eq q p) [
-      | inl same ↦ words_page pages old new m n skip (Ok x) h q (is ∙ ap Some (sym same))
-          ∙ sym (words_source pages old new m n skip (Ok x) h q)
+      | inl same ↦ words_page h q (cc) ∙ sym (words_source h q)
       | inr other ↦ elim (below_or_past q m.next) [
-        | inl before ↦ stays pages old new m n skip (Ok x) h done q before (not_before old m skip q before) wanted
+        | inl before ↦ stays h done q before (not_before old m skip q before) wanted
         | inr late ↦ absurd (off_and_on (is_to_copy (map_at old m.from) skip q)
-            ((least_to_copy old m skip p is).before q late (omega (arith, lt, other))) (wanted_then q wanted))
+            ((least_to_copy old m skip p is).before q late (omega arith)) (wanted_then q wanted))
       ]
     ]
 
-pub are_copied : {D E : Type 0} (pages : D → List (List ℕ)) (old new : Vols D) (m n : Mover) (skip : List Bool)
-    (result : Result Bool E)
+pub are_copied : {D E : Type 0} {pages : D → List (List ℕ)} {old new : Vols D} {m n : Mover} {skip : List Bool}
+    {result : Result Bool E}
     → Copies pages old new m n skip result → AreCopied pages old m skip → AreCopied pages new n skip
-are_copied {E = E} pages old new m n skip result h done =
-    subst (λ (x : Mover). AreCopied pages new x skip) (sym h.step.mover)
-    (go (page_to_copy old m skip) result refl h)
+are_copied {E} {pages} {old} {new} {m} {n} {skip} {result} h done =
+    rw h.step.mover (go (page_to_copy old m skip) result refl h)
   where
     go : (page : Option ℕ) (res : Result Bool E) → page_to_copy old m skip ≡ page → Copies pages old new m n skip res
         → AreCopied pages new (moved_on m page res) skip
-    go None res is same = same_mover pages old new m n skip res same done
-    go (Some p) (Ok x) is same = one_more pages old new m n skip x p same done is
-    go (Some p) (Err e) is same = same_mover pages old new m n skip (Err e) same done
+    go None res is same = same_mover same done
+    go (Some p) (Ok x) is same = one_more p same done is
+    go (Some p) (Err e) is same = same_mover same done
 
 -- there is none left
 none_from : (page : Option ℕ) → false ≡ is_some page → page ≡ None
 none_from None is = refl
 none_from (Some p) is = cc
 
-pub all_copied : {D E : Type 0} (pages : D → List (List ℕ)) (old new : Vols D) (m n : Mover) (skip : List Bool)
-    (result : Result Bool E)
-    → Copies pages old new m n skip result → result ≡ Ok false → AreCopied pages old m skip → (p : ℕ) → p < 256
-    → is_to_copy (map_at new n.from) skip p ≡ true
-    → words_of pages new n.to p ≡ words_of pages new n.from p
-all_copied pages old new m n skip result h ended done =
-    let none : page_to_copy old m skip ≡ None = none_from (page_to_copy old m skip)
-    (subst (λ (res : Result Bool _). IfOk res (λ some. some ≡ is_some (page_to_copy old m skip))) ended
-    h.step.answer) in
+pub all_copied : {D E : Type 0} {pages : D → List (List ℕ)} {old new : Vols D} {m n : Mover} {skip : List Bool}
+    {result : Result Bool E} → Copies pages old new m n skip result → result ≡ Ok false → AreCopied pages old m skip
+    → (p : ℕ) → p < 256 → is_to_copy (map_at new n.from) skip p ≡ true → words_of pages new n.to p ≡ words_of pages new
+    n.from p
+all_copied {pages} {old} {new} {m} {n} {skip} {result} h ended done =
+    let none : page_to_copy old m skip ≡ None = none_from (page_to_copy old m skip) (rw ended at h.step.answer) in
     let same : n ≡ m = h.step.mover ∙ ap (λ (page : Option ℕ). moved_on m page result) none in
-    subst (λ (x : Mover). (p : ℕ) → p < 256 → is_to_copy (map_at new x.from) skip p ≡ true
-    → words_of pages new x.to p ≡ words_of pages new x.from p) (sym same) (go none)
+    rw same (go none)
   where
     go : page_to_copy old m skip ≡ None → (p : ℕ) → p < 256 → is_to_copy (map_at new m.from) skip p ≡ true
         → words_of pages new m.to p ≡ words_of pages new m.from p
     go none p lt wanted = elim (below_or_past p m.next) [
-      | inl before ↦ stays pages old new m n skip result h done p before (not_before old m skip p before) wanted
-      | inr late ↦ absurd (off_and_on (is_to_copy (map_at old m.from) skip p)
-          (none_to_copy old m skip none p late lt)
-          (sym (ap (λ (places : List (Option ℕ)). is_to_copy places skip p) (map_kept m.from h.tables)) ∙ wanted))
+      | inl before ↦ stays h done p before (not_before old m skip p before) wanted
+      | inr late ↦ absurd (off_and_on (is_to_copy (map_at old m.from) skip p) (none_to_copy old m skip none p late lt)
+          (cc (map_kept m.from h.tables)))
     ]

@@ -1,4 +1,4 @@
-use Rattle.seg_mover.proofs.Prelude.{rules, arith, List, Option, subst, sym, Entry, NamesNoRecord}
+use Rattle.seg_mover.proofs.Prelude.{rules, arith}
 use Rattle.seg_mover.proofs.Giving.{given_more, given_end, all_given, full_same, names_none}
 use Rattle.seg_mover.proofs.give_back.Goals as goal
 
@@ -6,11 +6,9 @@ pub loop-p-preserved : goal.loop-p-preserved
 loop-p-preserved g c = given_more c.give_record.new.v c.loop-p.invariant c.give_record.ensures
 
 pub free-requires-clause-empty : goal.free-requires-clause-empty
-free-requires-clause-empty g c =
-    subst (λ (table : List (Option Entry)). NamesNoRecord table c.args.home.1) (sym c.vtoc_mut.ensures.value)
-    (names_none (all_given c.loop-p.invariant (omega arith)) (full_same c.size.ensures.places (search rules)))
+free-requires-clause-empty g c = rw c.vtoc_mut.ensures.value (names_none (all_given c.loop-p.invariant (omega arith))
+    (full_same c.size.ensures.places (search rules)))
 
 pub returns : goal.returns
-returns g c =
-    given_end _ (all_given c.loop-p.invariant (omega arith)) (full_same c.size.ensures.places (search rules))
+returns g c = given_end _ (all_given c.loop-p.invariant (omega arith)) (full_same c.size.ensures.places (search rules))
     (search rules)

@@ -5,4 +5,4 @@ pub prove-unreachable-requires : goal.prove-unreachable-requires
 prove-unreachable-requires g c =
     let within = flag_within (records_at c.args.v.now c.args.home.0) c.in-Some.r
     (c.requires.kept.used c.args.p c.in-Some.r (search rules)) in
-    omega (arith, within)
+    omega arith

@@ -5,30 +5,25 @@ use Rattle.seg_mover.proofs.take_home.Goals as goal
 
 pub loop-p-init : goal.loop-p-init
 loop-p-init g c =
-    begun_start c.take_entry.new.v c.requires
-    (can_store c.take_entry.result c.requires c.take_entry.ensures.least c.size.ensures.places (search rules))
-    c.take_entry.ensures.taken
+    begun_start c.take_entry.new.v c.requires (can_store c.requires c.take_entry.ensures.least c.size.ensures.places
+    (search rules)) c.take_entry.ensures.taken
 
 pub take_record-requires-clause-new_used : goal.take_record-requires-clause-new_used
 take_record-requires-clause-new_used g c =
-    used_some (entry_now
-    (can_store c.take_entry.result c.requires c.take_entry.ensures.least c.size.ensures.places (search rules))
+    used_some (entry_now (can_store c.requires c.take_entry.ensures.least c.size.ensures.places (search rules))
     c.loop-p.invariant)
 
 pub take_record-requires-clause-room : goal.take_record-requires-clause-room
 take_record-requires-clause-room g c =
-    has_room
-    (can_store c.take_entry.result c.requires c.take_entry.ensures.least c.size.ensures.places (search rules))
-    c.loop-p.invariant (search rules)
+    has_room (can_store c.requires c.take_entry.ensures.least c.size.ensures.places (search rules)) c.loop-p.invariant
+    (search rules)
 
 pub loop-p-preserved : goal.loop-p-preserved
 loop-p-preserved g c =
-    begun_more c.take_record.new.v
-    (can_store c.take_entry.result c.requires c.take_entry.ensures.least c.size.ensures.places (search rules))
-    c.loop-p.invariant (search rules) c.take_record.ensures.none c.take_record.ensures.some
+    begun_more c.take_record.new.v (can_store c.requires c.take_entry.ensures.least c.size.ensures.places
+    (search rules)) c.loop-p.invariant (search rules) c.take_record.ensures.none c.take_record.ensures.some
 
 pub returns-clause-begun : goal.returns-clause-begun
 returns-clause-begun g c =
-    begun_end
-    (can_store c.take_entry.result c.requires c.take_entry.ensures.least c.size.ensures.places (search rules))
-    c.loop-p.invariant (omega arith) c.take_entry.ensures.number
+    begun_end (can_store c.requires c.take_entry.ensures.least c.size.ensures.places (search rules)) c.loop-p.invariant
+    (omega arith) c.take_entry.ensures.number

@@ -20,25 +20,20 @@ note-requires c =
     c.place_of_superior-above.result c.args.place lt free placed
 
 pub insert-requires-clause-room : goal.insert-requires-clause-room
-insert-requires-clause-room c =
-    index_has_room c.self.inside.entries.items c.self.inside.index c.args.place c.self.invariant.indexed
+insert-requires-clause-room c = index_has_room c.args.place c.self.invariant.indexed
     (subst (λ (v : ActiveSegs). c.args.place < length v.entries) (sym c.self.view_is) c.requires.place)
     (subst (λ (v : ActiveSegs). entry_at v.entries c.args.place ≡ None) (sym c.self.view_is) c.requires.free)
 
 pub insert-requires-clause-absent : goal.insert-requires-clause-absent
-insert-requires-clause-absent c =
-    index_lacks c.self.inside.entries.items c.self.inside.index c.args.uid c.self.invariant.indexed
-    (subst (λ (v : ActiveSegs). (q : ℕ) → uid_at v.entries q ≢ Some c.args.uid) (sym c.self.view_is)
-    c.requires.inactive)
+insert-requires-clause-absent c = index_lacks c.args.uid c.self.invariant.indexed (subst (λ (v : ActiveSegs). (q : ℕ)
+    → uid_at v.entries q ≢ Some c.args.uid) (sym c.self.view_is) c.requires.inactive)
 
 pub invariant_of-self : goal.invariant_of-self
 invariant_of-self c =
     kept_activated c.self.inside.sizes c.self.inside.hands c.self.inside.used.items c.self.inside.entries.items
-    c.self.inside.tables.items
-    c.self.inside.inferiors.items c.self.inside.index c.self.invariant
+    c.self.inside.tables.items c.self.inside.inferiors.items c.self.inside.index c.self.invariant
     c.args.place c.args.uid c.args.superior c.pool_of-pool.result.0 c.pool_of-pool.result.1 c.mark.new.used.items
-    c.note.new.inferiors.items c.insert.new.self
-    c.place_of_superior-above.result
+    c.note.new.inferiors.items c.insert.new.self c.place_of_superior-above.result
     (subst (λ (v : ActiveSegs). c.args.place < length v.entries) (sym c.self.view_is) c.requires.place)
     (subst (λ (v : ActiveSegs). entry_at v.entries c.args.place ≡ None) (sym c.self.view_is) c.requires.free)
     (subst (λ (v : ActiveSegs). (q : ℕ) → uid_at v.entries q ≢ Some c.args.uid) (sym c.self.view_is)

@@ -19,8 +19,7 @@ remove-requires c =
     let xs : List (Option Entry) = c.self.inside.entries.items in
     let at = used_entry c.self.view_is c.requires.place c.index.ensures c.in-Some.is in
     record {
-      there = ap is_some ((c.self.invariant.indexed.places c.args.place c.in-Some.entry.uid).1
-          (ap uid_in at.is));
+      there = ap is_some ((c.self.invariant.indexed.places c.args.place c.in-Some.entry.uid).1 (ap uid_in at.is));
     }
 
 pub invariant_of-self-2 : goal.invariant_of-self-2
@@ -30,8 +29,7 @@ invariant_of-self-2 c =
     let leaf : HasNoInferior xs c.args.place = subst (λ (v : ActiveSegs). HasNoInferior v.entries c.args.place)
     (sym c.self.view_is) c.requires.leaf in
     kept_deactivated c.self.inside.sizes c.self.inside.hands c.self.inside.used.items xs c.self.inside.tables.items
-    c.self.inside.inferiors.items
-    c.self.inside.index
+    c.self.inside.inferiors.items c.self.inside.index
     c.self.invariant c.args.place c.in-Some.entry c.pool_of-pool.result.0 c.pool_of-pool.result.1
     c.unmark.new.used.items c.forget.new.inferiors.items
     c.remove.new.self c.place_of_superior-above.result c.clear.new.self at.within at.is leaf

@@ -7,8 +7,7 @@ pub find_from_hand-requires-clause-within : goal.find_from_hand-requires-clause-
 find_from_hand-requires-clause-within c =
     let pools : HasPools c.self.inside.sizes c.self.inside.hands = c.self.invariant.pools in
     let ends : first_of c.self.inside.sizes c.args.pool + size_of c.self.inside.sizes c.args.pool ≤ sum
-    c.self.inside.sizes =
-    pool_within c.self.inside.sizes c.args.pool pools.four c.requires.pool in
+    c.self.inside.sizes = pool_within c.self.inside.sizes c.args.pool pools.four c.requires.pool in
     let count : length c.self.inside.entries.items ≡ sum c.self.inside.sizes = c.self.invariant.entry_count in
     let same : length c.deref.result.now ≡ length c.self.inside.entries.items = ap length c.deref.ensures.value in
     let first : c.first_of-first.result ≡ first_of c.self.inside.sizes c.args.pool =
@@ -16,8 +15,7 @@ find_from_hand-requires-clause-within c =
 
 pub find_from_hand-requires-clause-some : goal.find_from_hand-requires-clause-some
 find_from_hand-requires-clause-some c =
-    rw (c.deref.ensures.value, c.first_of-first.ensures.first)
-    (place_found _ c.args.pool c.args.chain.now c.self.invariant.pools c.requires.pool
+    rw (c.deref.ensures.value, c.first_of-first.ensures.first) (place_found c.self.invariant.pools c.requires.pool
     (subst (λ (v : ActiveSegs). HasOneOffChain v c.args.pool c.args.chain.now) (sym c.self.view_is) c.requires.some))
 
 pub returns-clause-in_pool : goal.returns-clause-in_pool
@@ -29,8 +27,7 @@ returns-clause-in_pool c =
     let first : first_off_chain s c.args.pool c.args.chain.now ≡ Some c.find_from_hand.result =
     rw (c.deref.ensures.value, c.first_of-first.ensures.first) at c.find_from_hand.ensures in
     subst (λ (v : ActiveSegs). IsInPool v.sizes c.args.pool c.find_from_hand.result) c.self.view_is
-    (found_in_pool s c.args.pool c.args.chain.now c.find_from_hand.result c.self.invariant.pools c.requires.pool some
-    first)
+    (found_in_pool c.find_from_hand.result c.self.invariant.pools c.requires.pool some first)
 
 pub returns-clause-active : goal.returns-clause-active
 returns-clause-active c =

@@ -1,12 +1,11 @@
-use Rattle.active_segs.proofs.Prelude.{◌≡◌, ◌+◌, List, Bool, true, ap, subst, is_some, All, true≢false, IsFirstFree, ActiveSegs, HasShape, IsLeastFree, IsFull, map_of}
+use Rattle.active_segs.proofs.Prelude.{◌≡◌, ◌+◌, Bool, true, ap, subst, is_some, All, true≢false, IsFirstFree, ActiveSegs, HasShape, IsLeastFree, IsFull, map_of}
 use Rattle.active_segs.proofs.AstLemmas.{segs_of, marked_map, full_since_marked, least_since_marked, not_full, room_since_free, free_within}
 use Rattle.active_segs.proofs.Ast.free_in.Goals as goal
 
 pub returns-in_err-offset-clause-full : goal.returns-in_err-offset-clause-full
 returns-in_err-offset-clause-full c =
     let map = marked_map c.self.invariant.marked c.args.pool c.index.result.now c.requires c.index.ensures in
-    let full : IsFull c.args.self.now c.args.pool =
-    subst (λ (v : ActiveSegs). IsFull v c.args.pool) c.self.view_is
+    let full : IsFull c.args.self.now c.args.pool = subst (λ (v : ActiveSegs). IsFull v c.args.pool) c.self.view_is
     (full_since_marked (segs_of c.self.inside.sizes c.self.inside.hands c.self.inside.entries.items
     c.self.inside.tables.items) c.self.inside.used.items c.args.pool c.requires c.self.invariant.marked
     (subst (All (λ (flag : Bool). flag ≡ true)) map c.in_err-offset.ensures.none)) in
@@ -16,7 +15,7 @@ pub returns-clause-least : goal.returns-clause-least
 returns-clause-least c =
     let map = marked_map c.self.invariant.marked c.args.pool c.index.result.now c.requires c.index.ensures in
     let first : IsFirstFree (map_of c.self.inside.used.items c.args.pool) c.in_ok-offset.offset =
-    subst (λ (m : List Bool). IsFirstFree m c.in_ok-offset.offset) map c.in_ok-offset.ensures.some in
+    rw map at c.in_ok-offset.ensures.some in
     subst (λ (v : ActiveSegs). IsLeastFree v c.args.pool (c.first_of.result + c.in_ok-offset.offset)) c.self.view_is
     (rw c.first_of.ensures.first (least_since_marked
     (segs_of c.self.inside.sizes c.self.inside.hands c.self.inside.entries.items
@@ -29,15 +28,13 @@ returns-clause-shape c =
     subst HasShape c.self.view_is (record {
       pools = inside.pools;
       entry_count = inside.entry_count;
-      table_count =
-          inside.table_count;
+      table_count = inside.table_count;
     })
 
 pub returns-clause-full : goal.returns-clause-full
 returns-clause-full c = (
   λ h. absurd (true≢false h),
-  λ full. absurd
-      (not_full _ c.args.pool _ (returns-clause-least c) full),
+  λ full. absurd (not_full _ c.args.pool _ (returns-clause-least c) full),
 )
 
 pub returns-clause-room : goal.returns-clause-room

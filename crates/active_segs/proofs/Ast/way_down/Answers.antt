@@ -1,20 +1,18 @@
-use Rattle.active_segs.proofs.Prelude.{◌≡◌, List, Option, length, sym, ap, subst, ◌∙◌, Entry, ActiveSegs, IsActiveAt, leaf_below, StandsFor}
+use Rattle.active_segs.proofs.Prelude.{◌≡◌, sym, ap, ◌∙◌, ActiveSegs, leaf_below, StandsFor}
 use Rattle.active_segs.proofs.AstLemmas.{is_victim, is_victim_of}
 use Rattle.active_segs.proofs.DescentLemmas.{victim_once, victim_is_leaf, victim_off, victim_within}
 use Rattle.active_segs.proofs.Ast.way_down.Goals as goal
 
 pub leaf_below-requires-clause-active : goal.leaf_below-requires-clause-active
 leaf_below-requires-clause-active c =
-    let same : c.args.self.now.entries ≡ c.deref.result.now =
-    ap (λ (v : ActiveSegs). v.entries) (sym c.self.view_is) ∙ sym c.deref.ensures.value in
-    subst (λ (xs : List (Option Entry)). IsActiveAt xs c.found-found.result) same c.found-found.ensures.active
+    let same : c.args.self.now.entries ≡ c.deref.result.now = rw (← c.self.view_is) (sym c.deref.ensures.value) in
+    rw same at c.found-found.ensures.active
 
 pub returns-clause-is : goal.returns-clause-is
 returns-clause-is c =
     let same : c.deref.result.now ≡ c.args.self.now.entries = c.deref.ensures.value
     ∙ ap (λ (v : ActiveSegs). v.entries) c.self.view_is in
-    let leaf = subst (λ (xs : List (Option Entry)). c.leaf_below.result
-    ≡ leaf_below xs (length xs) c.found-found.result) same c.leaf_below.ensures.is in
+    let leaf = rw same at c.leaf_below.ensures.is in
     is_victim_of c.args.self.now c.args.pool c.args.chain.now _ _ c.found-found.ensures.first leaf
 
 pub returns-clause-victim : goal.returns-clause-victim
@@ -22,19 +20,17 @@ returns-clause-victim c =
     let same : c.deref.result.now ≡ c.args.self.now.entries = c.deref.ensures.value
     ∙ ap (λ (v : ActiveSegs). v.entries) c.self.view_is in
     let stands : StandsFor c.args.self.now.entries c.found-found.result c.leaf_below.result =
-    subst (λ (xs : List (Option Entry)). StandsFor xs c.found-found.result c.leaf_below.result) same
-    c.leaf_below.ensures.stands in
-    is_victim c.args.self.now c.args.pool c.args.chain.now c.found-found.result c.leaf_below.result
-    c.found-found.ensures.first stands
+    rw same at c.leaf_below.ensures.stands in
+    is_victim c.args.self.now c.args.pool c.args.chain.now c.found-found.ensures.first stands
 
 pub returns-clause-only : goal.returns-clause-only
-returns-clause-only c place other = victim_once _ _ _ place c.leaf_below.result other (returns-clause-victim c)
+returns-clause-only c place other = victim_once other (returns-clause-victim c)
 
 pub returns-clause-leaf : goal.returns-clause-leaf
 returns-clause-leaf c = victim_is_leaf _ _ _ c.leaf_below.result (returns-clause-victim c)
 
 pub returns-clause-off : goal.returns-clause-off
-returns-clause-off c = victim_off _ _ _ c.leaf_below.result c.requires.superiors (returns-clause-victim c)
+returns-clause-off c = victim_off c.requires.superiors (returns-clause-victim c)
 
 pub returns-clause-within : goal.returns-clause-within
 returns-clause-within c = victim_within _ _ _ c.leaf_below.result c.requires.superiors (returns-clause-victim c)

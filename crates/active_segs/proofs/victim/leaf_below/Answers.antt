@@ -1,4 +1,4 @@
-use Rattle.active_segs.proofs.Prelude.{◌≡◌, ◌<◌, List, Bool, length, subst, arith, IsFirstFree, IsLeastInferior}
+use Rattle.active_segs.proofs.Prelude.{◌≡◌, ◌<◌, length, arith, IsLeastInferior}
 use Rattle.active_segs.proofs.EntryLemmas.{used_within}
 use Rattle.active_segs.proofs.InferiorLemmas.{noted_map, least_since_noted, leaf_read}
 use Rattle.active_segs.proofs.DescentLemmas.{stays, way_begins, way_goes_on, way_ends, way_comes_to}
@@ -14,15 +14,13 @@ bounds-inferiors-place c =
     let many : length c.args.inferiors.now ≡ length c.args.entries.now = c.requires.noted.maps in omega arith
 
 pub returns-in-None-clause-is : goal.returns-in-None-clause-is
-returns-in-None-clause-is c =
-    way_comes_to _ _ _ _ c.loop-step.invariant
+returns-in-None-clause-is c = way_comes_to _ _ _ _ c.loop-step.invariant
     (leaf_read _ _ c.requires.noted c.loop-step.place c.index-inferiors-place.result
     (used_within _ _ c.loop-step.invariant.uid c.loop-step.invariant.is) c.index-inferiors-place.is
     c.in-None.ensures.none)
 
 pub returns-in-None-clause-stands : goal.returns-in-None-clause-stands
-returns-in-None-clause-stands c =
-    c.loop-step.invariant.back _ (stays _ _
+returns-in-None-clause-stands c = c.loop-step.invariant.back _ (stays _ _
     (leaf_read _ _ c.requires.noted c.loop-step.place c.index-inferiors-place.result
     (used_within _ _ c.loop-step.invariant.uid c.loop-step.invariant.is) c.index-inferiors-place.is
     c.in-None.ensures.none))
@@ -34,8 +32,7 @@ loop-step-preserved c =
     let map = noted_map _ _ c.requires.noted c.loop-step.place c.index-inferiors-place.result within
     c.index-inferiors-place.is in
     let least : IsLeastInferior c.args.entries.now c.loop-step.place c.in-Some.inferior =
-    least_since_noted _ _ c.requires.noted _ _ within (subst (λ (m : List Bool). IsFirstFree m c.in-Some.inferior) map
-    c.in-Some.ensures.some) in
+    least_since_noted _ _ c.requires.noted _ _ within (rw map at c.in-Some.ensures.some) in
     way_goes_on _ _ _ _ _ c.loop-step.invariant least
 
 pub unreachable-requires : goal.unreachable-requires

@@ -4,15 +4,11 @@ use Rattle.seg_mover.proofs.Mover.page_to_copy.Goals as goal
 
 pub returns-then-is_to_copy : goal.returns-then-is_to_copy
 returns-then-is_to_copy g c =
-    sym (first_here (map_at c.args.v.now c.args.self.now.from) c.args.skip.now c.loop-p.p (search rules) (search rules))
-    ∙ c.loop-p.invariant
+    cc (first_here (map_at c.args.v.now c.args.self.now.from) c.args.skip.now c.loop-p.p (search rules) (search rules))
 
 pub loop-p-preserved : goal.loop-p-preserved
 loop-p-preserved g c =
-    first_skip (map_at c.args.v.now c.args.self.now.from) c.args.skip.now c.loop-p.p (search rules) (search rules)
-    ∙ c.loop-p.invariant
+    cc (first_skip (map_at c.args.v.now c.args.self.now.from) c.args.skip.now c.loop-p.p (search rules) (search rules))
 
 pub returns : goal.returns
-returns g c =
-    sym (first_past (map_at c.args.v.now c.args.self.now.from) c.args.skip.now c.loop-p.p (search rules))
-    ∙ c.loop-p.invariant
+returns g c = cc (first_past (map_at c.args.v.now c.args.self.now.from) c.args.skip.now c.loop-p.p (search rules))

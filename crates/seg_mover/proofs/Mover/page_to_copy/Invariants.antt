@@ -2,5 +2,4 @@ use Rattle.seg_mover.proofs.Prelude.{◌≡◌, ◌-◌, map_at, page_to_copy, f
 use Rattle.seg_mover.proofs.Mover.page_to_copy.Given as goal
 
 abbrev pub invariant-loop-p : goal.invariant-loop-p
-invariant-loop-p g l =
-    first_to_copy (map_at l.v l.self.from) l.skip (256 - l.p) l.p ≡ page_to_copy l.v l.self l.skip
+invariant-loop-p g l = first_to_copy (map_at l.v l.self.from) l.skip (256 - l.p) l.p ≡ page_to_copy l.v l.self l.skip

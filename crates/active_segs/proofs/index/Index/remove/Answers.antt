@@ -1,18 +1,16 @@
-use Rattle.active_segs.proofs.Prelude.{ℕ, None, Option, ap, length, set, subst, sym, ◌%◌, ◌∙◌, IsSome, Pairs, SetsPlace, pairs_in, place_of}
+use Rattle.active_segs.proofs.Prelude.{None, ap, length, set, subst, ◌%◌, ◌∙◌, Pairs, SetsPlace, pairs_in, place_of}
 use Rattle.active_segs.proofs.SplitLemmas.{finds_list, list_less, list_sets, list_split}
 use Rattle.active_segs.proofs.index.Index.remove.Goals as goal
 
 pub remove-requires : goal.remove-requires
 remove-requires c = record {
-  there = subst (λ (o : Option ℕ). IsSome o) (sym (finds_list c.self.inside.lists.items c.self.inside.room c.args.uid
-      c.self.invariant c.index_mut.result.now c.index_mut.ensures.value
-      ∙ ap (λ (v : Pairs). place_of v.pairs c.args.uid) c.self.view_is)) c.requires.there;
+  there = rw (finds_list c.self.inside.lists.items c.self.inside.room c.args.uid c.self.invariant c.index_mut.result.now
+      c.index_mut.ensures.value ∙ ap (λ (v : Pairs). place_of v.pairs c.args.uid) c.self.view_is) c.requires.there;
 }
 
 pub invariant_of-self : goal.invariant_of-self
 invariant_of-self c = list_split c.self.inside.lists.items c.self.inside.room c.args.uid c.self.invariant
-    c.index_mut.result.now c.index_mut.ensures.value c.remove.new.self None c.remove.ensures.sets
-    c.remove.ensures.room
+    c.index_mut.result.now c.index_mut.ensures.value c.remove.new.self None c.remove.ensures.sets c.remove.ensures.room
 
 pub returns-clause-sets : goal.returns-clause-sets
 returns-clause-sets c = subst (λ (v : Pairs). SetsPlace v.pairs

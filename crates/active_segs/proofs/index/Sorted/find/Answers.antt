@@ -1,11 +1,11 @@
-use Rattle.active_segs.proofs.Prelude.{◌≡◌, ℕ, List, ap, sym, subst, ◌∙◌, Some, get_or_default, Pairs, place_of, IsFoundAt, BelongsAt}
+use Rattle.active_segs.proofs.Prelude.{◌≡◌, ℕ, ap, sym, ◌∙◌, Some, get_or_default, Pairs, place_of, IsFoundAt, BelongsAt}
 use Rattle.active_segs.proofs.PairLemmas.{place_found, place_in_gap}
 use Rattle.active_segs.proofs.index.Sorted.find.Goals as goal
 
 pub returns-in-Ok : goal.returns-in-Ok
 returns-in-Ok c =
     let found : IsFoundAt c.self.inside.pairs.items c.args.uid c.in-Ok.at =
-    subst (λ (l : List (ℕ × ℕ)). IsFoundAt l c.args.uid c.in-Ok.at) c.deref.ensures.value c.in-Ok.ensures.found in
+    rw c.deref.ensures.value at c.in-Ok.ensures.found in
     let place : place_of c.self.inside.pairs.items c.args.uid ≡ Some _ = place_found _ c.self.invariant.0 _ _ found in
     let read = get_or_default _ _ c.index.result.now (0, 0) found.within in
     ap (λ (x : ℕ × ℕ). Some x.1) (c.index.ensures ∙ read) ∙ sym place
@@ -14,6 +14,5 @@ returns-in-Ok c =
 pub returns-in-Err : goal.returns-in-Err
 returns-in-Err c =
     let gap : BelongsAt c.self.inside.pairs.items c.args.uid c.in-Err.field-0 =
-    subst (λ (l : List (ℕ × ℕ)). BelongsAt l c.args.uid c.in-Err.field-0) c.deref.ensures.value c.in-Err.ensures.absent
-    in
+    rw c.deref.ensures.value at c.in-Err.ensures.absent in
     sym (place_in_gap _ _ _ gap) ∙ ap (λ (v : Pairs). place_of v.pairs c.args.uid) c.self.view_is

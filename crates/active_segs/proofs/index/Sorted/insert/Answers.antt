@@ -5,7 +5,7 @@ use Rattle.active_segs.proofs.index.Sorted.insert.Goals as goal
 pub unreachable-requires : goal.unreachable-requires
 unreachable-requires c =
     let found : IsFoundAt c.self.inside.pairs.items c.args.uid c.in-Ok.field-0 =
-    subst (λ (l : List (ℕ × ℕ)). IsFoundAt l c.args.uid c.in-Ok.field-0) c.deref.ensures.value c.in-Ok.ensures.found in
+    rw c.deref.ensures.value at c.in-Ok.ensures.found in
     let place : place_of c.self.inside.pairs.items c.args.uid ≡ Some _ = place_found _ c.self.invariant.0 _ _ found in
     let absent : place_of c.self.inside.pairs.items c.args.uid ≡ None =
     ap (λ (v : Pairs). place_of v.pairs c.args.uid) c.self.view_is ∙ c.requires.absent in cc
@@ -28,6 +28,5 @@ returns-clause-sets c =
     subst (λ (l : List (ℕ × ℕ)). BelongsAt l c.args.uid c.in-Err.at) c.deref.ensures.value c.in-Err.ensures.absent in
     let sets : SetsPlace c.self.inside.pairs.items c.insert.new.self.items c.args.uid (Some c.args.place) =
     subst (λ (l : List (ℕ × ℕ)). SetsPlace c.self.inside.pairs.items l c.args.uid (Some c.args.place))
-    (sym c.in-Ok-insert.ensures.items)
-    (sets_inserted _ _ _ gap c.args.place) in
+    (sym c.in-Ok-insert.ensures.items) (sets_inserted _ _ _ gap c.args.place) in
     subst (λ (v : Pairs). SetsPlace v.pairs c.insert.new.self.items c.args.uid (Some c.args.place)) c.self.view_is sets

@@ -5,8 +5,7 @@ use Rattle.active_segs.proofs.index.Sorted.remove.Goals as goal
 pub unreachable-requires : goal.unreachable-requires
 unreachable-requires c =
     let gap : BelongsAt c.self.inside.pairs.items c.args.uid c.in-Err.field-0 =
-    subst (λ (l : List (ℕ × ℕ)). BelongsAt l c.args.uid c.in-Err.field-0) c.deref.ensures.value c.in-Err.ensures.absent
-    in
+    rw c.deref.ensures.value at c.in-Err.ensures.absent in
     let none : place_of c.args.self.now.pairs c.args.uid ≡ None =
     sym (ap (λ (v : Pairs). place_of v.pairs c.args.uid) c.self.view_is) ∙ place_in_gap _ _ _ gap in
     let there : is_some (place_of c.args.self.now.pairs c.args.uid) ≡ true = c.requires.there in
