@@ -13,33 +13,29 @@ out_other : (s : Plain) (v r q : ℕ) (words : List ℕ) (h : Home) → v < leng
 out_other s v r q words h lt other = elim (cases_eq h.volume v) [
   | inr n ↦ ap (λ (disk : List (List ℕ)). words_filed disk (filed s h q))
       (get_or-set_other s.disks v h.volume (set (disk_of s v) r words) [] n)
-  | inl same ↦ filed_same (disk_of s h.volume) (disk_of (written s v r words) h.volume) (filed s h q) (λ k named.
-      ap (λ (w : ℕ). get_or (disk_of (written s v r words) w) k []) same
-      ∙ ap (λ (disk : List (List ℕ)). get_or disk k []) (disk_here s v r words lt)
-      ∙ get_or-set_other (disk_of s v) r k words [] (λ hit. other same (named ∙ ap Some hit))
-      ∙ ap (λ (w : ℕ). get_or (disk_of s w) k []) (sym same))
+  | inl same ↦ filed_same (disk_of s h.volume) (disk_of (written s v r words) h.volume) (filed s h q) (λ k named. cc (
+    disk_here s v r words lt,
+    get_or-set_other (disk_of s v) r k words [] (λ hit. other same (named ∙ ap Some hit)),
+  ))
 ]
 
--- no other page of any home is on the record
-apart : {s now : Plain} {to : Home} {p r : ℕ} {words : List ℕ} → IsWrittenAt s now to p r words → (h : Home) (q : ℕ)
-    → (h ≡ to → q ≡ p → ⊥) → h.volume ≡ to.volume → filed s h q ≡ Some r → ⊥
-apart {s = s} {to = to} {p = p} {r = r} w h q other same named =
-    let at : record_at (vtoc_in s.vtocs to.volume) h.entry q ≡ Some r =
-    ap (λ (v : ℕ). record_at (vtoc_in s.vtocs v) h.entry q) (sym same) ∙ named in
-    let one = w.records.once to.volume h.entry q to.entry p r at w.its in
-    other (λ i. record { volume = same i; entry = one.0 i }) one.1
+module _ {s now : Plain} {to : Home} {p r : ℕ} {words : List ℕ} (w : IsWrittenAt s now to p r words) where
+  -- no other page of any home is on the record
+  apart : (h : Home) (q : ℕ) → (h ≡ to → q ≡ p → ⊥) → h.volume ≡ to.volume → filed s h q ≡ Some r → ⊥
+  apart h q other same named =
+      let at : record_at (vtoc_in s.vtocs to.volume) h.entry q ≡ Some r =
+      ap (λ (v : ℕ). record_at (vtoc_in s.vtocs v) h.entry q) (sym same) ∙ named in
+      let one = w.records.once to.volume h.entry q to.entry p r at w.its in
+      other (λ i. record { volume = same i; entry = one.0 i }) one.1
 
-pub out_kept : {s now : Plain} {to : Home} {p r : ℕ} {words : List ℕ} → IsWrittenAt s now to p r words
-    → (h : Home) (q : ℕ) → (h ≡ to → q ≡ p → ⊥) → words_out now h q ≡ words_out s h q
-out_kept {s = s} {to = to} {r = r} {words = words} w h q other =
-    rw w.effect (out_other s to.volume r q words h w.volume (apart w h q other))
+  pub out_kept : (h : Home) (q : ℕ) → (h ≡ to → q ≡ p → ⊥) → words_out now h q ≡ words_out s h q
+  out_kept h q other = rw w.effect (out_other s to.volume r q words h w.volume (apart h q other))
 
-pub out_now : {s now : Plain} {to : Home} {p r : ℕ} {words : List ℕ} → IsWrittenAt s now to p r words
-    → words_out now to p ≡ words
-out_now {s = s} {to = to} {r = r} {words = words} w =
-    rw w.effect (ap (words_filed (disk_of (written s to.volume r words) to.volume)) w.its
-    ∙ ap (λ (disk : List (List ℕ)). get_or disk r []) (disk_here s to.volume r words w.volume)
-    ∙ get_or-set_same (disk_of s to.volume) r words [] w.within)
+  pub out_now : words_out now to p ≡ words
+  out_now = rw w.effect (cc (
+    disk_here s to.volume r words w.volume,
+    get_or-set_same (disk_of s to.volume) r words [] w.within,
+  ))
 
 -- and where the words are those of the page at the home that it has, one page more is copied
 pub page_copied : {s now : Plain} {from to : Home} {n p r : ℕ} {words : List ℕ} (t : List Ptw)
@@ -49,14 +45,13 @@ page_copied {s = s} {now = now} {from = from} {to = to} {n = n} {p = p} t w same
   words = λ q k lt out. elim (cases_eq q p) [
     | inl is ↦ ap (words_out now to) is ∙ out_now w ∙ same ∙ sym (out_kept w from p (λ e x. other e))
         ∙ ap (words_out now from) (sym is)
-    | inr isnt ↦ out_kept w to q (λ e is. isnt is)
-        ∙ copied.words q k (before q k lt isnt out) out
+    | inr isnt ↦ out_kept w to q (λ e is. isnt is) ∙ copied.words q k (before q k lt isnt out) out
         ∙ sym (out_kept w from q (λ e x. other e))
   ];
 }
   where
     before : (q k : ℕ) → q < p + 1 → q ≢ p → ptw_at t q ≡ Out k → q < n
     before q k lt isnt out = elim (leb_tells n q) [
-      | inl past ↦ absurd (none q k past.1 (omega (arith, lt, isnt)) out)
-      | inr less ↦ (let short = less.1 in omega (arith, short))
+      | inl past ↦ absurd (none q k past.1 (omega arith) out)
+      | inr less ↦ (omega arith)
     ]

@@ -1,5 +1,5 @@
 -- What becomes of the counts of each volume.
-use Rattle.page_control.proofs.Prelude.{◌≡◌, ◌≢◌, ℕ, suc, ◌+◌, ◌-◌, ◌<◌, Bool, true, false, cond, eqb, List, [], ◌∷◌, length, Option, Some, None, is_some, refl, ap, ◌∙◌, arith, inl, inr, get_or, set, map, count_by, eqb_tells, leb_tells, get_or-set_same, get_or-set_other, length-set, set_past, sum_by-set, map-set_same, in_use, Entry, entry_at, uid_of, with_record, fresh_entry, flags_in, vtoc_in, uid_at, map_at, Plain, flags_of, file_map_of, Home, Left, Released, Kept, Free, Core, Ptw, Null, Out, Here, Leaving, erased, freed, evicted, created, brought_in, framed, dropped, taken, used, named_on, one_more, one_less, KeepsCounts, put, list_within, count_with, count_without, flag_within}
+use Rattle.page_control.proofs.Prelude.{◌≡◌, ◌≢◌, ℕ, suc, ◌+◌, ◌-◌, ◌<◌, Bool, true, false, cond, eqb, List, [], ◌∷◌, length, Option, Some, None, is_some, refl, ap, ◌∙◌, arith, inl, inr, get_or, set, map, count_by, eqb_tells, leb_tells, get_or-set_same, get_or-set_other, length-set, set_past, sum_by-set, map-set_same, in_use, Entry, entry_at, uid_of, with_record, fresh_entry, flags_in, vtoc_in, uid_at, map_at, Plain, flags_of, file_map_of, Home, Left, Released, Kept, Free, Core, Ptw, Leaving, erased, freed, evicted, created, brought_in, framed, dropped, taken, used, named_on, one_more, one_less, KeepsCounts, put, list_within, count_with, count_without, flag_within}
 use Rattle.page_control.proofs.Places.{refile, home_within}
 
 -- one entry names another record
@@ -11,23 +11,19 @@ count_set : (table : List (Option Entry)) (e : ℕ) (x : Option Entry) → is_so
     → count_by is_some (set table e x) ≡ count_by is_some table
 count_set table e x same = elim (leb_tells (length table) e) [
   | inl past ↦ ap (count_by is_some) (set_past table e x past.1)
-  | inr lt ↦ (let all = sum_by-set (λ (y : Option Entry). cond {A = ℕ} (is_some y) 1 0) table e x None lt.1 in
-      let both : cond {A = ℕ} (is_some x) 1 0 ≡ cond (is_some (entry_at table e)) 1 0 =
-      ap (λ (b : Bool). cond {A = ℕ} b 1 0) same in
-      omega (arith, all, both))
+  | inr lt ↦ (let all = rw same at (sum_by-set (λ (y : Option Entry). cond {A = ℕ} (is_some y) 1 0) table e x None
+      lt.1) in omega arith)
 ]
 
 pub used_refiled : (vtocs : List (List (Option Entry))) (home : Home) (p : ℕ) (place : Option ℕ)
     → map (count_by is_some) (refile vtocs home p place) ≡ map (count_by is_some) vtocs
-used_refiled vtocs home p place =
-    map-set_same (count_by is_some) vtocs home.volume _ []
+used_refiled vtocs home p place = map-set_same (count_by is_some) vtocs home.volume _ []
     (count_set (vtoc_in vtocs home.volume) home.entry _
     (some_with (entry_at (vtoc_in vtocs home.volume) home.entry) p place))
 
 pub places_refiled : (vtocs : List (List (Option Entry))) (home : Home) (p : ℕ) (place : Option ℕ)
     → map (length {A = Option Entry}) (refile vtocs home p place) ≡ map length vtocs
-places_refiled vtocs home p place =
-    map-set_same (length {A = Option Entry}) vtocs home.volume _ []
+places_refiled vtocs home p place = map-set_same (length {A = Option Entry}) vtocs home.volume _ []
     (length-set (vtoc_in vtocs home.volume) home.entry
     (with_record (entry_at (vtoc_in vtocs home.volume) home.entry) p place))
 
@@ -43,30 +39,21 @@ disks_saved disks false v pages = refl
 -- frames change, and they are as many as before
 counts_framed : (s : Plain) (core : Core) (frames : List (List ℕ)) → length core.frames ≡ length s.core.frames
     → KeepsCounts s (record s { core = core; frames = frames })
-counts_framed s core frames many = record {
-  used = refl;
-  places = refl;
-  flags = refl;
-  volumes = refl;
-  frames = many;
-}
+counts_framed s core frames many = assumption
 
 -- a page is given a record, or gives it back
 counts_refiled : (s : Plain) (core : Core) (frames : List (List ℕ)) (home : Home) (p r : ℕ) (place : Option ℕ)
-    (flag : Bool) → length core.frames ≡ length s.core.frames
-    → KeepsCounts s (record s {
+    (flag : Bool) → length core.frames ≡ length s.core.frames → KeepsCounts s (record s {
       core = core;
       frames = frames;
       records = put s.records home.volume r flag;
       vtocs = refile s.vtocs home p place;
     })
-counts_refiled s core frames home p r place flag many = record {
-  used = used_refiled s.vtocs home p place;
-  places = places_refiled s.vtocs home p place;
-  flags = flags_put s.records home.volume r flag;
-  volumes = refl;
-  frames = many;
-}
+counts_refiled s core frames home p r place flag many = assumption (
+  used_refiled s.vtocs home p place,
+  places_refiled s.vtocs home p place,
+  flags_put s.records home.volume r flag,
+)
 
 -- a page that left its frame, one that was read and one that was created
 pub counts_evicted : (s now : Plain) (home : Home) (p f : ℕ) (left : Left) → now ≡ evicted s home p f left
@@ -104,40 +91,32 @@ pub less_by : (old new : ℕ → ℕ) (v : ℕ) → new v + 1 ≡ old v → ((w 
 unfolding one_less
 less_by old new v here others = λ i. λ w. at w i
   where
-    fewer : new v ≡ old v - 1
-    fewer = omega (arith, here)
-
     at : (w : ℕ) → new w ≡ cond (eqb w v) (old w - 1) (old w)
     at w = elim (eqb_tells w v) [
-      | inl same ↦ rw (same.0, same.1) fewer
+      | inl same ↦ rw (same.0, same.1) (omega arith)
       | inr n ↦ rw n.0 (others w n.1)
     ]
 
 -- a record is taken into use, and one is given back
 pub taken_more : (records : List (List Bool)) (v r : ℕ) → r < length (flags_in records v)
-    → in_use (flags_in records v) r ≡ false
-    → taken (put records v r true) ≡ one_more (taken records) v
+    → in_use (flags_in records v) r ≡ false → taken (put records v r true) ≡ one_more (taken records) v
 taken_more records v r rl free =
     let vl : v < length records = list_within records v r rl in
     more_by (taken records) (taken (put records v r true)) v
-    (ap (count_by (λ flag. flag)) (get_or-set_same records v (set (flags_in records v) r true) [] vl)
-    ∙ count_with (flags_in records v) r rl free)
-    (λ w n. ap (count_by (λ flag. flag)) (get_or-set_other records v w (set (flags_in records v) r true) [] n))
+    (cc (get_or-set_same records v (set (flags_in records v) r true) [] vl, count_with (flags_in records v) r rl free))
+    (λ w n. cc (get_or-set_other records v w (set (flags_in records v) r true) [] n))
 
 pub fewer_at : (records : List (List Bool)) (v r : ℕ) → in_use (flags_in records v) r ≡ true
     → taken (put records v r false) v + 1 ≡ taken records v
 fewer_at records v r is =
     let rl : r < length (flags_in records v) = flag_within (flags_in records v) r is in
     let vl : v < length records = list_within records v r rl in
-    ap (λ (flags : List Bool). count_by (λ flag. flag) flags + 1)
-    (get_or-set_same records v (set (flags_in records v) r false) [] vl)
-    ∙ count_without (flags_in records v) r is
+    rw (get_or-set_same records v (set (flags_in records v) r false) [] vl) (count_without (flags_in records v) r is)
 
 pub taken_less : (records : List (List Bool)) (v r : ℕ) → in_use (flags_in records v) r ≡ true
     → taken (put records v r false) ≡ one_less (taken records) v
-taken_less records v r is =
-    less_by (taken records) (taken (put records v r false)) v (fewer_at records v r is)
-    (λ w n. ap (count_by (λ flag. flag)) (get_or-set_other records v w (set (flags_in records v) r false) [] n))
+taken_less records v r is = less_by (taken records) (taken (put records v r false)) v (fewer_at records v r is)
+    (λ w n. cc (get_or-set_other records v w (set (flags_in records v) r false) [] n))
 
 -- a page that couldn't be read, and one that is dropped
 pub counts_lost : (s now : Plain) (f : ℕ) → now ≡ framed s f Free → KeepsCounts s now
@@ -148,38 +127,33 @@ counts_same s now is = rw is (counts_framed s _ _ refl)
 
 pub counts_dropped : (s now : Plain) (home : Home) (p : ℕ) (word : Ptw) → now ≡ dropped s home p word
     → KeepsCounts s now
-counts_dropped s now home p Null is = rw is (counts_refiled s _ _ home p _ None false refl)
-counts_dropped s now home p (Out r) is = rw is (counts_refiled s _ _ home p _ None false refl)
-counts_dropped s now home p (Here f) is = rw is (counts_refiled s _ _ home p _ None false refl)
 counts_dropped s now home p (Leaving f) is =
     rw is (counts_refiled s _ _ home p _ None false (length-set s.core.frames f _))
+counts_dropped s now home p _ is = rw is (counts_refiled s _ _ home p _ None false refl)
 
 -- the counts of used entries
 pub count_more : (table : List (Option Entry)) (e uid : ℕ) → e < length table → entry_at table e ≡ None
     → count_by is_some (set table e (fresh_entry uid)) ≡ count_by is_some table + 1
 count_more table e uid el free =
     let all = sum_by-set (λ (y : Option Entry). cond {A = ℕ} (is_some y) 1 0) table e (fresh_entry uid) None el in
-    let none : cond {A = ℕ} (is_some (entry_at table e)) 1 0 ≡ 0 =
-    ap (λ (y : Option Entry). cond {A = ℕ} (is_some y) 1 0) free in
-    omega (arith, all, none)
+    let none = rw free at all in
+    omega arith
 
 pub used_more : (vtocs : List (List (Option Entry))) (v e uid : ℕ) → e < length (vtoc_in vtocs v)
-    → entry_at (vtoc_in vtocs v) e ≡ None
-    → used (put vtocs v e (fresh_entry uid)) ≡ one_more (used vtocs) v
+    → entry_at (vtoc_in vtocs v) e ≡ None → used (put vtocs v e (fresh_entry uid)) ≡ one_more (used vtocs) v
 used_more vtocs v e uid el free =
     let vl : v < length vtocs = list_within vtocs v e el in
-    more_by (used vtocs) (used (put vtocs v e (fresh_entry uid))) v
-    (ap (count_by is_some) (get_or-set_same vtocs v (set (vtoc_in vtocs v) e (fresh_entry uid)) [] vl)
-    ∙ count_more (vtoc_in vtocs v) e uid el free)
-    (λ w n. ap (count_by is_some) (get_or-set_other vtocs v w (set (vtoc_in vtocs v) e (fresh_entry uid)) [] n))
+    more_by (used vtocs) (used (put vtocs v e (fresh_entry uid))) v (cc (
+      get_or-set_same vtocs v (set (vtoc_in vtocs v) e (fresh_entry uid)) [] vl,
+      count_more (vtoc_in vtocs v) e uid el free,
+    )) (λ w n. cc (get_or-set_other vtocs v w (set (vtoc_in vtocs v) e (fresh_entry uid)) [] n))
 
 count_fewer : (table : List (Option Entry)) (e uid : ℕ) → e < length table → uid_of (entry_at table e) ≡ Some uid
     → count_by is_some (set table e None) + 1 ≡ count_by is_some table
 count_fewer table e uid el used =
     let all = sum_by-set (λ (y : Option Entry). cond {A = ℕ} (is_some y) 1 0) table e None None el in
-    let one : cond {A = ℕ} (is_some (entry_at table e)) 1 0 ≡ 1 =
-    ap (λ (b : Bool). cond {A = ℕ} b 1 0) (there (entry_at table e) used) in
-    omega (arith, all, one)
+    let one = rw (there (entry_at table e) used) at all in
+    omega arith
   where
     there : (entry : Option Entry) → uid_of entry ≡ Some uid → is_some entry ≡ true
     there None is = cc
@@ -190,13 +164,12 @@ pub named_less : (places : List (Option ℕ)) (n : ℕ) → n < length places �
     → count_by is_some (set places n None) + 1 ≡ count_by is_some places
 named_less places n lt there =
     let all = sum_by-set (λ (y : Option ℕ). cond {A = ℕ} (is_some y) 1 0) places n None None lt in
-    let one : cond {A = ℕ} (is_some (get_or places n None)) 1 0 ≡ 1 = rw there refl in
-    omega (arith, all, one)
+    let one = rw there at all in
+    omega arith
 
 pub none_named : (places : List (Option ℕ)) → ((q : ℕ) → get_or places q None ≡ None) → count_by is_some places ≡ 0
 none_named [] none = refl
-none_named (place ∷ places) none = ap (λ (first : Option ℕ). count_by is_some (first ∷ places)) (none 0)
-    ∙ none_named places (λ q. none (suc q))
+none_named (place ∷ places) none = rw (none 0) (none_named places (λ q. none (suc q)))
 
 -- the records of a home are given back: on its volume, and on any
 pub named_here : (vtocs : List (List (Option Entry))) (home : Home) → named_on vtocs home home.volume
@@ -214,9 +187,9 @@ unfolding named_on
 taken_erased s now home is here v = elim (eqb_tells v home.volume) [
   | inl same ↦ rw same.1 here
   | inr other ↦ (
-      let before : taken now.records v ≡ taken s.records v = ap (λ (x : Plain). taken x.records v) is
-      ∙ ap (count_by (λ flag. flag)) (get_or-set_other s.records home.volume v
-      (freed (flags_of s home.volume) (file_map_of s home)) [] other.1) in
+      let before : taken now.records v ≡ taken s.records v = rw is
+      (cc (get_or-set_other s.records home.volume v (freed (flags_of s home.volume) (file_map_of s home)) [] other.1))
+      in
       rw (other.0, before) (omega arith)
       )
 ]
@@ -229,8 +202,6 @@ used_erased vtocs now uid home is h =
     let el : home.entry < length (vtoc_in vtocs home.volume) = home_within vtocs uid home h in
     let vl : home.volume < length vtocs = list_within vtocs home.volume home.entry el in
     ap used is ∙ less_by (used vtocs) (used (put vtocs home.volume home.entry None)) home.volume
-    (ap (λ (table : List (Option Entry)). count_by is_some table + 1)
-    (get_or-set_same vtocs home.volume (set (vtoc_in vtocs home.volume) home.entry None) [] vl)
-    ∙ count_fewer (vtoc_in vtocs home.volume) home.entry uid el h)
-    (λ w n. ap (count_by is_some) (get_or-set_other vtocs home.volume w
-    (set (vtoc_in vtocs home.volume) home.entry None) [] n))
+    (rw (get_or-set_same vtocs home.volume (set (vtoc_in vtocs home.volume) home.entry None) [] vl)
+    (count_fewer (vtoc_in vtocs home.volume) home.entry uid el h))
+    (λ w n. cc (get_or-set_other vtocs home.volume w (set (vtoc_in vtocs home.volume) home.entry None) [] n))

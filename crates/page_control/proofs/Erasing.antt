@@ -21,40 +21,31 @@ takes flags places n r is =
 
 -- the file map after page n has given its record back
 rest_flags : (s : Plain) (uid : ℕ) (home : Home) (n r : ℕ) → uid_at s.vtocs home ≡ Some uid → filed s home n ≡ Some r
-    → home.volume < length s.records
-    → set (put s.records home.volume r false) home.volume
+    → home.volume < length s.records → set (put s.records home.volume r false) home.volume
     (freed (get_or (put s.records home.volume r false) home.volume [])
     (drop (n + 1) (map_at (refile s.vtocs home n None) home)))
     ≡ set s.records home.volume (freed (flags_of s home.volume) (drop n (file_map_of s home)))
 rest_flags s uid home n r h is vl =
     let flags : List Bool = flags_of s home.volume in
     let places : List (Option ℕ) = file_map_of s home in
-    ap (λ (bits : List Bool). set (put s.records home.volume r false) home.volume
-    (freed bits (drop (n + 1) (map_at (refile s.vtocs home n None) home))))
-    (get_or-set_same s.records home.volume (set flags r false) [] vl)
-    ∙ ap (λ (map : List (Option ℕ)). set (put s.records home.volume r false) home.volume
-    (freed (set flags r false) (drop (n + 1) map)))
-    (map_refiled s.vtocs uid n None home h)
-    ∙ ap (λ (map : List (Option ℕ)). set (put s.records home.volume r false) home.volume
-    (freed (set flags r false) map))
-    (drop-set-lt (n + 1) places n None (omega arith))
-    ∙ ap (set (put s.records home.volume r false) home.volume) (takes flags places n r is)
-    ∙ set-set s.records home.volume (set flags r false) (freed flags (drop n places))
+    rw (
+      get_or-set_same s.records home.volume (set flags r false) [] vl,
+      map_refiled s.vtocs uid n None home h,
+      drop-set-lt (n + 1) places n None (omega arith),
+      takes flags places n r is,
+      set-set s.records home.volume (set flags r false) (freed flags (drop n places)),
+    )
 
 gone_refiled : (s : Plain) (uid : ℕ) (home : Home) (n q : ℕ) → uid_at s.vtocs home ≡ Some uid
-    → (q ≢ n → filed s home q ≡ None)
-    → get_or (map_at (refile s.vtocs home n None) home) q None ≡ None
-gone_refiled s uid home n q h before =
-    ap (λ (places : List (Option ℕ)). get_or places q None) (map_refiled s.vtocs uid n None home h)
-    ∙ elim (cases_eq q n) [
-      | inl same ↦ rw same (none_put (file_map_of s home) n)
-      | inr other ↦ get_or-set_other (file_map_of s home) n q None None other ∙ before other
-    ]
+    → (q ≢ n → filed s home q ≡ None) → get_or (map_at (refile s.vtocs home n None) home) q None ≡ None
+gone_refiled s uid home n q h before = rw (map_refiled s.vtocs uid n None home h) (elim (cases_eq q n) [
+  | inl same ↦ rw same (none_put (file_map_of s home) n)
+  | inr other ↦ get_or-set_other (file_map_of s home) n q None None other ∙ before other
+])
 
 -- a record less is in use, and one less is named
 count_some : (old s : Plain) (uid : ℕ) (home : Home) (n r : ℕ) → uid_at s.vtocs home ≡ Some uid → filed s home n
-    ≡ Some r
-    → in_use (flags_in s.records home.volume) r ≡ true
+    ≡ Some r → in_use (flags_in s.records home.volume) r ≡ true
     → taken old.records home.volume + count_by is_some (map_at s.vtocs home)
     ≡ taken s.records home.volume + count_by is_some (map_at old.vtocs home)
     → taken old.records home.volume + count_by is_some (map_at (refile s.vtocs home n None) home)
@@ -68,34 +59,25 @@ count_some old s uid home n r h there on before =
     ≡ count_by is_some (map_at s.vtocs home) =
     ap (λ (map : List (Option ℕ)). count_by is_some map + 1) (map_refiled s.vtocs uid n None home h)
     ∙ named_less places n lt (ap is_some there) in
-    omega (arith, less, fewer, before)
+    omega arith
 
-pub part_some : (old s now : Plain) (uid : ℕ) (home : Home) (n : ℕ) → now ≡ unstored s home n → filed s home n
-    ≡ Some (record_of s home n)
-    → IsPartErased old s uid home n
-    → IsPartErased old now uid home (n + 1)
-part_some old s now uid home n is there part =
+pub part_some : {old s : Plain} (now : Plain) {uid : ℕ} {home : Home} {n : ℕ} → now ≡ unstored s home n
+    → filed s home n ≡ Some (record_of s home n) → IsPartErased old s uid home n → IsPartErased old now uid home (n + 1)
+part_some {old} {s} now {uid} {home} {n} is there part =
     let r : ℕ = record_of s home n in
     let h : uid_at s.vtocs home ≡ Some uid = part.at in
     let on : in_use (flags_in s.records home.volume) r ≡ true = part.records.used home.volume home.entry n r there in
-    let vl : home.volume < length s.records = within_from s.records home.volume []
-    (λ e. off_and_on _ (ap (λ (flags : List Bool). in_use flags r) e) on) in
+    let vl : home.volume < length s.records = within_from s.records home.volume [] (λ e. off_and_on _ (cc) on) in
     rw is (record {
-      rest = ap (λ (records : List (List Bool)). record s
-          { records = records; vtocs = put (refile s.vtocs home n None) home.volume home.entry None })
-          (rest_flags s uid home n r h there vl)
-          ∙ ap (λ (vtocs : List (List (Option Entry))). record s {
-            records = set s.records home.volume (freed (flags_of s home.volume) (drop n (file_map_of s home)));
-            vtocs =
-                vtocs;
-          })
-          (put_put s.vtocs home.volume home.entry (with_record (entry_at (vtoc_in s.vtocs home.volume) home.entry) n
-          None) None
-          (volume_within s.vtocs uid home h))
-          ∙ part.rest;
-      gone = λ q lt. gone_refiled s uid home n q h (λ other. part.gone q (omega (arith, lt, other)));
+      rest = cc (
+        rest_flags s uid home n r h there vl,
+        put_put s.vtocs home.volume home.entry
+            (with_record (entry_at (vtoc_in s.vtocs home.volume) home.entry) n None) None
+            (volume_within s.vtocs uid home h),
+      );
+      gone = λ q lt. gone_refiled s uid home n q h (λ other. part.gone q (omega arith));
       at = uids_refiled s.vtocs uid n None home home h ∙ h;
-      records = filed_unstored s.records s.vtocs uid n r home part.records h there;
+      records = filed_unstored uid n r home part.records h there;
       count = count_some old s uid home n r h there on part.count;
     })
 
@@ -111,17 +93,13 @@ pub part_empty : (s : Plain) (uid : ℕ) (home : Home) (table : List (Option Ent
     → IsPartErased s s uid home 256
 part_empty s uid home table h filed is empty =
     let places : List (Option ℕ) = file_map_of s home in
-    let none : (p : ℕ) → get_or places p None ≡ None = (subst (λ (t : List (Option Entry)). NamesNoRecord t home.entry)
-    is empty).none in
+    let none : (p : ℕ) → get_or places p None ≡ None = (rw is at empty).none in
     let flags : List Bool = flags_of s home.volume in
     record {
-      rest = ap (λ (bits : List Bool). record s {
-        records = set s.records home.volume bits;
-        vtocs =
-            put s.vtocs home.volume home.entry None;
-      })
-          (freed_none flags (drop 256 places) (λ p. get_or-drop 256 places p None ∙ none (256 + p))
-          ∙ sym (freed_none flags places none));
+      rest = cc (
+        freed_none flags (drop 256 places) (λ p. get_or-drop 256 places p None ∙ none (256 + p)),
+        freed_none flags places none,
+      );
       gone = λ p lt. none p;
       at = h;
       records = filed;
@@ -136,100 +114,74 @@ pub record Ended (old s : Plain) (uid : ℕ) (home : Home) : Type 0 where
 pub ended : {old s : Plain} {uid n : ℕ} {home : Home} {table : List (Option Entry)} → IsPartErased old s uid home n
     → HasFullMaps table → n ≡ 256 → table ≡ vtoc_in s.vtocs home.volume → Ended old s uid home
 ended {old = old} {s = s} {uid = uid} {home = home} part full last is = record {
-  part = subst (IsPartErased old s uid home) last part;
+  part = rw (← last) part;
   full = subst HasFullMaps is full;
 }
 
--- and the entry is freed
-pub all_erased : {old s now : Plain} {uid : ℕ} {home : Home} → Ended old s uid home
-    → now ≡ record s { vtocs = put s.vtocs home.volume home.entry None } → now ≡ erased old home
-all_erased {s = s} {home = home} end is =
-    let long : length (file_map_of s home) ≡ 256 = end.full.places home.entry in
-    is ∙ ap (λ (records : List (List Bool)). record s {
-      records = records;
-      vtocs =
-          put s.vtocs home.volume home.entry None;
-    })
-    (sym (ap (set s.records home.volume) (at_drop_all (freed (flags_of s home.volume)) (file_map_of s home) 256
-    (omega (arith, long)))
-    ∙ set-get_or s.records home.volume [])) ∙ end.part.rest
+module _ {old s : Plain} {uid : ℕ} {home : Home} (end : Ended old s uid home) where
+  -- and the entry is freed
+  pub all_erased : {now : Plain} → now ≡ record s { vtocs = put s.vtocs home.volume home.entry None }
+      → now ≡ erased old home
+  all_erased is =
+      let long : length (file_map_of s home) ≡ 256 = end.full.places home.entry in
+      cc (
+        at_drop_all (freed (flags_of s home.volume)) (file_map_of s home) 256 (omega (arith, long)),
+        set-get_or s.records home.volume [],
+      )
 
-pub names_none : {old s : Plain} {uid : ℕ} {home : Home} → Ended old s uid home
-    → NamesNoRecord (vtoc_in s.vtocs home.volume) home.entry
-names_none {s = s} {home = home} end = record {
-  none = λ q. elim (leb_tells 256 q) [
-    | inl past ↦ get_or_past (file_map_of s home) q None
-        (let long : length (file_map_of s home) ≡ 256 = end.full.places home.entry in omega (arith, long, past.1))
-    | inr lt ↦ end.part.gone q lt.1
-  ];
-}
+  pub names_none : NamesNoRecord (vtoc_in s.vtocs home.volume) home.entry
+  names_none = record {
+    none = λ q. elim (leb_tells 256 q) [
+      | inl past ↦ get_or_past (file_map_of s home) q None (omega (arith, end.full.places home.entry))
+      | inr lt ↦ end.part.gone q lt.1
+    ];
+  }
 
-pub count_end : {old s : Plain} {records : List (List Bool)} {uid : ℕ} {home : Home} → Ended old s uid home
-    → records ≡ s.records
-    → taken records home.volume + named_on old.vtocs home home.volume ≡ taken old.records home.volume
-count_end {old = old} {s = s} {home = home} end same =
-    let none : count_by is_some (map_at s.vtocs home) ≡ 0 = none_named (map_at s.vtocs home) (names_none end).none in
-    let all = end.part.count in
-    rw (same, named_here old.vtocs home) (omega (arith, none, all))
+  pub count_end : {records : List (List Bool)} → records ≡ s.records
+      → taken records home.volume + named_on old.vtocs home home.volume ≡ taken old.records home.volume
+  count_end same =
+      let none : count_by is_some (map_at s.vtocs home) ≡ 0 = none_named (map_at s.vtocs home) names_none.none in
+      let all = end.part.count in
+      rw (same, named_here old.vtocs home) (omega arith)
 
-pub uid_erased : (s now : Plain) (uid : ℕ) (home : Home) → now ≡ erased s home → uid_at s.vtocs home ≡ Some uid
-    → uid_at now.vtocs home ≡ None
-uid_erased s now uid home is h =
-    ap (λ (x : Plain). uid_at x.vtocs home) is
-    ∙ ap uid_of (put_here s.vtocs home.volume home.entry None None (volume_within s.vtocs uid home h)
-    (home_within s.vtocs uid home h))
+-- what is left where a home is given up
+pub record HasErased (s now : Plain) (home : Home) : Type 0 where
+  pub home_free : uid_at now.vtocs home ≡ None
+  pub uids : (other : Home) → other ≢ home → uid_at now.vtocs other ≡ uid_at s.vtocs other
+  pub maps : (other : Home) → other ≢ home → map_at now.vtocs other ≡ map_at s.vtocs other
+  pub ties : (u : ℕ) (other : Home) (words : List Ptw) → other ≢ home → IsTied s u other words
+      → IsTied now u other words
+  pub stored : (p : ℕ) → is_stored now home p ≡ false
+  pub zeros : (u p : ℕ) → HasNoFrame (bindings s.core) u → words_at now u home p ≡ replicate 1024 0
+  pub words : (u : ℕ) (other : Home) (p : ℕ) → other ≢ home → words_at now u other p ≡ words_at s u other p
 
-pub uids_erased : (s now : Plain) (uid : ℕ) (home other : Home) → now ≡ erased s home → uid_at s.vtocs home ≡ Some uid
-    → other ≢ home
-    → uid_at now.vtocs other ≡ uid_at s.vtocs other
-uids_erased s now uid home other is h n =
-    ap (λ (x : Plain). uid_at x.vtocs other) is
-    ∙ ap uid_of (put_other s.vtocs home.volume home.entry None None other.volume other.entry
-    (volume_within s.vtocs uid home h) (other_home home other n))
-
-pub maps_erased : (s now : Plain) (uid : ℕ) (home other : Home) → now ≡ erased s home → uid_at s.vtocs home ≡ Some uid
-    → other ≢ home
-    → map_at now.vtocs other ≡ map_at s.vtocs other
-maps_erased s now uid home other is h n = ap (λ (x : Plain). map_at x.vtocs other) is
-    ∙ maps_freed s.vtocs uid home other h (other_home home other n)
-
-map_erased : (s now : Plain) (uid : ℕ) (home : Home) → now ≡ erased s home → uid_at s.vtocs home ≡ Some uid → (p : ℕ)
-    → filed now home p ≡ None
-map_erased s now uid home is h p =
-    ap (λ (x : Plain). filed x home p) is
-    ∙ ap (λ (entry : Option Entry). get_or (records_in entry) p None)
-    (put_here s.vtocs home.volume home.entry None None (volume_within s.vtocs uid home h)
-    (home_within s.vtocs uid home h))
-    ∙ no_record p
-
-pub stored_erased : (s now : Plain) (uid : ℕ) (home : Home) → now ≡ erased s home → uid_at s.vtocs home ≡ Some uid
-    → (p : ℕ) → is_stored now home p ≡ false
+erased_so : (s : Plain) (uid : ℕ) (home : Home) → uid_at s.vtocs home ≡ Some uid
+    → AreFiled (erased s home).records (erased s home).vtocs → HasErased s (erased s home) home
 unfolding is_filed_at
-stored_erased s now uid home is h p = ap is_some (map_erased s now uid home is h p)
+erased_so s uid home h old =
+    let now : Plain = erased s home in
+    let within = volume_within s.vtocs uid home h in
+    let here = put_here s.vtocs home.volume home.entry None None within (home_within s.vtocs uid home h) in
+    let none : (p : ℕ) → filed now home p ≡ None =
+    λ p. ap (λ (entry : Option Entry). get_or (records_in entry) p None) here ∙ no_record p in
+    let uids : (other : Home) → other ≢ home → uid_at now.vtocs other ≡ uid_at s.vtocs other =
+    λ other n. ap uid_of (put_other s.vtocs home.volume home.entry None None other.volume other.entry within
+    (other_home home other n)) in
+    let maps : (other : Home) → other ≢ home → map_at now.vtocs other ≡ map_at s.vtocs other =
+    λ other n. maps_freed s.vtocs uid home other h (other_home home other n) in
+    record {
+      home_free = ap uid_of here;
+      uids = uids;
+      maps = maps;
+      ties = λ u other words n tie. tie_mapped now refl refl refl (uids other n ∙ tie.used) (maps other n) old tie;
+      stored = λ p. ap is_some (none p);
+      zeros = λ u p off. cc (shown_out now u p home (λ g at. off.none g p at), none p);
+      words = λ u other p n. words_by s now u other p refl refl refl (maps other n);
+    }
 
-pub zeros_erased : (s now : Plain) (uid : ℕ) (home : Home) → now ≡ erased s home → uid_at s.vtocs home ≡ Some uid
-    → (u p : ℕ) → HasNoFrame (bindings s.core) u
-    → words_at now u home p ≡ replicate 1024 0
-zeros_erased s now uid home is h u p none =
-    shown_out now u p home (λ g at. none.none g p (ap (λ (x : Plain). get_or (bindings x.core) g None) (sym is) ∙ at))
-    ∙ ap (words_filed (disk_of now home.volume)) (map_erased s now uid home is h p)
-
-pub words_erased : (s now : Plain) (uid : ℕ) (home : Home) → now ≡ erased s home → uid_at s.vtocs home ≡ Some uid
-    → (u : ℕ) (other : Home) (p : ℕ)
-    → other ≢ home
-    → words_at now u other p ≡ words_at s u other p
-words_erased s now uid home is h u other p n =
-    words_by s now u other p (ap (λ (x : Plain). bindings x.core) is) (ap (λ (x : Plain). x.frames) is)
-    (ap (λ (x : Plain). x.disks) is)
-    (maps_erased s now uid home other is h n)
-
-pub ties_erased : (s now : Plain) (uid : ℕ) (home : Home) → now ≡ erased s home → uid_at s.vtocs home ≡ Some uid
-    → AreFiled now.records now.vtocs
-    → (u : ℕ) (other : Home) (words : List Ptw) → other ≢ home → IsTied s u other words → IsTied now u other words
-ties_erased s now uid home is h filed u other words n tie =
-    tie_mapped s now u other words (ap (λ (x : Plain). x.core) is) (ap (λ (x : Plain). x.frames) is)
-    (ap (λ (x : Plain). x.disks) is)
-    (uids_erased s now uid home other is h n ∙ tie.used) (maps_erased s now uid home other is h n) filed tie
+pub has_erased : (s : Plain) {now : Plain} {uid : ℕ} (home : Home) → now ≡ erased s home
+    → uid_at s.vtocs home ≡ Some uid → AreFiled now.records now.vtocs → HasErased s now home
+has_erased s {uid} home is h filed = rw is (erased_so s uid home h (rw is at filed))
 
 -- the records that the other file maps name
 pub filed_erased : {old s : Plain} {records : List (List Bool)} {vtocs : List (List (Option Entry))} {uid : ℕ}

@@ -14,8 +14,7 @@ out_within table p r h = within_from table p Null (λ e. cc)
 
 -- a page whose word isn't `Null` is on a record
 pub filed_from_word : (s : Plain) (home : Home) (table : List Ptw) (p : ℕ) → IsMapOf (file_map_of s home) table
-    → has_record (ptw_at table p) ≡ true
-    → filed s home p ≡ Some (record_of s home p)
+    → has_record (ptw_at table p) ≡ true → filed s home p ≡ Some (record_of s home p)
 filed_from_word s home table p h word = some_unwrapped (filed s home p) (h.stored p ∙ word)
 
 -- which is in use
@@ -46,8 +45,7 @@ bound_from_page (Bound u q used modified) uid p h = refl
 
 -- and so is the frame that a word names
 pub leaving_bound : (core : Core) (uid : ℕ) (table : List Ptw) (p f : ℕ) → IsTableOf (bindings core) uid table
-    → ptw_at table p ≡ Leaving f
-    → is_bound (frame_at core f) ≡ true
+    → ptw_at table p ≡ Leaving f → is_bound (frame_at core f) ≡ true
 leaving_bound core uid table p f h word =
     bound_from_page (frame_at core f) uid p (sym (binding_is core f) ∙ h.back f p (ap frame_of word))
 
@@ -57,16 +55,14 @@ pub bindings_with : (core : Core) (f : ℕ) (frame : Frame) → bindings (with_f
 bindings_with core f frame = map-set bound_page core.frames f frame
 
 -- what is seen of each frame, where one is replaced that is seen as the same
-pub seen_same : {X : Type 0} (see : Frame → X) (core : Core) (f : ℕ) (frame : Frame) → see frame
-    ≡ see (frame_at core f)
+pub seen_same : {X : Type 0} (see : Frame → X) (core : Core) (f : ℕ) (frame : Frame) → see frame ≡ see (frame_at core f)
     → map see (with_frame core f frame).frames ≡ map see core.frames
 seen_same see core f frame same = map-set_same see core.frames f frame Free same
 
 -- a reference through a frame leaves it bound to the same page, or to none
 pub page_referred : (frame : Frame) (wrote : Bool) → bound_page (after_reference frame wrote) ≡ bound_page frame
 page_referred Free wrote = refl
-page_referred (Started u q) wrote = refl
-page_referred (Bound u q used modified) wrote = refl
+page_referred _ wrote = refl
 
 pub bindings_referred : (core : Core) (f : ℕ) (wrote : Bool)
     → bindings (with_frame core f (after_reference (frame_at core f) wrote)) ≡ bindings core
@@ -74,11 +70,11 @@ bindings_referred core f wrote = seen_same bound_page core f _ (page_referred (f
 
 pub bindings_started : (core : Core) (f uid p : ℕ) → frame_at core f ≡ Free
     → bindings (with_frame core f (Started uid p)) ≡ bindings core
-bindings_started core f uid p free = seen_same bound_page core f (Started uid p) (sym (ap bound_page free))
+bindings_started core f uid p free = seen_same bound_page core f (Started uid p) (cc)
 
 pub bindings_lost : (core : Core) (f uid p : ℕ) → frame_at core f ≡ Started uid p → bindings (with_frame core f Free)
     ≡ bindings core
-bindings_lost core f uid p started = seen_same bound_page core f Free (sym (ap bound_page started))
+bindings_lost core f uid p started = seen_same bound_page core f Free (cc)
 
 -- the page that a bound frame has
 pub bound_to : (frame : Frame) → is_bound frame ≡ true → bound_page frame ≡ Some (uid_in frame, number_in frame)
@@ -93,11 +89,8 @@ pub bound_and_marked : (core : Core) (f uid p : ℕ) → f < length core.frames
     ≡ with_frame core f (Bound uid p true true)
 bound_and_marked core f uid p lt =
     let read : get_or (set core.frames f (Bound uid p false false)) f Free ≡ Bound uid p false false =
-    get_or-set_same core.frames f (Bound uid p false false)
-    Free lt in
-    ap (λ (frame : Frame). with_frame (with_frame core f (Bound uid p false false)) f (after_reference frame true)) read
-    ∙ ap (λ (frames : List Frame). record core { frames = frames })
-    (set-set core.frames f (Bound uid p false false) (Bound uid p true true))
+    get_or-set_same core.frames f (Bound uid p false false) Free lt in
+    cc (set-set core.frames f (Bound uid p false false) (Bound uid p true true))
 
 -- for which pages frames are started
 pub starts_with : (core : Core) (f : ℕ) (frame : Frame) → reads_of (with_frame core f frame)
@@ -120,19 +113,16 @@ pub tied_entry : (s : Plain) (uid : ℕ) (home : Home) (words : List Ptw) → Is
 tied_entry s uid home words tie = home_used s uid home tie.used
 
 pub tied_volume : {D : Type 0} (pages : D → List (List ℕ)) (s : Paging D) (uid : ℕ) (home : Home) (words : List Ptw)
-    → IsTied (plain pages s) uid home words
-    → home.volume < length s.volumes.drives
-tied_volume pages s uid home words tie = (let volume = tie.volume in let count =
-    length-map s.volumes.drives pages in omega (arith, volume, count))
+    → IsTied (plain pages s) uid home words → home.volume < length s.volumes.drives
+tied_volume pages s uid home words tie = (omega (arith, length-map s.volumes.drives pages))
 
-pub tied_filed : (s : Plain) (uid : ℕ) (home : Home) (words : List Ptw) (p : ℕ) → IsTied s uid home words
-    → has_record (ptw_at words p) ≡ true
-    → filed s home p ≡ Some (record_of s home p)
-tied_filed s uid home words p tie has = filed_from_word s home words p tie.map has
+pub tied_filed : {s : Plain} {uid : ℕ} {home : Home} {words : List Ptw} (p : ℕ) → IsTied s uid home words
+    → has_record (ptw_at words p) ≡ true → filed s home p ≡ Some (record_of s home p)
+tied_filed {s} {home} {words} p tie has = filed_from_word s home words p tie.map has
 
 pub plain_volume : {D : Type 0} (pages : D → List (List ℕ)) (s : Paging D) (v : ℕ) → v < length s.volumes.drives
     → v < length (plain pages s).disks
-plain_volume pages s v lt = (let count = length-map s.volumes.drives pages in omega (arith, lt, count))
+plain_volume pages s v lt = (omega (arith, length-map s.volumes.drives pages))
 
 -- what the steps of each call go by: a page that leaves its frame, one that is dropped and one that is made
 pub ruleset page_leaves = (tied_entry, leaving_within)

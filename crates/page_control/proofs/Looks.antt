@@ -1,5 +1,5 @@
 -- What a word that names a frame tells of the frame and of the page.
-use Rattle.page_control.proofs.Prelude.{◌≡◌, ℕ, true, false, List, Option, None, Some, refl, sym, ap, ◌∙◌, arith, is_some, Frame, Core, frame_at, bound_page, AreZero, Ptw, Null, Out, Here, Leaving, ptw_at, Home, Plain, bindings, number_in, words_in, disk_of, filed, record_of, frame_of, has_record, is_out, uid_in, IsTableOf, IsBoundTo, words_at, words_filed, is_filed_at, is_stored, IsTied, IsSeen, not_none}
+use Rattle.page_control.proofs.Prelude.{◌≡◌, ℕ, true, false, List, Option, None, Some, refl, sym, ap, ◌∙◌, arith, is_some, Frame, Core, frame_at, bound_page, AreZero, Ptw, Null, Out, ptw_at, Home, Plain, bindings, number_in, words_in, disk_of, filed, record_of, frame_of, has_record, is_out, uid_in, IsTableOf, IsBoundTo, words_at, words_filed, is_filed_at, is_stored, IsTied, IsSeen, not_none}
 use Rattle.page_control.proofs.Facts.{binding_is, bound_from_page, bound_to, tied_filed, filed_in_use}
 use Rattle.page_control.proofs.Ties.{number_of, frame_same}
 use Rattle.page_control.proofs.Pictures.{uid_part, shown_in, shown_out}
@@ -10,27 +10,25 @@ told : (frame : Frame) (uid p : ℕ) → bound_page frame ≡ Some (uid, p)
 told frame uid p at = sym (bound_to frame (bound_from_page frame uid p at)) ∙ at
 
 pub frame_named : (core : Core) (uid p f : ℕ) (t : List Ptw) → IsTableOf (bindings core) uid t → frame_of (ptw_at t p)
-    ≡ Some f
-    → IsBoundTo (frame_at core f) uid p
+    ≡ Some f → IsBoundTo (frame_at core f) uid p
 frame_named core uid p f t table word =
     let page : bound_page (frame_at core f) ≡ Some (uid, p) = sym (binding_is core f) ∙ table.back f p word in
-    record {
-      bound = bound_from_page (frame_at core f) uid p page;
-      segment = ap uid_part (told (frame_at core f) uid p page);
-      page = ap number_of (told (frame_at core f) uid p page);
-    }
+    assumption (
+      bound_from_page (frame_at core f) uid p page,
+      ap uid_part (told (frame_at core f) uid p page),
+      ap number_of (told (frame_at core f) uid p page),
+    )
 
 pub words_named : (s : Plain) (uid p f : ℕ) (home : Home) (t : List Ptw) → IsTableOf (bindings s.core) uid t
-    → frame_of (ptw_at t p) ≡ Some f
-    → words_at s uid home p ≡ words_in s f
+    → frame_of (ptw_at t p) ≡ Some f → words_at s uid home p ≡ words_in s f
 words_named s uid p f home t table word =
     shown_in s uid p f home (table.back f p word) (λ g at. frame_same (frame_of (ptw_at t p)) g f (table.named g p at)
     word)
 
 -- a page whose word names no frame has the words of its record
-words_away : (s : Plain) (uid p : ℕ) (home : Home) (t : List Ptw) → IsTied s uid home t → frame_of (ptw_at t p) ≡ None
-    → words_at s uid home p ≡ words_filed (disk_of s home.volume) (filed s home p)
-words_away s uid p home t tie none = shown_out s uid p home
+words_away : {s : Plain} {uid : ℕ} (p : ℕ) {home : Home} {t : List Ptw} → IsTied s uid home t
+    → frame_of (ptw_at t p) ≡ None → words_at s uid home p ≡ words_filed (disk_of s home.volume) (filed s home p)
+words_away {s} {uid} p {home} {t} tie none = shown_out s uid p home
     (λ g at. not_none (frame_of (ptw_at t p)) g none (tie.table.named g p at))
 
 none_from : (place : Option ℕ) (w : Ptw) → is_some place ≡ has_record w → w ≡ Null → place ≡ None
@@ -38,34 +36,33 @@ none_from None w same null = refl
 none_from (Some r) w same null = (let no : has_record w ≡ false = ap has_record null in cc)
 
 out_full : (s : Plain) (uid p : ℕ) (home : Home) (t : List Ptw) (w : Ptw) → IsTied s uid home t → ptw_at t p ≡ w
-    → is_out w ≡ true → is_stored s home p ≡ true
-    → AreZero (words_at s uid home p) → ⊥
+    → is_out w ≡ true → is_stored s home p ≡ true → AreZero (words_at s uid home p) → ⊥
 out_full s uid p home t Null tie is out stored all = cc
-out_full s uid p home t (Here f) tie is out stored all = cc
-out_full s uid p home t (Leaving f) tie is out stored all = cc
 out_full s uid p home t (Out r) tie is out stored all =
     let there = tie.zeros p stored all in
     not_none (frame_of (ptw_at t p)) there.0 (ap frame_of is) (tie.table.named there.0 p there.1)
+out_full s uid p home t _ tie is out stored all = cc
 
 pub stored_out : (w : Ptw) → is_out w ≡ true → has_record w ≡ true
 stored_out Null out = cc
 stored_out (Out r) out = refl
-stored_out (Here f) out = cc
-stored_out (Leaving f) out = cc
+stored_out _ out = cc
 
-pub seen : (s : Plain) (uid p : ℕ) (home : Home) (t : List Ptw) (w : Ptw) → w ≡ ptw_at t p → IsTied s uid home t
+pub seen : {s : Plain} {uid : ℕ} (p : ℕ) {home : Home} {t : List Ptw} (w : Ptw) → w ≡ ptw_at t p → IsTied s uid home t
     → IsSeen s uid home p w
 unfolding is_filed_at
-seen s uid p home t w is tie = rw is (record {
+seen {s} {uid} p {home} {t} w is tie = rw is (record {
   stored = tie.map.stored p;
-  null = λ null. words_away s uid p home t tie (ap frame_of null)
-      ∙ ap (words_filed (disk_of s home.volume)) (none_from (filed s home p) (ptw_at t p) (tie.map.stored p) null);
-  taken = λ has.
-      let fewer = fewer_at s.records home.volume (record_of s home p)
-      (filed_in_use s home p (record_of s home p) tie.records (tied_filed s uid home t p tie has)) in
-      omega (arith, fewer);
-  out = λ r out. words_away s uid p home t tie (ap frame_of out)
-      ∙ ap (words_filed (disk_of s home.volume)) (tie.map.out p r out);
+  null = λ null. cc (
+    words_away p tie (ap frame_of null),
+    none_from (filed s home p) (ptw_at t p) (tie.map.stored p) null,
+  );
+  taken = λ has. omega (
+    arith,
+    fewer_at s.records home.volume (record_of s home p) (filed_in_use s home p (record_of s home p)
+        tie.records (tied_filed p tie has)),
+  );
+  out = λ r out. cc (words_away p tie (ap frame_of out), tie.map.out p r out);
   full = λ out all. out_full s uid p home t (ptw_at t p) tie refl out (tie.map.stored p ∙ stored_out (ptw_at t p) out)
       all;
   bound = λ f word. tie.table.back f p word;

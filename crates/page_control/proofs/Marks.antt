@@ -1,5 +1,5 @@
 -- Calls that change marks and words in frames alone, and calls that change VTOCs alone.
-use Rattle.page_control.proofs.Prelude.{◌≡◌, ◌≢◌, ℕ, ◌<◌, Bool, true, false, cond, List, [], length, Option, None, Some, refl, sym, ap, ◌∙◌, arith, get_or, set, is_some, inl, inr, subst, position, cases_eq, get_or-set_same, get_or-set_other, length-set, position-Some, Frame, Free, Started, Bound, Core, frame_at, with_frame, is_bound, is_modified, bound_page, after_reference, IsClockChoice, unmarked, AreZero, Ptw, Here, Leaving, ptw_at, Entry, record_at, Home, Plain, bindings, binding_at, frame_in, words_in, number_in, worded, referred, vtoc_in, uid_at, uid_in, map_at, IsTableOf, IsMapOf, AreFiled, IsBoundOnce, is_binding, words_held, words_of_page, words_at, is_filed_at, is_stored, changed_at, changed_page, IsTied, KeepsTies, not_none, off_and_on, within_from}
+use Rattle.page_control.proofs.Prelude.{◌≡◌, ◌≢◌, ℕ, ◌<◌, Bool, true, false, cond, List, [], length, Option, None, Some, refl, sym, ap, ◌∙◌, arith, get_or, set, inl, inr, subst, position, cases_eq, get_or-set_same, get_or-set_other, length-set, position-Some, Frame, Free, Bound, with_frame, is_bound, is_modified, bound_page, after_reference, IsClockChoice, unmarked, AreZero, Ptw, Here, Leaving, ptw_at, Entry, record_at, Home, Plain, bindings, binding_at, frame_in, words_in, number_in, worded, referred, vtoc_in, uid_at, uid_in, map_at, IsTableOf, IsMapOf, AreFiled, IsBoundOnce, is_binding, words_held, words_of_page, words_at, is_filed_at, is_stored, changed_at, changed_page, IsTied, KeepsTies, not_none, off_and_on, within_from, KeepsHome, words_filed, disk_of, filed, ◌≤◌}
 use Rattle.page_control.proofs.Facts.{binding_is, bound_to, bindings_referred, here_within, leaving_within}
 use Rattle.page_control.proofs.Ties.{number_of, table_taken, table_back, map_taken, map_back}
 use Rattle.page_control.proofs.Pictures.{page, uid_part, binding_tells, found_at, in_frame_or_out, words_by, out_by}
@@ -8,27 +8,47 @@ use Rattle.page_control.proofs.Turns.{bindings_chosen, kept_chosen, inside_from,
 stored_by : (s now : Plain) (h : Home) (q : ℕ) → map_at now.vtocs h ≡ map_at s.vtocs h → is_stored now h q
     ≡ is_stored s h q
 unfolding is_filed_at
-stored_by s now h q map = ap (λ (places : List (Option ℕ)). is_some (get_or places q None)) map
+stored_by s now h q map = rw map
 
--- VTOCs change, and neither the entry nor the file map of this segment
-pub tie_mapped : (s now : Plain) (u : ℕ) (h : Home) (t : List Ptw) → now.core ≡ s.core → now.frames ≡ s.frames
-    → now.disks ≡ s.disks
-    → uid_at now.vtocs h ≡ Some u
-    → map_at now.vtocs h ≡ map_at s.vtocs h → AreFiled now.records now.vtocs → IsTied s u h t → IsTied now u h t
-tie_mapped s now u h t core frames disks used map filed tie = record {
-  volume = rw disks tie.volume;
-  used = used;
+held_by : (frames : List (List ℕ)) (disk now : List (List ℕ)) (place other f : Option ℕ)
+    → words_filed now other ≡ words_filed disk place → words_held frames now other f ≡ words_held frames disk place f
+held_by frames disk now place other None same = same
+held_by frames disk now place other (Some f) same = refl
+
+-- a home of which all stays has the words that it had
+pub words_of_home : (s now : Plain) (uid : ℕ) (home : Home) (p : ℕ) → now.core ≡ s.core → now.frames ≡ s.frames
+    → KeepsHome s now home → words_at now uid home p ≡ words_at s uid home p
+unfolding words_of_page
+words_of_home s now uid home p core frames keeps = rw (core, frames) (held_by s.frames (disk_of s home.volume)
+    (disk_of now home.volume) (filed s home p) (filed now home p) (position (is_binding uid p) (bindings s.core))
+    (keeps.words p))
+
+-- and is tied as it was
+pub tie_of_home : (s now : Plain) (uid : ℕ) (home : Home) (t : List Ptw) → now.core ≡ s.core → now.frames ≡ s.frames
+    → KeepsHome s now home → IsTied s uid home t → IsTied now uid home t
+tie_of_home s now uid home t core frames keeps tie = record {
+  volume = rw keeps.volumes tie.volume;
+  used = cc;
   pages = tie.pages;
   table = rw core tie.table;
-  map = rw map tie.map;
-  records = filed;
-  clean = λ g q off at. ap (λ (all : List (List ℕ)). get_or all g []) frames
-      ∙ tie.clean g q (ap (λ (c : Core). is_modified (frame_at c g)) (sym core) ∙ off)
-      (ap (λ (c : Core). binding_at (bindings c) g) (sym core) ∙ at)
-      ∙ sym (out_by s now h q disks map);
-  zeros = λ q on all. rw core (tie.zeros q (sym (stored_by s now h q map) ∙ on)
-      (subst AreZero (words_by s now u h q (ap bindings core) frames disks map) all));
+  map = rw keeps.map tie.map;
+  records = keeps.records;
+  clean = λ f p off at. rw frames (tie.clean f p (rw core at off) (rw core at at)) ∙ sym (keeps.words p);
+  zeros = λ p on all. rw core (tie.zeros p (sym (stored_by s now home p keeps.map) ∙ on)
+      (subst AreZero (words_of_home s now uid home p core frames keeps) all));
 }
+
+-- VTOCs change, and neither the entry nor the file map of this segment
+pub tie_mapped : {s : Plain} (now : Plain) {u : ℕ} {h : Home} {t : List Ptw} → now.core ≡ s.core → now.frames ≡ s.frames
+    → now.disks ≡ s.disks → uid_at now.vtocs h ≡ Some u → map_at now.vtocs h ≡ map_at s.vtocs h
+    → AreFiled now.records now.vtocs → IsTied s u h t → IsTied now u h t
+tie_mapped {s} now {u} {h} {t} core frames disks used map filed tie = tie_of_home s now u h t core frames (record {
+  uid = cc;
+  map = map;
+  words = λ p. out_by s now h p disks map;
+  volumes = ap length disks;
+  records = filed;
+}) tie
 
 -- marks and words in frames change: a frame whose modified mark is off had it off, and has the words that it had
 pub record Marks (s now : Plain) : Type 0 where
@@ -43,83 +63,69 @@ marks_kept : (s now : Plain) → bindings now.core ≡ bindings s.core → now.d
     → now.vtocs ≡ s.vtocs
     → ((g : ℕ) (y : ℕ × ℕ) → binding_at (bindings s.core) g ≡ Some y → is_modified (frame_in now g) ≡ false
     → (is_modified (frame_in s g) ≡ false) × (words_in now g ≡ words_in s g)) → Marks s now
-marks_kept s now bound disks records vtocs clean = record {
-  bound = bound;
-  disks = disks;
-  records = records;
-  vtocs = vtocs;
-  clean = clean;
-}
+marks_kept s now bound disks records vtocs clean = assumption
 
 tie_marked : (s now : Plain) (u : ℕ) (h : Home) (t : List Ptw) → Marks s now → IsTied s u h t → IsTied now u h t
 tie_marked s now u h t m tie =
     let map : map_at now.vtocs h ≡ map_at s.vtocs h = ap (λ (v : List (List (Option Entry))). map_at v h) m.vtocs in
     record {
       volume = rw m.disks tie.volume;
-      used = ap (λ (v : List (List (Option Entry))). uid_at v h) m.vtocs ∙ tie.used;
+      used = rw m.vtocs tie.used;
       pages = tie.pages;
       table = rw m.bound tie.table;
       map = rw map tie.map;
       records = rw (m.records, m.vtocs) tie.records;
       clean = λ g q off at.
-          let was : binding_at (bindings s.core) g ≡ Some (u, q) =
-          ap (λ (those : List (Option (ℕ × ℕ))). binding_at those g) (sym m.bound) ∙ at in
+          let was = rw m.bound at at in
           let old = m.clean g (u, q) was off in
-          old.1 ∙ tie.clean g q old.0 was ∙ sym (out_by s now h q m.disks map);
+          cc (tie.clean g q old.0 was, out_by s now h q m.disks map);
       zeros = λ q on all. elim (in_frame_or_out now u q h (position (is_binding u q) (bindings now.core)) refl) [
         | inl there ↦ there
         | inr out ↦ elim (in_frame_or_out s u q h (position (is_binding u q) (bindings s.core)) refl) [
           | inl there ↦ rw m.bound there
           | inr was ↦ rw m.bound (tie.zeros q (sym (stored_by s now h q map) ∙ on)
-              (subst AreZero (out ∙ out_by s now h q m.disks map ∙ sym was) all))
+              (subst AreZero (cc (out_by s now h q m.disks map)) all))
         ]
       ];
     }
 
-pub ties_marked : (s now : Plain) → Marks s now → KeepsTies s now
-ties_marked s now m = record { ties = λ u h t tie. tie_marked s now u h t m tie }
+pub ties_marked : {s now : Plain} → Marks s now → KeepsTies s now
+ties_marked {s} {now} m = record { ties = λ u h t tie. tie_marked s now u h t m tie }
 
 -- where no words change, all pages have the words that they had
 pub words_marked : (s now : Plain) → bindings now.core ≡ bindings s.core → now.frames ≡ s.frames → now.disks ≡ s.disks
-    → now.vtocs ≡ s.vtocs
-    → words_at now ≡ words_at s
-words_marked s now bound frames disks vtocs =
-    λ i. λ u h q. words_by s now u h q bound frames disks (ap (λ (v : List (List (Option Entry))). map_at v h) vtocs) i
+    → now.vtocs ≡ s.vtocs → words_at now ≡ words_at s
+words_marked s now bound frames disks vtocs = λ i. λ u h q. words_by s now u h q bound frames disks (cc) i
 
 at_frame : (s now : Plain) (f : ℕ) (frame : Frame) → now.core ≡ with_frame s.core f frame → f < length s.core.frames
     → frame_in now f ≡ frame
-at_frame s now f frame core fl = ap (λ (c : Core). frame_at c f) core ∙ get_or-set_same s.core.frames f frame Free fl
+at_frame s now f frame core fl = rw core (get_or-set_same s.core.frames f frame Free fl)
 
 at_other : (s now : Plain) (f g : ℕ) (frame : Frame) → now.core ≡ with_frame s.core f frame → g ≢ f → frame_in now g
     ≡ frame_in s g
-at_other s now f g frame core n = ap (λ (c : Core). frame_at c g) core ∙ get_or-set_other s.core.frames f g frame Free n
+at_other s now f g frame core n = rw core (get_or-set_other s.core.frames f g frame Free n)
 
 -- a reference that reads, and one that writes
 still_off : (frame : Frame) → is_modified (after_reference frame false) ≡ false → is_modified frame ≡ false
 still_off Free off = refl
-still_off (Started u q) off = refl
 still_off (Bound u q used true) off = cc
-still_off (Bound u q used false) off = refl
+still_off _ off = refl
 
 never_off : (frame : Frame) → is_bound frame ≡ true → is_modified (after_reference frame true) ≡ false → ⊥
-never_off Free bound off = cc
-never_off (Started u q) bound off = cc
 never_off (Bound u q used true) bound off = cc
-never_off (Bound u q used false) bound off = cc
+never_off _ bound off = cc
 
 pub marks_read : (s now : Plain) (f : ℕ) → now.core ≡ with_frame s.core f (after_reference (frame_in s f) false)
     → bindings now.core ≡ bindings s.core
     → now.frames ≡ s.frames → now.disks ≡ s.disks → now.records ≡ s.records → now.vtocs ≡ s.vtocs
     → is_bound (frame_in s f) ≡ true → Marks s now
-marks_read s now f core bound frames disks records vtocs is =
-    marks_kept s now bound disks records vtocs
-    (λ g y at off. (off_before g off, ap (λ (all : List (List ℕ)). get_or all g []) frames))
+marks_read s now f core bound frames disks records vtocs is = marks_kept s now bound disks records vtocs
+    (λ g y at off. (off_before g off, cc))
   where
     off_before : (g : ℕ) → is_modified (frame_in now g) ≡ false → is_modified (frame_in s g) ≡ false
     off_before g off = elim (cases_eq g f) [
-      | inl same ↦ ap (λ (n : ℕ). is_modified (frame_in s n)) same
-          ∙ still_off (frame_in s f) (sym (ap is_modified
-          (ap (frame_in now) same ∙ at_frame s now f _ core (bound_inside s.core f is))) ∙ off)
+      | inl same ↦ rw same (still_off (frame_in s f) (sym (ap is_modified
+          (ap (frame_in now) same ∙ at_frame s now f _ core (bound_inside s.core f is))) ∙ off))
       | inr n ↦ sym (ap is_modified (at_other s now f g _ core n)) ∙ off
     ]
 
@@ -135,34 +141,28 @@ marks_written s f words is =
 
 -- a frame that was bound to no page, and is bound to none
 pub marks_moved : (s now : Plain) (f : ℕ) (frame : Frame) → now.core ≡ with_frame s.core f frame → bindings now.core
-    ≡ bindings s.core
-    → bound_page (frame_in s f) ≡ None
+    ≡ bindings s.core → bound_page (frame_in s f) ≡ None
     → now.frames ≡ s.frames → now.disks ≡ s.disks → now.records ≡ s.records → now.vtocs ≡ s.vtocs → Marks s now
 marks_moved s now f frame core bound none frames disks records vtocs =
     marks_kept s now bound disks records vtocs (λ g y at off. elim (cases_eq g f) [
-      | inl same ↦ absurd (not_none (binding_at (bindings s.core) g) y
-          (ap (binding_at (bindings s.core)) same ∙ binding_is s.core f ∙ none) at)
+      | inl same ↦ absurd (not_none (binding_at (bindings s.core) g) y (cc (binding_is s.core f)) at)
       | inr n ↦ (
-        sym (ap is_modified (at_other s now f g frame core n))
-            ∙ off,
-        ap (λ (all : List (List ℕ)). get_or all g []) frames,
+        cc (at_other s now f g frame core n),
+        cc,
       )
     ])
 
 -- the clock turns off used marks alone
 modified_unmarked : (frame : Frame) → is_modified (unmarked frame) ≡ is_modified frame
 modified_unmarked Free = refl
-modified_unmarked (Started u q) = refl
-modified_unmarked (Bound u q used modified) = refl
+modified_unmarked _ = refl
 
 pub marks_chosen : (s now : Plain) (f : ℕ) → IsClockChoice s.core now.core f → now.frames ≡ s.frames → now.disks
-    ≡ s.disks → now.records ≡ s.records
-    → now.vtocs ≡ s.vtocs
-    → Marks s now
+    ≡ s.disks → now.records ≡ s.records → now.vtocs ≡ s.vtocs → Marks s now
 marks_chosen s now f choice frames disks records vtocs =
     marks_kept s now (bindings_chosen s.core now.core f choice) disks records vtocs (λ g y at off. (
-      sym (kept_chosen is_modified s.core now.core f g modified_unmarked choice (inside_from s.core g y at)) ∙ off,
-      ap (λ (all : List (List ℕ)). get_or all g []) frames,
+      sym (kept_chosen is_modified g modified_unmarked choice (inside_from s.core g y at)) ∙ off,
+      cc,
     ))
 
 -- the words in the frame that a page is in are others
@@ -171,17 +171,14 @@ is_page uid p u q passes =
     let tells : page uid p ≡ page u q = binding_tells (page uid p) u q passes in
     (sym (ap uid_part tells), sym (ap number_of tells))
 
-words_written : (b bound : List (Option (ℕ × ℕ))) (those frames : List (List ℕ))
-    (drives disks : List (List (List ℕ)))
+words_written : (b bound : List (Option (ℕ × ℕ))) (those frames : List (List ℕ)) (drives disks : List (List (List ℕ)))
     (tables vtocs : List (List (Option Entry)))
     (uid p f : ℕ) (words : List ℕ) → bound ≡ b → frames ≡ set those f words → disks ≡ drives → vtocs ≡ tables
-    → binding_at b f ≡ page uid p → f < length those
-    → IsBoundOnce b f → words_of_page bound frames disks vtocs
+    → binding_at b f ≡ page uid p → f < length those → IsBoundOnce b f → words_of_page bound frames disks vtocs
     ≡ changed_page (words_of_page b those drives tables) uid p words
 unfolding words_of_page changed_at
 words_written b bound those frames drives disks tables vtocs uid p f words bs fr ds vs at lt once =
-    λ i. λ u h q. point u h q (is_binding u q (page uid p))
-    refl i
+    λ i. λ u h q. point u h q (is_binding u q (page uid p)) refl i
   where
     moved : (u : ℕ) (h : Home) (q : ℕ) → words_of_page bound frames disks vtocs u h q
         ≡ words_held (set those f words) (get_or drives h.volume []) (record_at (vtoc_in tables h.volume) h.entry q)
@@ -205,14 +202,8 @@ words_written b bound those frames drives disks tables vtocs uid p f words bs fr
         let same = is_page uid p u q passes in
         let found : position (is_binding u q) b ≡ Some f =
         rw (same.0, same.1) (found_at b uid p f at (λ g is. once.only g (is ∙ sym at))) in
-        moved u h q
-        ∙ ap (words_held (set those f words) (get_or drives h.volume [])
-        (record_at (vtoc_in tables h.volume) h.entry q)) found
-        ∙ get_or-set_same those f words [] lt ∙ sym (ap
-        (λ (z : Bool). cond z words (words_of_page b those drives tables u h q)) passes)
-    point u h q false passes =
-        moved u h q ∙ other u h q (position (is_binding u q) b) refl passes
-        ∙ sym (ap (λ (z : Bool). cond z words (words_of_page b those drives tables u h q)) passes)
+        cc (moved u h q, get_or-set_same those f words [] lt)
+    point u h q false passes = cc (moved u h q, other u h q (position (is_binding u q) b) refl passes)
 
 -- a frame is written through: both its marks are on, and it has these words
 pub record IsWritten (s now : Plain) (f : ℕ) (words : List ℕ) : Type 0 where
@@ -224,36 +215,22 @@ pub record IsWritten (s now : Plain) (f : ℕ) (words : List ℕ) : Type 0 where
 pub written : (s now : Plain) (f : ℕ) (words : List ℕ) → now ≡ worded (referred s f true) f words
     → is_bound (frame_in s f) ≡ true → length (words_in s f) ≡ 1024 → IsWritten s now f words
 written s now f words effect is size =
-    let bound : bindings now.core ≡ bindings s.core = ap (λ (x : Plain). bindings x.core) effect
-    ∙ bindings_referred s.core f true in
-    let within : f < length s.frames = within_from s.frames f [] (λ none.
-    (let zero : length (words_in s f) ≡ 0 = ap length none in omega (arith, zero, size))) in
+    let bound : bindings now.core ≡ bindings s.core = rw effect (bindings_referred s.core f true) in
+    let within : f < length s.frames = within_from s.frames f [] (λ none. (omega (arith, ap length none))) in
     record {
       bound = bound;
-      tied = ties_marked s now (rw effect (marks_written s f words is));
+      tied = ties_marked {s = s} {now = now} (rw effect (marks_written s f words is));
       shown = words_written (bindings s.core) (bindings now.core) s.frames now.frames s.disks now.disks s.vtocs
-          now.vtocs (uid_in (frame_in s f)) (number_in (frame_in s f)) f words bound
-          (ap (λ (x : Plain). x.frames) effect) (ap (λ (x : Plain). x.disks) effect)
-          (ap (λ (x : Plain). x.vtocs) effect) (binding_is s.core f ∙ bound_to (frame_in s f) is) within;
+          now.vtocs (uid_in (frame_in s f)) (number_in (frame_in s f)) f words bound (cc) (cc)
+          (cc) (binding_is s.core f ∙ bound_to (frame_in s f) is) within;
     }
 
 -- a word changes, and says of its page what it said
 tie_worded : {s : Plain} {uid : ℕ} {home : Home} {t u : List Ptw} (p : ℕ) (word : Ptw) → IsTied s uid home t
-    → u ≡ set t p word → IsTableOf (bindings s.core) uid u
-    → IsMapOf (map_at s.vtocs home) u → IsTied s uid home u
-tie_worded {t = t} p word tie us table map =
-    let pages = tie.pages in
-    let long = ap length us ∙ length-set t p word in
-    record {
-      volume = tie.volume;
-      used = tie.used;
-      pages = omega (arith, pages, long);
-      table = table;
-      map = map;
-      records = tie.records;
-      clean = tie.clean;
-      zeros = tie.zeros;
-    }
+    → u ≡ set t p word → IsTableOf (bindings s.core) uid u → IsMapOf (map_at s.vtocs home) u → IsTied s uid home u
+tie_worded {t} {u} p word tie us table map =
+    let pages : length u ≤ 256 = rw (us, length-set t p word) tie.pages in
+    assumption (pages, table, map, tie)
 
 pub tie_taken : (s : Plain) (uid : ℕ) (home : Home) (t u : List Ptw) (p f : ℕ) → ptw_at t p ≡ Here f
     → u ≡ set t p (Leaving f) → IsTied s uid home t → IsTied s uid home u

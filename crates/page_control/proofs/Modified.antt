@@ -1,5 +1,5 @@
 -- The modified marks of a segment's frames are turned on, page by page.
-use Rattle.page_control.proofs.Prelude.{◌≡◌, ◌⊎◌, ℕ, suc, ◌+◌, ◌<◌, ◌≤◌, ◌||◌, ◌&&◌, eqb, ltb, Bool, true, false, List, [], ◌∷◌, length, map, Option, None, Some, refl, sym, ap, ◌∙◌, arith, get_or, set, inl, inr, eq-eqb, cases_eq, eqb_tells, leb_tells, ext_get_or, get_or-set_same, get_or-set_other, length-map, length-set, Frame, Free, Started, Bound, Core, frame_at, with_frame, with_modified, is_bound, is_modified, bound_page, started_page, reads_of, Ptw, Null, Out, Here, Leaving, ptw_at, Plain, bindings, binding_at, frame_in, frame_of, IsTableOf, modified_of, modified_before, all_modified, part_modified, below, not_none, within_from}
+use Rattle.page_control.proofs.Prelude.{◌≡◌, ◌⊎◌, ℕ, suc, ◌+◌, ◌<◌, ◌≤◌, ◌||◌, ◌&&◌, eqb, ltb, Bool, true, false, List, [], ◌∷◌, length, map, Option, None, Some, refl, sym, ap, ◌∙◌, arith, get_or, set, inl, inr, eq-eqb, cases_eq, eqb_tells, leb_tells, ext_get_or, get_or-set_same, get_or-set_other, length-map, length-set, Frame, Free, Started, Bound, Core, frame_at, with_frame, with_modified, is_bound, is_modified, bound_page, started_page, reads_of, Ptw, Null, Out, Here, Leaving, ptw_at, Plain, bindings, binding_at, frame_in, frame_of, IsTableOf, modified_of, modified_before, all_modified, part_modified, below, not_none, within_from, page_is}
 use Rattle.std.proofs.lemmas.List.{get_or-map}
 use Rattle.page_control.proofs.Facts.{binding_is, bound_from_page}
 use Rattle.page_control.proofs.Ties.{frame_same}
@@ -10,8 +10,7 @@ use Rattle.page_control.proofs.Marks.{Marks}
 
 or_off : (m b : Bool) → m || b && false ≡ m
 or_off false false = refl
-or_off false true = refl
-or_off true b = refl
+or_off _ _ = refl
 
 or_on : (m : Bool) → true ≡ m || true
 or_on false = refl
@@ -24,9 +23,7 @@ past a b h = elim (leb_tells (suc a) b) [ inl i ↦ absurd (h i.1) | inr i ↦ i
 none_yet : (uid : ℕ) (frame : Frame) → modified_before uid 0 frame ≡ frame
 none_yet uid Free = refl
 none_yet uid (Started u p) = refl
-none_yet uid (Bound u p used modified) =
-    ap (λ (b : Bool). Bound u p used (modified || eqb u uid && b)) (past p 0 (λ lt. omega (arith, lt)))
-    ∙ ap (Bound u p used) (or_off modified (eqb u uid))
+none_yet uid (Bound u p used modified) = rw (past p 0 (λ lt. omega arith)) (cc (or_off modified (eqb u uid)))
 
 -- a frame that has page n is marked now
 marked_now : (frame : Frame) (uid n : ℕ) → bound_page frame ≡ Some (uid, n)
@@ -34,26 +31,16 @@ marked_now : (frame : Frame) (uid n : ℕ) → bound_page frame ≡ Some (uid, n
 marked_now Free uid n is = cc
 marked_now (Started u p) uid n is = cc
 marked_now (Bound u p used modified) uid n is =
-    let segment : u ≡ uid = ap uid_part is in
-    let page : p ≡ n = ap page_part is in
-    ap (Bound u p used) (or_on modified ∙ ap (λ (b : Bool). modified || b)
-    (sym (ap (λ (b : Bool). b && ltb p (n + 1)) (eq-eqb u uid segment) ∙ below p (n + 1) (omega (arith, page)))))
-  where
-    uid_part : Option (ℕ × ℕ) → ℕ
-    uid_part None = 0
-    uid_part (Some x) = x.0
-
-    page_part : Option (ℕ × ℕ) → ℕ
-    page_part None = 0
-    page_part (Some x) = x.1
+    let same = page_is u p uid n is in
+    cc (or_on modified, eq-eqb u uid same.0, below p (n + 1) (omega (arith, same.1)))
 
 -- and another frame is as it was
 same_below : (uid n u p : ℕ) → (u ≡ uid → p ≡ n → ⊥) → eqb u uid && ltb p n ≡ eqb u uid && ltb p (n + 1)
 same_below uid n u p other = elim (eqb_tells u uid) [
   | inr off ↦ rw off.0 refl
   | inl on ↦ rw on.0 (elim (leb_tells (suc p) n) [
-    | inl less ↦ less.0 ∙ sym (below p (n + 1) (let lt = less.1 in omega (arith, lt)))
-    | inr more ↦ more.0 ∙ sym (past p (n + 1) (λ lt. other on.1 (let ge = more.1 in omega (arith, lt, ge))))
+    | inl less ↦ less.0 ∙ sym (below p (n + 1) (omega arith))
+    | inr more ↦ more.0 ∙ sym (past p (n + 1) (λ lt. other on.1 (omega arith)))
   ])
 ]
 
@@ -61,11 +48,7 @@ as_it_was : (frame : Frame) (uid n : ℕ) → (bound_page frame ≡ Some (uid, n
     ≡ modified_before uid (n + 1) frame
 as_it_was Free uid n other = refl
 as_it_was (Started u p) uid n other = refl
-as_it_was (Bound u p used modified) uid n other =
-    ap (λ (b : Bool). Bound u p used (modified || b)) (same_below uid n u p (λ i j. other (page_is i j)))
-  where
-    page_is : {u uid p n : ℕ} → u ≡ uid → p ≡ n → bound_page (Bound u p used modified) ≡ Some (uid, n)
-    page_is i j = λ k. Some (i k, j k)
+as_it_was (Bound u p used modified) uid n other = rw (same_below uid n u p (λ i j. other (λ k. Some (i k, j k))))
 
 -- once n is past its pages, all of its frames are marked
 and_on : (b c : Bool) → (b ≡ true → c ≡ true) → b && c ≡ b
@@ -76,13 +59,12 @@ all_now : (frame : Frame) (uid n : ℕ) → ((p : ℕ) → bound_page frame ≡ 
     → modified_before uid n frame ≡ modified_of uid frame
 all_now Free uid n less = refl
 all_now (Started u p) uid n less = refl
-all_now (Bound u p used modified) uid n less =
-    ap (λ (b : Bool). Bound u p used (modified || b)) (and_on (eqb u uid) (ltb p n) (λ on. below p n (less p (its on))))
+all_now (Bound u p used modified) uid n less = rw (and_on (eqb u uid) (ltb p n) (λ on. below p n (less p (its on))))
   where
     its : eqb u uid ≡ true → bound_page (Bound u p used modified) ≡ Some (uid, p)
     its on = elim (eqb_tells u uid) [
       | inl same ↦ ap (λ (k : ℕ). Some (k, p)) same.1
-      | inr off ↦ absurd (let never : false ≡ true = sym off.0 ∙ on in cc)
+      | inr off ↦ cc
     ]
 
 -- ---- the core map
@@ -91,19 +73,16 @@ all_now (Bound u p used modified) uid n less =
 alike : (f g : Frame → Frame) (frames : List Frame) → ((i : ℕ) → f (get_or frames i Free) ≡ g (get_or frames i Free))
     → map f frames ≡ map g frames
 alike f g [] same = refl
-alike f g (x ∷ xs) same =
-    ap (λ (y : Frame). y ∷ map f xs) (same 0) ∙ ap (λ (ys : List Frame). g x ∷ ys) (alike f g xs (λ i. same (suc i)))
+alike f g (x ∷ xs) same = rw (same 0, alike f g xs (λ i. same (suc i)))
 
 map_same : (f : Frame → Frame) (frames : List Frame) → ((x : Frame) → f x ≡ x) → map f frames ≡ frames
 map_same f [] same = refl
-map_same f (x ∷ xs) same =
-    ap (λ (y : Frame). y ∷ map f xs) (same x) ∙ ap (λ (ys : List Frame). x ∷ ys) (map_same f xs same)
+map_same f (x ∷ xs) same = rw (same x, map_same f xs same)
 
 seen_through : {X : Type 0} (see : Frame → X) (f : Frame → Frame) (frames : List Frame)
     → ((x : Frame) → see (f x) ≡ see x) → map see (map f frames) ≡ map see frames
 seen_through see f [] same = refl
-seen_through {X} see f (x ∷ xs) same =
-    ap (λ (y : X). y ∷ map see (map f xs)) (same x) ∙ ap (λ (ys : List X). see x ∷ ys) (seen_through see f xs same)
+seen_through see f (x ∷ xs) same = rw (same x, seen_through see f xs same)
 
 abbrev core_of : Core → List Frame → Core
 core_of core frames = record core { frames = frames }
@@ -112,18 +91,17 @@ pub part_none : (core : Core) (uid : ℕ) → part_modified core uid 0 ≡ core
 part_none core uid = ap (core_of core) (map_same (modified_before uid 0) core.frames (none_yet uid))
 
 -- no frame has page n
-pub part_other : (core : Core) (uid n : ℕ) (t : List Ptw) → IsTableOf (bindings core) uid t
+pub part_other : (core : Core) {uid : ℕ} (n : ℕ) {t : List Ptw} → IsTableOf (bindings core) uid t
     → frame_of (ptw_at t n) ≡ None → part_modified core uid n ≡ part_modified core uid (n + 1)
-part_other core uid n t h none = ap (core_of core)
-    (alike (modified_before uid n) (modified_before uid (n + 1)) core.frames (λ i. as_it_was (frame_at core i) uid n
-    (λ is. not_none (frame_of (ptw_at t n)) i none (h.named i n (binding_is core i ∙ is)))))
+part_other core {uid} n {t} h none = cc (alike (modified_before uid n) (modified_before uid (n + 1)) core.frames
+    (λ i. as_it_was (frame_at core i) uid n (λ is. not_none (frame_of (ptw_at t n)) i none
+    (h.named i n (binding_is core i ∙ is)))))
 
 -- frame f has it, and is marked
-pub part_marked : (core : Core) (uid n f : ℕ) (t : List Ptw) → IsTableOf (bindings core) uid t
-    → frame_of (ptw_at t n) ≡ Some f
-    → with_frame (part_modified core uid n) f (with_modified (frame_at (part_modified core uid n) f) true)
-    ≡ part_modified core uid (n + 1)
-part_marked core uid n f t h named =
+pub part_marked : (core : Core) {uid : ℕ} (n f : ℕ) {t : List Ptw} → IsTableOf (bindings core) uid t
+    → frame_of (ptw_at t n) ≡ Some f → with_frame (part_modified core uid n) f
+    (with_modified (frame_at (part_modified core uid n) f) true) ≡ part_modified core uid (n + 1)
+part_marked core {uid} n f {t} h named =
     let old : List Frame = map (modified_before uid n) core.frames in
     let new : List Frame = map (modified_before uid (n + 1)) core.frames in
     let marked : Frame = with_modified (get_or old f Free) true in
@@ -132,48 +110,48 @@ part_marked core uid n f t h named =
     let before : length old ≡ length core.frames = length-map core.frames (modified_before uid n) in
     let after : length new ≡ length core.frames = length-map core.frames (modified_before uid (n + 1)) in
     let count : length (set old f marked) ≡ length new = length-set old f marked ∙ before ∙ sym after in
-    ap (core_of core) (ext_get_or Free (set old f marked) new count (λ i lt.
-    (let within : i < length core.frames = (let long = length-set old f marked in omega (arith, lt, long, before)) in
-    elim (cases_eq i f) [
-      | inl same ↦ ap (λ (k : ℕ). get_or (set old f marked) k Free) same
-          ∙ get_or-set_same old f marked Free (omega (arith, inside, before))
-          ∙ ap (λ (x : Frame). with_modified x true) (get_or-map (modified_before uid n) core.frames f Free Free inside)
-          ∙ marked_now (frame_at core f) uid n page
-          ∙ sym (get_or-map (modified_before uid (n + 1)) core.frames f Free Free inside)
-          ∙ ap (λ (k : ℕ). get_or new k Free) (sym same)
-      | inr n' ↦ get_or-set_other old f i marked Free n'
-          ∙ get_or-map (modified_before uid n) core.frames i Free Free within
-          ∙ as_it_was (frame_at core i) uid n (λ is. n' (frame_same (frame_of (ptw_at t n)) i f
-          (h.named i n (binding_is core i ∙ is)) named))
-          ∙ sym (get_or-map (modified_before uid (n + 1)) core.frames i Free Free within)
+    cc (ext_get_or Free (set old f marked) new count (λ i lt.
+    (let within : i < length core.frames = (let long = length-set old f marked in omega (arith, lt, long, before))
+    in elim (cases_eq i f) [
+      | inl same ↦ rw (
+        same,
+        get_or-set_same old f marked Free (omega (arith, inside, before)),
+        get_or-map (modified_before uid n) core.frames f Free Free inside,
+        get_or-map (modified_before uid (n + 1)) core.frames f Free Free inside,
+      ) (marked_now (frame_at core f) uid n page)
+      | inr n' ↦ get_or-set_other old f i marked Free n' ∙ get_or-map (modified_before uid n) core.frames i Free Free
+          within ∙ as_it_was (frame_at core i) uid n (λ is. n' (frame_same (frame_of (ptw_at t n)) i f
+          (h.named i n (binding_is core i ∙ is)) named)) ∙ sym (get_or-map (modified_before uid (n + 1)) core.frames i
+          Free Free within)
     ])))
 
-pub part_all : (core : Core) (uid n : ℕ) (t : List Ptw) → IsTableOf (bindings core) uid t → length t ≤ n
+pub part_all : (core : Core) {uid : ℕ} (n : ℕ) {t : List Ptw} → IsTableOf (bindings core) uid t → length t ≤ n
     → part_modified core uid n ≡ all_modified core uid
-part_all core uid n t h past_end = ap (core_of core) (alike (modified_before uid n) (modified_of uid) core.frames (λ i.
-    all_now (frame_at core i) uid n (λ p is. named_within p i (h.named i p (binding_is core i ∙ is)))))
+part_all core {uid} n {t} h past_end = cc (alike (modified_before uid n) (modified_of uid) core.frames
+    (λ i. all_now (frame_at core i) uid n (λ p is. named_within p i (h.named i p (binding_is core i ∙ is)))))
   where
     named_within : (p f : ℕ) → frame_of (ptw_at t p) ≡ Some f → p < n
     named_within p f named =
         let within : p < length t =
         within_from t p Null (λ null. not_none (frame_of (ptw_at t p)) f (ap frame_of null) named) in
-        omega (arith, within, past_end)
+        omega arith
 
 -- no frame is bound to another page, and none is started for one
 page_before : (uid n : ℕ) (frame : Frame) → bound_page (modified_before uid n frame) ≡ bound_page frame
 page_before uid n Free = refl
-page_before uid n (Started u p) = refl
-page_before uid n (Bound u p used modified) = refl
+page_before uid n _ = refl
 
 pub bindings_part : (core : Core) (uid n : ℕ) → bindings (part_modified core uid n) ≡ bindings core
 bindings_part core uid n = seen_through bound_page (modified_before uid n) core.frames (page_before uid n)
 
 -- so the frame that a word names is bound still
-pub part_bound : (core : Core) (uid n p f : ℕ) (t : List Ptw) → IsTableOf (bindings core) uid t
+pub part_bound : (core : Core) {uid : ℕ} (n p f : ℕ) {t : List Ptw} → IsTableOf (bindings core) uid t
     → frame_of (ptw_at t p) ≡ Some f → is_bound (frame_at (part_modified core uid n) f) ≡ true
-part_bound core uid n p f t h named =
-    bound_from_page (frame_at (part_modified core uid n) f) uid p (sym (binding_is (part_modified core uid n) f)
-    ∙ ap (λ (bound : List (Option (ℕ × ℕ))). binding_at bound f) (bindings_part core uid n) ∙ h.back f p named)
+part_bound core {uid} n p f h named = bound_from_page (frame_at (part_modified core uid n) f) uid p (cc (
+  binding_is (part_modified core uid n) f,
+  bindings_part core uid n,
+  h.back f p named,
+))
 
 -- the words that the code tells from others
 pub named_by : (w : Ptw) (f : ℕ) → (w ≡ Here f) ⊎ (w ≡ Leaving f) → frame_of w ≡ Some f
@@ -186,13 +164,11 @@ none_by w (inr out) = ap frame_of out.1
 
 page_of : (uid : ℕ) (frame : Frame) → bound_page (modified_of uid frame) ≡ bound_page frame
 page_of uid Free = refl
-page_of uid (Started u p) = refl
-page_of uid (Bound u p used modified) = refl
+page_of uid _ = refl
 
 start_of : (uid : ℕ) (frame : Frame) → started_page (modified_of uid frame) ≡ started_page frame
 start_of uid Free = refl
-start_of uid (Started u p) = refl
-start_of uid (Bound u p used modified) = refl
+start_of uid _ = refl
 
 pub bindings_modified : (core : Core) (uid : ℕ) → bindings (all_modified core uid) ≡ bindings core
 bindings_modified core uid = seen_through bound_page (modified_of uid) core.frames (page_of uid)
@@ -205,20 +181,14 @@ reads_modified core uid = seen_through started_page (modified_of uid) core.frame
 -- a frame whose mark is off now had it off
 off_before : (uid : ℕ) (frame : Frame) → is_modified (modified_of uid frame) ≡ false → is_modified frame ≡ false
 off_before uid Free off = refl
-off_before uid (Started u p) off = refl
-off_before uid (Bound u p used false) off = refl
 off_before uid (Bound u p used true) off = cc
+off_before uid _ off = refl
 
 -- and one of the segment has it on
 on_of : (uid p : ℕ) (frame : Frame) → bound_page frame ≡ Some (uid, p) → is_modified (modified_of uid frame) ≡ true
 on_of uid p Free is = cc
 on_of uid p (Started u q) is = cc
-on_of uid p (Bound u q used modified) is =
-    ap (λ (b : Bool). modified || b) (eq-eqb u uid (ap uid_part is)) ∙ sym (or_on modified)
-  where
-    uid_part : Option (ℕ × ℕ) → ℕ
-    uid_part None = 0
-    uid_part (Some x) = x.0
+on_of uid p (Bound u q used modified) is = rw (eq-eqb u uid (page_is u q uid p is).0) (sym (or_on modified))
 
 frame_now : (core : Core) (uid f : ℕ) → f < length core.frames → frame_at (all_modified core uid) f
     ≡ modified_of uid (frame_at core f)
@@ -235,8 +205,8 @@ marks_modified s uid = record {
   records = refl;
   vtocs = refl;
   clean = λ g y at off. (
-    off_before uid (frame_in s g) (sym (ap is_modified (frame_now s.core uid g
-        (bound_inside s.core g (bound_from_page (frame_in s g) y.0 y.1 (sym (binding_is s.core g) ∙ at))))) ∙ off),
+    off_before uid (frame_in s g) (cc (frame_now s.core uid g (bound_inside s.core g
+        (bound_from_page (frame_in s g) y.0 y.1 (sym (binding_is s.core g) ∙ at))))),
     refl,
   );
 }
@@ -245,5 +215,7 @@ pub all_on : (s : Plain) (uid f p : ℕ) → binding_at (bindings s.core) f ≡ 
     → is_modified (frame_in (remarked s uid) f) ≡ true
 all_on s uid f p at =
     let page : bound_page (frame_in s f) ≡ Some (uid, p) = sym (binding_is s.core f) ∙ at in
-    ap is_modified (frame_now s.core uid f (bound_inside s.core f (bound_from_page (frame_in s f) uid p page)))
-    ∙ on_of uid p (frame_in s f) page
+    cc (
+      frame_now s.core uid f (bound_inside s.core f (bound_from_page (frame_in s f) uid p page)),
+      on_of uid p (frame_in s f) page,
+    )

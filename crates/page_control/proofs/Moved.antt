@@ -1,8 +1,9 @@
 -- A segment whose pages are copied is tied to its new home, with the words that it had.
-use Rattle.page_control.proofs.Prelude.{◌≡◌, ◌⊎◌, ℕ, zero, suc, ◌<◌, ◌≤◌, arith, false, List, [], ◌∷◌, length, Option, None, Some, refl, sym, ap, subst, ◌∙◌, get_or, is_some, inl, inr, position, ext_get_or, Core, frame_at, is_modified, reads_of, AreZero, Ptw, Null, Out, Here, Leaving, ptw_at, Home, Plain, bindings, binding_at, disk_of, filed, frame_in, frame_of, has_record, map_at, IsMapOf, IsTableOf, is_binding, is_filed_at, is_stored, words_at, words_filed, words_held, words_of_page, words_out, IsTied, KeepsTies, IsHomeFor, IsCopied, KeepsHome, rehomed_word, rehomed, none_there, not_none, off_and_on, within_from}
+use Rattle.page_control.proofs.Prelude.{◌≡◌, ◌⊎◌, ℕ, zero, suc, ◌<◌, ◌≤◌, arith, false, List, [], ◌∷◌, length, Option, None, Some, refl, sym, ap, subst, ◌∙◌, get_or, is_some, inl, inr, position, ext_get_or, is_modified, reads_of, AreZero, Ptw, Null, Out, Here, Leaving, ptw_at, Home, Plain, bindings, binding_at, disk_of, filed, frame_in, frame_of, has_record, map_at, IsMapOf, IsTableOf, is_binding, is_filed_at, is_stored, words_at, words_filed, words_held, words_of_page, words_out, IsTied, KeepsTies, IsHomeFor, IsCopied, rehomed_word, rehomed, none_there, not_none, off_and_on, within_from}
 use Rattle.page_control.proofs.Ties.{frame_same}
 use Rattle.page_control.proofs.Pictures.{found_at, words_by}
 use Rattle.page_control.proofs.Marks.{ties_marked, words_marked}
+pub use Rattle.page_control.proofs.Marks.{tie_of_home, words_of_home}
 use Rattle.page_control.proofs.Modified.{remarked, bindings_modified, reads_modified, marks_modified, all_on}
 
 -- ---- the page table
@@ -16,11 +17,10 @@ rehomed_length (w ∷ t) (place ∷ places) = ap suc (rehomed_length t places)
 pub rehomed_at : (t : List Ptw) (places : List (Option ℕ)) (p : ℕ) → ptw_at (rehomed t places) p
     ≡ rehomed_word (ptw_at t p) (get_or places p None)
 unfolding rehomed
-rehomed_at [] places p = refl
 rehomed_at (w ∷ t) [] zero = refl
 rehomed_at (w ∷ t) [] (suc p) = rehomed_at t [] p
-rehomed_at (w ∷ t) (place ∷ places) zero = refl
 rehomed_at (w ∷ t) (place ∷ places) (suc p) = rehomed_at t places p
+rehomed_at _ _ _ = refl
 
 -- the words before page n name the records of the file map
 pub record IsPartRehomed (old now : List Ptw) (places : List (Option ℕ)) (n : ℕ) : Type 0 where
@@ -28,41 +28,32 @@ pub record IsPartRehomed (old now : List Ptw) (places : List (Option ℕ)) (n : 
   pub done : (p : ℕ) → p < n → ptw_at now p ≡ rehomed_word (ptw_at old p) (get_or places p None)
   pub left : (p : ℕ) → n ≤ p → ptw_at now p ≡ ptw_at old p
 
-pub part_end : (old now : List Ptw) (places : List (Option ℕ)) (n : ℕ) → IsPartRehomed old now places n
+pub part_end : {old now : List Ptw} {places : List (Option ℕ)} {n : ℕ} → IsPartRehomed old now places n
     → length old ≤ n → now ≡ rehomed old places
-part_end old now places n part past_end =
+part_end {old} {now} {places} part past_end =
     let count = part.count in
     ext_get_or Null now (rehomed old places) (count ∙ sym (rehomed_length old places))
-    (λ i lt. part.done i (omega (arith, lt, count, past_end)) ∙ sym (rehomed_at old places i))
+    (λ i lt. part.done i (omega arith) ∙ sym (rehomed_at old places i))
 
 -- a word names the frame that it named, and says as before whether the page has a record
 frame_rehomed : (w : Ptw) (place : Option ℕ) → frame_of (rehomed_word w place) ≡ frame_of w
-frame_rehomed Null place = refl
 frame_rehomed (Out r) None = refl
-frame_rehomed (Out r) (Some q) = refl
-frame_rehomed (Here f) place = refl
-frame_rehomed (Leaving f) place = refl
+frame_rehomed _ _ = refl
 
 record_rehomed : (w : Ptw) (place : Option ℕ) → has_record (rehomed_word w place) ≡ has_record w
-record_rehomed Null place = refl
 record_rehomed (Out r) None = refl
-record_rehomed (Out r) (Some q) = refl
-record_rehomed (Here f) place = refl
-record_rehomed (Leaving f) place = refl
+record_rehomed _ _ = refl
 
 -- one that names a record names the one of the file map
 out_rehomed : (w : Ptw) (place : Option ℕ) (r : ℕ) → is_some place ≡ has_record w → rehomed_word w place ≡ Out r
     → place ≡ Some r
-out_rehomed Null place r same is = cc
 out_rehomed (Out k) None r same is = cc
-out_rehomed (Out k) (Some q) r same is = cc
-out_rehomed (Here f) place r same is = cc
-out_rehomed (Leaving f) place r same is = cc
+out_rehomed _ _ r same is = cc
 
 -- the table is that of the segment still
-table_rehomed : (bound : List (Option (ℕ × ℕ))) (uid : ℕ) (t : List Ptw) (places : List (Option ℕ))
+table_rehomed : {bound : List (Option (ℕ × ℕ))} {uid : ℕ} {t : List Ptw} (places : List (Option ℕ))
     → IsTableOf bound uid t → IsTableOf bound uid (rehomed t places)
-table_rehomed bound uid t places h =
+table_rehomed {t} places h =
     let same : (p : ℕ) → frame_of (ptw_at (rehomed t places) p) ≡ frame_of (ptw_at t p) =
     λ p. ap frame_of (rehomed_at t places p) ∙ frame_rehomed (ptw_at t p) (get_or places p None) in
     record {
@@ -74,8 +65,7 @@ table_rehomed bound uid t places h =
 map_rehomed : (places : List (Option ℕ)) (t : List Ptw)
     → ((p : ℕ) → is_some (get_or places p None) ≡ has_record (ptw_at t p)) → IsMapOf places (rehomed t places)
 map_rehomed places t stored = record {
-  stored = λ p. stored p ∙ sym (ap has_record (rehomed_at t places p)
-      ∙ record_rehomed (ptw_at t p) (get_or places p None));
+  stored = λ p. cc (stored p, rehomed_at t places p, record_rehomed (ptw_at t p) (get_or places p None));
   out = λ p r is. out_rehomed (ptw_at t p) (get_or places p None) r (stored p) (sym (rehomed_at t places p) ∙ is);
 }
 
@@ -96,7 +86,7 @@ out_same s uid from to t p tie home copied away = elim (word_cases (ptw_at t p))
   | inl in_frame ↦ absurd (away in_frame.0 in_frame.1)
   | inr (inl null) ↦ (let none : filed s from p ≡ None = none_there (filed s from p) (tie.map.stored p ∙ null) in
       let also : filed s to p ≡ None = none_there (filed s to p) (home.stored p ∙ null) in
-      ap (words_filed (disk_of s to.volume)) also ∙ sym (ap (words_filed (disk_of s from.volume)) none))
+      cc)
   | inr (inr out) ↦ copied.words p out.0
       (within_from t p Null (λ e. (let off : Null ≡ Out out.0 = sym e ∙ out.1 in cc))) out.1
 ]
@@ -113,8 +103,7 @@ words_moved : (s : Plain) (uid : ℕ) (from to : Home) (t : List Ptw) (p : ℕ) 
 unfolding words_of_page
 words_moved s uid from to t p tie home copied =
     held_same s.frames (disk_of s from.volume) (disk_of s to.volume) (filed s from p) (filed s to p)
-    (position (is_binding uid p) (bindings s.core))
-    (λ none. out_same s uid from to t p tie home copied (λ f named.
+    (position (is_binding uid p) (bindings s.core)) (λ none. out_same s uid from to t p tie home copied (λ f named.
     not_none (position (is_binding uid p) (bindings s.core)) f none (bound_at f (tie.table.back f p named))))
   where
     bound_at : (f : ℕ) → binding_at (bindings s.core) f ≡ Some (uid, p)
@@ -122,10 +111,10 @@ words_moved s uid from to t p tie home copied =
     bound_at f here = found_at (bindings s.core) uid p f here (λ g there.
         frame_same (frame_of (ptw_at t p)) g f (tie.table.named g p there) (tie.table.named f p here))
 
-pub words_rehomed : (s : Plain) (uid : ℕ) (from to : Home) (t : List Ptw) (p : ℕ) → IsTied s uid from t
+pub words_rehomed : {s : Plain} {uid : ℕ} {from to : Home} {t : List Ptw} (p : ℕ) → IsTied s uid from t
     → IsHomeFor s uid to t → IsCopied s t from to (length t)
     → words_at (remarked s uid) uid to p ≡ words_at s uid from p
-words_rehomed s uid from to t p tie home copied =
+words_rehomed {s} {uid} {from} {to} {t} p tie home copied =
     words_by s (remarked s uid) uid to p (bindings_modified s.core uid) refl refl refl
     ∙ words_moved s uid from to t p tie home copied
 
@@ -143,15 +132,14 @@ tie_rehomed s uid from to t tie home copied = record {
   volume = home.volume;
   used = home.used;
   pages = rw (rehomed_length t (map_at s.vtocs to)) tie.pages;
-  table = rw (bindings_modified s.core uid) (table_rehomed (bindings s.core) uid t (map_at s.vtocs to) tie.table);
+  table = rw (bindings_modified s.core uid) (table_rehomed (map_at s.vtocs to) tie.table);
   map = map_rehomed (map_at s.vtocs to) t home.stored;
   records = tie.records;
-  clean = λ f p off at. absurd (off_and_on (is_modified (frame_in (remarked s uid) f)) off
-      (all_on s uid f p
+  clean = λ f p off at. absurd (off_and_on (is_modified (frame_in (remarked s uid) f)) off (all_on s uid f p
       (ap (λ (b : List (Option (ℕ × ℕ))). binding_at b f) (sym (bindings_modified s.core uid)) ∙ at)));
   zeros = λ p on all. rw (bindings_modified s.core uid)
       (tie.zeros p (sym (stored_moved s from to p (home.stored p ∙ sym (tie.map.stored p))) ∙ on)
-      (subst AreZero (words_rehomed s uid from to t p tie home copied) all));
+      (subst AreZero (words_rehomed p tie home copied) all));
 }
 
 -- what the steps of `rehome` give
@@ -161,93 +149,34 @@ pub record Rehomes (s now : Plain) (t u : List Ptw) (uid : ℕ) (home : Home) : 
   pub table : IsTableOf (bindings s.core) uid t
   pub fits : IsHomeFor s uid home t
 
-pub size_rehomed : {s now : Plain} {t u : List Ptw} {uid : ℕ} {home : Home} → Rehomes s now t u uid home
-    → length u ≡ length t
-size_rehomed {s = s} {t = t} {home = home} r = ap length r.words ∙ rehomed_length t (map_at s.vtocs home)
+module _ {s now : Plain} {t u : List Ptw} {uid : ℕ} {home : Home} (r : Rehomes s now t u uid home) where
+  pub size_rehomed : length u ≡ length t
+  size_rehomed = cc (rehomed_length t (map_at s.vtocs home))
 
-pub word_rehomed : {s now : Plain} {t u : List Ptw} {uid : ℕ} {home : Home} → Rehomes s now t u uid home → (p : ℕ)
-    → ptw_at u p ≡ rehomed_word (ptw_at t p) (get_or (map_at s.vtocs home) p None)
-word_rehomed {s = s} {t = t} {home = home} r p =
-    ap (λ (words : List Ptw). ptw_at words p) r.words ∙ rehomed_at t (map_at s.vtocs home) p
+  pub word_rehomed : (p : ℕ) → ptw_at u p ≡ rehomed_word (ptw_at t p) (get_or (map_at s.vtocs home) p None)
+  word_rehomed p = rw r.words (rehomed_at t (map_at s.vtocs home) p)
 
-pub table_now : {s now : Plain} {t u : List Ptw} {uid : ℕ} {home : Home} → Rehomes s now t u uid home
-    → IsTableOf (bindings now.core) uid u
-table_now {s = s} {t = t} {uid = uid} {home = home} r =
-    rw (r.effect, r.words, bindings_modified s.core uid)
-    (table_rehomed (bindings s.core) uid t (map_at s.vtocs home) r.table)
+  pub table_now : IsTableOf (bindings now.core) uid u
+  table_now = rw (r.effect, r.words, bindings_modified s.core uid) (table_rehomed (map_at s.vtocs home) r.table)
 
-pub map_now : {s now : Plain} {t u : List Ptw} {uid : ℕ} {home : Home} → Rehomes s now t u uid home
-    → IsMapOf (map_at now.vtocs home) u
-map_now {s = s} {t = t} {home = home} r =
-    rw (r.effect, r.words) (map_rehomed (map_at s.vtocs home) t r.fits.stored)
+  pub map_now : IsMapOf (map_at now.vtocs home) u
+  map_now = rw (r.effect, r.words) (map_rehomed (map_at s.vtocs home) t r.fits.stored)
 
-pub tie_moved : {s now : Plain} {t u : List Ptw} {uid : ℕ} {home : Home} → Rehomes s now t u uid home → (from : Home)
-    → IsTied s uid from t → IsCopied s t from home (length t) → IsTied now uid home u
-tie_moved {s = s} {t = t} {uid = uid} {home = home} r from tie copied =
-    rw (r.effect, r.words) (tie_rehomed s uid from home t tie r.fits copied)
+  pub tie_moved : (from : Home) → IsTied s uid from t → IsCopied s t from home (length t) → IsTied now uid home u
+  tie_moved from tie copied = rw (r.effect, r.words) (tie_rehomed s uid from home t tie r.fits copied)
 
-pub page_moved : {s now : Plain} {t u : List Ptw} {uid : ℕ} {home : Home} → Rehomes s now t u uid home
-    → (from : Home) (p : ℕ) → IsTied s uid from t → IsCopied s t from home (length t)
-    → words_at now uid home p ≡ words_at s uid from p
-page_moved {s = s} {t = t} {uid = uid} {home = home} r from p tie copied =
-    ap (λ (x : Plain). words_at x uid home p) r.effect ∙ words_rehomed s uid from home t p tie r.fits copied
+  pub page_moved : (from : Home) (p : ℕ) → IsTied s uid from t → IsCopied s t from home (length t)
+      → words_at now uid home p ≡ words_at s uid from p
+  page_moved from p tie copied = rw r.effect (words_rehomed p tie r.fits copied)
 
-pub words_same : {s now : Plain} {t u : List Ptw} {uid : ℕ} {home : Home} → Rehomes s now t u uid home
-    → words_at now ≡ words_at s
-words_same {s = s} {uid = uid} r =
-    ap (λ (x : Plain). words_at x) r.effect
-    ∙ words_marked s (remarked s uid) (bindings_modified s.core uid) refl refl refl
+  pub words_same : words_at now ≡ words_at s
+  words_same = rw r.effect (words_marked s (remarked s uid) (bindings_modified s.core uid) refl refl refl)
 
-pub ties_same : {s now : Plain} {t u : List Ptw} {uid : ℕ} {home : Home} → Rehomes s now t u uid home
-    → KeepsTies s now
-ties_same {s = s} {uid = uid} r = rw r.effect (ties_marked s (remarked s uid) (marks_modified s uid))
+  pub ties_same : KeepsTies s now
+  ties_same = rw r.effect (ties_marked (marks_modified s uid))
 
-pub bindings_same : {s now : Plain} {t u : List Ptw} {uid : ℕ} {home : Home} → Rehomes s now t u uid home
-    → bindings now.core ≡ bindings s.core
-bindings_same {s = s} {uid = uid} r = ap (λ (x : Plain). bindings x.core) r.effect ∙ bindings_modified s.core uid
+  pub bindings_same : bindings now.core ≡ bindings s.core
+  bindings_same = rw r.effect (bindings_modified s.core uid)
 
-pub reads_same : {s now : Plain} {t u : List Ptw} {uid : ℕ} {home : Home} → Rehomes s now t u uid home
-    → reads_of now.core ≡ reads_of s.core
-reads_same {s = s} {uid = uid} r = ap (λ (x : Plain). reads_of x.core) r.effect ∙ reads_modified s.core uid
-
--- ---- other homes, while the volumes change
-
-held_by : (frames : List (List ℕ)) (disk now : List (List ℕ)) (place other f : Option ℕ)
-    → words_filed now other ≡ words_filed disk place → words_held frames now other f ≡ words_held frames disk place f
-held_by frames disk now place other None same = same
-held_by frames disk now place other (Some f) same = refl
-
--- a home of which all stays has the words that it had
-pub words_of_home : (s now : Plain) (uid : ℕ) (home : Home) (p : ℕ) → now.core ≡ s.core → now.frames ≡ s.frames
-    → KeepsHome s now home → words_at now uid home p ≡ words_at s uid home p
-unfolding words_of_page
-words_of_home s now uid home p core frames keeps =
-    ap (λ (b : List (Option (ℕ × ℕ))). words_held now.frames (disk_of now home.volume) (filed now home p)
-    (position (is_binding uid p) b)) (ap bindings core)
-    ∙ ap (λ (f : List (List ℕ)). words_held f (disk_of now home.volume) (filed now home p)
-    (position (is_binding uid p) (bindings s.core))) frames
-    ∙ held_by s.frames (disk_of s home.volume) (disk_of now home.volume) (filed s home p) (filed now home p)
-    (position (is_binding uid p) (bindings s.core)) (keeps.words p)
-
-stored_of_home : (s now : Plain) (home : Home) (p : ℕ) → KeepsHome s now home → is_stored now home p
-    ≡ is_stored s home p
-unfolding is_filed_at
-stored_of_home s now home p keeps = ap (λ (places : List (Option ℕ)). is_some (get_or places p None)) keeps.map
-
--- and is tied as it was
-pub tie_of_home : (s now : Plain) (uid : ℕ) (home : Home) (t : List Ptw) → now.core ≡ s.core → now.frames ≡ s.frames
-    → KeepsHome s now home → IsTied s uid home t → IsTied now uid home t
-tie_of_home s now uid home t core frames keeps tie = record {
-  volume = rw keeps.volumes tie.volume;
-  used = keeps.uid ∙ tie.used;
-  pages = tie.pages;
-  table = rw core tie.table;
-  map = rw keeps.map tie.map;
-  records = keeps.records;
-  clean = λ f p off at. ap (λ (all : List (List ℕ)). get_or all f []) frames
-      ∙ tie.clean f p (ap (λ (c : Core). is_modified (frame_at c f)) (sym core) ∙ off)
-      (ap (λ (c : Core). binding_at (bindings c) f) (sym core) ∙ at)
-      ∙ sym (keeps.words p);
-  zeros = λ p on all. rw core (tie.zeros p (sym (stored_of_home s now home p keeps) ∙ on)
-      (subst AreZero (words_of_home s now uid home p core frames keeps) all));
-}
+  pub reads_same : reads_of now.core ≡ reads_of s.core
+  reads_same = rw r.effect (reads_modified s.core uid)

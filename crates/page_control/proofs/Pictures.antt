@@ -1,5 +1,5 @@
 -- What the words of a page are, where it is in a frame and where it is in none.
-use Rattle.page_control.proofs.Prelude.{◌≡◌, ◌≢◌, ◌⊎◌, ℕ, Bool, true, false, List, [], length, Option, None, Some, refl, sym, ap, ◌∙◌, get_or, set, eq-eqb, inl, inr, position, eqb_tells, leb_tells, cases_eq, get_or-set_same, get_or-set_other, get_or_past, set_past, position-Some, Entry, Home, Plain, bindings, binding_at, words_in, disk_of, filed, IsInFrame, map_at, is_binding, words_filed, words_out, words_held, words_of_page, words_at, not_none, position_nowhere, off_and_on}
+use Rattle.page_control.proofs.Prelude.{◌≡◌, ◌≢◌, ◌⊎◌, ℕ, Bool, true, false, List, [], length, Option, None, Some, refl, ap, ◌∙◌, get_or, set, eq-eqb, inl, inr, position, eqb_tells, leb_tells, cases_eq, get_or-set_same, get_or-set_other, get_or_past, set_past, position-Some, Entry, Home, Plain, bindings, binding_at, words_in, disk_of, filed, IsInFrame, map_at, is_binding, words_filed, words_out, words_held, words_of_page, words_at, not_none, position_nowhere, off_and_on}
 use Rattle.page_control.proofs.Ties.{bound_within}
 use Rattle.page_control.proofs.Firsts.{position_at_one}
 
@@ -23,7 +23,7 @@ pub binding_tells : (x : Option (ℕ × ℕ)) (uid p : ℕ) → is_binding uid p
 binding_tells None uid p h = cc
 binding_tells (Some (a, b)) uid p h = elim (eqb_tells a uid) [
   | inl i ↦ elim (eqb_tells b p) [
-    | inl j ↦ ap (λ (n : ℕ). page n b) i.1 ∙ ap (λ (n : ℕ). page uid n) j.1
+    | inl j ↦ rw (i.1, j.1)
     | inr j ↦ absurd (let off : is_binding uid p (page a b) ≡ false = rw (i.0, j.0) refl in off_and_on _ off h)
   ]
   | inr i ↦ absurd (let off : is_binding uid p (page a b) ≡ false = rw i.0 refl in off_and_on _ off h)
@@ -44,89 +44,60 @@ found_nowhere bound uid p none = position_nowhere (is_binding uid p) bound None
     (λ g. off_from (binding_at bound g) uid p _ refl (none g))
 
 pub found_at : (bound : List (Option (ℕ × ℕ))) (uid p f : ℕ) → binding_at bound f ≡ page uid p
-    → ((g : ℕ) → binding_at bound g ≡ page uid p → g ≡ f)
-    → position (is_binding uid p) bound ≡ Some f
-found_at bound uid p f here only =
-    position_at_one (is_binding uid p) bound f None (bound_within bound f uid p here)
-    (ap (is_binding uid p) here ∙ binding_is_one uid p)
-    (λ g lt passes. only g (binding_tells (binding_at bound g) uid p passes))
+    → ((g : ℕ) → binding_at bound g ≡ page uid p → g ≡ f) → position (is_binding uid p) bound ≡ Some f
+found_at bound uid p f here only = position_at_one (is_binding uid p) bound f None (bound_within bound f uid p here)
+    (cc (binding_is_one uid p)) (λ g lt passes. only g (binding_tells (binding_at bound g) uid p passes))
 
 -- their words
 pub shown_in : (s : Plain) (uid p f : ℕ) (home : Home) → binding_at (bindings s.core) f ≡ page uid p
     → ((g : ℕ) → binding_at (bindings s.core) g ≡ page uid p → g ≡ f) → words_at s uid home p ≡ words_in s f
 unfolding words_of_page
-shown_in s uid p f home here only =
-    ap (words_held s.frames (disk_of s home.volume) (filed s home p)) (found_at (bindings s.core) uid p f here only)
+shown_in s uid p f home here only = cc (found_at (bindings s.core) uid p f here only)
 
 pub shown_out : (s : Plain) (uid p : ℕ) (home : Home) → ((g : ℕ) → binding_at (bindings s.core) g ≡ page uid p → ⊥)
     → words_at s uid home p ≡ words_out s home p
 unfolding words_of_page
-shown_out s uid p home none =
-    ap (words_held s.frames (disk_of s home.volume) (filed s home p)) (found_nowhere (bindings s.core) uid p none)
+shown_out s uid p home none = cc (found_nowhere (bindings s.core) uid p none)
 
 -- one or the other
 pub in_frame_or_out : (s : Plain) (u q : ℕ) (h : Home) (place : Option ℕ) → position (is_binding u q) (bindings s.core)
-    ≡ place
-    → (IsInFrame (bindings s.core) u q) ⊎ (words_at s u h q ≡ words_out s h q)
+    ≡ place → (IsInFrame (bindings s.core) u q) ⊎ (words_at s u h q ≡ words_out s h q)
 unfolding words_of_page
-in_frame_or_out s u q h None is = inr (ap (words_held s.frames (disk_of s h.volume) (filed s h q)) is)
-in_frame_or_out s u q h (Some g) is =
-    inl (
-      g,
-      binding_tells (binding_at (bindings s.core) g) u q
-          (position-Some (is_binding u q) (bindings s.core) g None is).1,
-    )
+in_frame_or_out s u q h None is = inr (cc)
+in_frame_or_out s u q h (Some g) is = inl (
+  g,
+  binding_tells (binding_at (bindings s.core) g) u q (position-Some (is_binding u q) (bindings s.core) g None is).1,
+)
 
 -- the words of pages that are in no frame, where the record is the same
 pub filed_same : (disk now : List (List ℕ)) (place : Option ℕ)
-    → ((k : ℕ) → place ≡ Some k → get_or now k [] ≡ get_or disk k [])
-    → words_filed now place ≡ words_filed disk place
+    → ((k : ℕ) → place ≡ Some k → get_or now k [] ≡ get_or disk k []) → words_filed now place ≡ words_filed disk place
 filed_same disk now None same = refl
 filed_same disk now (Some k) same = same k refl
 
 -- what a frame is bound to after frame f was bound to x
 pub bound_now : (bound : List (Option (ℕ × ℕ))) (f : ℕ) (x : Option (ℕ × ℕ)) (g : ℕ) (y : ℕ × ℕ)
-    → binding_at (set bound f x) g ≡ Some y
-    → ((g ≡ f) × (x ≡ Some y)) ⊎ ((g ≢ f) × (binding_at bound g ≡ Some y))
+    → binding_at (set bound f x) g ≡ Some y → ((g ≡ f) × (x ≡ Some y)) ⊎ ((g ≢ f) × (binding_at bound g ≡ Some y))
 bound_now bound f x g y is = elim (cases_eq g f) [
   | inl same ↦ elim (leb_tells (length bound) f) [
     | inl past ↦ absurd (not_none (binding_at (set bound f x) g) y
-        (ap (λ (those : List (Option (ℕ × ℕ))). binding_at those g) (set_past bound f x past.1)
-        ∙ ap (binding_at bound) same ∙ get_or_past bound f None past.1)
-        is)
-    | inr lt ↦ inl (same, sym (get_or-set_same bound f x None lt.1) ∙ ap (binding_at (set bound f x)) (sym same) ∙ is)
+        (rw (set_past bound f x past.1, same) (get_or_past bound f None past.1)) is)
+    | inr lt ↦ inl (same, rw (same, get_or-set_same bound f x None lt.1) at is)
   ]
-  | inr n ↦ inr (n, sym (get_or-set_other bound f g x None n) ∙ is)
+  | inr n ↦ inr (n, rw (get_or-set_other bound f g x None n) at is)
 ]
 
 -- a page that is in a frame stays in it where another frame changes
 pub in_frame_kept : (bound : List (Option (ℕ × ℕ))) (f u q : ℕ) (x : Option (ℕ × ℕ))
-    → (binding_at bound f ≡ Some (u, q) → ⊥)
-    → IsInFrame bound u q → IsInFrame (set bound f x) u q
-in_frame_kept bound f u q x other (g, at) = (
-  g,
-  get_or-set_other bound f g x None
-      (λ e. other (sym (ap (binding_at bound) e) ∙ at)) ∙ at,
-)
+    → (binding_at bound f ≡ Some (u, q) → ⊥) → IsInFrame bound u q → IsInFrame (set bound f x) u q
+in_frame_kept bound f u q x other (g, at) = (g, rw (get_or-set_other bound f g x None (λ e. other (rw e at at))) at)
 
 -- the words of a page are those of its parts: the frames, the drives and the file map at its home
 pub words_by : (s now : Plain) (u : ℕ) (h : Home) (q : ℕ) → bindings now.core ≡ bindings s.core → now.frames ≡ s.frames
-    → now.disks ≡ s.disks
-    → map_at now.vtocs h ≡ map_at s.vtocs h → words_at now u h q ≡ words_at s u h q
+    → now.disks ≡ s.disks → map_at now.vtocs h ≡ map_at s.vtocs h → words_at now u h q ≡ words_at s u h q
 unfolding words_of_page
-words_by s now u h q bound frames disks map =
-    ap (λ (b : List (Option (ℕ × ℕ))). words_held now.frames (get_or now.disks h.volume [])
-    (get_or (map_at now.vtocs h) q None) (position (is_binding u q) b))
-    bound
-    ∙ ap (λ (f : List (List ℕ)). words_held f (get_or now.disks h.volume []) (get_or (map_at now.vtocs h) q None)
-    (position (is_binding u q) (bindings s.core))) frames
-    ∙ ap (λ (d : List (List (List ℕ))). words_held s.frames (get_or d h.volume []) (get_or (map_at now.vtocs h) q None)
-    (position (is_binding u q) (bindings s.core))) disks
-    ∙ ap (λ (m : List (Option ℕ)). words_held s.frames (get_or s.disks h.volume []) (get_or m q None)
-    (position (is_binding u q) (bindings s.core))) map
+words_by s now u h q bound frames disks map = rw (bound, frames, disks, map)
 
 pub out_by : (s now : Plain) (h : Home) (q : ℕ) → now.disks ≡ s.disks → map_at now.vtocs h ≡ map_at s.vtocs h
     → words_out now h q ≡ words_out s h q
-out_by s now h q disks map =
-    ap (λ (d : List (List (List ℕ))). words_filed (get_or d h.volume []) (get_or (map_at now.vtocs h) q None)) disks
-    ∙ ap (λ (m : List (Option ℕ)). words_filed (get_or s.disks h.volume []) (get_or m q None)) map
+out_by s now h q disks map = rw (disks, map)

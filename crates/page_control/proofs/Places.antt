@@ -5,8 +5,7 @@ use Rattle.page_control.proofs.Ties.{frame_same}
 pub some_put : (xs : List (Option ℕ)) (p r s : ℕ) → get_or (set xs p (Some r)) p None ≡ Some s → s ≡ r
 some_put xs p r s is = elim (leb_tells (length xs) p) [
   | inl past ↦ absurd (not_none (get_or (set xs p (Some r)) p None) s
-      (ap (λ (ys : List (Option ℕ)). get_or ys p None) (set_past xs p (Some r) past.1) ∙ get_or_past xs p None past.1)
-      is)
+      (rw (set_past xs p (Some r) past.1) (get_or_past xs p None past.1)) is)
   | inr lt ↦ frame_same (get_or (set xs p (Some r)) p None) s r is (get_or-set_same xs p (Some r) None lt.1)
 ]
 
@@ -24,7 +23,7 @@ one_home home other (v, e) = λ i. record { volume = v i; entry = e i }
 pub same_or_other : (home other : Home) → (other ≡ home) ⊎ (other ≢ home)
 same_or_other home other = elim (at_or_other home.volume home.entry other) [
   | inl at ↦ inl (one_home home other at)
-  | inr n ↦ inr (λ same. n (ap (λ (h : Home). h.volume) same) (ap (λ (h : Home). h.entry) same))
+  | inr n ↦ inr (λ same. n (cc) (cc))
 ]
 
 pub other_home : (home other : Home) → other ≢ home → other.volume ≡ home.volume → other.entry ≡ home.entry → ⊥
@@ -33,20 +32,18 @@ other_home home other n v e = n (one_home home other (v, e))
 -- a home that is used is there
 pub home_within : (vtocs : List (List (Option Entry))) (uid : ℕ) (home : Home) → uid_at vtocs home ≡ Some uid
     → home.entry < length (vtoc_in vtocs home.volume)
-home_within vtocs uid home used =
-    within_from (vtoc_in vtocs home.volume) home.entry None
+home_within vtocs uid home used = within_from (vtoc_in vtocs home.volume) home.entry None
     (λ none. not_none (uid_at vtocs home) uid (ap uid_of none) used)
 
 pub volume_within : (vtocs : List (List (Option Entry))) (uid : ℕ) (home : Home) → uid_at vtocs home ≡ Some uid
     → home.volume < length vtocs
-volume_within vtocs uid home used =
-    within_from vtocs home.volume [] (λ none. not_none (uid_at vtocs home) uid
-    (ap (λ (table : List (Option Entry)). uid_of (entry_at table home.entry)) none) used)
+volume_within vtocs uid home used = within_from vtocs home.volume [] (λ none. not_none (uid_at vtocs home) uid
+    (cc) used)
 
 -- two segments of one home are one
 pub one_uid : (vtocs : List (List (Option Entry))) (u uid : ℕ) (h home : Home) → uid_at vtocs h ≡ Some u
     → uid_at vtocs home ≡ Some uid → h ≡ home → u ≡ uid
-one_uid vtocs u uid h home its used same = frame_same (uid_at vtocs h) u uid its (ap (uid_at vtocs) same ∙ used)
+one_uid vtocs u uid h home its used same = frame_same (uid_at vtocs h) u uid its (cc)
 
 -- what an entry says after its file map names another record for page p
 pub same_uid : (entry : Option Entry) (p : ℕ) (place : Option ℕ) → uid_of (with_record entry p place) ≡ uid_of entry
@@ -69,34 +66,26 @@ refile vtocs home p place = put vtocs home.volume home.entry
     (with_record (entry_at (vtoc_in vtocs home.volume) home.entry) p place)
 
 pub map_refiled : (vtocs : List (List (Option Entry))) (uid p : ℕ) (place : Option ℕ) (home : Home) → uid_at vtocs home
-    ≡ Some uid
-    → map_at (refile vtocs home p place) home ≡ set (map_at vtocs home) p place
-map_refiled vtocs uid p place home used =
-    ap records_in (put_here vtocs home.volume home.entry
-    (with_record (entry_at (vtoc_in vtocs home.volume) home.entry) p place) None
-    (volume_within vtocs uid home used) (home_within vtocs uid home used))
-    ∙ used_map (entry_at (vtoc_in vtocs home.volume) home.entry) uid p place used
+    ≡ Some uid → map_at (refile vtocs home p place) home ≡ set (map_at vtocs home) p place
+map_refiled vtocs uid p place home used = cc (
+  put_here vtocs home.volume home.entry (with_record (entry_at (vtoc_in vtocs home.volume) home.entry) p place)
+      None (volume_within vtocs uid home used) (home_within vtocs uid home used),
+  used_map (entry_at (vtoc_in vtocs home.volume) home.entry) uid p place used,
+)
 
 pub maps_refiled : (vtocs : List (List (Option Entry))) (uid p : ℕ) (place : Option ℕ) (home other : Home)
-    → uid_at vtocs home ≡ Some uid → other ≢ home
-    → map_at (refile vtocs home p place) other ≡ map_at vtocs other
-maps_refiled vtocs uid p place home other used n =
-    ap records_in (put_other vtocs home.volume home.entry
+    → uid_at vtocs home ≡ Some uid → other ≢ home → map_at (refile vtocs home p place) other ≡ map_at vtocs other
+maps_refiled vtocs uid p place home other used n = ap records_in (put_other vtocs home.volume home.entry
     (with_record (entry_at (vtoc_in vtocs home.volume) home.entry) p place) None
     other.volume other.entry (volume_within vtocs uid home used) (other_home home other n))
 
 pub uids_refiled : (vtocs : List (List (Option Entry))) (uid p : ℕ) (place : Option ℕ) (home other : Home)
-    → uid_at vtocs home ≡ Some uid
-    → uid_at (refile vtocs home p place) other ≡ uid_at vtocs other
+    → uid_at vtocs home ≡ Some uid → uid_at (refile vtocs home p place) other ≡ uid_at vtocs other
 uids_refiled vtocs uid p place home other used =
     let entry : Option Entry = entry_at (vtoc_in vtocs home.volume) home.entry in
     elim (at_or_other home.volume home.entry other) [
-      | inl at ↦ rw (at.0, at.1)
-          (ap uid_of (put_here vtocs home.volume home.entry (with_record entry p place) None
-          (volume_within vtocs uid home used)
-          (home_within vtocs uid home used))
-          ∙ same_uid entry p place)
+      | inl at ↦ rw (at.0, at.1) (ap uid_of (put_here vtocs home.volume home.entry (with_record entry p place) None
+          (volume_within vtocs uid home used) (home_within vtocs uid home used)) ∙ same_uid entry p place)
       | inr n ↦ ap uid_of (put_other vtocs home.volume home.entry (with_record entry p place) None other.volume
-          other.entry (volume_within vtocs uid home used)
-          n)
+          other.entry (volume_within vtocs uid home used) n)
     ]

@@ -7,25 +7,20 @@ pub loop-p-init : goal.loop-p-init
 loop-p-init c = sym (part_none c.args.core.now c.args.uid)
 
 pub changed-requires : goal.changed-requires
-changed-requires c =
-    rw c.loop-p.invariant
-    (part_bound c.args.core.now c.args.uid c.loop-p.p c.loop-p.p c.in-Here.f c.args.t.now c.requires
-    (ap frame_of (sym c.get.ensures) ∙ named_by c.get.result c.in-Here.f c.in-Here.is))
+changed-requires c = rw c.loop-p.invariant (part_bound c.args.core.now c.loop-p.p c.loop-p.p c.in-Here.f c.requires
+    (cc (named_by c.get.result c.in-Here.f c.in-Here.is)))
 
 pub loop-p-preserved : goal.loop-p-preserved
 loop-p-preserved c = elim c.match-get.branch [
-  | in-Null w ↦ w.core-is ∙ c.loop-p.invariant
-      ∙ part_other c.args.core.now c.args.uid c.loop-p.p c.args.t.now c.requires
-      (ap frame_of (sym c.get.ensures) ∙ none_by c.get.result w.in-Null.is)
-  | in-Here2 w ↦ w.core-is ∙ w.changed.ensures.frame
-      ∙ ap (λ (core : Core). with_frame core w.in-Here.f (with_modified (frame_at core w.in-Here.f) true))
-      c.loop-p.invariant
-      ∙ part_marked c.args.core.now c.args.uid c.loop-p.p w.in-Here.f c.args.t.now c.requires
-      (ap frame_of (sym c.get.ensures) ∙ named_by c.get.result w.in-Here.f w.in-Here.is)
+  | in-Null w ↦ w.core-is ∙ c.loop-p.invariant ∙ part_other c.args.core.now c.loop-p.p c.requires
+      (cc (none_by c.get.result w.in-Null.is))
+  | in-Here2 w ↦ w.core-is ∙ w.changed.ensures.frame ∙ ap (λ (core : Core). with_frame core w.in-Here.f
+      (with_modified (frame_at core w.in-Here.f) true)) c.loop-p.invariant
+      ∙ part_marked c.args.core.now c.loop-p.p w.in-Here.f c.requires
+      (cc (named_by c.get.result w.in-Here.f w.in-Here.is))
 ]
 
 pub returns : goal.returns
 returns c =
-    c.loop-p.invariant
-    ∙ part_all c.args.core.now c.args.uid c.loop-p.p c.args.t.now c.requires
-    (let size = c.size-p-end.ensures in let end = c.loop-p-test.false in omega (arith, size, end))
+    cc (part_all c.args.core.now c.loop-p.p c.requires (let size = c.size-p-end.ensures in let end = c.loop-p-test.false
+    in omega (arith, size, end)))

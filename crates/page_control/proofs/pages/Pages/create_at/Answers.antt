@@ -3,4 +3,4 @@ use Rattle.page_control.proofs.Facts.{page_made}
 use Rattle.page_control.proofs.pages.Pages.create_at.Goals as goal
 
 pub returns-in-Some-clause-created : goal.returns-in-Some-clause-created
-returns-in-Some-clause-created g c = grind (arith, common_steps, page_made)
+returns-in-Some-clause-created g c = grind (arith, common_steps)

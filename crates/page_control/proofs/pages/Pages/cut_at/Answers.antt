@@ -3,10 +3,10 @@ use Rattle.page_control.proofs.Facts.{bindings_referred}
 use Rattle.page_control.proofs.pages.Pages.cut_at.Goals as goal
 
 pub index_mut-requires : goal.index_mut-requires
-index_mut-requires g c = grind (arith, common_steps, bindings_referred)
+index_mut-requires g c = grind (arith, common_steps)
 
 pub is_zero-requires : goal.is_zero-requires
-is_zero-requires g c = grind (arith, common_steps, bindings_referred)
+is_zero-requires g c = grind (arith, common_steps)
 
 pub returns : goal.returns
-returns g c = grind (arith, common_steps, bindings_referred)
+returns g c = grind (arith, common_steps)

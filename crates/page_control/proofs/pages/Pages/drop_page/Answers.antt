@@ -6,13 +6,7 @@ use Rattle.page_control.proofs.pages.Pages.drop_page.Goals as goal
 dropped : (g : _) (c : goal.After-drop_at g)
     → Drops (plain g.D.Drive.pages c.args.self.now) (plain g.D.Drive.pages c.drop_at.new.self) c.args.t.now
     c.drop_at.new.t (uid_of_home (plain g.D.Drive.pages c.args.self.now) c.args.home) c.args.home c.args.p
-dropped g c = record {
-  tie = c.requires.tie;
-  page = c.requires.page;
-  away = c.requires.away;
-  effect = c.drop_at.ensures.dropped;
-  word = c.drop_at.ensures.word;
-}
+dropped g c = assumption (c.requires, c.drop_at.ensures)
 
 pub returns : goal.returns
 returns g c =

@@ -4,8 +4,7 @@ use Rattle.page_control.proofs.Erasing.{ended, names_same, names_none, all_erase
 use Rattle.page_control.proofs.pages.Pages.erase_all.Goals as goal
 
 pub free-requires-clause-empty : goal.free-requires-clause-empty
-free-requires-clause-empty g c =
-    names_same c.vtoc_mut.result.now _ c.args.home.entry (search rules)
+free-requires-clause-empty g c = names_same c.vtoc_mut.result.now _ c.args.home.entry (search rules)
     (names_none (ended c.give_back_all.ensures.part c.size.ensures.places refl (search rules)))
 
 pub returns-clause-erased : goal.returns-clause-erased
@@ -22,4 +21,4 @@ returns-clause-taken g c =
     count_end (ended c.give_back_all.ensures.part c.size.ensures.places refl (search rules)) (search rules)
 
 pub prove-unreachable-requires : goal.prove-unreachable-requires
-prove-unreachable-requires g c = grind (arith, common_steps, home_used)
+prove-unreachable-requires g c = grind (arith, common_steps)

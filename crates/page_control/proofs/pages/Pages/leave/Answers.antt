@@ -1,4 +1,4 @@
-use Rattle.page_control.proofs.Prelude.{common_steps, rules, arith, ap, refl, inl, inr, plain, has_record}
+use Rattle.page_control.proofs.Prelude.{common_steps, rules, arith, ap, refl, inl, inr, has_record}
 use Rattle.page_control.proofs.Facts.{page_leaves, tied_volume, tied_filed, leaving_within}
 use Rattle.page_control.proofs.Calls.{not_zero}
 use Rattle.page_control.proofs.pages.Pages.leave.Goals as goal
@@ -7,30 +7,27 @@ pub record_in-r-requires-clause-page : goal.record_in-r-requires-clause-page
 record_in-r-requires-clause-page g c =
     let pages = c.requires.tie.pages in
     let inside = leaving_within c.args.t.now _ c.args.f c.requires.leaving in
-    rw c.page_in-p.ensures (omega (arith, pages, inside))
+    rw c.page_in-p.ensures (omega arith)
 
 pub record_in-r-requires-clause-volume : goal.record_in-r-requires-clause-volume
 record_in-r-requires-clause-volume g c = tied_volume g.D.Drive.pages c.args.self.now _ _ _ c.requires.tie
 
 pub record_in-r-requires-clause-filed : goal.record_in-r-requires-clause-filed
 record_in-r-requires-clause-filed g c =
-    rw c.page_in-p.ensures (tied_filed (plain g.D.Drive.pages c.args.self.now) _ c.args.home c.args.t.now _
-    c.requires.tie (ap has_record c.requires.leaving))
+    rw c.page_in-p.ensures (tied_filed _ c.requires.tie (ap has_record c.requires.leaving))
 
 pub unstore-requires-clause-page : goal.unstore-requires-clause-page
 unstore-requires-clause-page g c =
     let pages = c.requires.tie.pages in
     let inside = leaving_within c.args.t.now _ c.args.f c.requires.leaving in
-    rw c.page_in-p.ensures (omega (arith, pages, inside))
+    rw c.page_in-p.ensures (omega arith)
 
 pub unstore-requires-clause-volume : goal.unstore-requires-clause-volume
 unstore-requires-clause-volume g c = tied_volume g.D.Drive.pages c.args.self.now _ _ _ c.requires.tie
 
 pub unstore-requires-clause-filed : goal.unstore-requires-clause-filed
-unstore-requires-clause-filed g c =
-    rw (c.record_in-r.ensures.record, c.page_in-p.ensures)
-    (tied_filed (plain g.D.Drive.pages c.args.self.now) _ c.args.home c.args.t.now _ c.requires.tie
-    (ap has_record c.requires.leaving))
+unstore-requires-clause-filed g c = rw (c.record_in-r.ensures.record, c.page_in-p.ensures)
+    (tied_filed _ c.requires.tie (ap has_record c.requires.leaving))
 
 pub save-requires-clause-volume : goal.save-requires-clause-volume
 save-requires-clause-volume g c = tied_volume g.D.Drive.pages c.args.self.now _ _ _ c.requires.tie
@@ -80,10 +77,10 @@ returns-clause-no_call g c = λ need.
     ]
 
 pub is_zero-requires : goal.is_zero-requires
-is_zero-requires g c = grind (arith, common_steps, page_leaves)
+is_zero-requires g c = grind (arith, common_steps)
 
 pub set-requires : goal.set-requires
-set-requires g c = grind (arith, common_steps, page_leaves)
+set-requires g c = grind (arith, common_steps)
 
 pub set-requires-2 : goal.set-requires-2
-set-requires-2 g c = grind (arith, common_steps, page_leaves)
+set-requires-2 g c = grind (arith, common_steps)

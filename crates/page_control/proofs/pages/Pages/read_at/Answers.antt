@@ -4,9 +4,7 @@ use Rattle.page_control.proofs.Calls.{out_record}
 use Rattle.page_control.proofs.pages.Pages.read_at.Goals as goal
 
 pub size-requires : goal.size-requires
-size-requires g c =
-    let volume = tied_volume g.D.Drive.pages c.args.self.now _ _ _ c.requires.tie in
-    grind (arith, common_steps)
+size-requires g c = grind (arith, tied_volume g.D.Drive.pages c.args.self.now _ _ _ c.requires.tie, common_steps)
 
 pub prove-unreachable-requires : goal.prove-unreachable-requires
 prove-unreachable-requires g c =
@@ -15,18 +13,16 @@ prove-unreachable-requires g c =
     (c.requires.tie.map.out c.args.p _ c.record_out-r.ensures)) in
     let size : c.size.result ≡ length (flags_of (plain g.D.Drive.pages c.args.self.now) c.args.home.volume) =
     search rules in
-    omega (arith, lt, size, c.if-prove.true)
+    omega arith
 
 pub read_page-requires-clause-volume : goal.read_page-requires-clause-volume
 read_page-requires-clause-volume g c =
-    let volume = tied_volume g.D.Drive.pages c.args.self.now _ _ _ c.requires.tie in
-    grind (arith, common_steps)
+    grind (arith, tied_volume g.D.Drive.pages c.args.self.now _ _ _ c.requires.tie, common_steps)
 
 pub returns-in-Ok-clause-read : goal.returns-in-Ok-clause-read
 returns-in-Ok-clause-read g c =
     let r : record_of (plain g.D.Drive.pages c.args.self.now) c.args.home c.args.p ≡ c.record_out-r.result =
-    out_record _ _ _ _ _ _ c.requires.tie
-    c.record_out-r.ensures in
+    out_record _ _ _ _ _ _ c.requires.tie c.record_out-r.ensures in
     record {
       effect = rw r (grind (arith, common_steps));
       word = search rules;

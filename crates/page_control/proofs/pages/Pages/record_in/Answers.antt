@@ -9,4 +9,4 @@ prove-unreachable-requires g c =
     let same : c.in-Some.r ≡ record_of (plain g.D.Drive.pages c.args.self.now) c.args.home c.args.p = search rules in
     let size : c.size.result ≡ length (flags_of (plain g.D.Drive.pages c.args.self.now) c.args.home.volume) =
     search rules in
-    omega (arith, lt, same, size, c.if-prove.true)
+    omega arith

@@ -5,7 +5,6 @@ use Rattle.page_control.proofs.pages.Pages.start_in.Goals as goal
 
 pub returns-clause-ties : goal.returns-clause-ties
 returns-clause-ties g c =
-    ties_marked (plain g.D.Drive.pages c.args.self.now) _
-    (marks_moved (plain g.D.Drive.pages c.args.self.now) _ c.args.f (Started c.args.uid c.args.p) (search rules)
-    (search (rules, bindings_started))
-    (ap bound_page c.requires.free) (search rules) (search rules) (search rules) (search rules))
+    ties_marked (marks_moved (plain g.D.Drive.pages c.args.self.now) _ c.args.f (Started c.args.uid c.args.p)
+    (search rules) (search (rules, bindings_started)) (ap bound_page c.requires.free) (search rules) (search rules)
+    (search rules) (search rules))

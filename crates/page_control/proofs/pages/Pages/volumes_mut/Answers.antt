@@ -1,5 +1,5 @@
 use Rattle.page_control.proofs.Prelude.{refl, ap, Paging, plain, with_volumes}
-use Rattle.page_control.proofs.Moved.{words_of_home, tie_of_home}
+use Rattle.page_control.proofs.Marks.{words_of_home, tie_of_home}
 use Rattle.page_control.proofs.pages.Pages.volumes_mut.Goals as goal
 
 pub returns : goal.returns
@@ -7,7 +7,7 @@ returns g c = (
   (refl, λ w. ap (λ (s : Paging g.row.D.Denot). with_volumes s w) c.self.view_is),
   record {
     writes_back = tt;
-    value = ap (λ (s : Paging g.row.D.Denot). s.volumes) c.self.view_is;
+    value = cc;
     words = λ volumes uid home p keeps. words_of_home (plain g.D.Drive.pages c.args.self.now)
         (plain g.D.Drive.pages (with_volumes c.args.self.now volumes)) uid home p refl refl keeps;
     ties = λ volumes uid home words keeps tie. tie_of_home (plain g.D.Drive.pages c.args.self.now)
