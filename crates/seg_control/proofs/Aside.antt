@@ -26,58 +26,51 @@ module _ {less_records more_records : List (List Bool)} {less more : List (List 
   -- the home that is free names no record
   names_none : (v e p r : ℕ) → (v ≡ home.volume) × (e ≡ home.entry) → record_at (vtoc_in less v) e p ≡ Some r → ⊥
   names_none v e p r at named = not_none (get_or (records_in None) p None) r (no_record p)
-      (ap (λ (entry : Option VtocEntry). get_or (records_in entry) p None) (sym h.free)
-      ∙ ap (λ (w : ℕ). record_at (vtoc_in less w) home.entry p) (sym at.0)
-      ∙ ap (λ (k : ℕ). record_at (vtoc_in less v) k p) (sym at.1) ∙ named)
+      (rw (at.0, at.1, h.free) at named)
 
   -- every other names the same
   same_name : (v e p : ℕ) → (v ≡ home.volume → e ≢ home.entry) → record_at (vtoc_in more v) e p
       ≡ record_at (vtoc_in less v) e p
-  same_name v e p other = ap (λ (entry : Option VtocEntry). get_or (records_in entry) p None) (h.entries v e other)
+  same_name v e p other = rw (h.entries v e other)
 
   -- and the home itself, by its file map
   its_name : (v e p r : ℕ) → (v ≡ home.volume) × (e ≡ home.entry) → record_at (vtoc_in more v) e p ≡ Some r
       → get_or (map_at more home) p None ≡ Some r
-  its_name v e p r at named =
-      ap (λ (k : ℕ). record_at (vtoc_in more home.volume) k p) (sym at.1)
-      ∙ ap (λ (w : ℕ). record_at (vtoc_in more w) e p) (sym at.0) ∙ named
+  its_name v e p r at named = rw (at.0, at.1) at named
 
   -- what is in use there, is in use
   still_on : (v r : ℕ) → in_use (flags_in less_records v) r ≡ true → in_use (flags_in more_records v) r ≡ true
   still_on v r on = elim (cases_eq v home.volume) [
-    | inl same ↦ ap (λ (w : ℕ). in_use (flags_in more_records w) r) same
-        ∙ h.adds.still r (ap (λ (w : ℕ). in_use (flags_in less_records w) r) (sym same) ∙ on)
-    | inr other ↦ ap (λ (flags : List Bool). in_use flags r) (h.flags v other) ∙ on
+    | inl same ↦ rw same (h.adds.still r (rw same at on))
+    | inr other ↦ rw (h.flags v other) on
   ]
 
   -- what is in use, is in use there, or the home names it
   was_on : (v r : ℕ) → in_use (flags_in more_records v) r ≡ true → (in_use (flags_in less_records v) r ≡ true)
       ⊎ ((v ≡ home.volume) × ((p : ℕ) × (get_or (map_at more home) p None ≡ Some r)))
   was_on v r on = elim (cases_eq v home.volume) [
-    | inl same ↦ elim (h.adds.others r (ap (λ (w : ℕ). in_use (flags_in more_records w) r) (sym same) ∙ on)) [
-      | inl was ↦ inl (ap (λ (w : ℕ). in_use (flags_in less_records w) r) same ∙ was)
+    | inl same ↦ elim (h.adds.others r (rw same at on)) [
+      | inl was ↦ inl (rw same was)
       | inr named ↦ inr (same, named)
     ]
-    | inr other ↦ inl (ap (λ (flags : List Bool). in_use flags r) (sym (h.flags v other)) ∙ on)
+    | inr other ↦ inl (rw (h.flags v other) at on)
   ]
 
   -- no other entry there names a record that the home names
   apart : AreFiled less_records less → (v e p q r : ℕ) → v ≡ home.volume → record_at (vtoc_in less v) e p ≡ Some r
       → get_or (map_at more home) q None ≡ Some r → ⊥
-  apart filed v e p q r same named its =
-      off_and_on (in_use (flags_in less_records home.volume) r) (h.adds.fresh q r its)
-      (ap (λ (w : ℕ). in_use (flags_in less_records w) r) (sym same) ∙ filed.used v e p r named)
+  apart filed v e p q r same named its = off_and_on (in_use (flags_in less_records home.volume) r)
+      (h.adds.fresh q r its) (rw same at (filed.used v e p r named))
 
   pub filed_more : AreFiled less_records less → AreFiled more_records more
   filed_more filed = record {
     used = λ v e p r named. elim (here_or_not v e home) [
-      | inl at ↦ ap (λ (w : ℕ). in_use (flags_in more_records w) r) at.0
-          ∙ h.adds.kept.used p r (its_name v e p r at named)
+      | inl at ↦ rw at.0 (h.adds.kept.used p r (its_name v e p r at named))
       | inr other ↦ still_on v r (filed.used v e p r (sym (same_name v e p other) ∙ named))
     ];
     once = λ v e p g q r one two. elim (here_or_not v e home) [
       | inl at ↦ elim (here_or_not v g home) [
-        | inl also ↦ (at.1 ∙ sym also.1, h.adds.kept.once p q r (its_name v e p r at one) (its_name v g q r also two))
+        | inl also ↦ (cc, h.adds.kept.once p q r (its_name v e p r at one) (its_name v g q r also two))
         | inr other ↦ absurd (apart filed v g q p r at.0 (sym (same_name v g q other) ∙ two) (its_name v e p r at one))
       ]
       | inr other ↦ elim (here_or_not v g home) [
@@ -91,11 +84,7 @@ module _ {less_records more_records : List (List Bool)} {less more : List (List 
         | inl here ↦ absurd (names_none v at.0 at.1 r here at.2)
         | inr other ↦ (at.0, at.1, same_name v at.0 at.1 other ∙ at.2)
       ])
-      | inr its ↦ (
-        home.entry,
-        its.1.0,
-        ap (λ (w : ℕ). record_at (vtoc_in more w) home.entry its.1.0) its.0 ∙ its.1.1,
-      )
+      | inr its ↦ (home.entry, its.1.0, rw its.0 its.1.1)
     ];
   }
 
@@ -106,7 +95,7 @@ module _ {less_records more_records : List (List Bool)} {less more : List (List 
       | inr other ↦ elim (was_on v r (filed.used v e p r (same_name v e p other ∙ named))) [
         | inl was ↦ was
         | inr its ↦ absurd (other its.0 (filed.once v e p home.entry its.1.0 r (same_name v e p other ∙ named)
-            (ap (λ (w : ℕ). record_at (vtoc_in more w) home.entry its.1.0) its.0 ∙ its.1.1)).0)
+            (rw its.0 its.1.1)).0)
       ]
     ];
     once = λ v e p g q r one two. elim (here_or_not v e home) [
@@ -116,12 +105,10 @@ module _ {less_records more_records : List (List Bool)} {less more : List (List 
         | inr neither ↦ filed.once v e p g q r (same_name v e p other ∙ one) (same_name v g q neither ∙ two)
       ]
     ];
-    named = λ v r on.
-        (let at : IsNamed (vtoc_in more v) r = filed.named v r (still_on v r on) in
+    named = λ v r on. (let at : IsNamed (vtoc_in more v) r = filed.named v r (still_on v r on) in
         elim (here_or_not v at.0 home) [
           | inl here ↦ absurd (off_and_on (in_use (flags_in less_records home.volume) r)
-              (h.adds.fresh at.1 r (its_name v at.0 at.1 r here at.2))
-              (ap (λ (w : ℕ). in_use (flags_in less_records w) r) (sym here.0) ∙ on))
+              (h.adds.fresh at.1 r (its_name v at.0 at.1 r here at.2)) (rw here.0 at on))
           | inr other ↦ (at.0, at.1, sym (same_name v at.0 at.1 other) ∙ at.2)
         ]);
   }
@@ -145,9 +132,11 @@ pub given_here : (all : List (List Bool)) (v : ℕ) (places : List (Option ℕ))
     → get_or (set all v (flags_given (get_or all v []) places)) v [] ≡ flags_given (get_or all v []) places
 given_here all v places = elim (cases_lt v (length all)) [
   | inl lt ↦ get_or-set_same all v (flags_given (get_or all v []) places) [] lt
-  | inr past ↦ ap (λ (those : List (List Bool)). get_or those v []) (set_past all v _ past)
-      ∙ get_or_past all v [] past
-      ∙ sym (ap (λ (flags : List Bool). flags_given flags places) (get_or_past all v [] past) ∙ given_none places)
+  | inr past ↦ rw (
+    set_past all v (flags_given (get_or all v []) places) past,
+    get_or_past all v [] past,
+    given_none places,
+  )
 ]
 
 -- a home that is given up is aside
@@ -166,18 +155,14 @@ home_adds vols home uid is kept =
     }
 
 -- so is the one that a move has taken, at rest
-pub move_adds : {D : Type 0} (vols : Vols D) (m : Mover) → IsMoving vols m
+pub move_adds : {D : Type 0} {vols : Vols D} {m : Mover} → IsMoving vols m
     → AddsHome (undone vols m).records vols.records (undone vols m).vtocs vols.vtocs (home_at m.to)
-move_adds vols m moving = home_adds vols m.to m.uid moving.new_used moving.new_kept
+move_adds {vols} {m} moving = home_adds vols m.to m.uid moving.new_used moving.new_kept
 
-pub move_aside : {D : Type 0} (vols : Vols D) (m : Mover) → IsMoving vols m
+pub move_aside : {D : Type 0} {vols : Vols D} {m : Mover} → IsMoving vols m
     → AreFiled (undone vols m).records (undone vols m).vtocs
     → AreAside (undone vols m).records vols.records (undone vols m).vtocs vols.vtocs (home_at m.to)
-move_aside vols m moving filed = record {
-  adds = move_adds vols m moving;
-  less_filed = filed;
-  more_filed = filed_more (move_adds vols m moving) filed;
-}
+move_aside moving filed = assumption (move_adds moving, filed_more (move_adds moving) filed)
 
 -- ---- page control
 
@@ -192,57 +177,49 @@ pub record IsAside (less more : Plain) (home : Home) : Type 0 where
 entry_apart : (other home : Home) → other ≢ home → other.volume ≡ home.volume → other.entry ≢ home.entry
 entry_apart other home ne volume entry = ne (λ i. record { volume = volume i; entry = entry i })
 
-pub entry_same : {less more : Plain} {home : Home} → IsAside less more home → (other : Home) → other ≢ home
-    → entry_at (vtoc_in more.vtocs other.volume) other.entry ≡ entry_at (vtoc_in less.vtocs other.volume) other.entry
-entry_same {home = home} a other ne = a.tables.adds.entries other.volume other.entry (entry_apart other home ne)
+module _ {less more : Plain} {home : Home} (a : IsAside less more home) where
+  pub entry_same : (other : Home) → other ≢ home
+      → entry_at (vtoc_in more.vtocs other.volume) other.entry ≡ entry_at (vtoc_in less.vtocs other.volume) other.entry
+  entry_same other ne = a.tables.adds.entries other.volume other.entry (entry_apart other home ne)
 
-pub uid_same : {less more : Plain} {home : Home} → IsAside less more home → (other : Home) → other ≢ home
-    → uid_homed more.vtocs other ≡ uid_homed less.vtocs other
-uid_same a other ne = ap uid_of (entry_same a other ne)
+  pub uid_same : (other : Home) → other ≢ home → uid_homed more.vtocs other ≡ uid_homed less.vtocs other
+  uid_same other ne = ap uid_of (entry_same other ne)
 
-pub map_same : {less more : Plain} {home : Home} → IsAside less more home → (other : Home) → other ≢ home
-    → map_at more.vtocs other ≡ map_at less.vtocs other
-map_same a other ne = ap records_in (entry_same a other ne)
+  pub map_same : (other : Home) → other ≢ home → map_at more.vtocs other ≡ map_at less.vtocs other
+  map_same other ne = ap records_in (entry_same other ne)
 
--- the home is free in the one, so that no segment is tied to it there
-pub not_free : {less more : Plain} {home : Home} → IsAside less more home → (other : Home) (uid : ℕ)
-    → uid_homed less.vtocs other ≡ Some uid → other ≢ home
-not_free {less = less} {home = home} a other uid used same =
-    not_none (uid_homed less.vtocs home) uid (ap uid_of a.tables.adds.free)
-    (ap (uid_homed less.vtocs) (sym same) ∙ used)
+  -- the home is free in the one, so that no segment is tied to it there
+  pub not_free : (other : Home) (uid : ℕ) → uid_homed less.vtocs other ≡ Some uid → other ≢ home
+  not_free other uid used same = not_none (uid_homed less.vtocs home) uid (ap uid_of a.tables.adds.free) (cc)
 
-pub keeps_more : {less more : Plain} {home : Home} → IsAside less more home → (other : Home) → other ≢ home
-    → KeepsHome less more other
-keeps_more {less = less} {more = more} a other ne = record {
-  uid = uid_same a other ne;
-  map = map_same a other ne;
-  words = λ p. out_by less more other p a.disks (map_same a other ne);
-  volumes = ap length a.disks;
-  records = a.tables.more_filed;
-}
+  pub keeps_more : (other : Home) → other ≢ home → KeepsHome less more other
+  keeps_more other ne = record {
+    uid = uid_same other ne;
+    map = map_same other ne;
+    words = λ p. out_by less more other p a.disks (map_same other ne);
+    volumes = ap length a.disks;
+    records = a.tables.more_filed;
+  }
 
-pub keeps_less : {less more : Plain} {home : Home} → IsAside less more home → (other : Home) → other ≢ home
-    → KeepsHome more less other
-keeps_less {less = less} {more = more} a other ne = record {
-  uid = sym (uid_same a other ne);
-  map = sym (map_same a other ne);
-  words = λ p. sym (out_by less more other p a.disks (map_same a other ne));
-  volumes = ap length (sym a.disks);
-  records = a.tables.less_filed;
-}
+  pub keeps_less : (other : Home) → other ≢ home → KeepsHome more less other
+  keeps_less other ne = record {
+    uid = sym (uid_same other ne);
+    map = sym (map_same other ne);
+    words = λ p. sym (out_by less more other p a.disks (map_same other ne));
+    volumes = ap length (sym a.disks);
+    records = a.tables.less_filed;
+  }
 
--- a segment is tied to another home in the one as in the other, with the same words
-pub tie_more : {less more : Plain} {home other : Home} {uid : ℕ} {t : List Ptw} → IsAside less more home
-    → IsTied less uid other t → IsTied more uid other t
-tie_more {less = less} {more = more} {other = other} {uid = uid} {t = t} a tie =
-    tie_of_home less more uid other t a.core a.frames (keeps_more a other (not_free a other uid tie.used)) tie
+  -- a segment is tied to another home in the one as in the other, with the same words
+  pub tie_more : {other : Home} {uid : ℕ} {t : List Ptw} → IsTied less uid other t → IsTied more uid other t
+  tie_more {other} {uid} {t} tie =
+      tie_of_home less more uid other t a.core a.frames (keeps_more other (not_free other uid tie.used)) tie
 
-pub tie_less : {less more : Plain} {home other : Home} {uid : ℕ} {t : List Ptw} → IsAside less more home
-    → other ≢ home → IsTied more uid other t → IsTied less uid other t
-tie_less {less = less} {more = more} {other = other} {uid = uid} {t = t} a ne tie =
-    tie_of_home more less uid other t (sym a.core) (sym a.frames) (keeps_less a other ne) tie
+  pub tie_less : {other : Home} {uid : ℕ} {t : List Ptw} → other ≢ home → IsTied more uid other t
+      → IsTied less uid other t
+  tie_less {other} {uid} {t} ne tie =
+      tie_of_home more less uid other t (sym a.core) (sym a.frames) (keeps_less other ne) tie
 
-pub words_same : {less more : Plain} {home : Home} → IsAside less more home → (uid : ℕ) (other : Home) (p : ℕ)
-    → other ≢ home → words_at more uid other p ≡ words_at less uid other p
-words_same {less = less} {more = more} a uid other p ne =
-    words_of_home less more uid other p a.core a.frames (keeps_more a other ne)
+  pub words_same : (uid : ℕ) (other : Home) (p : ℕ)
+      → other ≢ home → words_at more uid other p ≡ words_at less uid other p
+  words_same uid other p ne = words_of_home less more uid other p a.core a.frames (keeps_more other ne)

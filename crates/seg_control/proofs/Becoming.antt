@@ -1,6 +1,10 @@
 -- A segment becomes active, or inactive: what is kept.
-use Rattle.seg_control.proofs.Prelude.{◌≡◌, ◌≢◌, ℕ, suc, zero, ◌<◌, ◌≤◌, List, [], ◌∷◌, ◌++◌, length, Option, None, Some, is_some, All, replicate, count_by, refl, sym, ap, subst, ◌∙◌, arith, set, get_or, inl, inr, cases_eq, cases_lt, get_or-set_same, get_or-set_other, get_or_past, get_or-replicate, length-set, length-append, length-replicate, All-get_or, none-some, same_Some, Ptw, Null, Out, Here, Leaving, ptw_at, trailers_of, leads_to, ActiveSegs, uid_in, entry_at, uid_at, table_at, activated, deactivated, IsAway, IsTree, Home, Plain, bindings, binding_at, IsTableOf, IsMapOf, frame_of, has_record, is_out, map_at, uid_homed, IsTied, Links, leads_at, IsHomeOf, IsInactive, HasTable, IsNotRead, times, IsKept, FitsIn, filed_word, table_for, made_active}
-use Rattle.seg_control.proofs.Paged.{table_same, table_other}
+use Rattle.seg_control.proofs.Prelude.{◌≡◌, ◌≢◌, ℕ, suc, zero, ◌<◌, ◌≤◌, List, [], ◌∷◌, ◌++◌, length, Option, None, Some, is_some, All, replicate, refl, sym, ap, ◌∙◌, arith, set, get_or, inl, inr, cases_eq, cases_lt, get_or-set_same, get_or-set_other, get_or_past, length-set, length-replicate, All-get_or, none-some, same_Some, Entry, Ptw, Null, Out, Here, Leaving, ptw_at, trailers_of, ActiveSegs, uid_in, entry_at, uid_at, table_at, activated, deactivated, IsAway, IsTree, Home, Plain, bindings, binding_at, IsTableOf, IsMapOf, frame_of, has_record, map_at, uid_homed, IsTied, Links, leads_at, IsHomeOf, IsInactive, AreLinked, IsKnownAt, HasTable, IsNotRead, IsKept, FitsIn, filed_word, table_for, made_active, all_same}
+use Rattle.std.proofs.Math.ListN.{get_or-append}
+use Rattle.std.proofs.Math.Seq.{get_or-append_seam}
+use Rattle.std.proofs.Common.{add-one}
+use Rattle.laws.proofs.Lists.{length_push}
+use Rattle.seg_control.proofs.Paged.{each_set}
 use Rattle.seg_control.proofs.Linked.{times_same}
 use Rattle.seg_control.proofs.Calls.{sizes_kept}
 
@@ -17,46 +21,26 @@ table_suc places n = refl
 
 pub table_length : (places : List (Option ℕ)) (n : ℕ) → length (table_for places n) ≡ n
 table_length places zero = ap length (table_zero places)
-table_length places (suc n) =
-    let is = ap length (table_suc places n) in
-    let long = length-append (table_for places n) (filed_word (get_or places n None) ∷ []) in
-    let ih = table_length places n in
-    let one : length (filed_word (get_or places n None) ∷ []) ≡ 1 = refl in
-    omega (arith, is, long, ih, one)
+table_length places (suc n) = rw (table_suc places n, length_push, table_length places n, add-one)
 
 -- word p of it, where the file map names no page past its end
 pub table_word : (places : List (Option ℕ)) (n p : ℕ) → p < n → ptw_at (table_for places n) p
     ≡ filed_word (get_or places p None)
-table_word places zero p lt = absurd (omega (arith, lt))
+table_word places zero p lt = absurd (omega arith)
 table_word places (suc n) p lt = elim (cases_lt p n) [
-  | inl less ↦ ap (λ (t : List Ptw). ptw_at t p) (table_suc places n)
-      ∙ in_front (table_for places n) _ p (let long = table_length places n in omega (arith, long, less))
-      ∙ table_word places n p less
+  | inl less ↦ rw (table_suc places n, get_or-append (table_for places n) _ Null p (rw (table_length places n) less))
+      (table_word places n p less)
   | inr past ↦
-      (let same : p ≡ n = omega (arith, lt, past) in
-      ap (λ (t : List Ptw). ptw_at t p) (table_suc places n)
-      ∙ at_end (table_for places n) _ p (let long = table_length places n in omega (arith, long, same))
-      ∙ ap (λ (k : ℕ). filed_word (get_or places k None)) (sym same))
+      (let same : p ≡ n = omega arith in
+      let seam = get_or-append_seam (table_for places n) (filed_word (get_or places n None)) [] Null in
+      rw (table_suc places n, same) (rw (table_length places n) at seam))
 ]
-  where
-    in_front : (t : List Ptw) (w : Ptw) (p : ℕ) → p < length t → ptw_at (t ++ w ∷ []) p ≡ ptw_at t p
-    in_front [] w p lt = absurd (omega (arith, lt))
-    in_front (x ∷ t) w zero lt = refl
-    in_front (x ∷ t) w (suc p) lt = in_front t w p (omega (arith, lt))
 
-    at_end : (t : List Ptw) (w : Ptw) (p : ℕ) → p ≡ length t → ptw_at (t ++ w ∷ []) p ≡ w
-    at_end [] w zero e = refl
-    at_end [] w (suc p) e = absurd (omega (arith, e))
-    at_end (x ∷ t) w zero e = absurd (omega (arith, e))
-    at_end (x ∷ t) w (suc p) e = at_end t w p (omega (arith, e))
-
-pub filed_everywhere : (places : List (Option ℕ)) (n p : ℕ) → FitsIn places n → ptw_at (table_for places n) p
+pub filed_everywhere : {places : List (Option ℕ)} {n : ℕ} (p : ℕ) → FitsIn places n → ptw_at (table_for places n) p
     ≡ filed_word (get_or places p None)
-filed_everywhere places n p fits = elim (cases_lt p n) [
+filed_everywhere {places} {n} p fits = elim (cases_lt p n) [
   | inl lt ↦ table_word places n p lt
-  | inr past ↦
-      get_or_past (table_for places n) p Null (let long = table_length places n in omega (arith, long, past))
-      ∙ ap filed_word (sym (fits.none p past))
+  | inr past ↦ rw (fits.none p past) (get_or_past (table_for places n) p Null (rw (table_length places n) past))
 ]
 
 filed_is : (place : Option ℕ) → (is_some place ≡ has_record (filed_word place)) × (frame_of (filed_word place) ≡ None)
@@ -65,59 +49,47 @@ filed_is (Some r) = (refl, refl)
 
 filed_out : (place : Option ℕ) (r : ℕ) → filed_word place ≡ Out r → place ≡ Some r
 filed_out None r e = cc
-filed_out (Some q) r e = ap (λ (n : ℕ). Some n) (same_out q r e)
-  where
-    number_of : Ptw → ℕ
-    number_of Null = 0
-    number_of (Out r) = r
-    number_of (Here f) = 0
-    number_of (Leaving f) = 0
+filed_out (Some q) r e = cc
 
-    same_out : (q r : ℕ) → Out q ≡ Out r → q ≡ r
-    same_out q r e = ap number_of e
-
-pub map_filed : (places : List (Option ℕ)) (n : ℕ) → FitsIn places n → IsMapOf places (table_for places n)
-map_filed places n fits = record {
-  stored = λ p. (filed_is (get_or places p None)).0 ∙ ap has_record (sym (filed_everywhere places n p fits));
-  out = λ p r e. filed_out (get_or places p None) r (sym (filed_everywhere places n p fits) ∙ e);
+pub map_filed : {places : List (Option ℕ)} {n : ℕ} → FitsIn places n → IsMapOf places (table_for places n)
+map_filed {places} fits = record {
+  stored = λ p. rw (filed_everywhere p fits) (filed_is (get_or places p None)).0;
+  out = λ p r e. filed_out (get_or places p None) r (rw (filed_everywhere p fits) at e);
 }
 
 -- a table by a file map is that of a segment that no frame has a page of
-pub table_filed : (bound : List (Option (ℕ × ℕ))) (uid n : ℕ) (places : List (Option ℕ)) → FitsIn places n
-    → ((f p : ℕ) → binding_at bound f ≢ Some (uid, p))
-    → IsTableOf bound uid (table_for places n)
-table_filed bound uid n places fits none = record {
+pub table_filed : (bound : List (Option (ℕ × ℕ))) (uid : ℕ) {n : ℕ} {places : List (Option ℕ)} → FitsIn places n
+    → ((f p : ℕ) → binding_at bound f ≢ Some (uid, p)) → IsTableOf bound uid (table_for places n)
+table_filed bound uid {places} fits none = record {
   named = λ f p e. absurd (none f p e);
-  back = λ f p e. absurd (none-some f (sym (ap frame_of (filed_everywhere places n p fits)
-      ∙ (filed_is (get_or places p None)).1) ∙ e));
+  back = λ f p e. absurd (none-some f (sym (filed_is (get_or places p None)).1 ∙ rw (filed_everywhere p fits) at e));
 }
 
 -- another table of the same segment at the same home
-pub retied : (now : Plain) (uid : ℕ) (home : Home) (t u : List Ptw) → IsTied now uid home t → length u ≤ 256
-    → IsTableOf (bindings now.core) uid u
-    → IsMapOf (map_at now.vtocs home) u → IsTied now uid home u
-retied now uid home t u tie few table map = record {
-  volume = tie.volume;
-  used = tie.used;
-  pages = few;
-  table = table;
-  map = map;
-  records = tie.records;
-  clean = tie.clean;
-  zeros = tie.zeros;
+pub retied : {now : Plain} {uid : ℕ} {home : Home} {t u : List Ptw} → IsTied now uid home t → length u ≤ 256
+    → IsTableOf (bindings now.core) uid u → IsMapOf (map_at now.vtocs home) u → IsTied now uid home u
+retied tie few table map = assumption (few, table, map, tie)
+
+-- links stay, where what they lead to is active still
+linked_entries : {was entries : List (Option Entry)} {links : Links} → length entries ≡ length was
+    → ((process number place : ℕ) → leads_at links.descriptors process number ≡ Some place
+    → IsKnownAt entries links.known process number place) → AreLinked was links → AreLinked entries links
+linked_entries long known k = record {
+  exact = k.exact;
+  known = known;
+  each = k.each;
+  lists = assumption (k.lists.places ∙ sym long, k.lists);
 }
 
 -- ---- a segment becomes active
 
 module _ (now : Plain) (ast : ActiveSegs) (links : Links) (place uid n : ℕ) (superior : Option ℕ) (home : Home)
-    (k : IsKept now ast links)
-    (within : place < length ast.entries) (free : entry_at ast.entries place ≡ None)
+    (k : IsKept now ast links) (within : place < length ast.entries) (free : entry_at ast.entries place ≡ None)
     (inactive : IsInactive ast.entries uid)
     (homed : uid_homed now.vtocs home ≡ Some uid) (fits : FitsIn (map_at now.vtocs home) n) (few : n ≤ 256)
-    (long : length (table_at ast.tables place) ≡ n)
-    (tree : IsTree (activated ast place uid superior).entries) where
+    (long : length (table_at ast.tables place) ≡ n) (tree : IsTree (activated ast place uid superior).entries) where
   table_within : place < length ast.tables
-  table_within = (let same = k.places in omega (arith, same, within))
+  table_within = (omega arith)
 
   uid_here : uid_at (activated ast place uid superior).entries place ≡ Some uid
   uid_here = ap uid_in (get_or-set_same ast.entries place (Some (record { uid = uid; superior = superior })) None
@@ -132,7 +104,7 @@ module _ (now : Plain) (ast : ActiveSegs) (links : Links) (place uid n : ℕ) (s
 
   -- what was active was in another place
   elsewhere : (q u : ℕ) → uid_at ast.entries q ≡ Some u → q ≢ place
-  elsewhere q u e same = none-some u (sym (ap uid_in free) ∙ ap (uid_at ast.entries) (sym same) ∙ e)
+  elsewhere q u e same = none-some u (cc)
 
   still : (q u : ℕ) → uid_at ast.entries q ≡ Some u → uid_at (activated ast place uid superior).entries q ≡ Some u
   still q u e = uid_there q (elsewhere q u e) ∙ e
@@ -140,78 +112,46 @@ module _ (now : Plain) (ast : ActiveSegs) (links : Links) (place uid n : ℕ) (s
   no_frame : (f p : ℕ) → binding_at (bindings now.core) f ≢ Some (uid, p)
   no_frame f p e = (let active = k.paged.bound f uid p e in inactive.nowhere active.0 active.1)
 
-  its : (q u : ℕ) → uid_at (activated ast place uid superior).entries q ≡ Some u → q ≡ place → uid ≡ u
-  its q u e same = same_Some _ _ (sym uid_here ∙ ap (uid_at (activated ast place uid superior).entries) (sym same) ∙ e)
-
   pub kept_activated : IsKept now (made_active ast place uid superior (table_for (map_at now.vtocs home) n)) links
   kept_activated =
       let t : List Ptw = table_for (map_at now.vtocs home) n in
-      let its_table : IsTableOf (bindings now.core) uid (table_for (map_at now.vtocs home) n) =
-      table_filed (bindings now.core) uid n (map_at now.vtocs home) fits no_frame in
-      let here : (q : ℕ) → q ≡ place → t ≡ table_at (set ast.tables place t) q =
-      λ q same. sym (ap (table_at (set ast.tables place t)) same ∙ table_same ast.tables place t table_within) in
-      let there : (q : ℕ) → q ≢ place → table_at ast.tables q ≡ table_at (set ast.tables place t) q =
-      λ q ne. sym (table_other ast.tables place q t ne) in
+      let entries : List (Option Entry) = (activated ast place uid superior).entries in
+      let its_table : IsTableOf (bindings now.core) uid t = table_filed (bindings now.core) uid fits no_frame in
+      let its : (u : ℕ) → uid_at entries place ≡ Some u → u ≡ uid = λ u e. same_Some _ _ (sym e ∙ uid_here) in
       let size = table_length (map_at now.vtocs home) n in
       record {
         paged = record {
-          tables = λ q u e. elim (cases_eq q place) [
-            | inl same ↦ subst (IsTableOf (bindings now.core) u) (here q same)
-                (subst (λ (v : ℕ). IsTableOf (bindings now.core) v t) (its q u e same) its_table)
-            | inr ne ↦ subst (IsTableOf (bindings now.core) u) (there q ne)
-                (k.paged.tables q u (sym (uid_there q ne) ∙ e))
-          ];
-          ties = λ q u h e is. elim (cases_eq q place) [
-            | inl same ↦
-                (let same_uid : uid ≡ u = its q u e same in
-                let is' : IsHomeOf now.vtocs uid h = subst (λ (v : ℕ). IsHomeOf now.vtocs v h) (sym same_uid) is in
-                let same_home : home ≡ h = is'.only home homed in
-                let was : HasTable now uid h = k.paged.rest uid h inactive is' in
-                let map : IsMapOf (map_at now.vtocs h) t =
-                subst (λ (x : Home). IsMapOf (map_at now.vtocs x) t) same_home
-                (map_filed (map_at now.vtocs home) n fits) in
-                let tie : IsTied now uid h t = retied now uid h was.table t was.tie (omega (arith, size, few))
-                its_table map in
-                subst (IsTied now u h) (here q same) (subst (λ (v : ℕ). IsTied now v h t) same_uid tie))
-            | inr ne ↦ subst (IsTied now u h) (there q ne) (k.paged.ties q u h (sym (uid_there q ne) ∙ e) is)
-          ];
+          tables = λ q u e. each_set ast.tables t [] (λ m those. uid_at entries m ≡ Some u
+              → IsTableOf (bindings now.core) u those) table_within (λ at. rw (its u at) its_table)
+              (λ m ne at. k.paged.tables m u (rw (uid_there m ne) at at)) q e;
+          ties = λ q u h e is. each_set ast.tables t [] (λ m those. uid_at entries m ≡ Some u → IsTied now u h those)
+              table_within (λ at. (let is' : IsHomeOf now.vtocs uid h = rw (← its u at) is in
+              let same : home ≡ h = is'.only home homed in
+              rw (its u at) (retied (k.paged.rest uid h inactive is').tie (omega (arith, size, few)) its_table
+              (rw (← same) (map_filed fits))))) (λ m ne at. k.paged.ties m u h (rw (uid_there m ne) at at) is) q e;
           rest = λ u h off is. k.paged.rest u h (record { nowhere = λ q e. off.nowhere q (still q u e) }) is;
-          blank = λ q p e.
-              (let ne : q ≢ place = λ same. none-some uid
-              (sym (ap uid_in e) ∙ ap (uid_at (activated ast place uid superior).entries) same ∙ uid_here) in
-              ap (λ (those : List Ptw). ptw_at those p) (sym (there q ne))
-              ∙ k.paged.blank q p (sym (entry_there q ne) ∙ e));
+          blank = λ q p e. each_set ast.tables t [] (λ m those. entry_at entries m ≡ None → ptw_at those p ≡ Null)
+              table_within (λ none. absurd (none-some uid (sym (ap uid_in none) ∙ uid_here)))
+              (λ m ne none. k.paged.blank m p (rw (entry_there m ne) at none)) q e;
           bound = λ f u p e. (let active = k.paged.bound f u p e in (active.0, still active.0 u active.1));
-          started = λ f u p e.
-              (let was = k.paged.started f u p e in
+          started = λ f u p e. (let was = k.paged.started f u p e in
               record {
                 place = was.place;
                 active = still was.place u was.active;
-                out = ap (λ (those : List Ptw). is_out (ptw_at those p))
-                    (sym (there was.place (elsewhere was.place u was.active))) ∙ was.out;
+                out = rw (get_or-set_other ast.tables place was.place t [] (elsewhere was.place u was.active)) was.out;
               });
           once = k.paged.once;
           filed = k.paged.filed;
         };
         tree = tree;
-        places = length-set ast.tables place t ∙ k.places
-            ∙ sym (length-set ast.entries place (Some (record { uid = uid; superior = superior })));
+        places = cc (
+          length-set ast.tables place t,
+          length-set ast.entries place (Some (record { uid = uid; superior = superior })),
+        );
         sized = sizes_kept ast.sizes ast.tables place t table_within (size ∙ sym long) k.sized;
-        linked = record {
-          exact = k.linked.exact;
-          known = λ q m pl e.
-              (let was = k.linked.known q m pl e in record
-              { uid = was.uid; active = still pl was.uid was.active; known_as = was.known_as });
-          each = k.linked.each;
-          lists = record {
-            places = k.linked.lists.places ∙ sym (length-set ast.entries place
-                (Some (record { uid = uid; superior = superior })));
-            processes = k.linked.lists.processes;
-            few = k.linked.lists.few;
-            numbers = k.linked.lists.numbers;
-            words = k.linked.lists.words;
-          };
-        };
+        linked = linked_entries (length-set ast.entries place (Some (record { uid = uid; superior = superior })))
+            (λ q m pl e. (let was = k.linked.known q m pl e in
+            record { uid = was.uid; active = still pl was.uid was.active; known_as = was.known_as })) k.linked;
       }
 
 -- ---- a segment becomes inactive
@@ -223,19 +163,14 @@ away_frame (Here f) away = absurd away
 away_frame (Leaving f) away = absurd away
 
 null_word : (n p : ℕ) → ptw_at (replicate n Null) p ≡ Null
-null_word n p = elim (cases_lt p n) [
-  | inl lt ↦ get_or-replicate n p Null Null lt
-  | inr past ↦ get_or_past (replicate n Null) p Null (let long : length (replicate n Null) ≡ n =
-      length-replicate n Null in omega (arith, long, past))
-]
+null_word n p = all_same n p Null
 
 module _ (now : Plain) (ast : ActiveSegs) (links : Links) (place : ℕ) (k : IsKept now ast links)
     (within : place < length ast.entries)
     (away : All IsAway (table_at ast.tables place)) (idle : IsNotRead now.core ast.entries place)
-    (cut : trailers_of links.trailers place ≡ [])
-    (tree : IsTree (deactivated ast place).entries) where
+    (cut : trailers_of links.trailers place ≡ []) (tree : IsTree (deactivated ast place).entries) where
   gone_within : place < length ast.tables
-  gone_within = (let same = k.places in omega (arith, same, within))
+  gone_within = (omega arith)
 
   gone_here : uid_at (deactivated ast place).entries place ≡ None
   gone_here = ap uid_in (get_or-set_same ast.entries place None None within)
@@ -245,7 +180,7 @@ module _ (now : Plain) (ast : ActiveSegs) (links : Links) (place : ℕ) (k : IsK
 
   -- what is active was, in another place
   left : (q u : ℕ) → uid_at (deactivated ast place).entries q ≡ Some u → q ≢ place
-  left q u e same = none-some u (sym gone_here ∙ ap (uid_at (deactivated ast place).entries) (sym same) ∙ e)
+  left q u e same = none-some u (cc (gone_here, same, e))
 
   -- no frame has a page of it
   off_frames : (f u p : ℕ) → uid_at ast.entries place ≡ Some u → binding_at (bindings now.core) f ≢ Some (u, p)
@@ -256,7 +191,7 @@ module _ (now : Plain) (ast : ActiveSegs) (links : Links) (place : ℕ) (k : IsK
       away_at : IsAway (ptw_at (table_at ast.tables place) p)
       away_at = elim (cases_lt p (length (table_at ast.tables place))) [
         | inl lt ↦ All-get_or IsAway (table_at ast.tables place) p Null lt away
-        | inr past ↦ subst IsAway (sym (get_or_past (table_at ast.tables place) p Null past)) (tt {0})
+        | inr past ↦ rw (get_or_past (table_at ast.tables place) p Null past) (tt {0})
       ]
 
   -- a segment that is not active now: it was not, or it is the one that became inactive
@@ -265,90 +200,58 @@ module _ (now : Plain) (ast : ActiveSegs) (links : Links) (place : ℕ) (k : IsK
   rest_after u h off is = by_entry (uid_at ast.entries place) refl
     where
       was_off : uid_at ast.entries place ≢ Some u → HasTable now u h
-      was_off ne =
-          k.paged.rest u h
-          (record {
-            nowhere = λ q e. elim (cases_eq q place) [
-              | inl same ↦ ne (ap (uid_at ast.entries) (sym same) ∙ e)
-              | inr other ↦ off.nowhere q (gone_there q other ∙ e)
-            ];
-          }) is
+      was_off ne = k.paged.rest u h (record {
+        nowhere = λ q e. elim (cases_eq q place) [
+          | inl same ↦ ne (rw same at e)
+          | inr other ↦ off.nowhere q (gone_there q other ∙ e)
+        ];
+      }) is
 
       by_entry : (o : Option ℕ) → uid_at ast.entries place ≡ o → HasTable now u h
       by_entry None e = was_off (λ at. none-some u (sym e ∙ at))
       by_entry (Some v) e = elim (cases_eq v u) [
-        | inl same ↦
-            record {
-              table = table_at ast.tables place;
-              tie =
-                  k.paged.ties place u h (e ∙ ap (λ (n : ℕ). Some n) same) is;
-            }
+        | inl same ↦ record { table = table_at ast.tables place; tie = k.paged.ties place u h (rw same at e) is }
         | inr ne ↦ was_off (λ at. ne (same_Some _ _ (sym e ∙ at)))
       ]
 
   pub kept_deactivated : IsKept now (deactivated ast place) links
   kept_deactivated =
       let t : List Ptw = replicate (length (table_at ast.tables place)) Null in
-      let here : (q : ℕ) → q ≡ place → t ≡ table_at (set ast.tables place t) q =
-      λ q same. sym (ap (table_at (set ast.tables place t)) same ∙ table_same ast.tables place t gone_within) in
-      let there : (q : ℕ) → q ≢ place → table_at ast.tables q ≡ table_at (set ast.tables place t) q =
-      λ q ne. sym (table_other ast.tables place q t ne) in
+      let there : (q : ℕ) → q ≢ place → table_at (set ast.tables place t) q ≡ table_at ast.tables q =
+      λ q ne. get_or-set_other ast.tables place q t [] ne in
       record {
         paged = record {
           tables = λ q u e. (let ne = left q u e in
-              subst (IsTableOf (bindings now.core) u) (there q ne) (k.paged.tables q u (sym (gone_there q ne) ∙ e)));
-          ties = λ q u h e is. (let ne = left q u e in subst (IsTied now u h) (there q ne)
-              (k.paged.ties q u h (sym (gone_there q ne) ∙ e) is));
+              rw (there q ne) (k.paged.tables q u (sym (gone_there q ne) ∙ e)));
+          ties = λ q u h e is. (let ne = left q u e in
+              rw (there q ne) (k.paged.ties q u h (sym (gone_there q ne) ∙ e) is));
           rest = rest_after;
-          blank = λ q p e. elim (cases_eq q place) [
-            | inl same ↦ ap (λ (those : List Ptw). ptw_at those p) (sym (here q same))
-                ∙ null_word (length (table_at ast.tables place)) p
-            | inr ne ↦ ap (λ (those : List Ptw). ptw_at those p) (sym (there q ne))
-                ∙ k.paged.blank q p (sym (get_or-set_other ast.entries place q None None ne) ∙ e)
-          ];
-          bound = λ f u p e.
-              (let active = k.paged.bound f u p e in
-              let ne : active.0 ≢ place = λ same. off_frames f u p (ap (uid_at ast.entries) (sym same) ∙ active.1) e in
-              (active.0, gone_there active.0 ne ∙ active.1));
-          started = λ f u p e.
-              (let was = k.paged.started f u p e in
-              let ne : was.place ≢ place = λ same. idle.none f u p (ap (uid_at ast.entries) (sym same) ∙ was.active) e
-              in
+          blank = λ q p e. each_set ast.tables t [] (λ m those. entry_at (deactivated ast place).entries m ≡ None
+              → ptw_at those p ≡ Null) gone_within (λ none. null_word (length (table_at ast.tables place)) p)
+              (λ m ne none. k.paged.blank m p (rw (get_or-set_other ast.entries place m None None ne) at none)) q e;
+          bound = λ f u p e. (let active = k.paged.bound f u p e in
+              (active.0, gone_there active.0 (λ same. off_frames f u p (rw same at active.1) e) ∙ active.1));
+          started = λ f u p e. (let was = k.paged.started f u p e in
+              let ne : was.place ≢ place = λ same. idle.none f u p (rw same at was.active) e in
               record {
                 place = was.place;
                 active = gone_there was.place ne ∙ was.active;
-                out = ap (λ (those : List Ptw). is_out (ptw_at those p)) (sym (there was.place ne)) ∙ was.out;
+                out = rw (there was.place ne) was.out;
               });
           once = k.paged.once;
           filed = k.paged.filed;
         };
         tree = tree;
-        places = length-set ast.tables place t ∙ k.places ∙ sym (length-set ast.entries place None);
+        places = cc (length-set ast.tables place t, length-set ast.entries place None);
         sized = sizes_kept ast.sizes ast.tables place t gone_within
             (length-replicate (length (table_at ast.tables place)) Null) k.sized;
-        linked = record {
-          exact = k.linked.exact;
-          known = λ q m pl e.
-              (let was = k.linked.known q m pl e in
-              let ne : pl ≢ place = λ same. not_led q m pl e same in
-              record { uid = was.uid; active = gone_there pl ne ∙ was.active; known_as = was.known_as });
-          each = k.linked.each;
-          lists = record {
-            places = k.linked.lists.places ∙ sym (length-set ast.entries place None);
-            processes = k.linked.lists.processes;
-            few = k.linked.lists.few;
-            numbers = k.linked.lists.numbers;
-            words = k.linked.lists.words;
-          };
-        };
+        linked = linked_entries (length-set ast.entries place None) (λ q m pl e. (let was = k.linked.known q m pl e in
+            record {
+              uid = was.uid;
+              active = gone_there pl (not_led q m pl e) ∙ was.active;
+              known_as = was.known_as;
+            })) k.linked;
       }
     where
       not_led : (q m pl : ℕ) → leads_at links.descriptors q m ≡ Some pl → pl ≡ place → ⊥
-      not_led q m pl e same =
-          let count = k.linked.exact pl q m in
-          let one : times (leads_at links.descriptors q m) pl ≡ 1 = ap (λ (at : Option ℕ). times at pl) e
-          ∙ times_same pl in
-          let none : count_by (leads_to q m) (trailers_of links.trailers pl) ≡ 0 =
-          ap (λ (n : ℕ). count_by (leads_to q m) (trailers_of links.trailers n)) same
-          ∙ ap (count_by (leads_to q m)) cut in
-          absurd (omega (arith, count, one, none))
+      not_led q m pl e same = (let count = rw (e, times_same pl, same, cut) at (k.linked.exact pl q m) in omega arith)

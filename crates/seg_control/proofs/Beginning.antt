@@ -1,5 +1,5 @@
 -- A segment begins to move.
-use Rattle.seg_control.proofs.Prelude.{◌≡◌, ℕ, arith, List, Some, sym, ap, subst, Core, Vols, KeepsTables, records_at, ActiveSegs, IsActive, Paging, plain, with_volumes, AreFiled, Mover, CanBegin, IsMoving, begun, mover_for, undone, AreKept, Links, IsHomeOf, IsKept, IsKeptAtRest, IsOnItsWay, IsUnread, at_rest, home_at, volumes_of}
+use Rattle.seg_control.proofs.Prelude.{◌≡◌, ℕ, arith, List, Some, sym, ap, subst, Vols, KeepsTables, records_at, ActiveSegs, IsActive, Paging, plain, with_volumes, AreFiled, Mover, CanBegin, IsMoving, begun, mover_for, undone, AreKept, Links, IsHomeOf, IsKept, IsKeptAtRest, IsOnItsWay, IsUnread, at_rest, home_at}
 use Rattle.seg_mover.specs.Homes.{map_at}
 use Rattle.seg_control.proofs.Under.{can_plain, moving_plain}
 
@@ -31,11 +31,7 @@ module _ {D : Type 0} {pages : D → List (List ℕ)} {old now : Paging D} {ast 
   rest_is = λ i. record {
     core = ap (λ (s : Paging D). s.core) b.effect i;
     frames = ap (λ (s : Paging D). s.frames) b.effect i;
-    volumes = record {
-      drives = ap (λ (s : Paging D). s.volumes.drives) b.effect i;
-      records = b.back.records i;
-      vtocs = b.back.vtocs i;
-    };
+    volumes = assumption (ap (λ (s : Paging D). s.volumes.drives) b.effect i, b.back.records i, b.back.vtocs i);
   }
 
   -- for the mover as it begins
@@ -44,17 +40,16 @@ module _ {D : Type 0} {pages : D → List (List ℕ)} {old now : Paging D} {ast 
   way_begun moving = record {
     active = b.active;
     home = b.home;
-    can = can_plain pages old uid from to b.can;
-    begun = ap (λ (s : Paging D). volumes_of (plain pages s)) b.effect;
-    moving = moving_plain pages now (mover_for old.volumes uid from to) moving;
-    unread = subst (λ (core : Core). IsUnread core uid) (sym (ap (λ (s : Paging D). s.core) b.effect)) b.unread;
-    copied = record { words = λ p r lt out. absurd (omega (arith, lt)) };
+    can = can_plain pages old b.can;
+    begun = rw b.effect;
+    moving = moving_plain pages now moving;
+    unread = rw b.effect b.unread;
+    copied = record { words = λ p r lt out. absurd (omega arith) };
   }
 
   pub kept_begun : IsKeptAtRest pages now ast links (Some m)
   kept_begun = record {
     kept = subst (λ (s : Paging D). IsKept (plain pages s) ast links) (sym rest_is) b.kept;
     way = subst (λ (s : Paging D). IsOnItsWay (plain pages s) (plain pages now) ast m) (sym rest_is)
-        (subst (λ (x : Mover). IsOnItsWay (plain pages old) (plain pages now) ast x) (sym b.mover)
-        (way_begun (subst (λ (x : Mover). IsMoving now.volumes x) b.mover b.moving)));
+        (rw b.mover (way_begun (rw b.mover at b.moving)));
   }

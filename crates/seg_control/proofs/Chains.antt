@@ -1,52 +1,46 @@
 -- A chain of superiors, and its first segment that is not active.
-use Rattle.seg_control.proofs.Prelude.{◌≡◌, ℕ, suc, zero, ◌<◌, ◌≤◌, ◌+◌, true, List, [], ◌∷◌, ◌++◌, length, Option, None, Some, is_some, IfNone, Contains, refl, sym, ap, subst, ◌∙◌, arith, set, get_or, inl, inr, take, ◌↔◌, take-suc-set, cases_eq, cases_lt, length-map, same_Some, Ptw, VtocEntry, Entry, ActiveSegs, uid_at, IsActive, IsFull, IsVictim, HasItsSuperiors, Link, uids_of, no_link, link_at, superior_of, words_in, filed_word, table_for, IsFirstInactive, AreActive, MayActivate, IsStuck, IsGoing}
+use Rattle.seg_control.proofs.Prelude.{◌≡◌, ℕ, suc, zero, ◌<◌, ◌≤◌, ◌+◌, true, List, length, Option, None, Some, is_some, IfNone, Contains, refl, sym, ◌∙◌, arith, set, get_or, inl, inr, take, ◌↔◌, take-suc-set, cases_eq, length-map, same_Some, Ptw, VtocEntry, Entry, ActiveSegs, uid_at, IsActive, IsFull, IsVictim, HasItsSuperiors, Link, uids_of, no_link, link_at, superior_of, words_in, filed_word, table_for, IsFirstInactive, AreActive, MayActivate, IsStuck, IsGoing}
 use Rattle.std.proofs.lemmas.List.{get_or-map}
+use Rattle.std.proofs.Common.{add-one}
 use Rattle.seg_control.proofs.Becoming.{table_suc}
 
 -- ---- superiors
 
-pub superior_active : (entries : List (Option Entry)) (chain : List Link) (i superior : ℕ)
-    → IsFirstInactive entries chain i → superior_of chain i ≡ Some superior
-    → IsActive entries superior
-superior_active entries chain zero superior first e = cc
-superior_active entries chain (suc i) superior first e =
+pub superior_active : {entries : List (Option Entry)} {chain : List Link} {i : ℕ} (superior : ℕ)
+    → IsFirstInactive entries chain i → superior_of chain i ≡ Some superior → IsActive entries superior
+superior_active {i = zero} superior first e = cc
+superior_active {entries} {chain} {i = suc i} superior first e =
     let active : IsActive entries (link_at chain i).uid = first.before i (omega arith) in
-    (active.0, active.1 ∙ e)
+    (active.0, cc)
 
 uid_of_link : (chain : List Link) (i d : ℕ) → i < length chain → get_or (uids_of chain) i d ≡ (link_at chain i).uid
 uid_of_link chain i d lt = get_or-map (λ (link : Link). link.uid) chain i no_link d lt
 
-pub its_superiors : (ast : ActiveSegs) (vtocs : List (List (Option VtocEntry))) (volumes : ℕ) (chain : List Link)
-    → MayActivate ast vtocs volumes chain
-    → HasItsSuperiors ast.entries (uids_of chain)
-its_superiors ast vtocs volumes chain may place uid superior at there above =
-    let long : length (uids_of chain) ≡ length chain = length-map chain (λ (link : Link). link.uid) in
-    let i : ℕ = there.0 in
-    let lt : i < length (uids_of chain) = there.1 in
-    let within : i < length chain = omega (arith, lt, long) in
-    let link : (link_at chain i).uid ≡ uid = sym (uid_of_link chain i uid within) ∙ there.2 in
-    let is : superior_of chain i ≡ Some superior = sym
-    (may.superiors i place within (at ∙ ap (λ (n : ℕ). Some n) (sym link))) ∙ above in
-    before i superior within is
+pub its_superiors : {ast : ActiveSegs} {vtocs : List (List (Option VtocEntry))} {volumes : ℕ} {chain : List Link}
+    → MayActivate ast vtocs volumes chain → HasItsSuperiors ast.entries (uids_of chain)
+its_superiors {chain} may place uid superior holds there above =
+    let within : there.0 < length chain = rw (length-map chain (λ (link : Link). link.uid)) at there.1 in
+    let link = uid_of_link chain there.0 uid within in
+    before there.0 superior within (sym (may.superiors there.0 place within (rw (← link, there.2) holds)) ∙ above)
   where
     before : (i superior : ℕ) → i < length chain → superior_of chain i ≡ Some superior
         → Contains (uids_of chain) superior
     before zero superior lt e = cc
-    before (suc i) superior lt e =
-        let long : length (uids_of chain) ≡ length chain = length-map chain (λ (link : Link). link.uid) in
-        (i, omega (arith, lt, long), uid_of_link chain i superior (omega (arith, lt)) ∙ same_Some _ _ e)
+    before (suc i) superior lt e = (
+      i,
+      rw (length-map chain (λ (link : Link). link.uid)) (omega arith),
+      uid_of_link chain i superior (omega arith) ∙ same_Some _ _ e,
+    )
 
 -- and so the superiors that are given for it
 pub given_superiors : (ast : ActiveSegs) (vtocs : List (List (Option VtocEntry))) (volumes : ℕ) (chain : List Link)
     (uids : List ℕ) → uids ≡ uids_of chain → MayActivate ast vtocs volumes chain → HasItsSuperiors ast.entries uids
-given_superiors ast vtocs volumes chain uids is may =
-    subst (HasItsSuperiors ast.entries) (sym is) (its_superiors ast vtocs volumes chain may)
+given_superiors ast vtocs volumes chain uids is may = rw is (its_superiors may)
 
 -- ---- the first that is not active
 
 pub active_from : (r : Option ℕ) (entries : List (Option Entry)) (uid : ℕ)
-    → ((place : ℕ) → (r ≡ Some place) ↔ (uid_at entries place ≡ Some uid))
-    → is_some r ≡ true → IsActive entries uid
+    → ((place : ℕ) → (r ≡ Some place) ↔ (uid_at entries place ≡ Some uid)) → is_some r ≡ true → IsActive entries uid
 active_from None entries uid h e = cc
 active_from (Some place) entries uid h e = (place, (h place).0 refl)
 
@@ -54,36 +48,27 @@ pub one_more : (entries : List (Option Entry)) (chain : List Link) (i : ℕ)
     → ((j : ℕ) → j < i → IsActive entries (link_at chain j).uid)
     → IsActive entries (link_at chain i).uid → (j : ℕ) → j < i + 1 → IsActive entries (link_at chain j).uid
 one_more entries chain i before active j lt = elim (cases_eq j i) [
-  | inl same ↦ (active.0, active.1 ∙ ap (λ (k : ℕ). Some (link_at chain k).uid) (sym same))
-  | inr ne ↦ before j (omega (arith, lt, ne))
+  | inl same ↦ rw same active
+  | inr ne ↦ before j (omega arith)
 ]
 
-pub not_stuck_active : (ast : ActiveSegs) (chain : List Link) → AreActive ast.entries chain → (i : ℕ)
+pub not_stuck_active : {ast : ActiveSegs} {chain : List Link} → AreActive ast.entries chain → {i : ℕ}
     → IsStuck ast chain i → ⊥
-not_stuck_active ast chain all i stuck =
+not_stuck_active {ast} {chain} all {i} stuck =
     let active : IsActive ast.entries (link_at chain i).uid = all.each i stuck.first.within in
     stuck.first.inactive.nowhere active.0 active.1
 
-first_before : (entries : List (Option Entry)) (chain : List Link) (i j : ℕ) → IsFirstInactive entries chain i
+first_before : {entries : List (Option Entry)} {chain : List Link} {i j : ℕ} → IsFirstInactive entries chain i
     → IsFirstInactive entries chain j → i < j → ⊥
-first_before entries chain i j one two lt = (let active = two.before i lt in one.inactive.nowhere active.0 active.1)
+first_before {i} one two lt = (let active = two.before i lt in one.inactive.nowhere active.0 active.1)
 
-pub first_once : (entries : List (Option Entry)) (chain : List Link) (i j : ℕ) → IsFirstInactive entries chain i
+pub first_once : {entries : List (Option Entry)} {chain : List Link} {i j : ℕ} → IsFirstInactive entries chain i
     → IsFirstInactive entries chain j → i ≡ j
-first_once entries chain i j one two = elim (cases_eq i j) [
-  | inl same ↦ same
-  | inr ne ↦ elim (cases_lt i j) [
-    | inl lt ↦ absurd (first_before entries chain i j one two lt)
-    | inr past ↦ absurd (first_before entries chain j i two one (omega (arith, past, ne)))
-  ]
-]
+first_once one two = omega (arith, first_before one two, first_before two one)
 
-pub not_stuck_free : (ast : ActiveSegs) (chain : List Link) (i j : ℕ) → IsFirstInactive ast.entries chain j
-    → (IsFull ast (link_at chain j).pool → ⊥) → IsStuck ast chain i
-    → ⊥
-not_stuck_free ast chain i j first room stuck =
-    room (subst (λ (k : ℕ). IsFull ast (link_at chain k).pool) (first_once ast.entries chain i j stuck.first first)
-    stuck.full)
+pub not_stuck_free : {ast : ActiveSegs} {chain : List Link} {i j : ℕ} → IsFirstInactive ast.entries chain j
+    → (IsFull ast (link_at chain j).pool → ⊥) → IsStuck ast chain i → ⊥
+not_stuck_free first room stuck = room (rw (first_once stuck.first first) at stuck.full)
 
 pub if_none : {X : Type 0} (o : Option ℕ) → X → IfNone o X
 if_none None x = x
@@ -96,32 +81,24 @@ words_few zero lt = omega arith
 words_few (suc zero) lt = omega arith
 words_few (suc (suc zero)) lt = omega arith
 words_few (suc (suc (suc zero))) lt = omega arith
-words_few (suc (suc (suc (suc pool)))) lt = absurd (omega (arith, lt))
+words_few (suc (suc (suc (suc pool)))) lt = absurd (omega arith)
 
 pub load_step : (places : List (Option ℕ)) (table : List Ptw) (p : ℕ) (w : Ptw) → p < length table → take p table
     ≡ table_for places p
     → w ≡ filed_word (get_or places p None) → take (p + 1) (set table p w) ≡ table_for places (p + 1)
-load_step places table p w lt filled is =
-    let e : p + 1 ≡ suc p = omega arith in
-    subst (λ (n : ℕ). take n (set table p w) ≡ table_for places n) (sym e)
-    (take-suc-set table p w lt ∙ ap (λ (t : List Ptw). t ++ w ∷ []) filled
-    ∙ ap (λ (x : Ptw). table_for places p ++ x ∷ []) is ∙ sym (table_suc places p))
+load_step places table p w lt filled is = rw (add-one, take-suc-set table p w lt, filled, is, table_suc places p)
 
 -- ---- the victim
 
-pub going_free : {X : Type 0} (ast : ActiveSegs) (chain : List Link) (place j : ℕ)
-    → IsFirstInactive ast.entries chain j → (IsFull ast (link_at chain j).pool → ⊥)
-    → IsGoing ast chain place → X
-going_free ast chain place j first room going = absurd (not_stuck_free ast chain going.link j first room going.stuck)
+pub going_free : {X : Type 0} {ast : ActiveSegs} {chain : List Link} {place j : ℕ} → IsFirstInactive ast.entries chain j
+    → (IsFull ast (link_at chain j).pool → ⊥) → IsGoing ast chain place → X
+going_free first room going = absurd (not_stuck_free first room going.stuck)
 
-pub going_whole : {X : Type 0} (ast : ActiveSegs) (chain : List Link) (place : ℕ) → AreActive ast.entries chain
+pub going_whole : {X : Type 0} {ast : ActiveSegs} {chain : List Link} {place : ℕ} → AreActive ast.entries chain
     → IsGoing ast chain place → X
-going_whole ast chain place all going = absurd (not_stuck_active ast chain all going.link going.stuck)
+going_whole all going = absurd (not_stuck_active all going.stuck)
 
-pub going_is : (ast : ActiveSegs) (chain : List Link) (place victim j : ℕ) → IsFirstInactive ast.entries chain j
-    → ((q : ℕ) → IsVictim ast (link_at chain j).pool (uids_of chain) q → q ≡ victim) → IsGoing ast chain place → place
-    ≡ victim
-going_is ast chain place victim j first only going =
-    only place
-    (subst (λ (k : ℕ). IsVictim ast (link_at chain k).pool (uids_of chain) place)
-    (first_once ast.entries chain going.link j going.stuck.first first) going.victim)
+pub going_is : {ast : ActiveSegs} {chain : List Link} {place : ℕ} (victim : ℕ) {j : ℕ}
+    → IsFirstInactive ast.entries chain j → ((q : ℕ) → IsVictim ast (link_at chain j).pool (uids_of chain) q
+    → q ≡ victim) → IsGoing ast chain place → place ≡ victim
+going_is {place} victim first only going = only place (rw (first_once going.stuck.first first) at going.victim)

@@ -1,5 +1,5 @@
 -- The page of a segment that moves that is copied next.
-use Rattle.seg_control.proofs.Prelude.{◌≡◌, ℕ, zero, suc, ◌+◌, ◌<◌, ◌≤◌, Bool, true, false, ◌&&◌, not, cond, List, length, Option, Some, replicate, refl, sym, ap, ◌∙◌, arith, get_or, set, inl, inr, cases_eq, cases_lt, get_or-set_same, get_or-set_other, get_or-replicate, get_or_past, length-replicate, length-set, Ptw, Null, Out, Here, Leaving, ptw_at, IsMapOf, has_record, is_out, first_to_copy, is_to_copy, first_out, is_framed}
+use Rattle.seg_control.proofs.Prelude.{◌≡◌, ℕ, zero, suc, ◌+◌, ◌<◌, ◌≤◌, Bool, true, false, ◌&&◌, not, List, length, Option, replicate, refl, sym, ap, ◌∙◌, arith, get_or, set, inl, inr, cases_eq, cases_lt, get_or-set_same, get_or-set_other, get_or_past, length-replicate, length-set, Ptw, Null, Out, ptw_at, IsMapOf, has_record, is_out, first_to_copy, is_to_copy, first_out, is_framed, all_same}
 
 -- ---- the pages in frames
 
@@ -12,33 +12,26 @@ pub record IsFramedTo (t : List Ptw) (framed : List Bool) (n : ℕ) : Type 0 whe
 pub framed_start : (t : List Ptw) → IsFramedTo t (replicate 256 false) 0
 framed_start t = record {
   size = length-replicate 256 false;
-  done = λ p lt. absurd (omega (arith, lt));
-  left = λ p le. elim (cases_lt p 256) [
-    | inl lt ↦ get_or-replicate 256 p false false lt
-    | inr past ↦ get_or_past (replicate 256 false) p false
-        (let long : length (replicate 256 false) ≡ 256 = length-replicate 256 false in omega (arith, long, past))
-  ];
+  done = λ p lt. absurd (omega arith);
+  left = λ p le. all_same 256 p false;
 }
 
-pub framed_more : (t : List Ptw) (framed : List Bool) (n : ℕ) (b : Bool) → IsFramedTo t framed n → n < 256
+pub framed_more : {t : List Ptw} {framed : List Bool} {n : ℕ} (b : Bool) → IsFramedTo t framed n → n < 256
     → b ≡ is_framed (ptw_at t n) → IsFramedTo t (set framed n b) (n + 1)
-framed_more t framed n b part lt is = record {
+framed_more {t} {framed} {n} b part lt is = record {
   size = length-set framed n b ∙ part.size;
   done = λ p less. elim (cases_eq p n) [
-    | inl same ↦ ap (λ (k : ℕ). get_or (set framed n b) k false) same
-        ∙ get_or-set_same framed n b false (let size = part.size in omega (arith, size, lt)) ∙ is
-        ∙ ap (λ (k : ℕ). is_framed (ptw_at t k)) (sym same)
-    | inr other ↦ get_or-set_other framed n p b false other ∙ part.done p (omega (arith, less, other))
+    | inl same ↦ rw (same, get_or-set_same framed n b false (rw part.size lt)) is
+    | inr other ↦ get_or-set_other framed n p b false other ∙ part.done p (omega arith)
   ];
-  left = λ p past. get_or-set_other framed n p b false (λ same. omega (arith, past, same))
-      ∙ part.left p (omega (arith, past));
+  left = λ p past. get_or-set_other framed n p b false (λ same. omega arith) ∙ part.left p (omega arith);
 }
 
-pub framed_end : (t : List Ptw) (framed : List Bool) (n : ℕ) → IsFramedTo t framed n → length t ≤ n → (p : ℕ)
+pub framed_end : {t : List Ptw} {framed : List Bool} {n : ℕ} → IsFramedTo t framed n → length t ≤ n → (p : ℕ)
     → get_or framed p false ≡ is_framed (ptw_at t p)
-framed_end t framed n part past p = elim (cases_lt p n) [
+framed_end {t} {n} part past p = elim (cases_lt p n) [
   | inl lt ↦ part.done p lt
-  | inr far ↦ part.left p far ∙ sym (ap is_framed (get_or_past t p Null (omega (arith, past, far))))
+  | inr far ↦ part.left p far ∙ sym (ap is_framed (get_or_past t p Null (omega arith)))
 ]
 
 -- ---- the page that is copied next
@@ -46,28 +39,21 @@ framed_end t framed n part past p = elim (cases_lt p n) [
 -- a page that has a record, and is in no frame, is on its record alone
 out_or_framed : (word : Ptw) → has_record word && not (is_framed word) ≡ is_out word
 out_or_framed Null = refl
-out_or_framed (Out r) = refl
-out_or_framed (Here f) = refl
-out_or_framed (Leaving f) = refl
+out_or_framed _ = refl
 
 -- what the mover is to copy, where it skips the pages in frames
-pub to_copy_out : (places : List (Option ℕ)) (t : List Ptw) (framed : List Bool) (p : ℕ) → IsMapOf places t
+pub to_copy_out : {places : List (Option ℕ)} {t : List Ptw} (framed : List Bool) (p : ℕ) → IsMapOf places t
     → get_or framed p false ≡ is_framed (ptw_at t p) → is_to_copy places framed p ≡ is_out (ptw_at t p)
-to_copy_out places t framed p map is =
-    ap (λ (b : Bool). b && not (get_or framed p false)) (map.stored p)
-    ∙ ap (λ (b : Bool). has_record (ptw_at t p) && not b) is ∙ out_or_framed (ptw_at t p)
+to_copy_out {t} framed p map is = rw (map.stored p, is) (out_or_framed (ptw_at t p))
 
 pub first_same : (places : List (Option ℕ)) (t : List Ptw) (framed : List Bool) (count p : ℕ)
     → ((q : ℕ) → is_to_copy places framed q ≡ is_out (ptw_at t q))
     → first_to_copy places framed count p ≡ first_out t count p
 unfolding first_to_copy first_out
 first_same places t framed zero p same = refl
-first_same places t framed (suc count) p same =
-    ap (λ (b : Bool). cond b (Some p) (first_to_copy places framed count (p + 1))) (same p)
-    ∙ ap (λ (x : Option ℕ). cond (is_out (ptw_at t p)) (Some p) x) (first_same places t framed count (p + 1) same)
+first_same places t framed (suc count) p same = rw (same p, first_same places t framed count (p + 1) same)
 
 pub out_from : (word : Ptw) → is_out word ≡ true → (r : ℕ) × (word ≡ Out r)
 out_from Null on = cc
 out_from (Out r) on = (r, refl)
-out_from (Here f) on = cc
-out_from (Leaving f) on = cc
+out_from _ on = cc

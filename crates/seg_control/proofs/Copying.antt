@@ -1,5 +1,5 @@
 -- A page of a segment that moves is copied.
-use Rattle.seg_control.proofs.Prelude.{◌≡◌, ℕ, Bool, true, false, ◌&&◌, List, [], length, Option, None, Some, IfSome, Result, Ok, Err, refl, sym, ap, subst, ◌∙◌, get_or, map, set, inl, inr, cases_eq, cases_lt, get_or-set_same, get_or-set_other, length-set, set_past, in_use, ptw_at, VtocEntry, record_at, Vols, KeepsTables, with_page, ActiveSegs, table_at, Home, IsCopied, KeepsHome, words_at, words_filed, words_out, Paging, Plain, filed, plain, with_volumes, flags_in, is_out, map_at, uid_homed, vtoc_in, IsTied, KeepsTies, tie_of_home, words_of_home, filed_same, Mover, AreCopied, IsLeastToCopy, after_copy, is_to_copy, moved_on, page_to_copy, mover_map, place_at, mover_words, words_of, CanBegin, IsMoving, begun, number_or_zero, undone, vols_same, Links, table_of, IsHomeOf, IsKeptAtRest, IsOnItsWay, at_rest, home_at, is_framed, next_out, volumes_of, off_and_on, some_unwrapped}
+use Rattle.seg_control.proofs.Prelude.{◌≡◌, ℕ, Bool, true, false, ◌&&◌, List, [], length, Option, None, Some, IfSome, Result, Ok, Err, refl, sym, ap, ◌∙◌, get_or, map, set, inl, inr, cases_eq, cases_lt, get_or-set_same, get_or-set_other, length-set, set_past, in_use, ptw_at, VtocEntry, Vols, KeepsTables, with_page, ActiveSegs, Home, IsCopied, KeepsHome, words_at, words_filed, words_out, Paging, Plain, filed, plain, with_volumes, flags_in, is_out, map_at, uid_homed, IsTied, KeepsTies, tie_of_home, words_of_home, filed_same, Mover, AreCopied, IsLeastToCopy, after_copy, is_to_copy, moved_on, page_to_copy, mover_map, place_at, mover_words, words_of, CanBegin, IsMoving, begun, number_or_zero, undone, vols_same, Links, table_of, IsKeptAtRest, IsOnItsWay, at_rest, home_at, is_framed, next_out, volumes_of, off_and_on, some_unwrapped}
 use Rattle.seg_control.proofs.Places.{place_is}
 use Rattle.seg_control.proofs.Paged.{paged_same}
 use Rattle.seg_control.proofs.Calls.{kept_paged}
@@ -11,19 +11,17 @@ use Rattle.seg_control.proofs.Choosing.{first_same, out_from, to_copy_out}
 -- ---- the segment that moves
 
 -- it is tied to its old home, with the volumes at rest and as they are
-pub tie_moving : {D : Type 0} (pages : D → List (List ℕ)) (s : Paging D) (ast : ActiveSegs) (links : Links)
-    (m : Mover) → IsKeptAtRest pages s ast links (Some m)
+pub tie_moving : {D : Type 0} {pages : D → List (List ℕ)} {s : Paging D} {ast : ActiveSegs} {links : Links}
+    {m : Mover} → IsKeptAtRest pages s ast links (Some m)
     → IsTied (plain pages (at_rest s (Some m))) m.uid (home_at m.from) (table_of ast m.uid)
-tie_moving pages s ast links m k =
+tie_moving {ast} {m} k =
     let active = k.way.active in
-    subst (λ (place : ℕ). IsTied (plain pages (at_rest s (Some m))) m.uid (home_at m.from) (table_at ast.tables place))
-    (sym (place_is ast.entries m.uid active.0 k.kept.tree active.1))
+    rw (place_is ast.entries m.uid active.0 k.kept.tree active.1)
     (k.kept.paged.ties active.0 m.uid (home_at m.from) active.1 k.way.home)
 
-pub tie_here : {D : Type 0} (pages : D → List (List ℕ)) (s : Paging D) (ast : ActiveSegs) (links : Links) (m : Mover)
-    → IsKeptAtRest pages s ast links (Some m)
-    → IsTied (plain pages s) m.uid (home_at m.from) (table_of ast m.uid)
-tie_here pages s ast links m k = tie_more (aside_of pages s ast links m k) (tie_moving pages s ast links m k)
+pub tie_here : {D : Type 0} {pages : D → List (List ℕ)} {s : Paging D} {ast : ActiveSegs} {links : Links} {m : Mover}
+    → IsKeptAtRest pages s ast links (Some m) → IsTied (plain pages s) m.uid (home_at m.from) (table_of ast m.uid)
+tie_here {pages} {s} {ast} {links} {m} k = tie_more (aside_of k) (tie_moving k)
 
 -- ---- the words of its pages, as the mover tells them and as page control does
 
@@ -41,16 +39,14 @@ words_as pages s home p = filed_as (get_or (map pages s.volumes.drives) home.0 [
 record_kept : (disks : List (List (List ℕ))) (v r : ℕ) (words : List ℕ) (w k : ℕ) → (w ≡ v → k ≡ r → ⊥)
     → get_or (get_or (with_page disks v r words) w []) k [] ≡ get_or (get_or disks w []) k []
 record_kept disks v r words w k other = elim (cases_eq w v) [
-  | inr ne ↦ ap (λ (disk : List (List ℕ)). get_or disk k [])
-      (get_or-set_other disks v w (set (get_or disks v []) r words) [] ne)
+  | inr ne ↦ rw (get_or-set_other disks v w (set (get_or disks v []) r words) [] ne)
   | inl same ↦ elim (cases_lt v (length disks)) [
-    | inr past ↦ ap (λ (all : List (List (List ℕ))). get_or (get_or all w []) k [])
-        (set_past disks v (set (get_or disks v []) r words) past)
-    | inl lt ↦ ap (λ (u : ℕ). get_or (get_or (with_page disks v r words) u []) k []) same
-        ∙ ap (λ (disk : List (List ℕ)). get_or disk k [])
-        (get_or-set_same disks v (set (get_or disks v []) r words) [] lt)
-        ∙ get_or-set_other (get_or disks v []) r k words [] (other same)
-        ∙ ap (λ (u : ℕ). get_or (get_or disks u []) k []) (sym same)
+    | inr past ↦ rw (set_past disks v (set (get_or disks v []) r words) past)
+    | inl lt ↦ rw (
+      same,
+      get_or-set_same disks v (set (get_or disks v []) r words) [] lt,
+      get_or-set_other (get_or disks v []) r k words [] (other same),
+    )
   ]
 ]
 
@@ -67,9 +63,8 @@ length_after disks vols m (Some p) (Err e) = refl
 -- the mover goes on, and nothing else of it has changed
 goes_on : {T E : Type 0} (m : Mover) (page : Option ℕ) (result : Result T E)
     → moved_on m page result ≡ record m { next = (moved_on m page result).next }
-goes_on m None result = refl
 goes_on m (Some p) (Ok x) = refl
-goes_on m (Some p) (Err e) = refl
+goes_on m _ _ = refl
 
 -- What was called for, and what it left.
 pub record Copies {D E : Type 0} (pages : D → List (List ℕ)) (old : Paging D) (vols : Vols D) (ast : ActiveSegs)
@@ -79,8 +74,7 @@ pub record Copies {D E : Type 0} (pages : D → List (List ℕ)) (old : Paging D
   pub mover : n ≡ moved_on m (page_to_copy old.volumes m skip) result
   pub disks : map pages vols.drives ≡ after_copy (map pages old.volumes.drives) old.volumes m
       (page_to_copy old.volumes m skip) result
-  pub least : IfSome (page_to_copy old.volumes m skip)
-      (λ p. IsLeastToCopy (mover_map old.volumes m.from) skip m.next p)
+  pub least : IfSome (page_to_copy old.volumes m skip) (λ p. IsLeastToCopy (mover_map old.volumes m.from) skip m.next p)
   pub tables : KeepsTables old.volumes vols
   pub copied : AreCopied pages old.volumes m skip → AreCopied pages vols n skip
   pub moving : IsMoving vols n
@@ -98,8 +92,7 @@ module _ {D E : Type 0} {pages : D → List (List ℕ)} {old : Paging D} {vols :
   next = plain pages (at_rest now (Some m))
 
   wanted : (p : ℕ) → is_to_copy (mover_map old.volumes m.from) skip p ≡ is_out (ptw_at (table_of ast m.uid) p)
-  wanted p = to_copy_out (mover_map old.volumes m.from) (table_of ast m.uid) skip p
-      (tie_here pages old ast links m c.kept).map (c.framed p)
+  wanted p = to_copy_out skip p (tie_here c.kept).map (c.framed p)
 
   pub page_is : page_to_copy old.volumes m skip ≡ next_out (table_of ast m.uid) m.next
   page_is = first_same (mover_map old.volumes m.from) (table_of ast m.uid) skip _ m.next wanted
@@ -128,34 +121,27 @@ module _ {D E : Type 0} {pages : D → List (List ℕ)} {old : Paging D} {vols :
   spared None done is w k on = refl
   spared (Some p) (Err e) is w k on = refl
   spared (Some p) (Ok x) is w k on =
-      let least = subst (λ (page : Option ℕ). IfSome page
-      (λ q. IsLeastToCopy (mover_map old.volumes m.from) skip m.next q)) is c.least in
+      let least = rw is at c.least in
       let moving = c.kept.way.moving in
       let named : place_at old.volumes m.to p ≡ Some (number_or_zero (place_at old.volumes m.to p)) =
       some_unwrapped (place_at old.volumes m.to p) (moving.same p ∙ named_from _ _ least.wanted) in
       record_kept (map pages old.volumes.drives) m.to.0 (number_or_zero (place_at old.volumes m.to p)) _ w k
-      (λ volume same. off_and_on (in_use (flags_in rest.records w) k)
-      (ap (λ (v : ℕ). in_use (flags_in rest.records v) k) volume
-      ∙ ap (in_use (flags_in rest.records m.to.0)) same
-      ∙ (move_adds (volumes_of (plain pages old)) m moving).adds.fresh p _ named) on)
+      (λ volume same. off_and_on (in_use (flags_in rest.records w) k) (ap
+      (λ (v : ℕ). in_use (flags_in rest.records v) k) volume ∙ ap (in_use (flags_in rest.records m.to.0)) same
+      ∙ (move_adds moving).adds.fresh p _ named) on)
 
   -- so every page at rest has the words that it had
   out_rest : (home : Home) (p : ℕ) → words_out next home p ≡ words_out rest home p
-  out_rest home p =
-      ap (λ (vtocs : List (List (Option VtocEntry))). words_filed (get_or next.disks home.volume [])
-      (record_at (vtoc_in vtocs home.volume) home.entry p)) tables_rest.vtocs
-      ∙ ap (λ (disks : List (List (List ℕ))). words_filed (get_or disks home.volume []) (filed rest home p)) c.disks
-      ∙ filed_same (get_or rest.disks home.volume []) _ (filed rest home p)
+  out_rest home p = rw (tables_rest.vtocs, c.disks) (filed_same (get_or rest.disks home.volume []) _ (filed rest home p)
       (λ k named. spared (page_to_copy old.volumes m skip) result refl home.volume k
-      (c.kept.kept.paged.filed.used home.volume home.entry p k named))
+      (c.kept.kept.paged.filed.used home.volume home.entry p k named)))
 
   home_kept : (home : Home) → KeepsHome rest next home
   home_kept home = record {
-    uid = ap (λ (vtocs : List (List (Option VtocEntry))). uid_homed vtocs home) tables_rest.vtocs;
-    map = ap (λ (vtocs : List (List (Option VtocEntry))). map_at vtocs home) tables_rest.vtocs;
+    uid = cc;
+    map = cc;
     words = out_rest home;
-    volumes = ap length c.disks
-        ∙ length_after (map pages old.volumes.drives) old.volumes m (page_to_copy old.volumes m skip) result;
+    volumes = cc (length_after (map pages old.volumes.drives) old.volumes m (page_to_copy old.volumes m skip) result);
     records = rw (tables_rest.records, tables_rest.vtocs) c.kept.kept.paged.filed;
   }
 
@@ -169,19 +155,15 @@ module _ {D E : Type 0} {pages : D → List (List ℕ)} {old : Paging D} {vols :
 
   are_copied : AreCopied pages old.volumes m skip
   are_copied = record {
-    words = λ p lt want.
-        (let out = out_from (ptw_at (table_of ast m.uid) p) (sym (wanted p) ∙ want) in
+    words = λ p lt want. (let out = out_from (ptw_at (table_of ast m.uid) p) (sym (wanted p) ∙ want) in
         words_as pages old m.to p ∙ c.kept.way.copied.words p out.0 lt out.1 ∙ sym (words_as pages old m.from p));
   }
 
   is_copied : (k : ℕ) → AreCopied pages vols (record m { next = k }) skip
       → IsCopied (plain pages now) (table_of ast m.uid) (home_at m.from) (home_at m.to) k
   is_copied k copied = record {
-    words = λ p r lt out. sym (words_as pages now m.to p)
-        ∙ copied.words p lt
-        (ap (λ (vtocs : List (List (Option VtocEntry))). is_to_copy (map_at vtocs (home_at m.from)) skip p)
-        c.tables.vtocs ∙ wanted p ∙ ap is_out out)
-        ∙ words_as pages now m.from p;
+    words = λ p r lt out. sym (words_as pages now m.to p) ∙ copied.words p lt
+        (rw c.tables.vtocs (cc (wanted p))) ∙ words_as pages now m.from p;
   }
 
   -- the volumes at rest, but for their pages, are those that they were
@@ -194,59 +176,42 @@ module _ {D E : Type 0} {pages : D → List (List ℕ)} {old : Paging D} {vols :
   can_mid : CanBegin mid m.uid m.from m.to.0
   can_mid =
       let can = c.kept.way.can in
-      let many : length next.disks ≡ length rest.disks = ap length c.disks
-      ∙ length_after (map pages old.volumes.drives) old.volumes m (page_to_copy old.volumes m skip) result in
-      record {
-        source = rw many can.source;
-        target = rw many can.target;
-        other = can.other;
-        used = can.used;
-        entry = can.entry;
-        room = can.room;
-        short = can.short;
-      }
+      let many : length rest.disks ≡ length next.disks = sym (cc (length_after (map pages old.volumes.drives)
+      old.volumes m (page_to_copy old.volumes m skip) result)) in
+      assumption (rw many at can.source, rw many at can.target, can)
 
   way_on : (k : ℕ) → IsMoving vols (record m { next = k }) → AreCopied pages vols (record m { next = k }) skip
       → IsOnItsWay next (plain pages now) ast (record m { next = k })
   way_on k moving copied = record {
     active = c.kept.way.active;
-    home = subst (λ (vtocs : List (List (Option VtocEntry))). IsHomeOf vtocs m.uid (home_at m.from))
-        (sym tables_rest.vtocs) c.kept.way.home;
-    can = subst (λ (v : Vols (List (List ℕ))). CanBegin v m.uid m.from m.to.0) mid_is can_mid;
+    home = rw tables_rest.vtocs c.kept.way.home;
+    can = rw mid_is at can_mid;
     begun = vols_same (volumes_of (plain pages now)) (begun (volumes_of next) m.uid m.from m.to.0) refl
         (c.tables.records ∙ ap (λ (v : Vols (List (List ℕ))). v.records) c.kept.way.begun
         ∙ ap (λ (v : Vols (List (List ℕ))). (begun v m.uid m.from m.to.0).records) mid_is)
         (c.tables.vtocs ∙ ap (λ (v : Vols (List (List ℕ))). v.vtocs) c.kept.way.begun
         ∙ ap (λ (v : Vols (List (List ℕ))). (begun v m.uid m.from m.to.0).vtocs) mid_is);
-    moving = moving_plain pages now (record m { next = k }) moving;
+    moving = moving_plain pages now moving;
     unread = c.kept.way.unread;
     copied = is_copied k copied;
   }
 
   mover_on : n ≡ record m { next = n.next }
-  mover_on = c.mover ∙ goes_on m (page_to_copy old.volumes m skip) result
-      ∙ ap (λ (x : Mover). record m { next = x.next }) (sym c.mover)
+  mover_on = cc (goes_on m (page_to_copy old.volumes m skip) result)
 
   pub kept_copied : IsKeptAtRest pages now ast links (Some n)
-  kept_copied = subst (λ (x : Mover). IsKeptAtRest pages now ast links (Some x)) (sym mover_on) (record {
-    kept = kept_paged rest next ast links c.kept.kept
-        (paged_same rest next ast.entries ast.tables c.kept.kept.paged refl tables_rest.vtocs tables_rest.records
-        ties_rest refl);
-    way = way_on n.next (subst (λ (x : Mover). IsMoving vols x) mover_on c.moving)
-        (subst (λ (x : Mover). AreCopied pages vols x skip) mover_on (c.copied are_copied));
-  })
+  kept_copied = rw mover_on (assumption (
+    kept_paged c.kept.kept (paged_same c.kept.kept.paged refl tables_rest.vtocs tables_rest.records ties_rest refl),
+    way_on n.next (rw mover_on at c.moving) (rw mover_on at (c.copied are_copied)),
+  ))
 
   pub tables_copied : KeepsTables (at_rest old (Some m)).volumes (at_rest now (Some n)).volumes
-  tables_copied = subst (λ (x : Mover). KeepsTables (at_rest old (Some m)).volumes (at_rest now (Some x)).volumes)
-      (sym mover_on) tables_rest
+  tables_copied = rw mover_on tables_rest
 
   pub words_copied : words_at (plain pages (at_rest now (Some n))) ≡ words_at rest
-  words_copied = ap (λ (x : Mover). words_at (plain pages (at_rest now (Some x)))) mover_on ∙ words_rest
+  words_copied = rw mover_on words_rest
 
   -- what the drives hold, by the volumes at rest
   pub disks_copied : map pages vols.drives ≡ after_copy (map pages old.volumes.drives)
       (begun (at_rest old (Some m)).volumes m.uid m.from m.to.0) m (next_out (table_of ast m.uid) m.next) result
-  disks_copied = c.disks
-      ∙ ap (λ (page : Option ℕ). after_copy (map pages old.volumes.drives) old.volumes m page result) page_is
-      ∙ ap (λ (s : Paging D). after_copy (map pages old.volumes.drives) s.volumes m
-      (next_out (table_of ast m.uid) m.next) result) (now_is pages old ast links (Some m) c.kept)
+  disks_copied = rw (page_is, now_is c.kept) at c.disks

@@ -18,25 +18,17 @@ count_remove p xs i d lt = sum_by-remove (λ y. cond (p y) 1 0) xs i d lt
 pub count_one : {X : Type 0} (p : X → Bool) (xs : List X) (i : ℕ) (d : X) → i < length xs → p (get_or xs i d) ≡ true
     → 1 ≤ count_by p xs
 count_one p [] i d lt e = omega arith
-count_one p (x ∷ xs) zero d lt e = let is = count_cons p x xs in let one : weight (p x) ≡ 1 =
-    ap weight e in omega (arith, is, one)
-count_one p (x ∷ xs) (suc i) d lt e = let is = count_cons p x xs in let more =
-    count_one p xs i d (omega arith) e in omega (arith, is, more)
+count_one p (x ∷ xs) zero d lt e = rw (count_cons p x xs, e) (omega arith)
+count_one p (x ∷ xs) (suc i) d lt e = rw (count_cons p x xs) (omega (arith, count_one p xs i d (omega arith) e))
 
 pub count_two : {X : Type 0} (p : X → Bool) (xs : List X) (i j : ℕ) (d : X) → i < j → j < length xs → p (get_or xs i d)
-    ≡ true → p (get_or xs j d) ≡ true
-    → 2 ≤ count_by p xs
+    ≡ true → p (get_or xs j d) ≡ true → 2 ≤ count_by p xs
 count_two p [] i j d less lt e f = omega arith
 count_two p (x ∷ xs) i zero d less lt e f = omega arith
 count_two p (x ∷ xs) zero (suc j) d less lt e f =
-    let is = count_cons p x xs in
-    let one : weight (p x) ≡ 1 = ap weight e in
-    let more = count_one p xs j d (omega arith) f in
-    omega (arith, is, one, more)
+    rw (count_cons p x xs, e) (omega (arith, count_one p xs j d (omega arith) f))
 count_two p (x ∷ xs) (suc i) (suc j) d less lt e f =
-    let is = count_cons p x xs in
-    let more = count_two p xs i j d (omega arith) (omega arith) e f in
-    omega (arith, is, more)
+    rw (count_cons p x xs) (omega (arith, count_two p xs i j d (omega arith) (omega arith) e f))
 
 -- an element that passes
 pub count_some : {X : Type 0} (p : X → Bool) (xs : List X) (d : X) → 1 ≤ count_by p xs → (i : ℕ) × (i < length xs)
@@ -50,8 +42,8 @@ count_some {X} p (x ∷ xs) d le = by_head (p x) refl (λ more. count_some p xs 
     by_head false e rest =
         let is = count_cons p x xs in
         let none : weight (p x) ≡ 0 = ap weight e in
-        let found = rest (omega (arith, is, none, le)) in
-        let lt = found.1 in (suc found.0, omega (arith, lt), found.2)
+        let found = rest (omega arith) in
+        let lt = found.1 in (suc found.0, omega arith, found.2)
 
 -- a process that is among those of some pairs
 pub any_at : (q : ℕ) (xs : List (ℕ × ℕ)) (d : ℕ × ℕ) → list_any (eqb q) (map (λ x. x.0) xs) ≡ true → (i : ℕ)
@@ -60,9 +52,8 @@ any_at q [] d e = cc
 any_at q (x ∷ xs) d e = by_head (eqb q x.0) refl (λ any. any_at q xs d any)
   where
     by_head : (b : Bool) → eqb q x.0 ≡ b → (list_any (eqb q) (map (λ y. y.0) xs) ≡ true → (i : ℕ) × (i < length xs)
-        × (q ≡ (get_or xs i d).0))
-        → (i : ℕ) × (i < length (x ∷ xs)) × (q ≡ (get_or (x ∷ xs) i d).0)
+        × (q ≡ (get_or xs i d).0)) → (i : ℕ) × (i < length (x ∷ xs)) × (q ≡ (get_or (x ∷ xs) i d).0)
     by_head true h rest = (0, omega arith, eqb-true q x.0 h)
     by_head false h rest =
-        let found = rest (sym (ap (λ (b : Bool). b || list_any (eqb q) (map (λ y. y.0) xs)) h) ∙ e) in
-        let lt = found.1 in (suc found.0, omega (arith, lt), found.2)
+        let found = rest (cc) in
+        let lt = found.1 in (suc found.0, omega arith, found.2)

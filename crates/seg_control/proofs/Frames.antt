@@ -1,5 +1,5 @@
 -- What frames are bound to, and what is being read into them.
-use Rattle.seg_control.proofs.Prelude.{◌≡◌, ◌≢◌, ℕ, true, Some, sym, ap, ◌∙◌, get_or-map, same_Some, Core, reads_of, frame_at, is_bound, bound_page, started_page, Frame, Free, Started, Bound, Vols, ActiveSegs, IsActive, Plain, bindings, binding_at, number_in, IsBoundOnce, IsNotStarted, Links, read_at, IsKept}
+use Rattle.seg_control.proofs.Prelude.{◌≡◌, ◌≢◌, ℕ, true, Some, sym, ap, ◌∙◌, get_or-map, same_Some, Core, reads_of, frame_at, is_bound, bound_page, started_page, Frame, Free, Started, Bound, Vols, ActiveSegs, IsActive, Plain, bindings, binding_at, number_in, IsBoundOnce, IsNotStarted, Links, read_at, IsKept, page_is}
 use Rattle.page_control.specs.Tied.{uid_in}
 use Rattle.page_control.proofs.Facts.{bound_to as page_of_bound}
 
@@ -25,24 +25,21 @@ bound_once {now = now} {ast = ast} {f = f} kept e =
 
 pub started_from : (frame : Frame) (uid p : ℕ) → started_page frame ≡ Some (uid, p) → frame ≡ Started uid p
 started_from Free uid p e = cc
-started_from (Started u q) uid p e = same_page u q (same_Some _ _ e)
-  where
-    same_page : (u q : ℕ) → ◌≡◌ {A = ℕ × ℕ} (u, q) (uid, p) → Started u q ≡ Started uid p
-    same_page u q e = ap (λ (x : ℕ × ℕ). Started x.0 x.1) e
+started_from (Started u q) uid p e = (let same = page_is u q uid p e in rw (same.0, same.1))
 started_from (Bound u q used modified) uid p e = cc
 
 -- a page that no frame is started for is being read into none
-pub none_started : (core : Core) (uid p : ℕ) → IsNotStarted core uid p → (f : ℕ)
+pub none_started : {core : Core} {uid p : ℕ} → IsNotStarted core uid p → (f : ℕ)
     → read_at (reads_of core) f ≢ Some (uid, p)
-none_started core uid p h f e = h.none f (started_from (frame_at core f) uid p (sym (read_is core f) ∙ e))
+none_started {core} {uid} {p} h f e = h.none f (started_from (frame_at core f) uid p (sym (read_is core f) ∙ e))
 
 -- a frame that is started for a page
 pub started_for : (core : Core) (f uid p : ℕ) → frame_at core f ≡ Started uid p → read_at (reads_of core) f
     ≡ Some (uid, p)
-started_for core f uid p e = read_is core f ∙ ap started_page e
+started_for core f uid p e = cc (read_is core f)
 
 pub same_vtocs : {D : Type 0} (new old : Vols D) → new ≡ old → new.vtocs ≡ old.vtocs
-same_vtocs new old e = ap (λ (v : Vols _). v.vtocs) e
+same_vtocs new old e = rw e
 
 pub same_records : {D : Type 0} (new old : Vols D) → new ≡ old → new.records ≡ old.records
-same_records new old e = ap (λ (v : Vols _). v.records) e
+same_records new old e = rw e

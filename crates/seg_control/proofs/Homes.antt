@@ -1,67 +1,56 @@
 -- What is kept after a home is taken, or given up.
-use Rattle.seg_control.proofs.Prelude.{◌≡◌, ◌≢◌, ◌⊎◌, ℕ, List, [], Option, None, Some, refl, sym, ap, subst, ◌∙◌, arith, inl, inr, IfSome, cases_eq, none-some, same_Some, Ptw, least_free_entry, Entry, ActiveSegs, uid_at, table_at, IsActive, Home, Plain, bindings, vtoc_of, uid_of_home, IsTableOf, AreFiled, HasNoFrame, IsBlank, uid_homed, IsTied, KeepsTies, after_asked, erased, Links, IsHomeOf, IsInactive, HasTable, ArePaged, IsKept}
+use Rattle.seg_control.proofs.Prelude.{◌≡◌, ◌≢◌, ◌⊎◌, ℕ, List, [], Option, None, Some, refl, sym, ap, subst, ◌∙◌, arith, inl, inr, IfSome, cases_eq, none-some, same_Some, Ptw, least_free_entry, Entry, ActiveSegs, uid_at, table_at, IsActive, Home, Plain, bindings, vtoc_of, uid_of_home, AreFiled, HasNoFrame, IsBlank, uid_homed, IsTied, KeepsTies, after_asked, erased, Links, IsHomeOf, IsInactive, HasTable, ArePaged, IsKept}
 use Rattle.seg_control.proofs.Calls.{kept_paged}
 
 pub home_cases : (a b : Home) → (a ≡ b) ⊎ (a ≢ b)
 home_cases a b = elim (cases_eq a.volume b.volume) [
   | inl v ↦ elim (cases_eq a.entry b.entry) [
-    | inl e ↦ inl (same_home a.volume a.entry b.volume b.entry v e)
-    | inr ne ↦ inr (λ same. ne (ap (λ (h : Home). h.entry) same))
+    | inl e ↦ inl (λ i. record { volume = v i; entry = e i })
+    | inr ne ↦ inr (λ same. ne (cc))
   ]
-  | inr ne ↦ inr (λ same. ne (ap (λ (h : Home). h.volume) same))
+  | inr ne ↦ inr (λ same. ne (cc))
 ]
-  where
-    same_home : (v e w f : ℕ) → v ≡ w → e ≡ f → ◌≡◌ {A = Home} (record { volume = v; entry = e })
-        (record { volume = w; entry = f })
-    same_home v e w f same same' =
-        ap (λ (n : ℕ). record { volume = n; entry = e }) same ∙ ap (λ (n : ℕ). record { volume = w; entry = n }) same'
 
 -- frames and page tables stay, and homes change
-module _ (old now : Plain) (entries : List (Option Entry)) (ptws : List (List Ptw)) (k : ArePaged old entries ptws)
-    (core : now.core ≡ old.core)
-    (filed : AreFiled now.records now.vtocs)
-    (active : (place uid : ℕ) (home : Home) → uid_at entries place ≡ Some uid → IsHomeOf now.vtocs uid home
+paged_homes : {old now : Plain} {entries : List (Option Entry)} {ptws : List (List Ptw)} → ArePaged old entries ptws
+    → now.core ≡ old.core → AreFiled now.records now.vtocs
+    → ((place uid : ℕ) (home : Home) → uid_at entries place ≡ Some uid → IsHomeOf now.vtocs uid home
     → IsTied now uid home (table_at ptws place))
-    (rest : (uid : ℕ) (home : Home) → IsInactive entries uid → IsHomeOf now.vtocs uid home → HasTable now uid home)
-  where
-    pub paged_homes : ArePaged now entries ptws
-    paged_homes = record {
-      tables = λ q u e. subst (λ (c : _). IsTableOf (bindings c) u (table_at ptws q)) (sym core) (k.tables q u e);
-      ties = active;
-      rest = rest;
-      blank = k.blank;
-      bound = λ f u p e. k.bound f u p (rw (← core) e);
-      started = λ f u p e. k.started f u p (rw (← core) e);
-      once = λ f g u p e e'. k.once f g u p (rw (← core) e) (rw (← core) e');
-      filed = filed;
-    }
+    → ((uid : ℕ) (home : Home) → IsInactive entries uid → IsHomeOf now.vtocs uid home → HasTable now uid home)
+    → ArePaged now entries ptws
+paged_homes k core filed active rest = record {
+  tables = rw core k.tables;
+  ties = active;
+  rest = rest;
+  blank = k.blank;
+  bound = rw core k.bound;
+  started = rw core k.started;
+  once = rw core k.once;
+  filed = filed;
+}
 
 -- ---- a home is given up
 
-pub kept_erased : (old now : Plain) (ast : ActiveSegs) (links : Links) (home : Home) → IsKept old ast links
-    → IsHomeOf old.vtocs (uid_of_home old home) home
-    → now ≡ erased old home → uid_homed now.vtocs home ≡ None
+pub kept_erased : {old : Plain} {now : Plain} {ast : ActiveSegs} {links : Links} {home : Home} → IsKept old ast links
+    → IsHomeOf old.vtocs (uid_of_home old home) home → now ≡ erased old home → uid_homed now.vtocs home ≡ None
     → ((other : Home) → other ≢ home → uid_homed now.vtocs other ≡ uid_homed old.vtocs other)
-    → AreFiled now.records now.vtocs
-    → ((uid : ℕ) (other : Home) (words : List Ptw) → other ≢ home → IsTied old uid other words
-    → IsTied now uid other words) → IsKept now ast links
-kept_erased old now ast links home k only effect gone uids filed ties =
-    kept_paged old now ast links k
-    (paged_homes old now ast.entries ast.tables k.paged (ap (λ (s : Plain). s.core) effect) filed
+    → AreFiled now.records now.vtocs → ((uid : ℕ) (other : Home) (words : List Ptw) → other ≢ home
+    → IsTied old uid other words → IsTied now uid other words) → IsKept now ast links
+kept_erased {old} {now} {ast} {home} k only effect gone uids filed ties = kept_paged k (paged_homes k.paged (cc) filed
     (λ q u h e is. ties u h (table_at ast.tables q) (other u h is) (k.paged.ties q u h e (back u h is)))
     (λ u h off is. (let was = k.paged.rest u h off (back u h is) in record
     { table = was.table; tie = ties u h was.table (other u h is) was.tie })))
   where
     other : (u : ℕ) (h : Home) → IsHomeOf now.vtocs u h → h ≢ home
-    other u h is same = none-some u (sym gone ∙ ap (uid_homed now.vtocs) (sym same) ∙ is.used)
+    other u h is same = none-some u (cc)
 
     back : (u : ℕ) (h : Home) → IsHomeOf now.vtocs u h → IsHomeOf old.vtocs u h
     back u h is = record {
-      used = sym (uids h (other u h is)) ∙ is.used;
+      used = cc (uids h (other u h is));
       only = λ o e. elim (home_cases o home) [
         | inl same ↦
             (let v : ℕ = uid_of_home old home in
-            let uid : u ≡ v = same_Some _ _ (sym e ∙ ap (uid_homed old.vtocs) same ∙ only.used) in
+            let uid : u ≡ v = same_Some _ _ (cc) in
             let that : h ≡ home = only.only h (sym (uids h (other u h is)) ∙ is.used ∙ ap (λ (n : ℕ). Some n) uid) in
             absurd (other u h is that))
         | inr ne ↦ is.only o (uids o ne ∙ e)
@@ -70,41 +59,33 @@ kept_erased old now ast links home k only effect gone uids filed ties =
 
 -- ---- a home is taken
 
-pub kept_homed : (result : Option ℕ) (old now : Plain) (ast : ActiveSegs) (links : Links) (volume uid : ℕ)
-    → IsKept old ast links
-    → IsInactive ast.entries uid → result ≡ least_free_entry (vtoc_of old volume) → now
-    ≡ after_asked old volume uid result
-    → IfSome result (λ e. uid_homed now.vtocs (record { volume = volume; entry = e }) ≡ Some uid)
-    → ((u : ℕ) (h : Home) → uid_homed old.vtocs h ≡ Some u → uid_homed now.vtocs h ≡ Some u)
-    → ((other : Home) → IfSome result (λ e. other ≢ record { volume = volume; entry = e }) → uid_homed now.vtocs other
-    ≡ uid_homed old.vtocs other)
+pub kept_homed : (result : Option ℕ) {old now : Plain} {ast : ActiveSegs} {links : Links} (volume : ℕ) {uid : ℕ}
+    → IsKept old ast links → IsInactive ast.entries uid → result ≡ least_free_entry (vtoc_of old volume)
+    → now ≡ after_asked old volume uid result → IfSome result (λ e. uid_homed now.vtocs
+    (record { volume = volume; entry = e }) ≡ Some uid) → ((u : ℕ) (h : Home) → uid_homed old.vtocs h ≡ Some u
+    → uid_homed now.vtocs h ≡ Some u) → ((other : Home) → IfSome result
+    (λ e. other ≢ record { volume = volume; entry = e }) → uid_homed now.vtocs other ≡ uid_homed old.vtocs other)
     → IfSome result (λ e. (words : List Ptw) → IsBlank words → HasNoFrame (bindings old.core) uid
-    → AreFiled old.records old.vtocs
-    → IsTied now uid (record { volume = volume; entry = e }) words) → KeepsTies old now
-    → (AreFiled old.records old.vtocs → AreFiled now.records now.vtocs)
-    → IsKept now ast links
-kept_homed None old now ast links volume uid k idle least effect home homes uids tie ties filed =
+    → AreFiled old.records old.vtocs → IsTied now uid (record { volume = volume; entry = e }) words) → KeepsTies old now
+    → (AreFiled old.records old.vtocs → AreFiled now.records now.vtocs) → IsKept now ast links
+kept_homed None {ast} {links} volume k idle least effect home homes uids tie ties filed =
     subst (λ (s : Plain). IsKept s ast links) (sym effect) k
-kept_homed (Some e) old now ast links volume uid k idle least effect home homes uids tie ties filed =
-    kept_paged old now ast links k
-    (paged_homes old now ast.entries ast.tables k.paged (ap (λ (s : Plain). s.core) effect) (filed k.paged.filed)
-    (λ q u h at is. elim (home_cases h it) [
+kept_homed (Some e) {old} {now} {ast} volume {uid} k idle least effect home homes uids tie ties filed =
+    kept_paged k (paged_homes k.paged (cc) (filed k.paged.filed) (λ q u h at is. elim (home_cases h it) [
       | inl same ↦ absurd (not_active q u h at is same)
       | inr ne ↦ ties.ties u h (table_at ast.tables q) (k.paged.ties q u h at (back u h is ne))
-    ])
-    (λ u h off is. elim (home_cases h it) [
+    ]) (λ u h off is. elim (home_cases h it) [
       | inl same ↦
-          (let uid_is : uid ≡ u = same_Some _ _ (sym home ∙ ap (uid_homed now.vtocs) (sym same) ∙ is.used) in
+          (let uid_is : uid ≡ u = same_Some _ _ (cc) in
           let none : HasNoFrame (bindings old.core) uid = record {
             none = λ f p at. (let active : IsActive ast.entries uid = k.paged.bound f uid p at in
-                off.nowhere active.0 (active.1 ∙ ap (λ (n : ℕ). Some n) uid_is));
+                off.nowhere active.0 (cc));
           } in
           let blank : IsBlank [] = record { pages = omega arith; null = λ p. refl } in
           let made : IsTied now uid it [] = tie [] blank none k.paged.filed in
           record {
             table = [];
-            tie = subst (λ (n : ℕ). IsTied now n h []) uid_is
-                (subst (λ (x : Home). IsTied now uid x []) (sym same) made);
+            tie = rw (← uid_is, same) made;
           })
       | inr ne ↦ (let was = k.paged.rest u h off (back u h is ne) in record
           { table = was.table; tie = ties.ties u h was.table was.tie })
@@ -114,9 +95,9 @@ kept_homed (Some e) old now ast links volume uid k idle least effect home homes 
     it = record { volume = volume; entry = e }
 
     back : (u : ℕ) (h : Home) → IsHomeOf now.vtocs u h → h ≢ it → IsHomeOf old.vtocs u h
-    back u h is ne = record { used = sym (uids h ne) ∙ is.used; only = λ o at. is.only o (homes u o at) }
+    back u h is ne = record { used = cc (uids h ne); only = λ o at. is.only o (homes u o at) }
 
     not_active : (q u : ℕ) (h : Home) → uid_at ast.entries q ≡ Some u → IsHomeOf now.vtocs u h → h ≡ it → ⊥
     not_active q u h at is same =
-        let uid_is : uid ≡ u = same_Some _ _ (sym home ∙ ap (uid_homed now.vtocs) (sym same) ∙ is.used) in
+        let uid_is : uid ≡ u = same_Some _ _ (cc) in
         idle.nowhere q (at ∙ ap (λ (n : ℕ). Some n) (sym uid_is))

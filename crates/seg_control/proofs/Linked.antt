@@ -1,5 +1,6 @@
 -- Descriptors, trailers and known segment tables after a call.
 use Rattle.seg_control.proofs.Prelude.{◌≡◌, ◌≢◌, ◌⊎◌, ℕ, ◌<◌, ◌≤◌, Bool, true, false, eqb, List, [], length, Option, Some, refl, sym, ap, ◌∙◌, arith, set, get_or, inl, inr, map, cases_eq, eq-eqb, eqb-true, ne_eqb, and_from, get_or-set_same, get_or-set_other, length-set, length-map, IsDistinct-from_apart, length-le_from_distinct_below, same_Some, get_or-map, Sdw, Fault, sdw_at, trailers_of, leads_to, uid_of, Entry, Links, kst_at, sdws_at, leads, leads_at, times, AreExact, AreLinked, and_parts, get_or_any, shown_within, times_few, times_one}
+use Rattle.seg_control.proofs.Paged.{each_set}
 use Rattle.seg_control.proofs.Counts.{weight, count_one, count_two, any_at}
 
 -- ---- descriptors
@@ -21,36 +22,23 @@ module _ (descriptors : List (List Sdw)) (process number : ℕ) (w : Sdw) (proce
     (number_within : number < length (sdws_at descriptors process)) where
   pub leads_this : leads_at (set descriptors process (set (sdws_at descriptors process) number w)) process number
       ≡ leads w
-  leads_this =
-      ap (λ (words : List Sdw). leads (sdw_at words number))
-      (get_or-set_same descriptors process (set (sdws_at descriptors process) number w) [] process_within)
-      ∙ ap leads (get_or-set_same (sdws_at descriptors process) number w Fault number_within)
+  leads_this = rw (
+    get_or-set_same descriptors process (set (sdws_at descriptors process) number w) [] process_within,
+    get_or-set_same (sdws_at descriptors process) number w Fault number_within,
+  )
 
   pub leads_other : (q n : ℕ) → (q ≡ process → n ≢ number)
       → leads_at (set descriptors process (set (sdws_at descriptors process) number w)) q n ≡ leads_at descriptors q n
-  leads_other q n other = elim (cases_eq q process) [
-    | inl e ↦
-        (let here : sdws_at (set descriptors process (set (sdws_at descriptors process) number w)) q
-        ≡ set (sdws_at descriptors process) number w =
-        ap (sdws_at (set descriptors process (set (sdws_at descriptors process) number w))) e
-        ∙ get_or-set_same descriptors process (set (sdws_at descriptors process) number w) [] process_within in
-        ap (λ (words : List Sdw). leads (sdw_at words n)) here
-        ∙ ap leads (get_or-set_other (sdws_at descriptors process) number n w Fault (other e))
-        ∙ ap (λ (k : ℕ). leads_at descriptors k n) (sym e))
-    | inr ne ↦
-        ap (λ (words : List Sdw). leads (sdw_at words n))
-        (get_or-set_other descriptors process q (set (sdws_at descriptors process) number w) [] ne)
-  ]
+  leads_other q n = each_set descriptors (set (sdws_at descriptors process) number w) [] (λ k words.
+      (k ≡ process → n ≢ number) → leads (sdw_at words n) ≡ leads_at descriptors k n) process_within
+      (λ other. rw (get_or-set_other (sdws_at descriptors process) number n w Fault (other refl)))
+      (λ k ne other. refl) q
 
   pub words_kept : (q : ℕ) → length (sdws_at (set descriptors process (set (sdws_at descriptors process) number w)) q)
       ≡ length (sdws_at descriptors q)
-  words_kept q = elim (cases_eq q process) [
-    | inl e ↦
-        ap (λ (k : ℕ). length (sdws_at (set descriptors process (set (sdws_at descriptors process) number w)) k)) e
-        ∙ ap length (get_or-set_same descriptors process (set (sdws_at descriptors process) number w) [] process_within)
-        ∙ length-set (sdws_at descriptors process) number w ∙ ap (λ (k : ℕ). length (sdws_at descriptors k)) (sym e)
-    | inr ne ↦ ap length (get_or-set_other descriptors process q (set (sdws_at descriptors process) number w) [] ne)
-  ]
+  words_kept = each_set descriptors (set (sdws_at descriptors process) number w) [] (λ k words.
+      length words ≡ length (sdws_at descriptors k)) process_within
+      (length-set (sdws_at descriptors process) number w) (λ k ne. refl)
 
 -- ---- trailers
 
@@ -66,7 +54,7 @@ leads_to_not q n x other = by_test (leads_to q n x) refl
   where
     by_test : (b : Bool) → leads_to q n x ≡ b → weight (leads_to q n x) ≡ 0
     by_test true e = (let same = leads_to_is q n x e in absurd (other (sym same.0) (sym same.1)))
-    by_test false e = ap weight e
+    by_test false e = rw e
 
 pub times_same : (place : ℕ) → times (Some place) place ≡ 1
 times_same place = ap weight (eq-eqb place place refl)
@@ -83,59 +71,41 @@ trailer_leads trailers descriptors place i exact lt =
     let x : ℕ × ℕ = get_or (trailers_of trailers place) i (0, 0) in
     let some = count_one (leads_to x.0 x.1) (trailers_of trailers place) i (0, 0) lt (leads_to_itself x.0 x.1) in
     let is = exact place x.0 x.1 in
-    times_one (leads_at descriptors x.0 x.1) place (omega (arith, some, is))
+    times_one (leads_at descriptors x.0 x.1) place (omega arith)
 
 -- no process has two trailers in one list, so there are at most as many as processes
-pub most_trailers : (entries : List (Option Entry)) (links : Links) (place : ℕ) → AreLinked entries links
+pub most_trailers : {entries : List (Option Entry)} {links : Links} (place : ℕ) → AreLinked entries links
     → length (trailers_of links.trailers place) ≤ 32
-most_trailers entries links place k =
+most_trailers {links} place k =
     let xs : List (ℕ × ℕ) = trailers_of links.trailers place in
-    let as_long : length (map (λ (x : ℕ × ℕ). x.0) xs) ≡ length xs = length-map xs (λ (x : ℕ × ℕ). x.0) in
-    let few = k.lists.few in
-    let same_count = k.lists.processes in
-    let most : length (map (λ (x : ℕ × ℕ). x.0) xs) ≤ 32 =
-    length-le_from_distinct_below (map (λ (x : ℕ × ℕ). x.0) xs) 32
-    (IsDistinct-from_apart eqb (map (λ (x : ℕ × ℕ). x.0) xs)
-    (λ i j d less lt. apart i j d less (omega (arith, lt, as_long))))
-    (λ q any.
-    (let found = any_at q xs (0, 0) any in
-    let leading = trailer_leads links.trailers links.descriptors place found.0 k.exact found.1 in
-    let within = leads_within links.descriptors (get_or xs found.0 (0, 0)).0 (get_or xs found.0 (0, 0)).1 place leading
-    in
-    let is = found.2 in
-    omega (arith, within, is, few, same_count))) in
-    omega (arith, most, as_long)
+    let as_long = length-map xs (λ (x : ℕ × ℕ). x.0) in
+    let most = length-le_from_distinct_below (map (λ (x : ℕ × ℕ). x.0) xs) 32
+    (IsDistinct-from_apart eqb (map (λ (x : ℕ × ℕ). x.0) xs) (λ i j d less lt. apart i j d less (rw as_long at lt)))
+    (λ q any. (let found = any_at q xs (0, 0) any in
+    let within = leads_within links.descriptors (get_or xs found.0 (0, 0)).0 (get_or xs found.0 (0, 0)).1 place
+    (trailer_leads links.trailers links.descriptors place found.0 k.exact found.1) in
+    omega (arith, found.2, k.lists.few, k.lists.processes))) in
+    rw as_long at most
   where
     first_at : (xs : List (ℕ × ℕ)) (i d : ℕ) → i < length xs → get_or (map (λ (x : ℕ × ℕ). x.0) xs) i d
         ≡ (get_or xs i (0, 0)).0
-    first_at xs i d lt = get_or-map (λ (x : ℕ × ℕ). x.0) xs i (d, 0) ∙ ap (λ (x : ℕ × ℕ). x.0) (any_default xs i lt)
-      where
-        any_default : (xs : List (ℕ × ℕ)) (i : ℕ) → i < length xs → get_or xs i (d, 0) ≡ get_or xs i (0, 0)
-        any_default xs i lt = get_or_any xs i (d, 0) (0, 0) lt
+    first_at xs i d lt = rw (get_or_any xs i (0, 0) (d, 0) lt) (get_or-map (λ (x : ℕ × ℕ). x.0) xs i (d, 0))
 
     apart : (i j d : ℕ) → i < j → j < length (trailers_of links.trailers place)
         → eqb (get_or (map (λ (x : ℕ × ℕ). x.0) (trailers_of links.trailers place)) i d)
-        (get_or (map (λ (x : ℕ × ℕ). x.0) (trailers_of links.trailers place)) j d)
-        ≡ false
+        (get_or (map (λ (x : ℕ × ℕ). x.0) (trailers_of links.trailers place)) j d) ≡ false
     apart i j d less lt =
         let xs : List (ℕ × ℕ) = trailers_of links.trailers place in
         let a : ℕ × ℕ = get_or xs i (0, 0) in
         let b : ℕ × ℕ = get_or xs j (0, 0) in
-        let at_i = first_at xs i d (omega (arith, less, lt)) in
-        let at_j = first_at xs j d lt in
-        ne_eqb _ _
-        (λ same.
-        (let process : b.0 ≡ a.0 = sym at_j ∙ sym same ∙ at_i in
-        let one = k.known a.0 a.1 place (trailer_leads links.trailers links.descriptors place i k.exact
-        (omega (arith, less, lt))) in
+        let lt_i : i < length xs = omega arith in
+        ne_eqb _ _ (λ same. (let process : b.0 ≡ a.0 = sym (first_at xs j d lt) ∙ sym same ∙ first_at xs i d lt_i in
+        let one = k.known a.0 a.1 place (trailer_leads links.trailers links.descriptors place i k.exact lt_i) in
         let two = k.known b.0 b.1 place (trailer_leads links.trailers links.descriptors place j k.exact lt) in
-        let uid : two.uid ≡ one.uid = same_Some _ _ (sym two.active ∙ one.active) in
+        let uid : two.uid ≡ one.uid = same_Some _ _ (cc) in
         let known : uid_of (kst_at links.known a.0) b.1 ≡ Some one.uid =
         ap (λ (q : ℕ). uid_of (kst_at links.known q) b.1) (sym process) ∙ two.known_as ∙ ap (λ (n : ℕ). Some n) uid in
         let number : b.1 ≡ a.1 = k.each a.0 b.1 a.1 one.uid known one.known_as in
-        let twice =
-        count_two (leads_to a.0 a.1) xs i j (0, 0) less lt (leads_to_itself a.0 a.1)
+        let twice = count_two (leads_to a.0 a.1) xs i j (0, 0) less lt (leads_to_itself a.0 a.1)
         (and_from _ _ (eq-eqb b.0 a.0 process) (eq-eqb b.1 a.1 number)) in
-        let is = k.exact place a.0 a.1 in
-        let most = times_few (leads_at links.descriptors a.0 a.1) place in
-        omega (arith, twice, is, most)))
+        omega (arith, k.exact place a.0 a.1, times_few (leads_at links.descriptors a.0 a.1) place)))

@@ -1,13 +1,12 @@
 -- Segment control where nothing is active, known or connected.
-use Rattle.seg_control.proofs.Prelude.{◌≡◌, ◌≢◌, ℕ, suc, zero, ◌<◌, ◌≤◌, ◌+◌, ◌^◌, List, [], ◌∷◌, ◌++◌, length, Option, None, Some, sum, replicate, count_by, refl, sym, ap, subst, ◌∙◌, arith, get_or, inl, inr, cases_lt, get_or-replicate, get_or_past, length-replicate, none-some, reads_of, bound_page, started_page, Ptw, Null, ptw_at, leads_to, Sdw, Fault, sdw_at, all_faults, uid_of, ActiveSegs, uid_in, superior_in, uid_at, superior_at, table_at, null_tables, no_segments, IsTree, AreNullTables, size_of, Plain, bindings, binding_at, AreFiled, Links, kst_at, leads, leads_at, no_links, read_at, times, AreFree, AreAtRest, AreLinked, IsKept, Free, get_or-map, all_same, length_of_four}
+use Rattle.seg_control.proofs.Prelude.{◌≡◌, ◌≢◌, ℕ, suc, zero, ◌≤◌, ◌+◌, ◌^◌, List, [], ◌∷◌, ◌++◌, length, Option, None, Some, sum, replicate, count_by, refl, sym, ap, ◌∙◌, get_or, inl, inr, cases_lt, get_or-replicate, get_or_past, length-replicate, none-some, reads_of, bound_page, started_page, Ptw, Null, ptw_at, leads_to, Sdw, Fault, sdw_at, all_faults, uid_of, ActiveSegs, uid_in, superior_in, uid_at, superior_at, table_at, null_tables, no_segments, IsTree, AreNullTables, size_of, Plain, bindings, binding_at, AreFiled, Links, kst_at, leads, leads_at, no_links, read_at, times, AreFree, AreAtRest, AreLinked, IsKept, Free, get_or-map, all_same, length_of_four}
 use Rattle.seg_control.proofs.Frames.{read_is}
 
 -- one of many equal ones, or the default past their end
 one_of : {X : Type 0} (n i : ℕ) (x d : X) (P : X → Type 0) → P x → P d → P (get_or (replicate n x) i d)
-one_of {X} n i x d P px pd = elim (cases_lt i n) [
-  | inl lt ↦ subst P (sym (get_or-replicate n i x d lt)) px
-  | inr past ↦ subst P (sym (get_or_past (replicate n x) i d
-      (let long : length (replicate n x) ≡ n = length-replicate n x in omega (arith, long, past)))) pd
+one_of n i x d P px pd = elim (cases_lt i n) [
+  | inl lt ↦ rw (get_or-replicate n i x d lt) px
+  | inr past ↦ rw (get_or_past (replicate n x) i d (rw (length-replicate n x) past)) pd
 ]
 
 none_at : (n place uid : ℕ) → uid_at (replicate n None) place ≢ Some uid
@@ -30,8 +29,7 @@ AreBlank tables = (place p : ℕ) → ptw_at (table_at tables place) p ≡ Null
 
 blank_same : (n m : ℕ) → AreBlank (replicate n (replicate m Null))
 unfolding AreBlank
-blank_same n m place p =
-    one_of n place (replicate m Null) [] (λ (t : List Ptw). ptw_at t p ≡ Null)
+blank_same n m place p = one_of n place (replicate m Null) [] (λ (t : List Ptw). ptw_at t p ≡ Null)
     (one_of m p Null Null (λ (w : Ptw). w ≡ Null) refl refl) refl
 
 blank_both : (xs ys : List (List Ptw)) → AreBlank xs → AreBlank ys → AreBlank (xs ++ ys)
@@ -43,8 +41,7 @@ blank_both (x ∷ xs) ys one two (suc place) p = blank_both xs ys (λ q n. one (
 blank_null : (pools : List ℕ) → AreBlank (null_tables pools)
 blank_null pools =
     blank_both _ _ (blank_both _ _ (blank_both _ _ (blank_same (size_of pools 0) 4) (blank_same (size_of pools 1) 16))
-    (blank_same (size_of pools 2) 64))
-    (blank_same (size_of pools 3) 256)
+    (blank_same (size_of pools 2) 64)) (blank_same (size_of pools 3) 256)
 
 word_null : (pools : List ℕ) (place p : ℕ) → ptw_at (table_at (null_tables pools) place) p ≡ Null
 unfolding AreBlank
@@ -53,13 +50,11 @@ word_null pools place p = blank_null pools place p
 -- ---- descriptors, trailers and known segment tables
 
 unled : (n q number : ℕ) → leads_at (replicate n all_faults) q number ≡ None
-unled n q number =
-    one_of n q all_faults [] (λ (words : List Sdw). leads (sdw_at words number) ≡ None)
+unled n q number = one_of n q all_faults [] (λ (words : List Sdw). leads (sdw_at words number) ≡ None)
     (one_of 256 number Fault Fault (λ (w : Sdw). leads w ≡ None) refl refl) refl
 
 unknown : (n q number : ℕ) → uid_of (kst_at (replicate n (replicate 256 None)) q) number ≡ None
-unknown n q number =
-    one_of n q (replicate 256 None) [] (λ (kst : List (Option ℕ)). uid_of kst number ≡ None)
+unknown n q number = one_of n q (replicate 256 None) [] (λ (kst : List (Option ℕ)). uid_of kst number ≡ None)
     (one_of 256 number None None (λ (u : Option ℕ). u ≡ None) refl refl) refl
 
 abbrev no_number : Option ℕ
@@ -69,40 +64,28 @@ linked_none : (n places processes : ℕ) → places ≡ n → processes ≤ 32
     → AreLinked (replicate n None) (no_links places processes)
 linked_none n places processes same few = record {
   exact = λ place q number.
-      ap (count_by (leads_to q number)) (one_of places place [] [] (λ (xs : List (ℕ × ℕ)). xs ≡ []) refl refl)
-      ∙ sym (ap (λ (at : Option ℕ). times at place) (unled processes q number));
-  known = λ q number place e. absurd (none-some place (sym (unled processes q number) ∙ e));
-  each = λ q a b uid e e'. absurd (none-some uid (sym (unknown processes q a) ∙ e));
+      cc (one_of places place [] [] (λ (xs : List (ℕ × ℕ)). xs ≡ []) refl refl, unled processes q number);
+  known = λ q number place e. cc (unled processes q number);
+  each = λ q a b uid e e'. cc (unknown processes q a);
   lists = record {
     places = length-replicate places [] ∙ same ∙ sym (length-replicate n None);
     processes = length-replicate processes all_faults ∙ sym (length-replicate processes (replicate 256 None));
-    few = (let long : length (replicate processes (replicate 256 no_number)) ≡ processes =
-        length-replicate processes (replicate 256 None) in
-        omega (arith, long, few));
-    numbers = λ q lt. ap length (get_or-replicate processes q (replicate 256 no_number) [] (below processes q lt))
-        ∙ length-replicate 256 no_number;
-    words = λ q lt. ap length (get_or-replicate processes q all_faults [] (below processes q lt))
-        ∙ length-replicate 256 Fault;
+    few = rw (length-replicate processes (replicate 256 no_number)) few;
+    numbers = λ q lt. rw (get_or-replicate processes q (replicate 256 no_number) []
+        (rw (length-replicate processes (replicate 256 no_number)) at lt)) (length-replicate 256 no_number);
+    words = λ q lt. rw (get_or-replicate processes q all_faults []
+        (rw (length-replicate processes (replicate 256 no_number)) at lt)) (length-replicate 256 Fault);
   };
 }
-  where
-    below : (processes q : ℕ) → q < length (replicate processes (replicate 256 no_number)) → q < processes
-    below processes q lt =
-        let long : length (replicate processes (replicate 256 no_number)) ≡ processes =
-        length-replicate processes (replicate 256 None) in
-        omega (arith, long, lt)
 
 -- ---- the whole
 
 pub kept_new : (now : Plain) (pools : List ℕ) (places processes : ℕ) (ast : ActiveSegs) (links : Links) → length pools
     ≡ 4 → processes ≤ 32 → AreFree now.core
     → AreFiled now.records now.vtocs → AreAtRest now → ast ≡ no_segments pools → AreNullTables pools ast.tables
-    → places ≡ sum pools
-    → links ≡ no_links places processes → IsKept now ast links
+    → places ≡ sum pools → links ≡ no_links places processes → IsKept now ast links
 kept_new now pools places processes ast links four few free filed rest is_ast null same is_links =
-    subst (λ (a : ActiveSegs). IsKept now a links) (sym is_ast)
-    (subst (λ (l : Links). IsKept now (no_segments pools) l) (sym is_links)
-    (record {
+    rw (is_ast, is_links) (record {
       paged = record {
         tables = λ place uid e. absurd (none_at (sum pools) place uid e);
         ties = λ place uid home e is. absurd (none_at (sum pools) place uid e);
@@ -116,17 +99,13 @@ kept_new now pools places processes ast links four few free filed rest is_ast nu
       tree = tree_empty (sum pools);
       places = length_of_four (replicate 4 Null) (replicate 16 Null) (replicate 64 Null) (replicate 256 Null) pools four
           ∙ sym (length-replicate (sum pools) None);
-      sized = λ pool place lt in_pool.
-          ap length (subst (λ (a : ActiveSegs). AreNullTables pools a.tables) is_ast null pool place lt in_pool)
+      sized = λ pool place lt in_pool. ap length ((rw is_ast at null) pool place lt in_pool)
           ∙ length-replicate (4 ^ (pool + 1)) Null;
       linked = linked_none (sum pools) places processes same few;
-    }))
+    })
   where
-    some_page : {X : Type 0} (x : X) → ◌≡◌ {A = Option X} None (Some x) → ⊥
-    some_page x e = cc
-
     not_bound : (f : ℕ) (x : ℕ × ℕ) → binding_at (bindings now.core) f ≡ Some x → ⊥
-    not_bound f x e = some_page x (sym (get_or-map bound_page now.core.frames f Free ∙ ap bound_page (free f)) ∙ e)
+    not_bound f x e = none-some x (cc (get_or-map bound_page now.core.frames f Free, free f))
 
     not_read : (f : ℕ) (x : ℕ × ℕ) → read_at (reads_of now.core) f ≡ Some x → ⊥
-    not_read f x e = some_page x (sym (read_is now.core f ∙ ap started_page (free f)) ∙ e)
+    not_read f x e = none-some x (cc (read_is now.core f, free f))

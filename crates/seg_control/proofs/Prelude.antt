@@ -18,7 +18,7 @@ pub use Rattle.std.specs.Prelude.{slice_set, ◌↔◌}
 pub use Rattle.laws.proofs.Bools.{and_parts, off_and_on}
 pub use Rattle.laws.proofs.Lists.{all_same, get_or_any, length_push, one_left, position_there}
 pub use Rattle.laws.proofs.Numbers.{same_test}
-pub use Rattle.laws.proofs.Options.{map_some, not_none, some_number, some_unwrapped, times_few, times_one}
+pub use Rattle.laws.proofs.Options.{map_some, not_none, page_is, some_number, some_unwrapped, times_few, times_one}
 pub use Rattle.laws.proofs.Places.{length_of_four, put_here, put_other, shown_within}
 pub use Rattle.mnames.specs.declared.modes.Mode.{Mode}
 pub use Rattle.known_segs.specs.Known.{HasOneNumberEach, uid_of, with_number, without_number}

@@ -1,5 +1,5 @@
 -- What is kept of the volumes at rest: where no segment moves, and where the volumes stay while one does.
-use Rattle.seg_control.proofs.Prelude.{◌≡◌, ℕ, Bool, true, false, ◌&&◌, cond, eqb, List, [], Option, None, Some, IfSome, is_some, get_or, refl, sym, ap, subst, ◌∙◌, position, reads_of, Ptw, ptw_at, record_at, Vols, ActiveSegs, Home, Paging, Plain, plain, bindings, binding_at, disk_of, filed, vtoc_in, is_binding, words_filed, words_held, words_of_page, words_out, words_at, changed_at, changed_page, KeepsTies, words_marked, bound_within, Mover, CanBegin, IsMoving, begun, undone, Links, table_of, AreLinked, IsHomeOf, IsKept, read_at, IsKeptAtRest, IsOnItsWay, at_rest, home_at, volumes_of, off_and_on, position_there}
+use Rattle.seg_control.proofs.Prelude.{◌≡◌, ℕ, Bool, true, false, List, [], Option, None, Some, IfSome, is_some, get_or, refl, sym, ap, subst, ◌∙◌, position, reads_of, record_at, Vols, ActiveSegs, Home, Paging, Plain, plain, bindings, binding_at, disk_of, filed, vtoc_in, is_binding, words_filed, words_held, words_of_page, words_out, words_at, changed_at, changed_page, KeepsTies, words_marked, bound_within, Mover, begun, undone, Links, table_of, AreLinked, IsHomeOf, IsKept, read_at, IsKeptAtRest, IsOnItsWay, at_rest, home_at, volumes_of, off_and_on, position_there}
 use Rattle.seg_control.proofs.Paged.{paged_same}
 use Rattle.seg_control.proofs.Calls.{kept_paged, kept_with}
 use Rattle.seg_control.proofs.Aside.{AreAside, IsAside, move_aside, not_free, tie_less, tie_more}
@@ -7,30 +7,22 @@ use Rattle.seg_control.proofs.Aside.{AreAside, IsAside, move_aside, not_free, ti
 -- ---- no segment moves
 
 -- the volumes are at rest as they are
-pub kept_still : {D : Type 0} (pages : D → List (List ℕ)) (s : Paging D) (ast : ActiveSegs) (links : Links)
-    (moving : Option Mover)
-    → moving ≡ None → IsKeptAtRest pages s ast links moving
-    → IsKept (plain pages s) ast links
-kept_still pages s ast links moving none k =
-    subst (λ (m : Option Mover). IsKept (plain pages (at_rest s m)) ast links) none k.kept
+pub kept_still : {D : Type 0} {pages : D → List (List ℕ)} {s : Paging D} {ast : ActiveSegs} {links : Links}
+    {moving : Option Mover} → moving ≡ None → IsKeptAtRest pages s ast links moving → IsKept (plain pages s) ast links
+kept_still none k = rw none at k.kept
 
 -- what is kept of them is kept at rest
-pub still_kept : {D : Type 0} (pages : D → List (List ℕ)) (s : Paging D) (ast : ActiveSegs) (links : Links)
-    (moving : Option Mover)
-    → moving ≡ None → IsKept (plain pages s) ast links
-    → IsKeptAtRest pages s ast links moving
-still_kept pages s ast links moving none k =
-    subst (λ (m : Option Mover). IsKeptAtRest pages s ast links m) (sym none)
-    (record { kept = k; way = tt })
+pub still_kept : {D : Type 0} {pages : D → List (List ℕ)} {s : Paging D} {ast : ActiveSegs} {links : Links}
+    {moving : Option Mover} → moving ≡ None → IsKept (plain pages s) ast links → IsKeptAtRest pages s ast links moving
+still_kept none k = rw none (assumption)
 
 -- ---- a segment moves
 
 -- what is kept, by the mover
-pub kept_moving : {D : Type 0} (pages : D → List (List ℕ)) (s : Paging D) (ast : ActiveSegs) (links : Links)
-    (moving : Option Mover) (m : Mover)
-    → moving ≡ Some m → IsKeptAtRest pages s ast links moving → IsKeptAtRest pages s ast links (Some m)
-kept_moving pages s ast links moving m is k =
-    subst (λ (x : Option Mover). IsKeptAtRest pages s ast links x) is k
+pub kept_moving : {D : Type 0} {pages : D → List (List ℕ)} {s : Paging D} {ast : ActiveSegs} {links : Links}
+    {moving : Option Mover} {m : Mover} → moving ≡ Some m → IsKeptAtRest pages s ast links moving
+    → IsKeptAtRest pages s ast links (Some m)
+kept_moving is k = rw is at k
 
 -- ---- the volumes stay
 
@@ -45,16 +37,15 @@ pub way_kept : {rest now : Plain} {ast : ActiveSegs} {m : Mover} (next new : Pla
     → those.entries ≡ ast.entries → table_of those m.uid ≡ table_of ast m.uid
     → ((f p : ℕ) → read_at (reads_of new.core) f ≡ Some (m.uid, p) → read_at (reads_of now.core) f ≡ Some (m.uid, p))
     → IsOnItsWay next new those m
-way_kept {rest = rest} {now = now} {ast = ast} {m = m} next new those w resting same entries table reads = record {
+way_kept {now} {m} next new those w resting same entries table reads = record {
   active = rw entries w.active;
   home = subst (λ (vols : Vols (List (List ℕ))). IsHomeOf vols.vtocs m.uid (home_at m.from)) (sym resting) w.home;
-  can = subst (λ (vols : Vols (List (List ℕ))). CanBegin vols m.uid m.from m.to.0) (sym resting) w.can;
-  begun = same ∙ w.begun ∙ ap (λ (vols : Vols (List (List ℕ))). begun vols m.uid m.from m.to.0) (sym resting);
-  moving = subst (λ (vols : Vols (List (List ℕ))). IsMoving vols m) (sym same) w.moving;
+  can = rw resting w.can;
+  begun = cc;
+  moving = rw same w.moving;
   unread = record { none = λ f p at. w.unread.none f p (reads f p at) };
   copied = record {
-    words = λ p r lt out. out_same new now (home_at m.to) p same
-        ∙ w.copied.words p r lt (ap (λ (t : List Ptw). ptw_at t p) (sym table) ∙ out)
+    words = λ p r lt out. out_same new now (home_at m.to) p same ∙ w.copied.words p r lt (rw table at out)
         ∙ sym (out_same new now (home_at m.from) p same);
   };
 }
@@ -73,15 +64,10 @@ if_moves None next h = tt
 if_moves (Some m) next h = next m refl h
 
 -- the home that a move has taken is aside
-pub aside_of : {D : Type 0} (pages : D → List (List ℕ)) (s : Paging D) (ast : ActiveSegs) (links : Links) (m : Mover)
+pub aside_of : {D : Type 0} {pages : D → List (List ℕ)} {s : Paging D} {ast : ActiveSegs} {links : Links} {m : Mover}
     → IsKeptAtRest pages s ast links (Some m)
     → IsAside (plain pages (at_rest s (Some m))) (plain pages s) (home_at m.to)
-aside_of pages s ast links m k = record {
-  core = refl;
-  frames = refl;
-  disks = refl;
-  tables = move_aside (volumes_of (plain pages s)) m k.way.moving k.kept.paged.filed;
-}
+aside_of k = assumption (move_aside k.way.moving k.kept.paged.filed)
 
 -- so it stays, while the volumes do
 pub aside_stays : {D : Type 0} (pages : D → List (List ℕ)) (old now : Paging D) (m : Mover)
@@ -97,35 +83,30 @@ aside_stays pages old now m same a = record {
 }
 
 -- what is true of each segment stays true with the volumes at rest, where it does with the volumes as they are
-pub ties_rest : {D : Type 0} (pages : D → List (List ℕ)) (old now : Paging D) (ast : ActiveSegs) (links : Links)
-    (moving : Option Mover)
-    → IsKeptAtRest pages old ast links moving
-    → volumes_of (plain pages now) ≡ volumes_of (plain pages old)
-    → KeepsTies (plain pages old) (plain pages now)
-    → KeepsTies (plain pages (at_rest old moving)) (plain pages (at_rest now moving))
-ties_rest pages old now ast links None k same ties = ties
-ties_rest pages old now ast links (Some m) k same ties =
-    let aside = aside_of pages old ast links m k in
+pub ties_rest : {D : Type 0} {pages : D → List (List ℕ)} {old : Paging D}
+    (now : Paging D) {ast : ActiveSegs} {links : Links} {moving : Option Mover}
+    → IsKeptAtRest pages old ast links moving → volumes_of (plain pages now) ≡ volumes_of (plain pages old)
+    → KeepsTies (plain pages old) (plain pages now) → KeepsTies (plain pages (at_rest old moving))
+    (plain pages (at_rest now moving))
+ties_rest now {moving = None} k same ties = ties
+ties_rest {pages} {old} now {moving = Some m} k same ties =
+    let aside = aside_of k in
     record {
       ties = λ uid home t tie. tie_less (aside_stays pages old now m same aside)
           (not_free aside home uid tie.used) (ties.ties uid home t (tie_more aside tie));
     }
 
 -- marks and words in frames have changed, and no binding
-pub kept_rest : {D : Type 0} (pages : D → List (List ℕ)) (old now : Paging D) (ast : ActiveSegs) (links : Links)
-    (moving : Option Mover)
-    → IsKeptAtRest pages old ast links moving
-    → volumes_of (plain pages now) ≡ volumes_of (plain pages old)
+pub kept_rest : {D : Type 0} {pages : D → List (List ℕ)} {old : Paging D}
+    (now : Paging D) {ast : ActiveSegs} {links : Links} {moving : Option Mover}
+    → IsKeptAtRest pages old ast links moving → volumes_of (plain pages now) ≡ volumes_of (plain pages old)
     → bindings now.core ≡ bindings old.core → reads_of now.core ≡ reads_of old.core
-    → KeepsTies (plain pages old) (plain pages now)
-    → IsKeptAtRest pages now ast links moving
-kept_rest pages old now ast links moving k same bound reads tied =
+    → KeepsTies (plain pages old) (plain pages now) → IsKeptAtRest pages now ast links moving
+kept_rest {pages} {old} now {ast} {links} {moving} k same bound reads tied =
     let resting = rest_same pages old now moving same in
-    let ties = ties_rest pages old now ast links moving k same tied in
+    let ties = ties_rest now k same tied in
     record {
-      kept = kept_paged (plain pages (at_rest old moving)) (plain pages (at_rest now moving)) ast links k.kept
-          (paged_same (plain pages (at_rest old moving)) (plain pages (at_rest now moving)) ast.entries ast.tables
-          k.kept.paged bound (ap (λ (vols : Vols (List (List ℕ))). vols.vtocs) resting)
+      kept = kept_paged k.kept (paged_same k.kept.paged bound (ap (λ (vols : Vols (List (List ℕ))). vols.vtocs) resting)
           (ap (λ (vols : Vols (List (List ℕ))). vols.records) resting) ties reads);
       way = if_moves moving (λ m is w. way_kept (plain pages (at_rest now moving)) (plain pages now) ast w resting same
           refl refl (λ f p at. ap (λ (those : List (Option (ℕ × ℕ))). read_at those f) (sym reads) ∙ at)) k.way;
@@ -135,7 +116,7 @@ kept_rest pages old now ast links moving k same bound reads tied =
 pub kept_linked : {D : Type 0} {pages : D → List (List ℕ)} {s : Paging D} {ast : ActiveSegs} {links those : Links}
     {moving : Option Mover}
     → IsKeptAtRest pages s ast links moving → AreLinked ast.entries those → IsKeptAtRest pages s ast those moving
-kept_linked {ast = ast} k linked = record { kept = kept_with ast.hands k.kept k.kept.paged linked; way = k.way }
+kept_linked {ast = ast} k linked = assumption (kept_with ast.hands k.kept k.kept.paged linked)
 
 -- ---- frames alone change
 
@@ -143,23 +124,23 @@ kept_linked {ast = ast} k linked = record { kept = kept_with ast.hands k.kept k.
 held_in : (s : Plain) (u : ℕ) (h : Home) (q g : ℕ) → position (is_binding u q) (bindings s.core) ≡ Some g
     → words_at s u h q ≡ get_or s.frames g []
 unfolding words_of_page
-held_in s u h q g is = ap (words_held s.frames (disk_of s h.volume) (filed s h q)) is
+held_in s u h q g is = cc
 
 held_out : (s : Plain) (u : ℕ) (h : Home) (q : ℕ) → position (is_binding u q) (bindings s.core) ≡ None
     → words_at s u h q ≡ words_out s h q
 unfolding words_of_page
-held_out s u h q is = ap (words_held s.frames (disk_of s h.volume) (filed s h q)) is
+held_out s u h q is = cc
 
 -- what changes at one page, at that page and at another
 changed_by : (a b : ℕ → ℕ → List ℕ) (uid p : ℕ) (words : List ℕ) (u q : ℕ) → a u q ≡ b u q
     → changed_at a uid p words u q ≡ changed_at b uid p words u q
 unfolding changed_at
-changed_by a b uid p words u q same = ap (λ (those : List ℕ). cond (eqb uid u && eqb p q) words those) same
+changed_by a b uid p words u q same = rw same
 
 unchanged : (a : ℕ → ℕ → List ℕ) (uid p : ℕ) (words : List ℕ) (u q : ℕ) → is_binding u q (Some (uid, p)) ≡ false
     → changed_at a uid p words u q ≡ a u q
 unfolding changed_at
-unchanged a uid p words u q off = ap (λ (b : Bool). cond b words (a u q)) off
+unchanged a uid p words u q off = rw off
 
 -- a page that no frame has isn't the one that a frame is bound to
 not_bound : (bound : List (Option (ℕ × ℕ))) (f uid p u q : ℕ) → binding_at bound f ≡ Some (uid, p)
@@ -170,13 +151,13 @@ not_bound bound f uid p u q at none = by_test (is_binding u q (Some (uid, p))) r
     by_test false is = refl
     by_test true is = absurd (let some = position_there (is_binding u q) bound f None
         (bound_within bound f uid p at) (ap (is_binding u q) at ∙ is) in
-        off_and_on false refl (sym (ap is_some none) ∙ some))
+        off_and_on false refl (cc))
 
 -- what page control is then, with the volumes at rest
-pub plain_rest : {D : Type 0} (pages : D → List (List ℕ)) (old now : Paging D) (moving : Option Mover) (s : Plain)
+pub plain_rest : {D : Type 0} (pages : D → List (List ℕ)) (old now : Paging D) (moving : Option Mover) {s : Plain}
     → volumes_of (plain pages now) ≡ volumes_of (plain pages old) → plain pages now ≡ s
     → plain pages (at_rest now moving) ≡ record (plain pages (at_rest old moving)) { core = s.core; frames = s.frames }
-plain_rest pages old now moving s same is =
+plain_rest pages old now moving same is =
     ap (λ (vols : Vols (List (List ℕ))). with_vols vols (plain pages now)) (rest_same pages old now moving same)
     ∙ ap (with_vols (volumes_of (plain pages (at_rest old moving)))) is
   where
@@ -186,8 +167,7 @@ plain_rest pages old now moving s same is =
 -- volumes that are as before are so at rest
 pub volumes_rest : {D : Type 0} (old now : Paging D) (moving : Option Mover) → now.volumes ≡ old.volumes
     → (at_rest now moving).volumes ≡ (at_rest old moving).volumes
-volumes_rest old now moving volumes =
-    ap (λ (vols : Vols _). (at_rest (record now { volumes = vols }) moving).volumes) volumes
+volumes_rest old now moving volumes = rw volumes
 
 -- where bindings and words in frames stay
 pub words_rest : {D : Type 0} (pages : D → List (List ℕ)) (old now : Paging D) (moving : Option Mover)
@@ -218,7 +198,7 @@ words_put pages old now moving uid p f words same bound at put =
 
     moved : (u q : ℕ) (place : Option ℕ) → position (is_binding u q) (bindings old.core) ≡ place
         → position (is_binding u q) (bindings now.core) ≡ place
-    moved u q place is = ap (λ (b : List (Option (ℕ × ℕ))). position (is_binding u q) b) bound ∙ is
+    moved u q place is = rw bound is
 
     point : (u : ℕ) (h : Home) (q : ℕ) (place : Option ℕ) → position (is_binding u q) (bindings old.core) ≡ place
         → words_at next u h q ≡ changed_page (words_at rest) uid p words u h q
@@ -228,7 +208,5 @@ words_put pages old now moving uid p f words same bound at put =
         ∙ changed_by (λ v n. words_at (plain pages old) v h n) (λ v n. words_at rest v h n) uid p words u q
         (held_in (plain pages old) u h q g is ∙ sym (held_in rest u h q g is))
     point u h q None is = held_out next u h q (moved u q None is)
-        ∙ out_same next rest h q (rest_same pages old now moving same)
-        ∙ sym (held_out rest u h q is)
-        ∙ sym (unchanged (λ v n. words_at rest v h n) uid p words u q
-        (not_bound (bindings old.core) f uid p u q at is))
+        ∙ out_same next rest h q (rest_same pages old now moving same) ∙ sym (held_out rest u h q is)
+        ∙ sym (unchanged (λ v n. words_at rest v h n) uid p words u q (not_bound (bindings old.core) f uid p u q at is))

@@ -1,5 +1,5 @@
 -- How much of each volume is in use after a move is committed.
-use Rattle.seg_control.proofs.Prelude.{◌≡◌, ◌≢◌, ℕ, suc, ◌+◌, ◌<◌, Bool, false, cond, List, [], ◌∷◌, length, Option, None, Some, IsSome, is_some, refl, sym, ap, ◌∙◌, arith, get_or, set, count_by, inl, inr, eqb_tells, get_or-set_same, sum_by-cons, sum_by-set, VtocEntry, Vols, records_at, vtoc_at, Home, named_on, taken, used, map_at, entry_of, mover_map, mover_uid, given_back, AreKept, entry_within, vtoc_within, count_given, map_some}
+use Rattle.seg_control.proofs.Prelude.{◌≡◌, ◌≢◌, ℕ, suc, ◌+◌, ◌<◌, false, cond, List, [], ◌∷◌, length, Option, None, Some, IsSome, is_some, refl, sym, arith, get_or, set, count_by, inl, inr, eqb_tells, get_or-set_same, sum_by-cons, sum_by-set, VtocEntry, Vols, records_at, vtoc_at, Home, named_on, taken, used, entry_of, mover_map, mover_uid, given_back, AreKept, entry_within, vtoc_within, count_given, map_some}
 use Rattle.vtoc.specs.Vtoc.{entry_at}
 use Rattle.seg_control.proofs.Aside.{given_here}
 
@@ -9,23 +9,20 @@ count_none : (places : List (Option ℕ)) → ((p : ℕ) → is_some (get_or pla
     → count_by is_some places ≡ 0
 count_none [] none = refl
 count_none (place ∷ places) none =
-    let step = sum_by-cons (λ (x : Option ℕ). cond {A = ℕ} (is_some x) 1 0) place places in
-    let head : cond {A = ℕ} (is_some place) 1 0 ≡ 0 = ap (λ (b : Bool). cond {A = ℕ} b 1 0) (none 0) in
-    let rest = count_none places (λ p. none (suc p)) in
-    omega (arith, step, head, rest)
+    rw (sum_by-cons (λ (x : Option ℕ). cond {A = ℕ} (is_some x) 1 0) place places, none 0)
+    (omega (arith, count_none places (λ p. none (suc p))))
 
 pub count_same : (places those : List (Option ℕ))
     → ((p : ℕ) → is_some (get_or places p None) ≡ is_some (get_or those p None))
     → count_by is_some places ≡ count_by is_some those
 count_same [] those same = sym (count_none those (λ p. sym (same p)))
 count_same (place ∷ places) [] same = count_none (place ∷ places) same
-count_same (place ∷ places) (x ∷ those) same =
-    let one = sum_by-cons (λ (x : Option ℕ). cond {A = ℕ} (is_some x) 1 0) place places in
-    let two = sum_by-cons (λ (x : Option ℕ). cond {A = ℕ} (is_some x) 1 0) x those in
-    let head : cond {A = ℕ} (is_some place) 1 0 ≡ cond {A = ℕ} (is_some x) 1 0 =
-    ap (λ (b : Bool). cond {A = ℕ} b 1 0) (same 0) in
-    let rest = count_same places those (λ p. same (suc p)) in
-    omega (arith, one, two, head, rest)
+count_same (place ∷ places) (x ∷ those) same = rw (
+  sum_by-cons (λ (x : Option ℕ). cond {A = ℕ} (is_some x) 1 0) place places,
+  sum_by-cons (λ (x : Option ℕ). cond {A = ℕ} (is_some x) 1 0) x those,
+  same 0,
+  count_same places those (λ p. same (suc p)),
+)
 
 -- a file map names no record of another volume
 pub named_elsewhere : (vtocs : List (List (Option VtocEntry))) (home : Home) (v : ℕ) → v ≢ home.volume
@@ -33,19 +30,16 @@ pub named_elsewhere : (vtocs : List (List (Option VtocEntry))) (home : Home) (v 
 unfolding named_on
 named_elsewhere vtocs home v other = elim (eqb_tells v home.volume) [
   | inl same ↦ absurd (other same.1)
-  | inr is ↦ ap (λ (b : Bool). cond b (count_by is_some (map_at vtocs home)) 0) is.0
+  | inr is ↦ rw is.0
 ]
 
 -- ---- a home that is given up
 
 -- its records are free
 pub taken_given : {D : Type 0} (vols : Vols D) (home : ℕ × ℕ) → AreKept (records_at vols home.0) (mover_map vols home)
-    → taken (given_back vols home).records home.0 + count_by is_some (mover_map vols home)
-    ≡ taken vols.records home.0
-taken_given vols home kept =
-    ap (λ (flags : List Bool). count_by (λ (flag : Bool). flag) flags + count_by is_some (mover_map vols home))
-    (given_here vols.records home.0 (mover_map vols home))
-    ∙ count_given (records_at vols home.0) (mover_map vols home) kept
+    → taken (given_back vols home).records home.0 + count_by is_some (mover_map vols home) ≡ taken vols.records home.0
+taken_given vols home kept = rw (given_here vols.records home.0 (mover_map vols home))
+    (count_given (records_at vols home.0) (mover_map vols home) kept)
 
 -- and so is its entry
 entry_less : (table : List (Option VtocEntry)) (e : ℕ) → e < length table → IsSome (entry_at table e)
@@ -53,12 +47,11 @@ entry_less : (table : List (Option VtocEntry)) (e : ℕ) → e < length table �
 entry_less table e lt some =
     let step = sum_by-set (λ (entry : Option VtocEntry). cond {A = ℕ} (is_some entry) 1 0) table e None None lt in
     let one : cond {A = ℕ} (is_some (get_or table e None)) 1 0 ≡ 1 = rw some refl in
-    omega (arith, step, one)
+    omega arith
 
 pub used_given : {D : Type 0} (vols : Vols D) (home : ℕ × ℕ) (uid : ℕ) → mover_uid vols home ≡ Some uid
     → used (given_back vols home).vtocs home.0 + 1 ≡ used vols.vtocs home.0
 used_given vols home uid is =
     let some = map_some (λ (e : VtocEntry). e.uid) (entry_of vols home) uid is in
-    ap (λ (table : List (Option VtocEntry)). count_by is_some table + 1)
-    (get_or-set_same vols.vtocs home.0 (set (vtoc_at vols home.0) home.1 None) [] (vtoc_within vols home some))
-    ∙ entry_less (vtoc_at vols home.0) home.1 (entry_within vols home some) some
+    rw (get_or-set_same vols.vtocs home.0 (set (vtoc_at vols home.0) home.1 None) [] (vtoc_within vols home some))
+    (entry_less (vtoc_at vols home.0) home.1 (entry_within vols home some) some)

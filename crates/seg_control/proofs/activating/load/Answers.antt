@@ -6,7 +6,7 @@ use Rattle.seg_control.proofs.activating.load.Goals as goal
 use Rattle.seg_control.proofs.activating.load.Goals.{in-Some, in-None}
 
 pub loop-p-init : goal.loop-p-init
-loop-p-init c = record { filled = sym (table_zero (records_in (entry_at c.args.vtoc.now c.args.entry))); long = refl }
+loop-p-init c = assumption (sym (table_zero (records_in (entry_at c.args.vtoc.now c.args.entry))))
 
 pub loop-p-preserved : goal.loop-p-preserved
 loop-p-preserved c =

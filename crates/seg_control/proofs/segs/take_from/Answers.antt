@@ -12,13 +12,13 @@ loop-p-preserved c =
           (ap gone (sym w.in-Here.is ∙ c.get.ensures))
       | in_default w ↦ w.table-is ∙ taken_skip c.loop-p.p c.loop-p.table (search rules)
     ] in
-    record {
-      all = taken_step c.loop-p.p c.loop-p.table c.match-get.table within step ∙ c.loop-p.invariant.all;
-      long = ap length step ∙ length-set c.loop-p.table c.loop-p.p (gone (ptw_at c.loop-p.table c.loop-p.p))
-          ∙ c.loop-p.invariant.long;
-    }
+    assumption (
+      taken_step c.loop-p.p c.loop-p.table c.match-get.table within step ∙ c.loop-p.invariant.all,
+      ap length step ∙ length-set c.loop-p.table c.loop-p.p (gone (ptw_at c.loop-p.table c.loop-p.p))
+          ∙ c.loop-p.invariant.long,
+    )
 
 pub returns : goal.returns
 returns c =
     let past : length c.loop-p.table ≤ c.loop-p.p = search rules in
-    sym (taken_end c.loop-p.p c.loop-p.table past) ∙ c.loop-p.invariant.all
+    cc (taken_end c.loop-p.p c.loop-p.table past)

@@ -6,9 +6,7 @@ use Rattle.seg_control.proofs.segs.Segs.back.Goals as goal
 pub invariant_of-self : goal.invariant_of-self
 invariant_of-self g c =
     let still = rw (← c.self.view_is) at c.requires.still in
-    let k = kept_still g.D.Drive.pages c.self.inside.pages c.self.inside.ast c.self.inside.links c.self.inside.moving
-    still c.self.invariant in
-    still_kept g.D.Drive.pages c.back.new.self _ _ c.self.inside.moving still
-    (moved_word g.D.Drive.pages c.args.f (Leaving c.args.f) (Here c.args.f) k c.back.ensures.same
+    let k = kept_still still c.self.invariant in
+    still_kept still (moved_word g.D.Drive.pages c.args.f (Leaving c.args.f) (Here c.args.f) k c.back.ensures.same
     (search rules) (search rules) refl c.place_in-place.ensures.at c.place_in-place.ensures.within
     c.place_in-place.ensures.is c.table_mut.ensures.value c.back.ensures.word c.back.ensures.table c.back.ensures.tie)

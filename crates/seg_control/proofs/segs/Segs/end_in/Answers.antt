@@ -1,39 +1,26 @@
-use Rattle.seg_control.proofs.Prelude.{rules, plain, at_rest}
+use Rattle.seg_control.proofs.Prelude.{rules}
 use Rattle.seg_control.proofs.Frames.{started_for}
 use Rattle.seg_control.proofs.Calls.{tied_home, out_of, table_is_here}
-use Rattle.seg_control.proofs.Reading.{Reads, tied_now, effect_read, words_read, tables_read, counts_read, kept_at_rest}
+use Rattle.seg_control.proofs.Reading.{Reads, tied_now, is_read, tables_read, counts_read, kept_at_rest}
 use Rattle.seg_control.proofs.segs.Segs.end_in.Goals as goal
 
 pub end_in-requires-clause-out : goal.end_in-requires-clause-out
 end_in-requires-clause-out g c =
     let started = rw (← c.self.view_is) at c.requires.started in
-    out_of (plain g.D.Drive.pages (at_rest c.self.inside.pages c.self.inside.moving)) c.self.inside.ast
-    c.self.inside.links c.place_in-place.result c.args.uid c.args.p c.args.f _ c.self.invariant.kept
-    c.place_in-place.ensures.at c.table_mut.ensures.value
-    (started_for c.self.inside.pages.core c.args.f c.args.uid c.args.p started)
+    out_of c.place_in-place.result c.args.p c.args.f c.self.invariant.kept c.place_in-place.ensures.at
+    c.table_mut.ensures.value (started_for c.self.inside.pages.core c.args.f c.args.uid c.args.p started)
 
 pub end_in-requires-clause-tie : goal.end_in-requires-clause-tie
 end_in-requires-clause-tie g c =
-    tied_now g.D.Drive.pages c.self.inside.pages c.self.inside.ast c.self.inside.links c.self.inside.moving c.args.uid
-    c.args.home _ c.self.invariant
-    (tied_home c.self.invariant.kept c.place_in-place.ensures.at c.place_in-place.ensures.is
+    tied_now c.self.invariant (tied_home c.self.invariant.kept c.place_in-place.ensures.at c.place_in-place.ensures.is
     c.table_mut.ensures.value (rw (← c.self.view_is) at c.requires.home))
 
 -- what was called for, and what it left
 reads : (g : _) (c : goal.After-self-1 g)
     → Reads g.D.Drive.pages c.self.inside.pages c.end_in.new.self c.self.inside.ast c.self.inside.links
-    c.self.inside.moving c.args.uid c.args.p c.args.home c.args.f c.table_mut.result.now c.end_in.new.t
-    c.end_in.result
-reads g c = record {
-  kept = c.self.invariant;
-  tie = tied_home c.self.invariant.kept c.place_in-place.ensures.at c.place_in-place.ensures.is
-      c.table_mut.ensures.value (rw (← c.self.view_is) at c.requires.home);
-  effect = c.end_in.ensures.effect;
-  tied = c.end_in.ensures.tie;
-  others = c.end_in.ensures.others;
-  words = c.end_in.ensures.words;
-  counts = c.end_in.ensures.counts;
-}
+    c.self.inside.moving c.args.uid c.args.p c.args.home c.args.f c.table_mut.result.now c.end_in.new.t c.end_in.result
+reads g c = assumption (tied_home c.self.invariant.kept c.place_in-place.ensures.at c.place_in-place.ensures.is
+    c.table_mut.ensures.value (rw (← c.self.view_is) at c.requires.home))
 
 pub invariant_of-self : goal.invariant_of-self
 invariant_of-self g c =
@@ -45,10 +32,9 @@ invariant_of-self g c =
 pub returns : goal.returns
 returns g c =
     let call = reads g c in
-    let effect = effect_read c.self.inside.moving call in
-    let words = words_read c.self.inside.moving call in
+    let read = is_read call in
     let tables = tables_read call in
     let counts = counts_read call in
-    let word = table_is_here c.end_in.result c.self.inside.ast c.place_in-place.result c.args.uid c.args.p c.args.f _ _
+    let word = table_is_here c.end_in.result c.self.inside.ast c.args.uid c.args.p c.args.f
     c.place_in-place.ensures.is c.table_mut.ensures.value c.end_in.ensures.word in
     rw (← c.self.view_is) (search rules)

@@ -1,4 +1,3 @@
-use Rattle.seg_control.proofs.Prelude.{plain}
 use Rattle.seg_control.proofs.Homes.{kept_erased}
 use Rattle.seg_control.proofs.Resting.{kept_still, still_kept}
 use Rattle.seg_control.proofs.segs.Segs.erase.Goals as goal
@@ -6,11 +5,7 @@ use Rattle.seg_control.proofs.segs.Segs.erase.Goals as goal
 pub invariant_of-self : goal.invariant_of-self
 invariant_of-self g c =
     let still = rw (← c.self.view_is) at c.requires.still in
-    let k = kept_still g.D.Drive.pages c.self.inside.pages c.self.inside.ast c.self.inside.links c.self.inside.moving
-    still c.self.invariant in
+    let k = kept_still still c.self.invariant in
     let only = rw (← c.self.view_is, still) at c.requires.home in
-    still_kept g.D.Drive.pages c.erase.new.self _ _ c.self.inside.moving still
-    (kept_erased (plain g.D.Drive.pages c.self.inside.pages) (plain g.D.Drive.pages c.erase.new.self) c.self.inside.ast
-    c.self.inside.links c.args.home
-    k only c.erase.ensures.effect c.erase.ensures.home c.erase.ensures.uids c.erase.ensures.records
-    c.erase.ensures.ties)
+    still_kept still (kept_erased k only c.erase.ensures.effect c.erase.ensures.home c.erase.ensures.uids
+    c.erase.ensures.records c.erase.ensures.ties)

@@ -8,11 +8,8 @@ invariant_of-self g c =
     let within : c.args.process < length c.self.inside.links.known = search rules in
     let cut : leads_at c.self.inside.links.descriptors c.args.process c.args.number ≡ None = search rules in
     let k = c.self.invariant.kept in
-    kept_linked c.self.invariant
-    (rw c.forget.ensures.effect
-    (linked_known c.self.inside.ast.entries c.self.inside.links c.args.process
+    kept_linked c.self.invariant (rw c.forget.ensures.effect (linked_known c.args.process
     (without_number (kst_at c.self.inside.links.known c.args.process) c.args.number) k.linked within
-    c.forget.ensures.once
-    (size_without (kst_at c.self.inside.links.known c.args.process) c.args.number
-    ∙ k.linked.lists.numbers c.args.process within)
-    (λ n v place e known. known_without c.self.inside.links c.args.process c.args.number n v place cut e known)))
+    c.forget.ensures.once (size_without (kst_at c.self.inside.links.known c.args.process) c.args.number
+    ∙ k.linked.lists.numbers c.args.process within) (λ n v place e known. known_without c.self.inside.links
+    c.args.process c.args.number n v place cut e known)))

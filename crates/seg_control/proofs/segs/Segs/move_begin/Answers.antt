@@ -6,8 +6,7 @@ use Rattle.seg_control.proofs.segs.Segs.move_begin.Goals as goal
 pub invariant_of-self : goal.invariant_of-self
 invariant_of-self g c =
     let still = rw (← c.self.view_is) at c.requires.still in
-    let k = kept_still g.D.Drive.pages c.self.inside.pages c.self.inside.ast c.self.inside.links c.self.inside.moving
-    still c.self.invariant in
+    let k = kept_still still c.self.invariant in
     let filed = k.paged.filed in
     kept_begun (record {
       kept = k;
@@ -19,6 +18,5 @@ invariant_of-self g c =
       mover = rw c.volumes_mut.ensures.value at c.begin-mover.ensures.mover;
       moving = c.begin-mover.ensures.moving (rw c.volumes_mut.ensures.value (kept_from c.self.inside.pages.volumes
           c.args.from filed));
-      back = rw c.volumes_mut.ensures.value at (c.begin-mover.ensures.back c.begin-mover.new.v
-          (record { records = refl; vtocs = refl }));
+      back = rw c.volumes_mut.ensures.value at (c.begin-mover.ensures.back c.begin-mover.new.v (assumption));
     })

@@ -1,5 +1,4 @@
-use Rattle.seg_control.proofs.Prelude.{◌≡◌, ◌≤◌, ◌∙◌, ℕ, List, Option, None, Some, ap, length, refl, subst, sym, Ptw, Null, Out, Here, Leaving, ptw_at, table_at, rehomed_word, bindings, plain, IsTableOf, is_out, table_of, home_at}
-use Rattle.page_control.specs.Moves.{IsHomeFor}
+use Rattle.seg_control.proofs.Prelude.{◌≡◌, ◌∙◌, ℕ, Option, None, ap, refl, Ptw, Out, ptw_at, table_at, rehomed_word, bindings, is_out, table_of}
 use Rattle.seg_control.proofs.Resting.{kept_moving}
 use Rattle.seg_control.proofs.Under.{is_moving}
 use Rattle.seg_control.proofs.Copying.{tie_here}
@@ -8,48 +7,34 @@ use Rattle.seg_control.proofs.segs.Segs.move_commit.Goals as goal
 
 pub rehome-requires-clause-pages : goal.rehome-requires-clause-pages
 rehome-requires-clause-pages g c =
-    let k = kept_moving g.D.Drive.pages c.self.inside.pages c.self.inside.ast c.self.inside.links
-    c.self.inside.moving c.args.m (rw (← c.self.view_is) at c.requires.moving) c.self.invariant in
-    let tie = tie_here g.D.Drive.pages c.self.inside.pages c.self.inside.ast c.self.inside.links c.args.m k in
-    subst (λ (t : List Ptw). length t ≤ 256) (sym (c.table_mut.ensures.value
-    ∙ ap (table_at c.self.inside.ast.tables) c.place_in-place.ensures.is)) tie.pages
+    let k = kept_moving (rw (← c.self.view_is) at c.requires.moving) c.self.invariant in
+    rw (c.table_mut.ensures.value, c.place_in-place.ensures.is) (tie_here k).pages
 
 pub rehome-requires-clause-table : goal.rehome-requires-clause-table
 rehome-requires-clause-table g c =
-    let k = kept_moving g.D.Drive.pages c.self.inside.pages c.self.inside.ast c.self.inside.links
-    c.self.inside.moving c.args.m (rw (← c.self.view_is) at c.requires.moving) c.self.invariant in
-    let tie = tie_here g.D.Drive.pages c.self.inside.pages c.self.inside.ast c.self.inside.links c.args.m k in
-    subst (λ (t : List Ptw). IsTableOf (bindings c.self.inside.pages.core) c.args.m.uid t)
-    (sym (c.table_mut.ensures.value ∙ ap (table_at c.self.inside.ast.tables) c.place_in-place.ensures.is)) tie.table
+    let k = kept_moving (rw (← c.self.view_is) at c.requires.moving) c.self.invariant in
+    rw (c.table_mut.ensures.value, c.place_in-place.ensures.is) (tie_here k).table
 
 pub rehome-requires-clause-home : goal.rehome-requires-clause-home
 rehome-requires-clause-home g c =
-    let k = kept_moving g.D.Drive.pages c.self.inside.pages c.self.inside.ast c.self.inside.links
-    c.self.inside.moving c.args.m (rw (← c.self.view_is) at c.requires.moving) c.self.invariant in
+    let k = kept_moving (rw (← c.self.view_is) at c.requires.moving) c.self.invariant in
     let moving = k.way.moving in
-    let tie = tie_here g.D.Drive.pages c.self.inside.pages c.self.inside.ast c.self.inside.links c.args.m k in
-    subst (λ (t : List Ptw). IsHomeFor (plain g.D.Drive.pages c.self.inside.pages) c.args.m.uid (home_at c.args.m.to)
-    t) (sym (c.table_mut.ensures.value ∙ ap (table_at c.self.inside.ast.tables) c.place_in-place.ensures.is))
-    (record {
+    rw (c.table_mut.ensures.value, c.place_in-place.ensures.is) (record {
       volume = moving.target;
       used = moving.new_used;
-      stored = λ p. moving.same p ∙ tie.map.stored p;
+      stored = λ p. moving.same p ∙ (tie_here k).map.stored p;
     })
 
 pub commit-requires : goal.commit-requires
 commit-requires g c =
-    let k = kept_moving g.D.Drive.pages c.self.inside.pages c.self.inside.ast c.self.inside.links
-    c.self.inside.moving c.args.m (rw (← c.self.view_is) at c.requires.moving) c.self.invariant in
+    let k = kept_moving (rw (← c.self.view_is) at c.requires.moving) c.self.invariant in
     rw (c.volumes_mut.ensures.value, c.rehome.ensures.effect)
-    (is_moving g.D.Drive.pages c.self.inside.pages c.args.m k.way.moving)
+    (is_moving g.D.Drive.pages c.self.inside.pages k.way.moving)
 
 -- another file map leaves each page on its record alone, or in its frame, as it was
 out_rehomed : (word : Ptw) (place : Option ℕ) → is_out (rehomed_word word place) ≡ is_out word
-out_rehomed Null place = refl
 out_rehomed (Out r) None = refl
-out_rehomed (Out r) (Some q) = refl
-out_rehomed (Here f) place = refl
-out_rehomed (Leaving f) place = refl
+out_rehomed _ _ = refl
 
 -- what was called for, and what it left
 commits : (g : _) (c : goal.After-self-3-1 g)
@@ -57,19 +42,16 @@ commits : (g : _) (c : goal.After-self-3-1 g)
     c.self.inside.links c.args.m c.place_in-place.result c.rehome.new.t
 commits g c =
     let here = ap (table_at c.self.inside.ast.tables) c.place_in-place.ensures.is in
-    let table : c.table_mut.result.now ≡ table_of c.self.inside.ast c.args.m.uid =
-    c.table_mut.ensures.value ∙ here in
+    let table : c.table_mut.result.now ≡ table_of c.self.inside.ast c.args.m.uid = c.table_mut.ensures.value ∙ here in
     record {
-      kept = kept_moving g.D.Drive.pages c.self.inside.pages c.self.inside.ast c.self.inside.links
-          c.self.inside.moving c.args.m (rw (← c.self.view_is) at c.requires.moving) c.self.invariant;
+      kept = kept_moving (rw (← c.self.view_is) at c.requires.moving) c.self.invariant;
       done = rw (← c.self.view_is) at c.requires.done;
       at = c.place_in-place.ensures.at;
       within = c.place_in-place.ensures.within;
       here = here;
       effect = c.rehome.ensures.effect;
-      size = c.rehome.ensures.size ∙ ap length table;
-      outs = λ p. ap is_out (c.rehome.ensures.word p) ∙ out_rehomed (ptw_at c.table_mut.result.now p) _
-          ∙ ap (λ (t : List Ptw). is_out (ptw_at t p)) table;
+      size = rw table at c.rehome.ensures.size;
+      outs = λ p. rw (← table, c.rehome.ensures.word p) (out_rehomed (ptw_at c.table_mut.result.now p) _);
       table = c.rehome.ensures.table;
       tie = rw table at c.rehome.ensures.tie;
       moved = rw table at c.rehome.ensures.moved;
@@ -85,45 +67,36 @@ invariant_of-self g c = kept_committed (commits g c)
 
 pub returns-clause-free : goal.returns-clause-free
 returns-clause-free g c =
-    let is = rw (← c.self.view_is) at c.requires.moving in
-    rw (← c.self.view_is, is) (new_free (commits g c))
+    (let is = rw (← c.self.view_is) at c.requires.moving in rw (← c.self.view_is, is) (new_free (commits g c)))
 
 pub returns-clause-uids : goal.returns-clause-uids
 returns-clause-uids g c =
-    let is = rw (← c.self.view_is) at c.requires.moving in
-    rw (← c.self.view_is, is) (uid_new (commits g c))
+    (let is = rw (← c.self.view_is) at c.requires.moving in rw (← c.self.view_is, is) (uid_new (commits g c)))
 
 pub returns-clause-maps : goal.returns-clause-maps
 returns-clause-maps g c =
-    let is = rw (← c.self.view_is) at c.requires.moving in
-    rw (← c.self.view_is, is) (map_new (commits g c))
+    (let is = rw (← c.self.view_is) at c.requires.moving in rw (← c.self.view_is, is) (map_new (commits g c)))
 
 pub returns-clause-stored : goal.returns-clause-stored
 returns-clause-stored g c =
-    let is = rw (← c.self.view_is) at c.requires.moving in
-    rw (← c.self.view_is, is) (stored_moved (commits g c))
+    (let is = rw (← c.self.view_is) at c.requires.moving in rw (← c.self.view_is, is) (stored_moved (commits g c)))
 
 pub returns-clause-named : goal.returns-clause-named
 returns-clause-named g c =
-    let is = rw (← c.self.view_is) at c.requires.moving in
-    rw (← c.self.view_is, is) (named_moved (commits g c))
+    (let is = rw (← c.self.view_is) at c.requires.moving in rw (← c.self.view_is, is) (named_moved (commits g c)))
 
 pub returns-clause-taken : goal.returns-clause-taken
 returns-clause-taken g c =
-    let is = rw (← c.self.view_is) at c.requires.moving in
-    rw (← c.self.view_is, is) (taken_moved (commits g c))
+    (let is = rw (← c.self.view_is) at c.requires.moving in rw (← c.self.view_is, is) (taken_moved (commits g c)))
 
 pub returns-clause-gained : goal.returns-clause-gained
 returns-clause-gained g c =
-    let is = rw (← c.self.view_is) at c.requires.moving in
-    rw (← c.self.view_is, is) (gained (commits g c))
+    (let is = rw (← c.self.view_is) at c.requires.moving in rw (← c.self.view_is, is) (gained (commits g c)))
 
 pub returns-clause-moved : goal.returns-clause-moved
 returns-clause-moved g c =
-    let is = rw (← c.self.view_is) at c.requires.moving in
-    rw (← c.self.view_is, is) (words_moved (commits g c))
+    (let is = rw (← c.self.view_is) at c.requires.moving in rw (← c.self.view_is, is) (words_moved (commits g c)))
 
 pub returns-clause-words : goal.returns-clause-words
 returns-clause-words g c =
-    let is = rw (← c.self.view_is) at c.requires.moving in
-    rw (← c.self.view_is, is) (words_others (commits g c))
+    (let is = rw (← c.self.view_is) at c.requires.moving in rw (← c.self.view_is, is) (words_others (commits g c)))

@@ -8,16 +8,10 @@ use Rattle.seg_control.proofs.segs.Segs.start_in.Goals as goal
 pub invariant_of-self : goal.invariant_of-self
 invariant_of-self g c =
     let still = rw (← c.self.view_is) at c.requires.still in
-    let k = kept_still g.D.Drive.pages c.self.inside.pages c.self.inside.ast c.self.inside.links c.self.inside.moving
-    still c.self.invariant in
+    let k = kept_still still c.self.invariant in
     let out = rw (← c.self.view_is) at c.requires.out in
     let first = rw (← c.self.view_is) at c.requires.first in
-    still_kept g.D.Drive.pages c.start_in.new.self _ _ c.self.inside.moving still
-    (kept_paged _ _ _ _ k
-    (paged_started _ _ _ _ k.paged c.start_in.ensures.bindings
-    (same_vtocs _ _ c.start_in.ensures.volumes)
-    (same_records _ _ c.start_in.ensures.volumes) c.start_in.ensures.ties c.args.f c.place_in-place.result c.args.uid
-    c.args.p c.place_in-place.ensures.at
-    (ap (λ (place : ℕ). is_out (ptw_at (table_at c.self.inside.ast.tables place) c.args.p)) c.place_in-place.ensures.is
-    ∙ out)
-    (none_started c.self.inside.pages.core c.args.uid c.args.p first) c.start_in.ensures.reads))
+    still_kept still (kept_paged k (paged_started k.paged c.start_in.ensures.bindings
+    (same_vtocs _ _ c.start_in.ensures.volumes) (same_records _ _ c.start_in.ensures.volumes) c.start_in.ensures.ties
+    c.args.f c.place_in-place.result c.args.uid c.args.p c.place_in-place.ensures.at
+    (cc) (none_started first) c.start_in.ensures.reads))
