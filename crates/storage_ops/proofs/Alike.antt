@@ -30,33 +30,33 @@ module _ (f : Node → Node) (uid : (n : Node) → (f n).uid ≡ n.uid) where
       by None = refl
       by (Some n) = refl
 
-module _ (f : Node → Node) (keeps : Keeps f) where
+module _ {f : Node → Node} (keeps : Keeps f) where
   uids_map : (ns : List Node) → map (λ n. n.uid) (map f ns) ≡ map (λ n. n.uid) ns
   uids_map [] = refl
   uids_map (n ∷ ns) = cc (keeps.uid n, uids_map ns)
 
-  pub alike_changed : (a b : AccountMaps) → Changes a b (map f a.nodes) → AreAlike a b
-  alike_changed a b c = record {
-    there = λ u. ap (λ (ns : List Node). is_there ns u) c.nodes ∙ there_map f keeps.uid a.nodes u;
+  pub alike_changed : {a b : AccountMaps} → Changes a b (map f a.nodes) → AreAlike a b
+  alike_changed {a} c = record {
+    there = λ u. cc (there_map f keeps.uid a.nodes u);
     homes = λ u. cc (c.nodes, volume_map f keeps a.nodes u, c.entries, uids_map a.nodes);
-    kinds = λ u. ap (λ (ns : List Node). has_directory ns u) c.nodes ∙ directory_map f keeps a.nodes u;
+    kinds = λ u. cc (directory_map f keeps a.nodes u);
     counts = c.counts;
-    entries = λ v. ap (λ (ns : List Node). entries_on ns v) c.nodes ∙ entries_mapped f keeps.volume a.nodes v;
+    entries = λ v. cc (entries_mapped f keeps.volume a.nodes v);
   }
 
 -- ---- what is true of such trees
 
 module _ (a b : AccountMaps) (alike : AreAlike a b) where
-  pub housed_alike : (vtocs : List (List (Option VtocEntry))) → AreHoused a vtocs → AreHoused b vtocs
-  housed_alike vtocs h = record {
-    homes = λ u t. ap (uid_at vtocs) (alike.homes u) ∙ h.homes u (sym (alike.there u) ∙ t);
+  pub housed_alike : {vtocs : List (List (Option VtocEntry))} → AreHoused a vtocs → AreHoused b vtocs
+  housed_alike {vtocs} h = record {
+    homes = λ u t. cc (alike.homes u, h.homes u (sym (alike.there u) ∙ t));
     there = λ home u e. alike.there u ∙ h.there home u e;
     only = λ home u e. h.only home u e ∙ sym (alike.homes u);
   }
 
-  pub counted_alike : (vtocs : List (List (Option VtocEntry))) → AreCounted a vtocs
+  pub counted_alike : {vtocs : List (List (Option VtocEntry))} → AreCounted a vtocs
       → ((u : ℕ) → pages_in b.nodes u ≡ pages_in a.nodes u) → AreCounted b vtocs
-  counted_alike vtocs h pages = record {
+  counted_alike h pages = record {
     counts = λ u t. cc (alike.homes u, h.counts u (sym (alike.there u) ∙ t), alike.counts u);
     inside = λ u q t on. rw (pages u) (h.inside u q (sym (alike.there u) ∙ t) (rw (alike.homes u) at on));
     absent = λ u off. alike.counts u ∙ h.absent u (sym (alike.there u) ∙ off);
@@ -71,9 +71,9 @@ module _ (a b : AccountMaps) (alike : AreAlike a b) where
   unfolding taken_on
   taken_same stored v = ap (λ (f : ℕ × ℕ → Bool). count_by f stored) (λ i. λ x. eqb (volumes x.0 i) v)
 
-  pub taken_alike : (flags : List (List Bool)) (vtocs : List (List (Option VtocEntry))) → AreTaken a flags vtocs
+  pub taken_alike : {flags : List (List Bool)} {vtocs : List (List (Option VtocEntry))} → AreTaken a flags vtocs
       → AreTaken b flags vtocs
-  taken_alike flags vtocs h = record {
+  taken_alike h = record {
     records = λ stored v counts. h.records stored v (λ u. sym (alike.counts u) ∙ counts u) ∙ sym (taken_same stored v);
     entries = λ v. h.entries v ∙ sym (alike.entries v);
     short = h.short;
@@ -90,41 +90,40 @@ module _ (a b : AccountMaps) (alike : AreAlike a b) where
 -- ---- what is active, and descriptors
 
 -- a changed node was there
-was_there : (f : Node → Node) (o : Option Node) (n : Node) → map_node f o ≡ Some n
+was_there : (f : Node → Node) (o : Option Node) {n : Node} → map_node f o ≡ Some n
     → (m : Node) × (o ≡ Some m) × (n ≡ f m)
-was_there f None n e = cc
-was_there f (Some m) n e = (m, refl, cc)
+was_there f None e = cc
+was_there f (Some m) e = (m, refl, cc)
 
 module _ (f : Node → Node) (uid : (n : Node) → (f n).uid ≡ n.uid) (a b : AccountMaps)
     (nodes : b.nodes ≡ map f a.nodes) where
   pub before : (u : ℕ) (n : Node) → node_in b.nodes u ≡ Some n → (m : Node) × (node_in a.nodes u ≡ Some m) × (n ≡ f m)
-  before u n e = was_there f (node_in a.nodes u) n (sym (node_map f uid a.nodes u) ∙ (rw nodes at e))
+  before u n e = was_there f (node_in a.nodes u) (sym (node_map f uid a.nodes u) ∙ (rw nodes at e))
 
-  pub active_alike : ((n : Node) → (f n).superior ≡ n.superior) → (ast : ActiveSegs) → AreInTree a.nodes ast
+  pub active_alike : ((n : Node) → (f n).superior ≡ n.superior) → {ast : ActiveSegs} → AreInTree a.nodes ast
       → ((place u : ℕ) (m : Node) → uid_in_place ast.entries place ≡ Some u → node_in a.nodes u ≡ Some m
-      → pool_of (f m) ≡ pool_of m)
-      → AreInTree b.nodes ast
-  active_alike superior ast h pools = record {
-    there = λ place u e. ap (λ (ns : List Node). is_there ns u) nodes ∙ there_map f uid a.nodes u ∙ h.there place u e;
+      → pool_of (f m) ≡ pool_of m) → AreInTree b.nodes ast
+  active_alike superior h pools = record {
+    there = λ place u e. cc (there_map f uid a.nodes u, h.there place u e);
     superiors = λ place u n e found. (let was = before u n found in
-        h.superiors place u was.0 e was.1 ∙ sym (superior was.0) ∙ ap (λ (x : Node). x.superior) (sym was.2));
+        cc (h.superiors place u was.0 e was.1, superior was.0));
     pools = λ place u n e found. (let was = before u n found in
         rw (was.2, pools place u was.0 e was.1) (h.pools place u was.0 e was.1));
   }
 
-  pub rights_alike : (entries : List (Option Entry)) (links : Links) (whos : List Who)
-      → HaveRights a.nodes entries links whos
-      → ((process number place pages u : ℕ) (mode : Mode) (m : Node)
+  pub rights_alike : {entries : List (Option Entry)} {links : Links} {whos : List Who}
+      → HaveRights a.nodes entries links whos → ((process number place pages u : ℕ) (mode : Mode) (m : Node)
       → sdw_at (sdws_at links.descriptors process) number ≡ Present place mode pages
       → uid_in_place entries place ≡ Some u
       → node_in a.nodes u ≡ Some m → ((f m).rows ≡ m.rows) × ((f m).pages ≡ m.pages))
       → HaveRights b.nodes entries links whos
-  rights_alike entries links whos h same = record {
+  rights_alike {whos} h same = record {
     modes = λ process number place pages u mode n d e found. (let was = before u n found in
         let rows = (same process number place pages u mode was.0 d e was.1).0 in
-        h.modes process number place pages u mode was.0 d e was.1
-        ∙ ap (access_of (who_at whos process)) (sym rows ∙ ap (λ (x : Node). x.rows) (sym was.2)));
+        cc (h.modes process number place pages u mode was.0 d e was.1));
     lengths = λ process number place pages u mode n d e found. (let was = before u n found in
-        h.lengths process number place pages u mode was.0 d e was.1
-        ∙ sym (same process number place pages u mode was.0 d e was.1).1 ∙ ap (λ (x : Node). x.pages) (sym was.2));
+        cc (
+          h.lengths process number place pages u mode was.0 d e was.1,
+          (same process number place pages u mode was.0 d e was.1).1,
+        ));
   }

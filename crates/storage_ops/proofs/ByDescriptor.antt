@@ -14,8 +14,7 @@ outside_of : (o : Option Reply) (n : Node) → outside_by (unless o n) ≡ o
 outside_of None n = refl
 outside_of (Some e) n = refl
 
-module _ {D : Type 0} (now : Plain) (t : Storage D)
-    (store : IsStore now t.segs.ast t.segs.links t.accounts t.whos)
+module _ {D : Type 0} {now : Plain} (t : Storage D) (store : IsStore now t.segs.ast t.segs.links t.accounts t.whos)
     (linked : AreLinked t.segs.ast.entries t.segs.links) (k : ℕ) (r : Reference) where
   pub held_refuses : (place pages : ℕ) (mode : Mode)
       → sdw_at (sdws_at t.segs.links.descriptors k) r.number ≡ Present place mode pages
@@ -23,12 +22,7 @@ module _ {D : Type 0} (now : Plain) (t : Storage D)
   held_refuses place pages mode word =
       let known = linked.known k r.number place (ap leads word) in
       let node = found_in t.accounts.nodes known.uid (store.active.there place known.uid known.active) in
-      let access : Mode = access_of (who_at t.whos k) node.0.rows in
-      let rights : mode ≡ access =
+      let rights : mode ≡ (access_of (who_at t.whos k) node.0.rows) =
       store.rights.modes k r.number place pages known.uid mode node.0 word known.active node.1 in
-      let long : pages ≡ node.0.pages =
-      store.rights.lengths k r.number place pages known.uid mode node.0 word known.active node.1 in
-      ap (λ (m : Mode). refusal_by m pages r) rights
-      ∙ (ap (λ (n : ℕ). refusal_by access n r) long
-      ∙ (sym (outside_of (refusal_in (who_at t.whos k) r node.0) node.0)
-      ∙ sym (ap outside_by (target_found t k r known.uid node.0 known.known_as node.1))))
+      let long = store.rights.lengths k r.number place pages known.uid mode node.0 word known.active node.1 in
+      cc (outside_of (refusal_in (who_at t.whos k) r node.0) node.0, target_found t k r known.known_as node.1)

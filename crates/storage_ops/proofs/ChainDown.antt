@@ -13,9 +13,9 @@ use Rattle.storage_ops.proofs.Tables.{homed_volume}
 
 -- ---- what lies above each
 
-some_first : (f : ℕ → List ℕ) (o : Option ℕ) (y : ℕ) (ys : List ℕ) → step_up f o ≡ y ∷ ys → (o ≡ Some y) × (f y ≡ ys)
-some_first f None y ys e = cc
-some_first f (Some s) y ys e =
+some_first : (f : ℕ → List ℕ) (o : Option ℕ) {y : ℕ} (ys : List ℕ) → step_up f o ≡ y ∷ ys → (o ≡ Some y) × (f y ≡ ys)
+some_first f None ys e = cc
+some_first f (Some s) {y} ys e =
     let first : s ≡ y = cc in (cc, cc)
 
 none_first : (f : ℕ → List ℕ) (o : Option ℕ) → step_up f o ≡ [] → o ≡ None
@@ -23,41 +23,39 @@ none_first f None e = refl
 none_first f (Some s) e = cc
 
 module _ (ns : List Node) (t : IsTree ns) where
-  step : (x : ℕ) (xs : List ℕ) → above ns x ≡ xs → step_up (above ns) (superior_in ns x) ≡ xs
-  step x xs e = sym (above_once ns t x) ∙ e
+  step : (x : ℕ) {xs : List ℕ} → above ns x ≡ xs → step_up (above ns) (superior_in ns x) ≡ xs
+  step x e = sym (above_once ns t x) ∙ e
 
   -- each superior is the next one up, and there is none above the last
-  next_up : (x : ℕ) (xs : List ℕ) → above ns x ≡ xs → (j : ℕ) → j < length xs
+  next_up : (x : ℕ) {xs : List ℕ} → above ns x ≡ xs → (j : ℕ) → j < length xs
       → superior_in ns (get_or (x ∷ xs) j 0) ≡ Some (get_or xs j 0)
-  next_up x [] e j lt = absurd (omega (arith, lt))
-  next_up x (y ∷ ys) e zero lt = (some_first (above ns) (superior_in ns x) y ys (step x (y ∷ ys) e)).0
-  next_up x (y ∷ ys) e (suc j) lt = next_up y ys (some_first (above ns) (superior_in ns x) y ys (step x (y ∷ ys) e)).1
-      j (omega (arith, lt))
+  next_up x {xs = []} e j lt = absurd (omega arith)
+  next_up x {xs = y ∷ ys} e zero lt = (some_first (above ns) (superior_in ns x) ys (step x e)).0
+  next_up x {xs = y ∷ ys} e (suc j) lt = next_up y (some_first (above ns) (superior_in ns x) ys (step x e)).1
+      j (omega arith)
 
   last_up : (x : ℕ) (xs : List ℕ) → above ns x ≡ xs → superior_in ns (get_or (x ∷ xs) (length xs) 0) ≡ None
-  last_up x [] e = none_first (above ns) (superior_in ns x) (step x [] e)
-  last_up x (y ∷ ys) e = last_up y ys (some_first (above ns) (superior_in ns x) y ys (step x (y ∷ ys) e)).1
+  last_up x [] e = none_first (above ns) (superior_in ns x) (step x e)
+  last_up x (y ∷ ys) e = last_up y ys (some_first (above ns) (superior_in ns x) ys (step x e)).1
 
   -- from the root down
   pub chain_length : (u : ℕ) → length (chain_of ns u) ≤ 10
-  chain_length u = (let long : length (chain_of ns u) ≡ length (u ∷ above ns u) = length-reverse (u ∷ above ns u) in
-      let most = depth ns t u in omega (arith, long, most))
+  chain_length u = (omega (arith, length-reverse (u ∷ above ns u), depth ns t u))
 
   pub chain_first : (u : ℕ) → superior_in ns (get_or (chain_of ns u) 0 0) ≡ None
   chain_first u = ap (superior_in ns) (get_or-reverse (u ∷ above ns u) 0 0 (omega arith)
-      ∙ ap (λ (k : ℕ). get_or (u ∷ above ns u) k 0) (omega arith))
-      ∙ last_up u (above ns u) refl
+      ∙ ap (λ (k : ℕ). get_or (u ∷ above ns u) k 0) (omega arith)) ∙ last_up u (above ns u) refl
 
   pub chain_next : (u i : ℕ) → suc i < length (chain_of ns u)
       → superior_in ns (get_or (chain_of ns u) (suc i) 0) ≡ Some (get_or (chain_of ns u) i 0)
   chain_next u i lt =
-      let long : length (chain_of ns u) ≡ length (u ∷ above ns u) = length-reverse (u ∷ above ns u) in
-      let here : suc i < length (u ∷ above ns u) = omega (arith, lt, long) in
-      let place : length (u ∷ above ns u) - 1 - i ≡ suc (length (u ∷ above ns u) - 1 - suc i) = omega (arith, here) in
-      ap (superior_in ns) (get_or-reverse (u ∷ above ns u) (suc i) 0 here)
-      ∙ next_up u (above ns u) refl (length (u ∷ above ns u) - 1 - suc i) (omega (arith, here))
-      ∙ ap (λ (n : ℕ). Some n) (sym (get_or-reverse (u ∷ above ns u) i 0 (omega (arith, here))
-      ∙ ap (λ (k : ℕ). get_or (u ∷ above ns u) k 0) place))
+      let long = length-reverse (u ∷ above ns u) in
+      let place : length (u ∷ above ns u) - 1 - i ≡ suc (length (u ∷ above ns u) - 1 - suc i) = omega arith in
+      cc (
+        get_or-reverse (u ∷ above ns u) (suc i) 0 (omega arith),
+        next_up u refl (length (u ∷ above ns u) - 1 - suc i) (omega arith),
+        get_or-reverse (u ∷ above ns u) i 0 (omega arith),
+      )
 
   -- each is there
   directory_there : (ms : List Node) (u : ℕ) → has_directory ms u ≡ true → is_there ms u ≡ true
@@ -67,47 +65,45 @@ module _ (ns : List Node) (t : IsTree ns) where
     | inr isnt ↦ rw isnt (directory_there ms u (rw isnt at e))
   ]
 
-  there_up : (x : ℕ) (xs : List ℕ) → above ns x ≡ xs → is_there ns x ≡ true → (j : ℕ) → j < length (x ∷ xs)
+  there_up : (x : ℕ) {xs : List ℕ} → above ns x ≡ xs → is_there ns x ≡ true → (j : ℕ) → j < length (x ∷ xs)
       → is_there ns (get_or (x ∷ xs) j 0) ≡ true
-  there_up x xs e there zero lt = there
-  there_up x [] e there (suc j) lt = absurd (omega (arith, lt))
-  there_up x (y ∷ ys) e there (suc j) lt =
-      let first = some_first (above ns) (superior_in ns x) y ys (step x (y ∷ ys) e) in
-      let up : IsUp ns x (Some y) = subst (IsUp ns x) first.0 (superior_up ns t x) in
-      there_up y ys first.1 (directory_there ns y up.1) j (omega (arith, lt))
+  there_up x e there zero lt = there
+  there_up x {xs = []} e there (suc j) lt = absurd (omega arith)
+  there_up x {xs = y ∷ ys} e there (suc j) lt =
+      let first = some_first (above ns) (superior_in ns x) ys (step x e) in
+      there_up y first.1 (directory_there ns y (subst (IsUp ns x) first.0 (superior_up ns t x)).1) j (omega arith)
 
   pub chain_there : (u : ℕ) → is_there ns u ≡ true → (i : ℕ) → i < length (chain_of ns u)
       → is_there ns (get_or (chain_of ns u) i 0) ≡ true
   chain_there u there i lt =
-      let long : length (chain_of ns u) ≡ length (u ∷ above ns u) = length-reverse (u ∷ above ns u) in
-      let here : i < length (u ∷ above ns u) = omega (arith, lt, long) in
-      ap (is_there ns) (get_or-reverse (u ∷ above ns u) i 0 here)
-      ∙ there_up u (above ns u) refl there (length (u ∷ above ns u) - 1 - i) (omega (arith, here))
+      let long = length-reverse (u ∷ above ns u) in
+      cc (
+        get_or-reverse (u ∷ above ns u) i 0 (omega arith),
+        there_up u refl there (length (u ∷ above ns u) - 1 - i) (omega arith),
+      )
 
 -- ---- a chain of a node
 
 module _ (now : Plain) (ast : ActiveSegs) (links : Links) (a : AccountMaps) (whos : List Who) (chain : List Link)
     (h : IsStore now ast links a whos) (t : IsTree a.nodes) (down : IsChainDown a chain) where
   same_length : length chain ≡ length (chain_of a.nodes down.uid)
-  same_length = ap length down.links ∙ length-map (chain_of a.nodes down.uid) (link_of a)
+  same_length = cc (length-map (chain_of a.nodes down.uid) (link_of a))
 
   link_is : (i : ℕ) → i < length chain → link_at chain i ≡ link_of a (get_or (chain_of a.nodes down.uid) i 0)
-  link_is i lt = ap (λ (ls : List Link). link_at ls i) down.links
-      ∙ get_or-map (link_of a) (chain_of a.nodes down.uid) i 0 no_link (omega (arith, lt, same_length))
+  link_is i lt = cc (get_or-map (link_of a) (chain_of a.nodes down.uid) i 0 no_link (omega (arith, lt, same_length)))
 
   chain_uid : (i : ℕ) → i < length chain → (link_at chain i).uid ≡ get_or (chain_of a.nodes down.uid) i 0
-  chain_uid i lt = ap (λ (l : Link). l.uid) (link_is i lt)
+  chain_uid i lt = cc (link_is i lt)
 
   link_home : (i : ℕ) → i < length chain → (link_at chain i).home ≡ home_of a (link_at chain i).uid
-  link_home i lt = ap (λ (l : Link). l.home) (link_is i lt) ∙ ap (home_of a) (sym (chain_uid i lt))
+  link_home i lt = cc (link_is i lt, chain_uid i lt)
 
   pub link_pool : (i : ℕ) (n : Node) → i < length chain → node_in a.nodes (link_at chain i).uid ≡ Some n
       → (link_at chain i).pool ≡ pool_of n
   link_pool i n lt found = cc (link_is i lt, chain_uid i lt, ap pool_in found)
 
   pub link_there : (i : ℕ) → i < length chain → is_there a.nodes (link_at chain i).uid ≡ true
-  link_there i lt = ap (is_there a.nodes) (chain_uid i lt)
-      ∙ chain_there a.nodes t down.uid down.there i (omega (arith, lt, same_length))
+  link_there i lt = cc (chain_uid i lt, chain_there a.nodes t down.uid down.there i (omega (arith, lt, same_length)))
 
   pub link_superior : (i : ℕ) (n : Node) → i < length chain → node_in a.nodes (link_at chain i).uid ≡ Some n
       → n.superior ≡ superior_of chain i
@@ -117,28 +113,27 @@ module _ (now : Plain) (ast : ActiveSegs) (links : Links) (a : AccountMaps) (who
     superior_found a.nodes (link_at chain (suc i)).uid n e,
     chain_uid (suc i) lt,
     chain_next a.nodes t down.uid i (omega (arith, lt, same_length)),
-    chain_uid i (omega (arith, lt)),
+    chain_uid i (omega arith),
   )
 
   pub link_room : (i : ℕ) → i < length chain
       → (pages_in a.nodes (link_at chain i).uid ≤ words_in (link_at chain i).pool) × ((link_at chain i).pool < 4)
   link_room i lt =
       let found = found_there a.nodes (link_at chain i).uid (link_there i lt) in
-      let pages : pages_in a.nodes (link_at chain i).uid ≡ found.0.pages = ap pages_of found.1 in
+      let pages = ap pages_of found.1 in
       let room = room_of found.0 (rw pages at (h.counted.most (link_at chain i).uid))
       (λ d. sym pages ∙ h.counted.flat (link_at chain i).uid
       (directory_found a.nodes (link_at chain i).uid found.0 found.1 ∙ d)) in
       let pool = link_pool i found.0 lt found.1 in (rw (pool, pages) room.0, rw pool room.1)
 
-  pub may_activate : (volumes : ℕ) → length now.vtocs ≤ volumes → HasOneToGo ast chain
+  pub may_activate : {volumes : ℕ} → length now.vtocs ≤ volumes → HasOneToGo ast chain
       → MayActivate ast now.vtocs volumes chain
-  may_activate volumes all go = record {
-    few = (let most = chain_length a.nodes t down.uid in omega (arith, most, same_length));
+  may_activate all go = record {
+    few = (omega (arith, chain_length a.nodes t down.uid, same_length));
     pools = λ i lt. (link_room i lt).1;
     superiors = λ i place lt e. (let found = found_there a.nodes (link_at chain i).uid (link_there i lt) in
         h.active.superiors place (link_at chain i).uid found.0 e found.1 ∙ link_superior i found.0 lt found.1);
-    volumes_are = λ i lt. (let least = homed_volume now.vtocs (link_at chain i).home (link_at chain i).uid (homed i lt)
-        in omega (arith, least, all));
+    volumes_are = λ i lt. (omega (arith, homed_volume now.vtocs (link_at chain i).home (homed i lt)));
     homes = λ i lt. homed i lt;
     fits = λ i lt. record {
       none = λ p le. fit i lt p le (get_or (map_at now.vtocs (link_at chain i).home) p None) refl;
@@ -146,20 +141,17 @@ module _ (now : Plain) (ast : ActiveSegs) (links : Links) (a : AccountMaps) (who
     off = go.off;
   }
     where
-      homed : (i : ℕ) → i < length chain
-          → uid_homed now.vtocs (link_at chain i).home ≡ Some (link_at chain i).uid
-      homed i lt = ap (uid_homed now.vtocs) (link_home i lt)
-          ∙ h.housed.homes (link_at chain i).uid (link_there i lt)
+      homed : (i : ℕ) → i < length chain → uid_homed now.vtocs (link_at chain i).home ≡ Some (link_at chain i).uid
+      homed i lt = cc (link_home i lt, h.housed.homes (link_at chain i).uid (link_there i lt))
 
       fit : (i : ℕ) → i < length chain → (p : ℕ) → words_in (link_at chain i).pool ≤ p → (o : Option ℕ)
           → get_or (map_at now.vtocs (link_at chain i).home) p None ≡ o → o ≡ None
       fit i lt p le None e = refl
       fit i lt p le (Some r) e =
-          let on : is_filed_at now.vtocs (home_of a (link_at chain i).uid) p ≡ true
-          = rw (← link_home i lt) (filed_map now.vtocs (link_at chain i).home p ∙ ap is_some e) in
-          let within = h.counted.inside (link_at chain i).uid p (link_there i lt) on in
+          let within = h.counted.inside (link_at chain i).uid p (link_there i lt)
+          (rw (← link_home i lt) (cc (filed_map now.vtocs (link_at chain i).home p))) in
           let room = (link_room i lt).0 in
-          absurd (omega (arith, within, room, le))
+          absurd (omega arith)
 
 -- ---- what has become of it
 
@@ -176,8 +168,7 @@ module _ (now : Plain) (ast : ActiveSegs) (links : Links) (a : AccountMaps) (who
     (entries : next.entries ≡ set ast.entries place (Some (record {
       uid = (link_at chain i).uid;
       superior = superior_of chain i;
-    })))
-    (sizes : next.sizes ≡ ast.sizes) where
+    }))) (sizes : next.sizes ≡ ast.sizes) where
   now_at : (q : ℕ) → q ≢ place → entry_at next.entries q ≡ entry_at ast.entries q
   now_at q ne = rw entries (get_or-set_other ast.entries place q _ None ne)
 
@@ -185,18 +176,17 @@ module _ (now : Plain) (ast : ActiveSegs) (links : Links) (a : AccountMaps) (who
   told : (P : Option Entry → Type 0) (q : ℕ)
       → P (Some (record { uid = (link_at chain i).uid; superior = superior_of chain i })) → P (entry_at ast.entries q)
       → P (entry_at next.entries q)
-  told P q new old = rw entries (set_told P ast.entries place q _ None new old)
+  told P q new old = rw entries (set_told P ast.entries place q None new old)
 
   active_next : AreInTree a.nodes next
   active_next = record {
     there = λ q u. told (λ o. uid_in o ≡ Some u → is_there a.nodes u ≡ true) q
-        (λ e. cc (link_there now ast links a whos chain h t down i lt))
-        (λ e. h.active.there q u e);
+        (λ e. cc (link_there now ast links a whos chain h t down i lt)) (λ e. h.active.there q u e);
     superiors = λ q u n e found. told (λ o. uid_in o ≡ Some u → superior_of_entry o ≡ n.superior) q
         (λ same. sym (link_superior now ast links a whos chain h t down i n lt (cc)))
         (λ was. h.active.superiors q u n was found) e;
     pools = λ q u n e found. rw sizes (elim (cases_eq q place) [
-      | inr ne ↦ h.active.pools q u n (ap uid_in (sym (now_at q ne)) ∙ e) found
+      | inr ne ↦ h.active.pools q u n (cc (now_at q ne)) found
       | inl is ↦ told (λ o. uid_in o ≡ Some u → IsInPool ast.sizes (pool_of n) q) q
           (λ same. rw is (rw (link_pool now ast links a whos chain h t down i n lt (cc)) at in_pool))
           (λ was. h.active.pools q u n was found) e
@@ -204,12 +194,12 @@ module _ (now : Plain) (ast : ActiveSegs) (links : Links) (a : AccountMaps) (who
   }
 
   -- no descriptor led to the place
-  never : (process number q pages u : ℕ) (m : Mode)
+  never : (process number : ℕ) {q pages u : ℕ} {m : Mode}
       → sdw_at (sdws_at links.descriptors process) number ≡ Present q m pages → uid_in_place next.entries q ≡ Some u
       → uid_in_place ast.entries q ≡ Some u
-  never process number q pages u m d e = elim (cases_eq q place) [
+  never process number {q} d e = elim (cases_eq q place) [
     | inr ne ↦ ap uid_in (sym (now_at q ne)) ∙ e
-    | inl is ↦ (let at = linked.known process number q (ap leads d) in cc (ap uid_in free, at.active))
+    | inl is ↦ (cc (ap uid_in free, (linked.known process number q (ap leads d)).active))
   ]
 
   store_active : IsStore now next links a whos
@@ -220,9 +210,9 @@ module _ (now : Plain) (ast : ActiveSegs) (links : Links) (a : AccountMaps) (who
     active = active_next;
     rights = record {
       modes = λ process number q pages u m n d e found. h.rights.modes process number q pages u m n d
-          (never process number q pages u m d e) found;
+          (never process number d e) found;
       lengths = λ process number q pages u m n d e found. h.rights.lengths process number q pages u m n d
-          (never process number q pages u m d e) found;
+          (never process number d e) found;
     };
     known = h.known;
   }
@@ -237,21 +227,17 @@ store_next {D} drive old new a whos chain (Activated place) next t down linked h
 store_next {D} drive old new a whos chain (Victim place) next t down linked h =
     let same = same_entries old.ast (link_at chain next.0).pool
     (first_off_chain old.ast (link_at chain next.0).pool (uids_of chain)) in
-    rw next.1.effect
-    (store_still (plain drive old.pages) (plain drive old.pages) old.ast _ old.links a whos refl refl same.0 same.1 h)
-store_next {D} drive old new a whos chain Whole next t down linked h =
-    rw next.1 h
+    rw next.1.effect (store_still refl refl same.0 same.1 h)
+store_next {D} drive old new a whos chain Whole next t down linked h = rw next.1 h
 
-shown_ast : {D : Type 0} (drive : D → List (List ℕ)) (p : Plan) (s : Store) (t : Storage D) (ast : ActiveSegs)
+shown_ast : {D : Type 0} {drive : D → List (List ℕ)} {p : Plan} {s : Store} {t : Storage D} (ast : ActiveSegs)
     → Shows drive p s t → Shows drive p s (record t { segs = record t.segs { ast = ast } })
-shown_ast drive p s t ast h = record { tree = h.tree; known = h.known; pages = h.pages; script = h.script }
+shown_ast ast h = assumption
 
 pub shown_next : {D : Type 0} (drive : D → List (List ℕ)) (p : Plan) (s : Store) (t : Storage D) (new : Control D)
     (chain : List Link) (r : Next) → IsNext t.segs new chain r → Shows drive p s t
     → Shows drive p s (record t { segs = new })
 shown_next {D} drive p s t new chain (Activated place) next h =
-    rw next.1.effect (shown_ast drive p s t _ h)
-shown_next {D} drive p s t new chain (Victim place) next h =
-    rw next.1.effect (shown_ast drive p s t _ h)
-shown_next {D} drive p s t new chain Whole next h =
-    rw next.1 h
+    rw next.1.effect (shown_ast {drive = drive} {p = p} {s = s} {t = t} _ h)
+shown_next {D} drive p s t new chain (Victim place) next h = rw next.1.effect (shown_ast _ h)
+shown_next {D} drive p s t new chain Whole next h = rw next.1 h

@@ -4,7 +4,7 @@ use Rattle.storage_ops.proofs.Alike.{active_alike, alike_changed, counted_alike,
 
 -- ---- a change of all nodes
 
-module _ (f : Node → Node) (keeps : Keeps f) (a b : AccountMaps) (changes : Changes a b (map f a.nodes)) where
+module _ {f : Node → Node} (keeps : Keeps f) {a b : AccountMaps} (changes : Changes a b (map f a.nodes)) where
   pages_map : ((n : Node) → (f n).pages ≡ n.pages) → (u : ℕ) → pages_in b.nodes u ≡ pages_in a.nodes u
   pages_map same u = rw (changes.nodes, node_map f keeps.uid a.nodes u) (here (node_in a.nodes u))
     where
@@ -16,37 +16,34 @@ module _ (f : Node → Node) (keeps : Keeps f) (a b : AccountMaps) (changes : Ch
   pool_map same n = rw (keeps.kind n, same n)
 
   -- where lengths stay, and the rows of what is connected
-  pub store_changed : (now : Plain) (ast : ActiveSegs) (links : Links) (whos : List Who)
-      → ((n : Node) → (f n).pages ≡ n.pages)
-      → ((process number place pages u : ℕ) (mode : Mode) (m : Node)
+  pub store_changed : {now : Plain} {ast : ActiveSegs} {links : Links} {whos : List Who}
+      → ((n : Node) → (f n).pages ≡ n.pages) → ((process number place pages u : ℕ) (mode : Mode) (m : Node)
       → sdw_at (sdws_at links.descriptors process) number ≡ Present place mode pages
       → uid_in_place ast.entries place ≡ Some u → node_in a.nodes u ≡ Some m → (f m).rows ≡ m.rows)
       → IsStore now ast links a whos → IsStore now ast links b whos
-  store_changed now ast links whos pages rows h = (let alike = alike_changed f keeps a b changes in record {
-    housed = housed_alike a b alike now.vtocs h.housed;
-    counted = counted_alike a b alike now.vtocs h.counted (pages_map pages);
-    taken = taken_alike a b alike now.records now.vtocs h.taken;
-    active = active_alike f keeps.uid a b changes.nodes keeps.superior ast h.active
-        (λ place u m e found. pool_map pages m);
-    rights = rights_alike f keeps.uid a b changes.nodes ast.entries links whos h.rights
+  store_changed {now} {ast} {links} {whos} pages rows h = (let alike = alike_changed keeps changes in record {
+    housed = housed_alike a b alike h.housed;
+    counted = counted_alike a b alike h.counted (pages_map pages);
+    taken = taken_alike a b alike h.taken;
+    active = active_alike f keeps.uid a b changes.nodes keeps.superior h.active (λ place u m e found. pool_map pages m);
+    rights = rights_alike f keeps.uid a b changes.nodes h.rights
         (λ process number place n u mode m d e found. (rows process number place n u mode m d e found, pages m));
     known = rw changes.next h.known;
   })
 
-  pub shown_changed : {D : Type 0} (drive : D → List (List ℕ)) (p : Plan) (s : Store) (t : Storage D) → t.accounts ≡ a
+  pub shown_changed : {D : Type 0} {drive : D → List (List ℕ)} {p : Plan} {s : Store} {t : Storage D} → t.accounts ≡ a
       → Shows drive p s t → Shows drive p (record s { nodes = map f s.nodes }) (record t { accounts = b })
-  shown_changed drive p s t is h = (let alike = alike_changed f keeps a b changes in record {
+  shown_changed {drive} {t} is h = (let alike = alike_changed keeps changes in record {
     tree = record {
-      nodes = ap (map f) (h.tree.nodes ∙ ap (λ (x : AccountMaps). x.nodes) is) ∙ sym changes.nodes;
-      next = h.tree.next ∙ ap (λ (x : AccountMaps). x.next) is ∙ sym changes.next;
+      nodes = cc;
+      next = cc;
       counts = λ u. changes.counts u ∙ (rw is at h.tree.counts) u;
     };
     known = h.known;
     pages = record {
       stored = λ u q. cc (h.pages.stored u q, filed_alike a b alike t.segs.pages.volumes.vtocs u q);
       once = h.pages.once;
-      words = λ u o.
-          cc (h.pages.words u o, picture_alike a b alike (words_at (plain drive t.segs.pages)) u (o / 1024));
+      words = λ u o. cc (h.pages.words u o, picture_alike a b alike (words_at (plain drive t.segs.pages)) u (o / 1024));
     };
     script = h.script;
   })
@@ -54,10 +51,10 @@ module _ (f : Node → Node) (keeps : Keeps f) (a b : AccountMaps) (changes : Ch
 -- ---- a row is set
 
 -- a descriptor that is there leads to its place
-pub leads_there : (links : Links) (process number place pages : ℕ) (mode : Mode)
+pub leads_there : (links : Links) (process number : ℕ) {place pages : ℕ} {mode : Mode}
     → sdw_at (sdws_at links.descriptors process) number ≡ Present place mode pages
     → leads_at links.descriptors process number ≡ Some place
-leads_there links process number place pages mode e = ap leads e
+leads_there links process number e = ap leads e
 
 abbrev row_change : ℕ → Row → Node → Node
 row_change u row n = cond (eqb n.uid u) (record n { rows = with_row row n.rows }) n
@@ -72,85 +69,80 @@ row_pages u row n = here (eqb n.uid u)
     here true = refl
     here false = refl
 
-pub acl_store : (now : Plain) (ast : ActiveSegs) (links : Links) (a b : AccountMaps) (whos : List Who) (path : List
-    (List ℕ)) (row : Row) (r : Reply)
+pub acl_store : {now : Plain} {ast : ActiveSegs} {links : Links} {a b : AccountMaps} {whos : List Who} {path : List
+    (List ℕ)} {row : Row} (r : Reply)
     → ((n : Node) → segment_at a.nodes path ≡ Ok n → IsCut ast.entries links n.uid) → IsStore now ast links a whos
     → (takes_effect r ≡ true → HasRowSet a b path row) → (takes_effect r ≡ false → b ≡ a) → IsStore now ast links b whos
-acl_store now ast links a b whos path row r cut h done refused = elim (cases_Bool (takes_effect r)) [
+acl_store {now} {ast} {links} {a} {b} {whos} {row} r cut h done refused = elim (cases_Bool (takes_effect r)) [
   | inr off ↦ rw (refused off) h
   | inl on ↦
       (let set = done on in
       let u : ℕ = set.node.uid in
-      store_changed (row_change u row) (keeps_row u row) a b set.effect now ast links whos (row_pages u row)
+      store_changed (keeps_row u row) set.effect (row_pages u row)
       (λ process number place pages v mode m d e found. elim (cases_Bool (eqb m.uid u)) [
         | inl is ↦
             (let same : m.uid ≡ u = grind (arith, nat_tests) in
-            absurd ((cut set.node set.found).none process number place
-            (leads_there links process number place pages mode d)
+            absurd ((cut set.node set.found).none process number place (leads_there links process number d)
             (e ∙ ap (λ (x : ℕ). Some x) (sym (found_uid a.nodes v m found) ∙ same))))
         | inr isnt ↦ rw isnt refl
       ]) h)
 ]
 
-acl_is : (s : Store) (path : List (List ℕ)) (row : Named) (m : Mode) (n : Node) → segment_at s.nodes path ≡ Ok n
+acl_is : (s : Store) (path : List (List ℕ)) (row : Named) (m : Mode) {n : Node} → segment_at s.nodes path ≡ Ok n
     → record s { nodes = map (row_change n.uid (row_with row m)) s.nodes } ≡ after_acl s path row m
 unfolding after_acl
-acl_is s path row m n found = sym (ap (changed s (λ x. record x { rows = with_row (row_with row m) x.rows })) found)
+acl_is s path row m found = cc
 
-pub acl_shown : {D : Type 0} (drive : D → List (List ℕ)) (p : Plan) (s : Store) (t : Storage D) (b : AccountMaps)
-    (path : List (List ℕ)) (row : Named) (m : Mode)
+pub acl_shown : {D : Type 0} {drive : D → List (List ℕ)} {p : Plan} {s : Store} {t : Storage D} {b : AccountMaps}
+    {path : List (List ℕ)} (row : Named) (m : Mode)
     (r : Reply) → Shows drive p s t → (takes_effect r ≡ true → HasRowSet t.accounts b path (row_with row m))
     → (takes_effect r ≡ false → b ≡ t.accounts) → Shows drive p (answered r s (after_acl s path row m))
     (record t { accounts = b })
-acl_shown drive p s t b path row m r h done refused = elim (cases_Bool (takes_effect r)) [
+acl_shown {drive} {p} {s} {t} {b} {path} row m r h done refused = elim (cases_Bool (takes_effect r)) [
   | inr off ↦ rw (off, refused off) h
   | inl on ↦
       (let set = done on in
       let u : ℕ = set.node.uid in
-      rw on (subst (λ (x : Store). Shows drive p x (record t { accounts = b }))
-      (acl_is s path row m set.node (rw h.tree.nodes set.found))
-      (shown_changed (row_change u (row_with row m)) (keeps_row u
-      (row_with row m)) t.accounts b set.effect drive p s t refl h)))
+      rw on (rw (← (acl_is s path row m {n = set.node} (rw h.tree.nodes set.found)))
+      (shown_changed {f = row_change u (row_with row m)} (keeps_row u
+      (row_with row m)) {a = t.accounts} {b = b} set.effect {drive = drive} {p = p} {s = s} {t = t} refl h)))
 ]
 
 -- ---- quota is moved
 
-pub move_store : (now : Plain) (ast : ActiveSegs) (links : Links) (a b : AccountMaps) (whos : List Who) (path : List
-    (List ℕ)) (amount : ℤ) (r : Reply)
+pub move_store : {now : Plain} {ast : ActiveSegs} {links : Links} {a b : AccountMaps} {whos : List Who} {path : List
+    (List ℕ)} {amount : ℤ} (r : Reply)
     → IsStore now ast links a whos → (takes_effect r ≡ true → HasMoved a b path amount) → (takes_effect r ≡ false
-    → b ≡ a)
-    → IsStore now ast links b whos
-move_store now ast links a b whos path amount r h done refused = elim (cases_Bool (takes_effect r)) [
+    → b ≡ a) → IsStore now ast links b whos
+move_store {now} {ast} {links} {a} {b} {whos} {amount} r h done refused = elim (cases_Bool (takes_effect r)) [
   | inr off ↦ rw (refused off) h
   | inl on ↦
       (let has = done on in
       let giver : ℕ = giver_of (above a.nodes) has.node.uid (is_positive amount) in
       let getter : ℕ = getter_of (above a.nodes) has.node.uid (is_positive amount) in
-      store_changed (quota_moved giver getter (unsigned_abs amount)) (keeps_moved giver getter
-      (unsigned_abs amount)) a b has.effect now ast links whos
+      store_changed (keeps_moved giver getter (unsigned_abs amount)) has.effect
       (λ n. moved_else (λ (x : Node). x.pages) (λ n q. refl) giver getter (unsigned_abs amount) n)
       (λ process number place pages v mode m d e found. moved_else (λ (x : Node). x.rows) (λ n q. refl) giver getter
       (unsigned_abs amount) m) h)
 ]
 
-move_is : (s : Store) (path : List (List ℕ)) (amount : ℤ) (n : Node) → directory_at s.nodes path ≡ Ok n
+move_is : (s : Store) (path : List (List ℕ)) (amount : ℤ) {n : Node} → directory_at s.nodes path ≡ Ok n
     → record s { nodes = nodes_moved s.nodes n.uid amount } ≡ after_move s path amount
 unfolding after_move
-move_is s path amount n found = sym (ap (moved s amount) found)
+move_is s path amount found = cc
 
-pub move_shown : {D : Type 0} (drive : D → List (List ℕ)) (p : Plan) (s : Store) (t : Storage D) (b : AccountMaps)
-    (path : List (List ℕ)) (amount : ℤ) (r : Reply)
+pub move_shown : {D : Type 0} {drive : D → List (List ℕ)} {p : Plan} {s : Store} {t : Storage D} {b : AccountMaps}
+    {path : List (List ℕ)} {amount : ℤ} (r : Reply)
     → Shows drive p s t → (takes_effect r ≡ true → HasMoved t.accounts b path amount) → (takes_effect r ≡ false
-    → b ≡ t.accounts)
-    → Shows drive p (answered r s (after_move s path amount)) (record t { accounts = b })
-move_shown drive p s t b path amount r h done refused = elim (cases_Bool (takes_effect r)) [
+    → b ≡ t.accounts) → Shows drive p (answered r s (after_move s path amount)) (record t { accounts = b })
+move_shown {drive} {p} {s} {t} {b} {path} {amount} r h done refused = elim (cases_Bool (takes_effect r)) [
   | inr off ↦ rw (off, refused off) h
   | inl on ↦
       (let has = done on in
       let giver : ℕ = giver_of (above t.accounts.nodes) has.node.uid (is_positive amount) in
       let getter : ℕ = getter_of (above t.accounts.nodes) has.node.uid (is_positive amount) in
       rw on (subst (λ (x : Store). Shows drive p x (record t { accounts = b }))
-      (rw (← h.tree.nodes) (move_is s path amount has.node (rw h.tree.nodes has.found)))
-      (shown_changed (quota_moved giver getter (unsigned_abs amount)) (keeps_moved giver getter
-      (unsigned_abs amount)) t.accounts b has.effect drive p s t refl h)))
+      (rw (← h.tree.nodes) (move_is s path amount {n = has.node} (rw h.tree.nodes has.found)))
+      (shown_changed {f = quota_moved giver getter (unsigned_abs amount)} (keeps_moved giver getter
+      (unsigned_abs amount)) {a = t.accounts} {b = b} has.effect {drive = drive} {p = p} {s = s} {t = t} refl h)))
 ]

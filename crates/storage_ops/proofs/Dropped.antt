@@ -19,10 +19,10 @@ more_counted test u zero stored true is = omega arith
 more_counted test u zero stored false is = omega arith
 more_counted test u (suc n) stored true is =
     let ih = more_counted test u n stored true is in
-    sum_by-cons (λ (x : ℕ × ℕ). cond (test x) 1 0) (u, 0) (with_more u n stored) ∙ rw is (omega (arith, ih))
+    sum_by-cons (λ (x : ℕ × ℕ). cond (test x) 1 0) (u, 0) (with_more u n stored) ∙ rw is (omega arith)
 more_counted test u (suc n) stored false is =
     let ih = more_counted test u n stored false is in
-    sum_by-cons (λ (x : ℕ × ℕ). cond (test x) 1 0) (u, 0) (with_more u n stored) ∙ rw is (omega (arith, ih))
+    sum_by-cons (λ (x : ℕ × ℕ). cond (test x) 1 0) (u, 0) (with_more u n stored) ∙ rw is (omega arith)
 
 pub taken_more : (nodes : List Node) (u n : ℕ) (stored : List (ℕ × ℕ)) (v : ℕ)
     → taken_on nodes (with_more u n stored) v ≡ cond {A = ℕ} (eqb (volume_in nodes u) v) n 0 + taken_on nodes stored v
@@ -58,26 +58,26 @@ kept_lengths : {X : Type 0} (f : List X → ℕ) (old new : List (List X)) (v : 
     → f (get_or new v []) ≡ f (get_or old v [])
 kept_lengths f old new v same = cc (get_or-map f new v [], same, get_or-map f old v [])
 
-pub same_sizes : (old now : Plain) (v : ℕ) → KeepsCounts old now → size now.records v ≡ size old.records v
-same_sizes old now v h = kept_lengths length old.records now.records v h.flags
+pub same_sizes : {old now : Plain} (v : ℕ) → KeepsCounts old now → size now.records v ≡ size old.records v
+same_sizes {old} {now} v h = kept_lengths length old.records now.records v h.flags
 
 pub same_entries : (old now : Plain) (v : ℕ) → KeepsCounts old now → entries now.vtocs v ≡ entries old.vtocs v
 same_entries old now v h = kept_lengths length old.vtocs now.vtocs v h.places
 
-pub same_used : (old now : Plain) (v : ℕ) → KeepsCounts old now → used now.vtocs v ≡ used old.vtocs v
-same_used old now v h = kept_lengths (count_by is_some) old.vtocs now.vtocs v h.used
+pub same_used : {old now : Plain} (v : ℕ) → KeepsCounts old now → used now.vtocs v ≡ used old.vtocs v
+same_used {old} {now} v h = kept_lengths (count_by is_some) old.vtocs now.vtocs v h.used
 
 -- ---- accounts that count otherwise
 
-module _ (a b : AccountMaps) (u n : ℕ) (re : Recounts a b u n) where
+module _ {a b : AccountMaps} {u n : ℕ} (re : Recounts a b u n) where
   pub recount_homes : (v : ℕ) → home_of b v ≡ home_of a v
   recount_homes v = rw (re.nodes, re.entries)
 
   pub recount_there : (v : ℕ) → is_there b.nodes v ≡ is_there a.nodes v
-  recount_there v = ap (λ (ns : List Node). is_there ns v) re.nodes
+  recount_there v = cc
 
   pub recount_other : (v : ℕ) → v ≢ u → count_of b v ≡ count_of a v
-  recount_other v ne = re.counts v ∙ ap (λ (z : Bool). cond z n (count_of a v)) (ne_eqb u v (λ e. ne (sym e)))
+  recount_other v ne = cc (re.counts v, ne_eqb u v (λ e. ne (sym e)))
 
   pub recount_here : count_of b u ≡ n
   recount_here = re.counts u ∙ rw (eq-eqb u u refl)
@@ -93,44 +93,44 @@ module _ (old now : Plain) (a b : AccountMaps) (u q : ℕ) (d : HasDropped old n
   own = housed.homes u d.there
 
   uids : (other : Home) → uid_at now.vtocs other ≡ uid_at old.vtocs other
-  uids other = cc (d.vtocs, put_uid old.vtocs (home_of a u) u q None own other)
+  uids other = cc (d.vtocs, put_uid old.vtocs (home_of a u) q None own other)
 
   apart : (v : ℕ) → v ≢ u → is_there a.nodes v ≡ true → home_of a v ≢ home_of a u
   apart v ne t same = ne (cc (housed.homes v t, own))
 
   maps : (v : ℕ) → v ≢ u → is_there a.nodes v ≡ true → map_at now.vtocs (home_of a v) ≡ map_at old.vtocs (home_of a v)
-  maps v ne t = cc (d.vtocs, put_other old.vtocs (home_of a u) u q None own (home_of a v) (apart v ne t))
+  maps v ne t = cc (d.vtocs, put_other old.vtocs (home_of a u) q None own (home_of a v) (apart v ne t))
 
   named : named_at now.vtocs (home_of a u) + 1 ≡ named_at old.vtocs (home_of a u)
-  named = rw (d.vtocs, put_here old.vtocs (home_of a u) u q None own)
-      (one_named (map_at old.vtocs (home_of a u)) q
+  named = rw (d.vtocs, put_here old.vtocs (home_of a u) q None own) (one_named (map_at old.vtocs (home_of a u)) q
       (cc (filed_map old.vtocs (home_of a u) q, filed_there a old.vtocs u q d.there, d.filed)))
 
   pub drop_housed : AreHoused b now.vtocs
   drop_housed = record {
-    homes = λ v t. ap (uid_at now.vtocs) (recount_homes a b u _ d.accounts v) ∙ uids (home_of a v)
-        ∙ housed.homes v (sym (recount_there a b u _ d.accounts v) ∙ t);
-    there = λ h v e. recount_there a b u _ d.accounts v ∙ housed.there h v (sym (uids h) ∙ e);
-    only = λ h v e. housed.only h v (sym (uids h) ∙ e) ∙ sym (recount_homes a b u _ d.accounts v);
+    homes = λ v t. cc (
+      recount_homes d.accounts v,
+      uids (home_of a v),
+      housed.homes v (sym (recount_there d.accounts v) ∙ t),
+    );
+    there = λ h v e. recount_there d.accounts v ∙ housed.there h v (sym (uids h) ∙ e);
+    only = λ h v e. housed.only h v (sym (uids h) ∙ e) ∙ sym (recount_homes d.accounts v);
   }
 
   pub drop_counted : AreCounted a old.vtocs → AreCounted b now.vtocs
   drop_counted h = record {
-    counts = λ v t. ap (named_at now.vtocs) (recount_homes a b u _ d.accounts v)
-        ∙ counts v (sym (recount_there a b u _ d.accounts v) ∙ t);
-    inside = λ v r t on. rw d.accounts.nodes (h.inside v r (sym (recount_there a b u _ d.accounts v) ∙ t)
-        (was v r (cc (recount_homes a b u _ d.accounts v))));
-    absent = λ v off. recount_other a b u _ d.accounts v
-        (λ is. cc (d.there, recount_there a b u _ d.accounts v))
-        ∙ h.absent v (sym (recount_there a b u _ d.accounts v) ∙ off);
+    counts = λ v t. cc (recount_homes d.accounts v, counts v (sym (recount_there d.accounts v) ∙ t));
+    inside = λ v r t on. rw d.accounts.nodes (h.inside v r (sym (recount_there d.accounts v) ∙ t)
+        (was v r (cc (recount_homes d.accounts v))));
+    absent = λ v off. recount_other d.accounts v (λ is. cc (d.there, recount_there d.accounts v))
+        ∙ h.absent v (sym (recount_there d.accounts v) ∙ off);
     most = λ v. rw d.accounts.nodes (h.most v);
     flat = λ v. rw d.accounts.nodes (h.flat v);
   }
     where
       counts : (v : ℕ) → is_there a.nodes v ≡ true → named_at now.vtocs (home_of a v) ≡ count_of b v
       counts v t = elim (cases_eq v u) [
-        | inr ne ↦ ap (count_by is_some) (maps v ne t) ∙ h.counts v t ∙ sym (recount_other a b u _ d.accounts v ne)
-        | inl same ↦ rw same (omega (arith, named, h.counts u d.there, recount_here a b u _ d.accounts))
+        | inr ne ↦ ap (count_by is_some) (maps v ne t) ∙ h.counts v t ∙ sym (recount_other d.accounts v ne)
+        | inl same ↦ rw same (omega (arith, named, h.counts u d.there, recount_here d.accounts))
       ]
 
       was : (v r : ℕ) → is_filed_at now.vtocs (home_of a v) r ≡ true → is_filed_at old.vtocs (home_of a v) r ≡ true
@@ -146,30 +146,28 @@ module _ (old now : Plain) (a b : AccountMaps) (u q : ℕ) (d : HasDropped old n
   unfolding one_less
   drop_taken some h = record {
     records = λ stored v counts.
-        let less : taken now.records v ≡ cond (eqb v (volume_in a.nodes u)) (taken old.records v - 1)
-        (taken old.records v) = ap (λ (f : ℕ → ℕ). f v) d.taken in
-        let all : taken old.records v ≡ taken_on a.nodes (with_more u 1 stored) v =
-        h.records (with_more u 1 stored) v (counts_more a b u 1 stored counts more) in
+        let less = ap (λ (f : ℕ → ℕ). f v) d.taken in
+        let all = h.records (with_more u 1 stored) v (counts_more a b u 1 stored counts more) in
         let sum = taken_more a.nodes u 1 stored v in
-        rw d.accounts.nodes (grind (arith, nat_tests, less, all, sum));
-    entries = λ v. rw d.accounts.nodes (same_used old now v d.counts ∙ h.entries v);
-    short = λ v. rw (same_sizes old now v d.counts) (h.short v);
+        rw d.accounts.nodes (grind (arith, nat_tests));
+    entries = λ v. rw d.accounts.nodes (same_used v d.counts ∙ h.entries v);
+    short = λ v. rw (same_sizes v d.counts) (h.short v);
   }
     where
       more : (s : ℕ) → count_of a s ≡ cond {A = ℕ} (eqb u s) 1 0 + count_of b s
       more s = elim (cases_eq s u) [
-        | inr ne ↦ rw (ne_eqb u s (λ e. ne (sym e)), recount_other a b u _ d.accounts s ne) (omega arith)
-        | inl same ↦ rw (same, eq-eqb u u refl, recount_here a b u _ d.accounts) (omega (arith, some))
+        | inr ne ↦ rw (ne_eqb u s (λ e. ne (sym e)), recount_other d.accounts s ne) (omega arith)
+        | inl same ↦ rw (same, eq-eqb u u refl, recount_here d.accounts) (omega arith)
       ]
 
-pub store_dropped : (old now : Plain) (ast next : ActiveSegs) (links : Links) (a b : AccountMaps) (whos : List Who)
-    (u q : ℕ) → HasDropped old now a b u q → 1 ≤ count_of a u → next.entries ≡ ast.entries → next.sizes ≡ ast.sizes
+pub store_dropped : {old now : Plain} {ast next : ActiveSegs} {links : Links} {a b : AccountMaps} {whos : List Who}
+    {u q : ℕ} → HasDropped old now a b u q → 1 ≤ count_of a u → next.entries ≡ ast.entries → next.sizes ≡ ast.sizes
     → IsStore old ast links a whos → IsStore now next links b whos
-store_dropped old now ast next links a b whos u q d some entries_same sizes h = record {
+store_dropped {old} {now} {ast} {next} {a} {b} {u} {q} d some entries_same sizes h = record {
   housed = drop_housed old now a b u q d h.housed;
   counted = drop_counted old now a b u q d h.housed h.counted;
   taken = drop_taken old now a b u q d h.housed some h.taken;
-  active = rw d.accounts.nodes (tree_still a.nodes ast next entries_same sizes h.active);
+  active = rw d.accounts.nodes (tree_still entries_same sizes h.active);
   rights = rw (d.accounts.nodes, entries_same) h.rights;
   known = rw d.accounts.next h.known;
 }

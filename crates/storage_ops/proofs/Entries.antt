@@ -11,28 +11,25 @@ entry_put vtocs home x = set vtocs home.volume (set (vtoc_in vtocs home.volume) 
 abbrev pub entry_there : List (List (Option Entry)) → Home → Option Entry
 entry_there vtocs home = entry_at (vtoc_in vtocs home.volume) home.entry
 
-both_same : (a b : Home) → a.volume ≡ b.volume → a.entry ≡ b.entry → a ≡ b
-both_same a b v e = λ i. record { volume = v i; entry = e i }
+both_same : {a b : Home} → a.volume ≡ b.volume → a.entry ≡ b.entry → a ≡ b
+both_same v e = λ i. record { volume = v i; entry = e i }
 
 -- what is told of each entry, once one is changed
 pub entry_told : (vtocs : List (List (Option Entry))) (home : Home) (u : ℕ) (x : Option Entry)
     (P : Option Entry → Type 0) (other : Home) → uid_at vtocs home ≡ Some u → (other ≡ home → P x)
-    → (other ≢ home → P (entry_there vtocs other))
-    → P (entry_there (entry_put vtocs home x) other)
+    → (other ≢ home → P (entry_there vtocs other)) → P (entry_there (entry_put vtocs home x) other)
 entry_told vtocs home u x P other used here there = elim (cases_eq other.volume home.volume) [
   | inr ne ↦ rw (get_or-set_other vtocs home.volume other.volume (set (vtoc_in vtocs home.volume) home.entry x) [] ne)
-      (there (λ same. ne (ap (λ (h : Home). h.volume) same)))
+      (there (λ same. ne (cc)))
   | inl v ↦ rw (
     v,
-    get_or-set_same vtocs home.volume (set (vtoc_in vtocs home.volume) home.entry x) []
-        (homed_volume vtocs home u used),
-  )
-      (elim (cases_eq other.entry home.entry) [
-        | inr ne ↦ rw (get_or-set_other (vtoc_in vtocs home.volume) home.entry other.entry x None ne)
-            (rw v at (there (λ same. ne (ap (λ (h : Home). h.entry) same))))
-        | inl e ↦ rw (e, get_or-set_same (vtoc_in vtocs home.volume) home.entry x None (homed_entry vtocs home u used))
-            (here (both_same other home v e))
-      ])
+    get_or-set_same vtocs home.volume (set (vtoc_in vtocs home.volume) home.entry x) [] (homed_volume vtocs home used),
+  ) (elim (cases_eq other.entry home.entry) [
+    | inr ne ↦ rw (get_or-set_other (vtoc_in vtocs home.volume) home.entry other.entry x None ne)
+        (rw v at (there (λ same. ne (cc))))
+    | inl e ↦ rw (e, get_or-set_same (vtoc_in vtocs home.volume) home.entry x None (homed_entry vtocs home used))
+        (here (both_same v e))
+  ])
 ]
 
 record_map : (o : Option Entry) (q u : ℕ) (r : Option ℕ) → uid_of o ≡ Some u
@@ -44,12 +41,12 @@ record_map (Some x) q u r e = refl
 abbrev pub map_put : List (List (Option Entry)) → Home → ℕ → Option ℕ → List (List (Option Entry))
 map_put vtocs home q r = entry_put vtocs home (with_record (entry_there vtocs home) q r)
 
-module _ (vtocs : List (List (Option Entry))) (home : Home) (u q : ℕ) (r : Option ℕ)
+module _ (vtocs : List (List (Option Entry))) (home : Home) {u : ℕ} (q : ℕ) (r : Option ℕ)
     (used : uid_at vtocs home ≡ Some u) where
   pub put_uid : (other : Home) → uid_at (map_put vtocs home q r) other ≡ uid_at vtocs other
   put_uid other = entry_told vtocs home u (with_record (entry_there vtocs home) q r)
       (λ (o : Option Entry). uid_of o ≡ uid_at vtocs other) other used
-      (λ same. same_uid (entry_there vtocs home) q r ∙ sym (ap (uid_at vtocs) same)) (λ ne. refl)
+      (λ same. cc (same_uid (entry_there vtocs home) q r)) (λ ne. refl)
 
   pub put_other : (other : Home) → other ≢ home → map_at (map_put vtocs home q r) other ≡ map_at vtocs other
   put_other other apart = entry_told vtocs home u (with_record (entry_there vtocs home) q r)
@@ -65,16 +62,12 @@ pub one_named : (xs : List (Option ℕ)) (q : ℕ) → is_some (get_or xs q None
     → count_by is_some (set xs q None) + 1 ≡ count_by is_some xs
 one_named [] q on = cc
 one_named (x ∷ xs) zero on =
-    let old : count_by is_some (x ∷ xs) ≡ cond {A = ℕ} (is_some x) 1 0 + count_by is_some xs =
-    sum_by-cons (λ (y : Option ℕ). cond (is_some y) 1 0) x xs in
-    let new : count_by is_some (None ∷ xs) ≡ 0 + count_by is_some xs =
-    sum_by-cons (λ (y : Option ℕ). cond (is_some y) 1 0) None xs in
-    let one : cond {A = ℕ} (is_some x) 1 0 ≡ 1 = ap (λ (z : Bool). cond {A = ℕ} z 1 0) on in
-    omega (arith, old, new, one)
+    let old = sum_by-cons (λ (y : Option ℕ). cond (is_some y) 1 0) x xs in
+    let new = sum_by-cons (λ (y : Option ℕ). cond (is_some y) 1 0) None xs in
+    let one = ap (λ (z : Bool). cond {A = ℕ} z 1 0) on in
+    omega arith
 one_named (x ∷ xs) (suc q) on =
-    let ih : count_by is_some (set xs q None) + 1 ≡ count_by is_some xs = one_named xs q on in
-    let old : count_by is_some (x ∷ xs) ≡ cond {A = ℕ} (is_some x) 1 0 + count_by is_some xs =
-    sum_by-cons (λ (y : Option ℕ). cond (is_some y) 1 0) x xs in
-    let new : count_by is_some (x ∷ set xs q None) ≡ cond {A = ℕ} (is_some x) 1 0 + count_by is_some (set xs q None) =
-    sum_by-cons (λ (y : Option ℕ). cond (is_some y) 1 0) x (set xs q None) in
-    omega (arith, ih, old, new)
+    let ih = one_named xs q on in
+    let old = sum_by-cons (λ (y : Option ℕ). cond (is_some y) 1 0) x xs in
+    let new = sum_by-cons (λ (y : Option ℕ). cond (is_some y) 1 0) x (set xs q None) in
+    omega arith

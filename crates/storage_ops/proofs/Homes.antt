@@ -5,10 +5,9 @@ use Rattle.seg_control.proofs.Homes.{home_cases}
 
 -- ---- words of pages that aren't stored
 
-pub bound_of : (bound : List (Option (ℕ × ℕ))) (u q f : ℕ) → position (is_binding u q) bound ≡ Some f
+pub bound_of : (bound : List (Option (ℕ × ℕ))) (u q : ℕ) {f : ℕ} → position (is_binding u q) bound ≡ Some f
     → binding_at bound f ≡ Some (u, q)
-bound_of bound u q f e = by (binding_at bound f) refl
-    (let h = position-Some (is_binding u q) bound f None e in h.1)
+bound_of bound u q {f} e = by (binding_at bound f) refl (let h = position-Some (is_binding u q) bound f None e in h.1)
   where
     by : (o : Option (ℕ × ℕ)) → binding_at bound f ≡ o → is_binding u q o ≡ true → o ≡ Some (u, q)
     by None e t = cc
@@ -24,14 +23,14 @@ words_none now u q home unbound off =
   where
     by : (o : Option ℕ) → position (is_binding u q) (bindings now.core) ≡ o → (r : Option ℕ) → is_some r ≡ false
         → words_held now.frames (get_or now.disks home.volume []) r o ≡ replicate 1024 0
-    by (Some f) e r none = absurd (unbound f (bound_of (bindings now.core) u q f e))
+    by (Some f) e r none = absurd (unbound f (bound_of (bindings now.core) u q e))
     by None e None none = refl
     by None e (Some r) none = cc
 
 -- what a segment isn't active has no page in a frame
-pub unbound_inactive : (now : Plain) (ast : ActiveSegs) (links : Links) (u q : ℕ) → IsKept now ast links
+pub unbound_inactive : {now : Plain} {ast : ActiveSegs} {links : Links} {u : ℕ} (q : ℕ) → IsKept now ast links
     → ((place : ℕ) → uid_in_place ast.entries place ≢ Some u) → (f : ℕ) → binding_at (bindings now.core) f ≢ Some (u, q)
-unbound_inactive now ast links u q k inactive f e = (let at = k.paged.bound f u q e in inactive at.0 at.1)
+unbound_inactive {u} q k inactive f e = (let at = k.paged.bound f u q e in inactive at.0 at.1)
 
 -- ---- a free entry
 
@@ -39,10 +38,10 @@ free_entry : (o : Option VtocEntry) → is_none o ≡ true → (uid_of o ≡ Non
 free_entry None e = (refl, refl)
 free_entry (Some x) e = cc
 
-pub was_free : (vtocs : List (List (Option VtocEntry))) (v e : ℕ) → Some e ≡ least_free_entry (vtoc_in vtocs v)
+pub was_free : (vtocs : List (List (Option VtocEntry))) (v : ℕ) {e : ℕ} → Some e ≡ least_free_entry (vtoc_in vtocs v)
     → (uid_at vtocs (record { volume = v; entry = e }) ≡ None) × (map_at vtocs
     (record { volume = v; entry = e }) ≡ no_records)
-was_free vtocs v e least =
+was_free vtocs v {e} least =
     free_entry (entry_at (vtoc_in vtocs v) e) (position-Some is_none (vtoc_in vtocs v) e None (sym least)).1
 
 none_named : count_by is_some no_records ≡ 0
@@ -69,8 +68,8 @@ none_counted (x ∷ xs) u q none = by (eqb x.0 u) refl
   where
     by : (z : Bool) → eqb x.0 u ≡ z → 0 ≡ cond {A = ℕ} z 1 0 + count_by (λ y. eqb y.0 u) xs
         → (count_by (λ y. eqb y.0 u) xs ≡ 0 → is_stored xs u q ≡ false) → is_stored (x ∷ xs) u q ≡ false
-    by true is e rest = absurd (omega (arith, e))
-    by false is e rest = rw is (rest (omega (arith, e)))
+    by true is e rest = absurd (omega arith)
+    by false is e rest = rw is (rest (omega arith))
 
 -- ---- a node is added
 
@@ -99,8 +98,7 @@ module _ (a b : AccountMaps) (n : Node) (entry : ℕ) (gains : Gains a b n entry
       (free : uid_at old (record { volume = n.volume; entry = entry }) ≡ None)
       (blank : map_at old (record { volume = n.volume; entry = entry }) ≡ no_records)
       (uids : (other : Home) → other ≢ record { volume = n.volume; entry = entry }
-      → uid_at new other ≡ uid_at old other)
-      (maps : (other : Home) → map_at new other ≡ map_at old other) where
+      → uid_at new other ≡ uid_at old other) (maps : (other : Home) → map_at new other ≡ map_at old other) where
     apart : (u : ℕ) → AreHoused a old → is_there a.nodes u ≡ true
         → home_of a u ≢ record { volume = n.volume; entry = entry }
     apart u h t same = cc (free, ap (uid_at old) same, h.homes u t)
@@ -111,16 +109,16 @@ module _ (a b : AccountMaps) (n : Node) (entry : ℕ) (gains : Gains a b n entry
     pub housed_new : AreHoused a old → AreHoused b new
     housed_new h = record {
       homes = λ u t. elim (cases_eq u n.uid) [
-        | inl is ↦ ap (uid_at new) (ap (home_of b) is ∙ home_own) ∙ taken_home ∙ ap (λ (x : ℕ). Some x) (sym is)
+        | inl is ↦ ap (uid_at new) (cc (is, home_own)) ∙ taken_home ∙ ap (λ (x : ℕ). Some x) (sym is)
         | inr ne ↦ (let was = sym (there_new u ne) ∙ t in
-            ap (uid_at new) (home_new u ne) ∙ uids (home_of a u) (apart u h was) ∙ h.homes u was)
+            cc (home_new u ne, uids (home_of a u) (apart u h was), h.homes u was))
       ];
       there = λ home u e. elim (home_cases home (record { volume = n.volume; entry = entry })) [
-        | inl is ↦ (let same : n.uid ≡ u = cc (ap (uid_at new) is) in ap (is_there b.nodes) (sym same) ∙ there_own)
+        | inl is ↦ (let same : n.uid ≡ u = cc (ap (uid_at new) is) in cc (same, there_own))
         | inr ne ↦ (let was = h.there home u (sym (uids home ne) ∙ e) in there_new u (not_own u was) ∙ was)
       ];
       only = λ home u e. elim (home_cases home (record { volume = n.volume; entry = entry })) [
-        | inl is ↦ (let same : n.uid ≡ u = cc (ap (uid_at new) is) in is ∙ sym home_own ∙ ap (home_of b) same)
+        | inl is ↦ (is ∙ sym home_own ∙ ap (home_of b) (cc (ap (uid_at new) is)))
         | inr ne ↦ (let was = sym (uids home ne) ∙ e in h.only home u was
             ∙ sym (home_new u (not_own u (h.there home u was))))
       ];
@@ -152,9 +150,9 @@ module _ (a b : AccountMaps) (n : Node) (entry : ℕ) (gains : Gains a b n entry
     pub counted_new : n.pages ≤ 256 → (n.directory ≡ true → n.pages ≡ 0) → AreCounted a old → AreCounted b new
     counted_new most flat h = record {
       counts = λ u t. elim (cases_eq u n.uid) [
-        | inl is ↦ ap (named_at new) (ap (home_of b) is ∙ home_own)
+        | inl is ↦ ap (named_at new) (cc (is, home_own))
             ∙ ap (count_by is_some) (maps (record { volume = n.volume; entry = entry }) ∙ blank)
-            ∙ none_named ∙ sym (gains.counts u ∙ ap (count_of a) is ∙ h.absent n.uid (ap is_some fresh))
+            ∙ none_named ∙ sym (cc (gains.counts u, h.absent n.uid (ap is_some fresh)))
         | inr ne ↦ ap (named_at new) (home_new u ne) ∙ ap (count_by is_some) (maps (home_of a u))
             ∙ h.counts u (sym (there_new u ne) ∙ t) ∙ sym (gains.counts u)
       ];
@@ -197,13 +195,12 @@ module _ (a b : AccountMaps) (n : Node) (entry : ℕ) (gains : Gains a b n entry
 pub entries_more : (n : Node) (ns : List Node) (count : ℕ → ℕ) (v : ℕ) → count v ≡ entries_on ns v
     → one_more count n.volume v ≡ entries_on (n ∷ ns) v
 unfolding one_more entries_on
-entries_more n ns count v is =
-    rw (eqb_turned v n.volume) (by (eqb n.volume v) is)
+entries_more n ns count v is = rw (eqb_turned v n.volume) (by (eqb n.volume v) is)
     ∙ sym (sum_by-cons (λ (x : Node). cond (eqb x.volume v) 1 0) n ns)
   where
     by : (z : Bool) {more all : ℕ} → more ≡ all → cond z (more + 1) more ≡ cond {A = ℕ} z 1 0 + all
-    by true same = omega (arith, same)
-    by false same = omega (arith, same)
+    by true same = omega arith
+    by false same = omega arith
 
 -- ---- the whole
 
@@ -220,25 +217,25 @@ pub record HasNewHome (a b : AccountMaps) (n : Node) (entry : ℕ) (old now : Pl
   pub flags : now.records ≡ old.records
   pub count : used now.vtocs ≡ one_more (used old.vtocs) n.volume
 
-module _ (a b : AccountMaps) (n : Node) (entry : ℕ) (old now : Plain) (made : HasNewHome a b n entry old now)
+module _ {a b : AccountMaps} {n : Node} {entry : ℕ} {old now : Plain} (made : HasNewHome a b n entry old now)
     (ast : ActiveSegs) (links : Links) where
   free_home : (uid_at old.vtocs (record { volume = n.volume; entry = entry }) ≡ None)
       × (map_at old.vtocs (record { volume = n.volume; entry = entry }) ≡ no_records)
-  free_home = was_free old.vtocs n.volume entry made.least
+  free_home = was_free old.vtocs n.volume made.least
 
-  pub store_new : (whos : List Who) → n.pages ≤ 256 → (n.directory ≡ true → n.pages ≡ 0)
+  pub store_new : {whos : List Who} → n.pages ≤ 256 → (n.directory ≡ true → n.pages ≡ 0)
       → IsStore old ast links a whos → IsStore now ast links b whos
-  store_new whos most flat h = record {
+  store_new most flat h = record {
     housed = housed_new a b n entry made.gains old.vtocs now.vtocs made.fresh made.home free_home.0 free_home.1
         made.uids made.maps h.housed;
     counted = counted_new a b n entry made.gains old.vtocs now.vtocs made.fresh made.home free_home.0 free_home.1
         made.uids made.maps most flat h.counted;
     taken = record {
-      records = λ stored v counts. ap (λ (f : List (List Bool)). taken f v) made.flags
-          ∙ h.taken.records stored v (λ u. sym (made.gains.counts u) ∙ counts u)
-          ∙ sym (taken_new n a.nodes stored v (λ q. none_counted stored n.uid q
-          (sym (counts n.uid) ∙ made.gains.counts n.uid ∙ h.counted.absent n.uid (ap is_some made.fresh))))
-          ∙ ap (λ (ns : List Node). taken_on ns stored v) (sym made.gains.nodes);
+      records = λ stored v counts. cc (
+        h.taken.records stored v (λ u. sym (made.gains.counts u) ∙ counts u),
+        taken_new n a.nodes stored v (λ q. none_counted stored n.uid q (sym (counts n.uid) ∙ made.gains.counts n.uid
+            ∙ h.counted.absent n.uid (ap is_some made.fresh))),
+      );
       entries = λ v. ap (λ (f : ℕ → ℕ). f v) made.count
           ∙ rw made.gains.nodes (entries_more n a.nodes (used old.vtocs) v (h.taken.entries v));
       short = rw made.flags h.taken.short;
@@ -255,12 +252,10 @@ module _ (a b : AccountMaps) (n : Node) (entry : ℕ) (old now : Plain) (made : 
       modes = λ process number place pages u mode m d e found. h.rights.modes process number place pages u mode m d e
           (sym (node_new a b n entry made.gains u (other u (h.active.there place u e))) ∙ found);
       lengths = λ process number place pages u mode m d e found. h.rights.lengths process number place pages u mode m
-          d e
-          (sym (node_new a b n entry made.gains u (other u (h.active.there place u e))) ∙ found);
+          d e (sym (node_new a b n entry made.gains u (other u (h.active.there place u e))) ∙ found);
     };
     known = record {
-      older = λ process number u e. (let lt = h.known.older process number u e in
-          let next : b.next ≡ a.next + 1 = made.gains.next in omega (arith, lt, next));
+      older = λ process number u e. (omega (arith, h.known.older process number u e));
       processes = h.known.processes;
     };
   }
@@ -269,15 +264,14 @@ module _ (a b : AccountMaps) (n : Node) (entry : ℕ) (old now : Plain) (made : 
       other u t is = cc (ap is_some made.fresh)
 
   -- the flat store has the node too
-  pub shown_new : {D : Type 0} (drive : D → List (List ℕ)) (p : Plan) (s : Store) (t u : Storage D)
+  pub shown_new : {D : Type 0} {drive : D → List (List ℕ)} {p : Plan} {s : Store} {t u : Storage D}
       → t.accounts ≡ a → u.accounts ≡ b
       → plain drive t.segs.pages ≡ old → plain drive u.segs.pages ≡ now → u.segs.links ≡ t.segs.links
-      → t.segs.ast ≡ ast → t.segs.links ≡ links
-      → u.whos ≡ t.whos → words_at now ≡ words_at old → ((v : ℕ)
+      → t.segs.ast ≡ ast → t.segs.links ≡ links → u.whos ≡ t.whos → words_at now ≡ words_at old → ((v : ℕ)
       → length (vtoc_in now.vtocs v) ≡ length (vtoc_in old.vtocs v))
       → IsKept old ast links → ((place : ℕ) → uid_in_place ast.entries place ≢ Some n.uid)
       → Shows drive p s t → Shows drive p (record s { nodes = n ∷ s.nodes; next = s.next + 1 }) u
-  shown_new drive p s t u is_a is_b is_old is_now links_same ast_is links_is whos words sizes kept inactive h = record {
+  shown_new is_a is_b is_old is_now links_same ast_is links_is whos words sizes kept inactive h = record {
     tree = record {
       nodes = cc (h.tree.nodes, made.gains.nodes);
       next = cc (h.tree.next, made.gains.next);
@@ -308,11 +302,11 @@ module _ (a b : AccountMaps) (n : Node) (entry : ℕ) (old now : Plain) (made : 
         ap (λ (x : Plain). size x.records v) is_now,
       );
       entries = λ v. cc (h.script.entries v, sizes v);
-      whos = whos ∙ h.script.whos;
+      whos = cc;
     };
   }
     where
       zeros : (q : ℕ) → words_at now n.uid (record { volume = n.volume; entry = entry }) q ≡ replicate 1024 0
       zeros q = rw words (words_none old n.uid q (record { volume = n.volume; entry = entry })
-          (unbound_inactive old ast links n.uid q kept inactive)
+          (unbound_inactive q kept inactive)
           (cc (filed_map old.vtocs (record { volume = n.volume; entry = entry }) q, free_home.1, none_filed q)))

@@ -17,7 +17,7 @@ filed_is : (vtocs : List (List (Option Entry))) (home : Home) (q : ℕ)
 unfolding is_filed_at
 filed_is vtocs home q = refl
 
-module _ (a : AccountMaps) (vtocs : List (List (Option Entry))) (u : ℕ) (home : Home) (table : List (Option Entry))
+module _ (a : AccountMaps) (vtocs : List (List (Option Entry))) (u : ℕ) {home : Home} {table : List (Option Entry)}
     (there : is_there a.nodes u ≡ true) (home_is : home ≡ home_of a u)
     (table_is : table ≡ vtoc_in vtocs home.volume) where
   pub record_told : (q : ℕ) → is_some (record_at table home.entry q) ≡ is_filed a vtocs u q
@@ -30,17 +30,15 @@ module _ (a : AccountMaps) (vtocs : List (List (Option Entry))) (u : ℕ) (home 
       → b ≡ is_stored_from stored u from
   from_told stored from true shown counted some none =
       let at = some refl in
-      sym (stored_from stored u from at.0 (shown u at.0 ∙ sym (record_told at.0) ∙ at.2)
-      (let le : from ≤ at.0 = at.1 in grind (arith, nat_tests)))
+      sym (stored_from stored u from at.0 (shown u at.0 ∙ sym (record_told at.0) ∙ at.2) (grind (arith, nat_tests)))
   from_told stored from false shown counted some none = sym (none_from stored u from each)
     where
       each : (q : ℕ) → nat_le from q ≡ true → is_stored stored u q ≡ false
       each q le = elim (cases_Bool (is_stored stored u q)) [
         | inr off ↦ off
         | inl on ↦
-            (let start : from ≤ q = grind (arith, nat_tests) in
-            let lt = counted.inside u q there (sym (filed_there a vtocs u q there) ∙ sym (shown u q) ∙ on) in
-            shown u q ∙ sym (record_told q) ∙ none refl q start lt)
+            (let lt = counted.inside u q there (cc (filed_there a vtocs u q there, shown u q)) in
+            shown u q ∙ sym (record_told q) ∙ none refl q (grind (arith, nat_tests)) lt)
       ]
 
 module _ (a : AccountMaps) (vtocs : List (List (Option Entry))) (u : ℕ) (home : Home) (table : List (Option Entry))
@@ -52,8 +50,10 @@ module _ (a : AccountMaps) (vtocs : List (List (Option Entry))) (u : ℕ) (home 
   within_told from b counted none off q on = elim (cases_lt q from) [
     | inl lt ↦ lt
     | inr le ↦
-        (let lt = counted.inside u q there (sym (filed_there a vtocs u q there) ∙ on) in
-        cc (record_told a vtocs u home table there home_is table_is q, none off q le lt))
+        (cc (
+          record_told a vtocs u there home_is table_is q,
+          none off q le (counted.inside u q there (sym (filed_there a vtocs u q there) ∙ on)),
+        ))
   ]
 
 -- ---- the length is set
@@ -65,10 +65,10 @@ keeps_change : (u pages : ℕ) → Keeps (length_change u pages)
 keeps_change u pages = keeps_one u (λ n. record n { pages = pages }) (keeps_length pages)
 
 -- a change of one node leaves those of other uids
-other_same : (u pages : ℕ) (n : Node) → n.uid ≢ u → length_change u pages n ≡ n
-other_same u pages n ne = rw (ne_eqb n.uid u ne)
+other_same : (u pages : ℕ) {n : Node} → n.uid ≢ u → length_change u pages n ≡ n
+other_same u pages {n} ne = rw (ne_eqb n.uid u ne)
 
-module _ (a b : AccountMaps) (u pages : ℕ) (segment : has_segment a.nodes u ≡ true)
+module _ {a b : AccountMaps} (u pages : ℕ) (segment : has_segment a.nodes u ≡ true)
     (changes : Changes a b (with_node a.nodes u (λ n. record n { pages = pages }))) where
   pages_other : (v : ℕ) → v ≢ u → pages_in b.nodes v ≡ pages_in a.nodes v
   pages_other v ne = rw (changes.nodes, node_map (length_change u pages) (keeps_change u pages).uid a.nodes v)
@@ -76,10 +76,10 @@ module _ (a b : AccountMaps) (u pages : ℕ) (segment : has_segment a.nodes u �
     where
       by : (o : Option Node) → node_in a.nodes v ≡ o → pages_of (map_node (length_change u pages) o) ≡ pages_of o
       by None e = refl
-      by (Some n) e = ap (λ (x : Node). x.pages) (other_same u pages n (λ is. ne (sym (found_uid a.nodes v n e) ∙ is)))
+      by (Some n) e = ap (λ (x : Node). x.pages) (other_same u pages (λ is. ne (sym (found_uid a.nodes v n e) ∙ is)))
 
-  pages_here : (n : Node) → node_in a.nodes u ≡ Some n → pages_in b.nodes u ≡ pages
-  pages_here n e = rw (
+  pages_here : {n : Node} → node_in a.nodes u ≡ Some n → pages_in b.nodes u ≡ pages
+  pages_here {n} e = rw (
     changes.nodes,
     node_map (length_change u pages) (keeps_change u pages).uid a.nodes u,
     e,
@@ -87,24 +87,24 @@ module _ (a b : AccountMaps) (u pages : ℕ) (segment : has_segment a.nodes u �
   ) refl
 
   -- the segment isn't active, and stores no page from the new length on
-  pub length_store : (now : Plain) (ast : ActiveSegs) (links : Links) (whos : List Who) (n : Node)
+  pub length_store : {now : Plain} {ast : ActiveSegs} {links : Links} {whos : List Who} {n : Node}
       → node_in a.nodes u ≡ Some n
       → pages ≤ 256 → IsInactive ast.entries u → ((q : ℕ) → is_filed a now.vtocs u q ≡ true → q < pages)
       → IsStore now ast links a whos → IsStore now ast links b whos
-  length_store now ast links whos n found most inactive within h = (
-      let alike = alike_changed (length_change u pages) (keeps_change u pages) a b changes in record {
-        housed = housed_alike a b alike now.vtocs h.housed;
+  length_store {now} {ast} {links} {whos} {n} found most inactive within h = (
+      let alike = alike_changed (keeps_change u pages) changes in record {
+        housed = housed_alike a b alike h.housed;
         counted = record {
           counts = λ v t. cc (alike.homes v, h.counted.counts v (sym (alike.there v) ∙ t), alike.counts v);
           inside = λ v q t on. (let was = rw (alike.homes v) at on in let there = sym (alike.there v) ∙ t in
               elim (cases_eq v u) [
-                | inl is ↦ rw (is, pages_here n found)
+                | inl is ↦ rw (is, pages_here found)
                     (within q (filed_there a now.vtocs u q (rw is at there) ∙ (rw is at was)))
                 | inr ne ↦ rw (pages_other v ne) (h.counted.inside v q there was)
               ]);
           absent = λ v off. alike.counts v ∙ h.counted.absent v (sym (alike.there v) ∙ off);
           most = λ v. elim (cases_eq v u) [
-            | inl is ↦ rw (is, pages_here n found) most
+            | inl is ↦ rw (is, pages_here found) most
             | inr ne ↦ rw (pages_other v ne) (h.counted.most v)
           ];
           flat = λ v d. elim (cases_eq v u) [
@@ -112,31 +112,26 @@ module _ (a b : AccountMaps) (u pages : ℕ) (segment : has_segment a.nodes u �
             | inr ne ↦ pages_other v ne ∙ h.counted.flat v (sym (alike.kinds v) ∙ d)
           ];
         };
-        taken = taken_alike a b alike now.records now.vtocs h.taken;
+        taken = taken_alike a b alike h.taken;
         active = active_alike (length_change u pages) (keeps_change u pages).uid a b changes.nodes
-            (keeps_change u pages).superior ast h.active
-            (λ place v m e here. ap pool_of (unchanged place v m e here));
-        rights = rights_alike (length_change u pages)
-            (keeps_change u pages).uid a b changes.nodes ast.entries links whos
-            h.rights
+            (keeps_change u pages).superior h.active (λ place v m e here. ap pool_of (unchanged place v m e here));
+        rights = rights_alike (length_change u pages) (keeps_change u pages).uid a b changes.nodes h.rights
             (λ process number place k v mode m d e here. (let same = unchanged place v m e here in
-            (ap (λ (x : Node). x.rows) same, ap (λ (x : Node). x.pages) same)));
+            (cc, cc)));
         known = rw changes.next h.known;
       })
     where
       unchanged : (place v : ℕ) (m : Node) → uid_in_place ast.entries place ≡ Some v → node_in a.nodes v ≡ Some m
           → length_change u pages m ≡ m
-      unchanged place v m e here = other_same u pages m
-          (λ is. inactive.nowhere place (e ∙ ap (λ (x : ℕ). Some x) (sym (found_uid a.nodes v m here) ∙ is)))
+      unchanged place v m e here = other_same u pages (λ is. inactive.nowhere place (cc (found_uid a.nodes v m here)))
 
-  pub length_shown : {D : Type 0} (drive : D → List (List ℕ)) (p : Plan) (s : Store) (t : Storage D) (path : List
-      (List ℕ)) (n : Node) → t.accounts ≡ a
-      → segment_at a.nodes path ≡ Ok n → n.uid ≡ u → Shows drive p s t
+  pub length_shown : {D : Type 0} {drive : D → List (List ℕ)} {p : Plan} {s : Store} {t : Storage D} (path : List
+      (List ℕ)) {n : Node} → t.accounts ≡ a → segment_at a.nodes path ≡ Ok n → n.uid ≡ u → Shows drive p s t
       → Shows drive p (after_length s path pages) (record t { accounts = b })
   unfolding after_length
-  length_shown drive p s t path n is found uid h =
+  length_shown {drive} {p} {s} {t} path is found uid h =
       rw (h.tree.nodes ∙ ap (λ (x : AccountMaps). x.nodes) is, found, uid, ← is, ← h.tree.nodes)
-      (shown_changed (length_change u pages) (keeps_change u pages) a b changes drive p s t is h)
+      (shown_changed (keeps_change u pages) changes is h)
 
 -- the reply to a length, by whether a page past it is stored
 pub length_answered : {D : Type 0} {t now : Storage D} (same : t ≡ now) (drive : D → List (List ℕ)) (p : Plan)
@@ -144,4 +139,4 @@ pub length_answered : {D : Type 0} {t now : Storage D} (same : t ≡ now) (drive
     → segment_at t.accounts.nodes path ≡ Ok n → stores ≡ is_stored_from s.stored n.uid pages → stores ≡ b
     → cond b reply.Beyond reply.Done ≡ length_reply s path pages
 length_answered {D} {t} same drive p s h path pages n b stores found told is =
-    length_told s t.accounts.nodes path (tree_held same s h.tree).nodes pages n b found (sym told ∙ is)
+    length_told s t.accounts.nodes path (tree_held same {s = s} h.tree).nodes pages n b found (cc)

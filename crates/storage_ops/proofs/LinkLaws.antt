@@ -3,21 +3,18 @@ use Rattle.storage_ops.proofs.Prelude.{◌≡◌, ℕ, suc, ◌<◌, List, [], �
 use Rattle.mnames.specs.declared.modes.Mode.TheVariants as mode
 use Rattle.storage_ops.proofs.Known.{set_told}
 
-same_place : (p q m n : ℕ) (x y : Mode) → ◌≡◌ {A = Sdw} (Present p x m) (Present q y n)
-    → (p ≡ q) × (x ≡ y) × (m ≡ n)
-same_place p q m n x y e =
-    (cc, cc, cc)
+same_place : {p q m n : ℕ} {x y : Mode} → ◌≡◌ {A = Sdw} (Present p x m) (Present q y n) → (p ≡ q) × (x ≡ y) × (m ≡ n)
+same_place e = (cc, cc, cc)
 
 -- what a descriptor of a store is, once one more is connected: as it was, or the new one
-told_linked : (links : Links) (process number place pages : ℕ) (m : Mode) (P : ℕ → Sdw → Type 0)
-    → P process (Present place m pages) → ((q k : ℕ) → P q (sdw_at (sdws_at links.descriptors q) k)) → (q k : ℕ)
+told_linked : (links : Links) {process : ℕ} (number : ℕ) {place pages : ℕ} {m : Mode} (P : ℕ → Sdw → Type 0)
+    → P process (Present place m pages) → ((q k : ℕ) → P q (sdw_at (sdws_at links.descriptors q) k)) → {q : ℕ} (k : ℕ)
     → P q (sdw_at (sdws_at (linked links process number place m pages).descriptors q) k)
-told_linked links process number place pages m P new old q k = elim (cases_eq q process) [
+told_linked links {process} number {place} {pages} {m} P new old {q} k = elim (cases_eq q process) [
   | inr ne ↦ rw (get_or-set_other links.descriptors process q (set (sdws_at links.descriptors process) number
       (Present place m pages)) [] ne) (old q k)
-  | inl is ↦ set_told (λ (words : List Sdw). P q (sdw_at words k)) links.descriptors process q
-      (set (sdws_at links.descriptors process) number (Present place m pages)) []
-      (set_told (λ (w : Sdw). P q w) (sdws_at links.descriptors process) number k (Present place m pages) Fault
+  | inl is ↦ set_told (λ (words : List Sdw). P q (sdw_at words k)) links.descriptors process q []
+      (set_told (λ (w : Sdw). P q w) (sdws_at links.descriptors process) number k Fault
       (rw is new) (rw (← is) (old q k))) (old q k)
 ]
 
@@ -31,16 +28,15 @@ module _ (now : Plain) (ast : ActiveSegs) (a : AccountMaps) (whos : List Who) wh
     taken = h.taken;
     active = h.active;
     rights = record {
-      modes = λ q k x count u y n d e found. told_linked links process number place pages m
+      modes = λ q k x count u y n d e found. told_linked links number
           (λ (j : ℕ) (w : Sdw). w ≡ Present x y count → y ≡ access_of (who_at whos j) n.rows)
-          (λ same. (let is = same_place place x pages count m y same in
+          (λ same. (let is = same_place same in
           sym is.1 ∙ right.mode_is n (own x u n is.0 e found)))
-          (λ j i w. h.rights.modes j i x count u y n w e found) q k d;
-      lengths = λ q k x count u y n d e found. told_linked links process number place pages m
-          (λ (j : ℕ) (w : Sdw). w ≡ Present x y count → count ≡ n.pages)
-          (λ same. (let is = same_place place x pages count m y same in
+          (λ j i w. h.rights.modes j i x count u y n w e found) k d;
+      lengths = λ q k x count u y n d e found. told_linked links number
+          (λ (j : ℕ) (w : Sdw). w ≡ Present x y count → count ≡ n.pages) (λ same. (let is = same_place same in
           sym is.2 ∙ right.pages_are n (own x u n is.0 e found)))
-          (λ j i w. h.rights.lengths j i x count u y n w e found) q k d;
+          (λ j i w. h.rights.lengths j i x count u y n w e found) k d;
     };
     known = h.known;
   }
@@ -59,7 +55,7 @@ module _ (now : Plain) (ast : ActiveSegs) (a : AccountMaps) (whos : List Who) wh
   store_reconnected place pages uid at (pair ∷ list) [] links each h = h
   store_reconnected place pages uid at (pair ∷ list) (m ∷ modes) links each h =
       store_reconnected place pages uid at list modes (linked links pair.0 pair.1 place m pages)
-      (λ i lt. each (suc i) (omega (arith, lt)))
+      (λ i lt. each (suc i) (omega arith))
       (store_linked links pair.0 pair.1 place pages uid m at (each 0 (omega arith)) h)
 
 pub known_reconnected : (place pages : ℕ) (list : List (ℕ × ℕ)) (modes : List Mode) (links : Links)

@@ -10,7 +10,7 @@ use Rattle.seg_mover.proofs.Records.{length_given}
 
 -- a free record for each stored page
 room_enough : (pages all in_use : ℕ) → nat_lt pages (all - in_use) ≡ true → in_use + pages ≤ all
-room_enough pages all in_use e = (let lt : pages < all - in_use = grind (arith, nat_tests) in omega (arith, lt))
+room_enough pages all in_use e = (let lt : pages < all - in_use = grind (arith, nat_tests) in omega arith)
 
 module _ {D : Type 0} (drive : D → List (List ℕ)) (t : Storage D) (u : ℕ)
     (kept : IsKept (plain drive t.segs.pages) t.segs.ast t.segs.links)
@@ -20,26 +20,24 @@ module _ {D : Type 0} (drive : D → List (List ℕ)) (t : Storage D) (u : ℕ)
   there = active_there (plain drive t.segs.pages) t.segs.ast t.segs.links t.accounts t.whos kept store u active
 
   pub may_begin : HasParts (map drive t.segs.pages.volumes.drives) t.segs.pages.volumes.records
-      t.segs.pages.volumes.vtocs → (to : ℕ) → to < length t.segs.pages.volumes.drives
+      t.segs.pages.volumes.vtocs → {to : ℕ} → to < length t.segs.pages.volumes.drives
       → is_roomy t.segs.pages.volumes (home_of t.accounts u).volume (count_of t.accounts u) to ≡ true
       → CanBegin t.segs.pages.volumes u (pair_of (home_of t.accounts u)) to
-  may_begin parts to within roomy = (
+  may_begin parts {to} within roomy = (
       let has = room_parts _ _ _ roomy in
       let used = store.housed.homes u there in
-      let on = homed_volume t.segs.pages.volumes.vtocs (home_of t.accounts u) u used in
+      let on = homed_volume t.segs.pages.volumes.vtocs (home_of t.accounts u) used in
       let all = all_drives drive t.segs.pages.volumes parts in
-      let named : named_at t.segs.pages.volumes.vtocs (home_of t.accounts u) ≡ count_of t.accounts u =
-      store.counted.counts u there in
+      let named = store.counted.counts u there in
       let enough = room_enough (count_of t.accounts u) (length (records_at t.segs.pages.volumes to))
       (used_at t.segs.pages.volumes to) has.1 in
       record {
-        source = omega (arith, on, all);
+        source = omega arith;
         target = within;
-        other = λ same. (let clash : true ≡ false = sym (eq-eqb to (home_of t.accounts u).volume (sym same))
-            ∙ has.0 in cc);
+        other = λ same. (let clash = sym (eq-eqb to (home_of t.accounts u).volume (sym same)) ∙ has.0 in cc);
         used = used;
         entry = lt_of _ _ has.2;
-        room = omega (arith, named, enough);
+        room = omega arith;
         short = store.taken.short to;
       })
     where
@@ -63,12 +61,10 @@ module _ {D : Type 0} (c : Control D) (m : Mover) where
   vols = begun c.pages.volumes m.uid m.from m.to.0
 
   pub committed_sizes : (v : ℕ) → size (move_committed c m).pages.volumes.records v ≡ size c.pages.volumes.records v
-  committed_sizes v =
-      size_set vols.records m.from.0 _ (length_given (records_at vols m.from.0) (map_at vols m.from)) v
+  committed_sizes v = size_set vols.records m.from.0 _ (length_given (records_at vols m.from.0) (map_at vols m.from)) v
       ∙ size_set c.pages.volumes.records m.to.0 _
       (taken_length (records_at c.pages.volumes m.to.0) (map_at c.pages.volumes m.from)) v
 
   pub committed_entries : (v : ℕ) → entries (move_committed c m).pages.volumes.vtocs v ≡ entries c.pages.volumes.vtocs v
-  committed_entries v =
-      size_set vols.vtocs m.from.0 _ (length-set (vtoc_at vols m.from.0) m.from.1 None) v
+  committed_entries v = size_set vols.vtocs m.from.0 _ (length-set (vtoc_at vols m.from.0) m.from.1 None) v
       ∙ size_set c.pages.volumes.vtocs m.to.0 _ (length-set (vtoc_at c.pages.volumes m.to.0) _ _) v

@@ -31,17 +31,16 @@ pub count_some : {X : Type 0} (xs : List (Option X)) (i : ℕ) → is_some (get_
 count_some [] i on = cc
 count_some {X} (None ∷ xs) zero on = cc
 count_some {X} (Some x ∷ xs) zero on = (let first = sum_by-cons (λ (y : Option X). cond {A = ℕ} (is_some y) 1 0)
-    (Some x) xs in omega (arith, first))
+    (Some x) xs in omega arith)
 count_some {X} (o ∷ xs) (suc i) on = (let first = sum_by-cons (λ (y : Option X). cond {A = ℕ} (is_some y) 1 0) o xs in
-    let rest = count_some xs i on in omega (arith, first, rest))
+    omega (arith, count_some xs i on))
 
 -- ---- nodes
 
-pub segment_of : (ns : List Node) (u : ℕ) → is_there ns u ≡ true → has_directory ns u ≡ false
-    → has_segment ns u ≡ true
+pub segment_of : (ns : List Node) (u : ℕ) → is_there ns u ≡ true → has_directory ns u ≡ false → has_segment ns u ≡ true
 segment_of [] u t d = cc
 segment_of (n ∷ ns) u t d = elim (cases_Bool (eqb n.uid u)) [
-  | inl is ↦ (let off : n.directory ≡ false = rw is at d in rw is (ap not off))
+  | inl is ↦ (rw is (ap not (rw is at d)))
   | inr isnt ↦ rw isnt (segment_of ns u (rw isnt at t) (rw isnt at d))
 ]
 
@@ -52,20 +51,19 @@ directory_found ns u n e = sym (field_found (λ ms. has_directory ms u) (λ x. x
 pool_room : (pages : ℕ) → pages ≤ 256 → (pages ≤ 4 ^ (pool_for pages + 1)) × (pool_for pages < 4)
 pool_room pages most = first (nat_le pages 4) refl
   where
-    third : (z : Bool) → nat_le pages 64 ≡ z
-        → (pages ≤ 4 ^ (cond z 2 3 + 1)) × (cond z 2 3 < 4)
-    third true e = (let le : pages ≤ 64 = grind (arith, nat_tests) in (omega (arith, le), omega arith))
-    third false e = (omega (arith, most), omega arith)
+    third : (z : Bool) → nat_le pages 64 ≡ z → (pages ≤ 4 ^ (cond z 2 3 + 1)) × (cond z 2 3 < 4)
+    third true e = (let le : pages ≤ 64 = grind (arith, nat_tests) in (omega arith, omega arith))
+    third false e = (omega arith, omega arith)
 
     second : (z : Bool) → nat_le pages 16 ≡ z
         → (pages ≤ 4 ^ (cond z 1 (cond (nat_le pages 64) 2 3) + 1)) × (cond z 1 (cond (nat_le pages 64) 2 3) < 4)
-    second true e = (let le : pages ≤ 16 = grind (arith, nat_tests) in (omega (arith, le), omega arith))
+    second true e = (let le : pages ≤ 16 = grind (arith, nat_tests) in (omega arith, omega arith))
     second false e = third (nat_le pages 64) refl
 
     first : (z : Bool) → nat_le pages 4 ≡ z
         → (pages ≤ 4 ^ (cond z 0 (cond (nat_le pages 16) 1 (cond (nat_le pages 64) 2 3)) + 1))
         × (cond z 0 (cond (nat_le pages 16) 1 (cond (nat_le pages 64) 2 3)) < 4)
-    first true e = (let le : pages ≤ 4 = grind (arith, nat_tests) in (omega (arith, le), omega arith))
+    first true e = (let le : pages ≤ 4 = grind (arith, nat_tests) in (omega arith, omega arith))
     first false e = second (nat_le pages 16) refl
 
 pub room_of : (n : Node) → n.pages ≤ 256 → (n.directory ≡ true → n.pages ≡ 0)
@@ -74,7 +72,7 @@ room_of n most flat = by n.directory refl
   where
     by : (z : Bool) → n.directory ≡ z
         → (n.pages ≤ 4 ^ (cond z 0 (pool_for n.pages) + 1)) × (cond z 0 (pool_for n.pages) < 4)
-    by true e = (let none = flat e in (omega (arith, none), omega arith))
+    by true e = (let none = flat e in (omega arith, omega arith))
     by false e = pool_room n.pages most
 
 -- ---- an active segment
@@ -82,7 +80,7 @@ room_of n most flat = by n.directory refl
 module _ (now : Plain) (ast : ActiveSegs) (links : Links) (a : AccountMaps) (whos : List Who)
     (kept : IsKept now ast links) (h : IsStore now ast links a whos) (uid : ℕ) (active : IsActive ast.entries uid) where
   table_is : table_of ast uid ≡ table_at ast.tables active.0
-  table_is = ap (table_at ast.tables) (place_told ast.entries uid active.0 kept.tree active.1)
+  table_is = cc (place_told ast.entries uid active.0 kept.tree active.1)
 
   there : is_there a.nodes uid ≡ true
   there = active_there now ast links a whos kept h uid active
@@ -99,7 +97,7 @@ module _ (now : Plain) (ast : ActiveSegs) (links : Links) (a : AccountMaps) (who
     pub page_segment : has_segment a.nodes uid ≡ true
     page_segment = segment_of a.nodes uid there (elim (cases_Bool (has_directory a.nodes uid)) [
       | inr off ↦ off
-      | inl is ↦ (let none = h.counted.flat uid is in let lt = page_within in absurd (omega (arith, none, lt)))
+      | inl is ↦ (let none = h.counted.flat uid is in let lt = page_within in absurd (omega arith))
     ])
 
     pub page_counted : 1 ≤ count_of a uid
@@ -112,16 +110,17 @@ module _ (now : Plain) (ast : ActiveSegs) (links : Links) (a : AccountMaps) (who
     pub node_segment : has_segment a.nodes uid ≡ true
     node_segment = segment_of a.nodes uid there (elim (cases_Bool (has_directory a.nodes uid)) [
       | inr off ↦ off
-      | inl is ↦ (let none = h.counted.flat uid is in absurd (omega (arith, none, lt)))
+      | inl is ↦ (let none = h.counted.flat uid is in absurd (omega arith))
     ])
 
     pub word_within : p < length (table_of ast uid)
     word_within =
         let found = found_there a.nodes uid there in
-        let pages : pages_in a.nodes uid ≡ found.0.pages = ap pages_of found.1 in
+        let pages = ap pages_of found.1 in
         let room = room_of found.0 (rw pages at (h.counted.most uid))
         (λ d. sym pages ∙ h.counted.flat uid (directory_found a.nodes uid found.0 found.1 ∙ d)) in
-        let long : length (table_of ast uid) ≡ 4 ^ (pool_of found.0 + 1) = ap length table_is
-        ∙ kept.sized (pool_of found.0) active.0 room.1 (h.active.pools active.0 uid found.0 active.1 found.1) in
-        let most = room.0 in
-        omega (arith, lt, pages, long, most)
+        omega (
+          arith,
+          ap length table_is ∙ kept.sized (pool_of found.0) active.0 room.1
+              (h.active.pools active.0 uid found.0 active.1 found.1),
+        )

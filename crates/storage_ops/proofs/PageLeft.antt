@@ -12,11 +12,11 @@ use Rattle.storage_ops.proofs.Still.{picture_kept, shown_kept, store_still}
 -- ---- what is stored
 
 -- what is filed, where one page is or isn't from now on
-pub filed_changed : (a : AccountMaps) (old now : Plain) (uid p : ℕ) (flag : Bool) → AreHoused a old.vtocs
+pub filed_changed : {a : AccountMaps} {old now : Plain} (uid : ℕ) {p : ℕ} {flag : Bool} → AreHoused a old.vtocs
     → is_there a.nodes uid ≡ true → ChangesStored old now (home_of a uid) p flag
     → (v q : ℕ) → is_filed a now.vtocs v q ≡ cond (eqb v uid && eqb q p) flag (is_filed a old.vtocs v q)
 unfolding is_filed
-filed_changed a old now uid p flag housed there change v q = by (is_there a.nodes v) refl
+filed_changed {a} {old} {now} uid {p} {flag} housed there change v q = by (is_there a.nodes v) refl
   where
     apart : is_there a.nodes v ≡ true → v ≢ uid → home_of a v ≢ home_of a uid
     apart t ne same = ne (cc (housed.homes v t, housed.homes uid there))
@@ -33,34 +33,31 @@ filed_changed a old now uid p flag housed there change v q = by (is_there a.node
     ]
 
 -- nodes and homes are as before
-pub filed_recounted : (a b : AccountMaps) (uid count : ℕ) → Recounts a b uid count
+pub filed_recounted : {a b : AccountMaps} {uid count : ℕ} → Recounts a b uid count
     → (vtocs : List (List (Option VtocEntry))) (u q : ℕ) → is_filed b vtocs u q ≡ is_filed a vtocs u q
 unfolding is_filed
-filed_recounted a b uid count change vtocs u q =
-    cc (recount_there a b uid count change u, recount_homes a b uid count change u)
+filed_recounted {a} {b} {uid} {count} change vtocs u q = cc (recount_there change u, recount_homes change u)
 
-pub picture_recounted : (a b : AccountMaps) (uid count : ℕ) → Recounts a b uid count
+pub picture_recounted : {a b : AccountMaps} {uid count : ℕ} → Recounts a b uid count
     → (image : ℕ → Home → ℕ → List ℕ) (u q : ℕ) → picture b image u q ≡ picture a image u q
 unfolding picture
-picture_recounted a b uid count change image u q =
-    cc (recount_there a b uid count change u, recount_homes a b uid count change u)
+picture_recounted {a} {b} {uid} {count} change image u q = cc (recount_there change u, recount_homes change u)
 
 -- the pages without one are as many as the accounts count then
-counts_less : (a b : AccountMaps) (uid p : ℕ) (stored : List (ℕ × ℕ)) → Recounts a b uid (count_of a uid - 1)
+counts_less : {a b : AccountMaps} {uid : ℕ} (p : ℕ) (stored : List (ℕ × ℕ)) → Recounts a b uid (count_of a uid - 1)
     → IsOnce stored → is_stored stored uid p ≡ true → Counts a stored
     → Counts b (without_stored stored uid (λ q. eqb q p))
-counts_less a b uid p stored change once on counts v =
-    let sum : count_by (λ x. eqb x.0 v) (without_stored stored uid (λ q. eqb q p)) + weight (eqb uid v)
-    ≡ count_by (λ x. eqb x.0 v) stored = count_without (λ x. eqb x.0 v) stored uid p once on in
-    let was : count_of a v ≡ count_by (λ x. eqb x.0 v) stored = counts v in
+counts_less {a} {b} {uid} p stored change once on counts v =
+    let sum = count_without (λ x. eqb x.0 v) stored uid p once on in
+    let was = counts v in
     elim (cases_eq v uid) [
       | inl is ↦
-          (let one : weight (eqb uid v) ≡ 1 = ap weight (eq-eqb uid v (sym is)) in
-          let here : count_of b v ≡ count_of a v - 1 = rw is (recount_here a b uid (count_of a uid - 1) change) in
-          omega (arith, sum, was, one, here))
+          (let one = ap weight (eq-eqb uid v (sym is)) in
+          let here : count_of b v ≡ count_of a v - 1 = rw is (recount_here change) in
+          omega arith)
       | inr ne ↦
-          (let none : weight (eqb uid v) ≡ 0 = ap weight (ne_eqb uid v (λ e. ne (sym e))) in
-          omega (arith, sum, was, none, recount_other a b uid (count_of a uid - 1) change v ne))
+          (let none = ap weight (ne_eqb uid v (λ e. ne (sym e))) in
+          omega (arith, recount_other change v ne))
     ]
 
 -- ---- the whole
@@ -73,40 +70,30 @@ module _ (old now : Plain) (ast next : ActiveSegs) (links : Links) (a b : Accoun
   was_filed = rw own (filed_word old ast links a whos kept h uid active p ∙ on)
 
   was_used : uid_at old.vtocs home ≡ Some uid
-  was_used = ap (uid_at old.vtocs) own ∙ (active_home old ast links a whos kept h uid active).used
+  was_used = cc ((active_home old ast links a whos kept h uid active).used)
 
   less : 1 ≤ count_of a uid
   less = page_counted old ast links a whos kept h uid active p on
 
   pub store_left : {E : Type 0} (r : Result Left E) (record_was : ℕ) → now ≡ after_evict old home p f r
-      → next ≡ table_left ast uid p record_was r
-      → IfOk r (λ left. ChangesStored old now home p (is_kept left))
+      → next ≡ table_left ast uid p record_was r → IfOk r (λ left. ChangesStored old now home p (is_kept left))
       → IfOk r (λ left. taken now.records ≡ taken_after (taken old.records) home.volume left)
       → IsSettled a b uid r → IsStore now next links b whos
-  store_left (Err e) record_was effect word stored count settled =
-      rw settled (store_still old now ast next links a whos (ap (λ (x : Plain). x.vtocs) effect)
-      (ap (λ (x : Plain). x.records) effect) (ap (λ (x : ActiveSegs). x.entries) word)
-      (ap (λ (x : ActiveSegs). x.sizes) word) h)
-  store_left (Ok Kept) record_was effect word stored count settled =
-      rw settled (store_still old now ast next links a whos (ap (λ (x : Plain). x.vtocs) effect)
-      (ap (λ (x : Plain). x.records) effect) (ap (λ (x : ActiveSegs). x.entries) word)
-      (ap (λ (x : ActiveSegs). x.sizes) word) h)
+  store_left (Err e) record_was effect word stored count settled = rw settled (store_still (cc) (cc) (cc) (cc) h)
+  store_left (Ok Kept) record_was effect word stored count settled = rw settled (store_still (cc) (cc) (cc) (cc) h)
   store_left (Ok Released) record_was effect word stored count settled =
-      let vtocs : now.vtocs ≡ map_put old.vtocs home p None = ap (λ (x : Plain). x.vtocs) effect in
+      let vtocs = ap (λ (x : Plain). x.vtocs) effect in
       let there = active_there old ast links a whos kept h uid active in
       let named : named_at now.vtocs home + 1 ≡ named_at old.vtocs home
-      = rw vtocs (named_less old.vtocs home uid p was_used was_filed) in
-      let counted : named_at old.vtocs home ≡ count_of a uid = ap (named_at old.vtocs) own
-      ∙ h.counted.counts uid there in
-      let sum : named_at now.vtocs home ≡ count_of a uid - 1 = omega (arith, named, counted) in
+      = rw vtocs (named_less old.vtocs home {u = uid} p was_used was_filed) in
+      let counted = ap (named_at old.vtocs) own ∙ h.counted.counts uid there in
+      let sum : named_at now.vtocs home ≡ count_of a uid - 1 = omega arith in
       store_recounted old now a b uid (count_of a uid - 1) settled there
-      (λ other. rw vtocs (put_uid old.vtocs home uid p None was_used other))
-      (λ other ne. rw vtocs (put_other old.vtocs home uid p None was_used other (λ e. ne (e ∙ own))))
-      h.housed ast next links whos (ap (λ (x : ActiveSegs). x.entries) word) (ap (λ (x : ActiveSegs). x.sizes) word)
-      keeps (ap (named_at now.vtocs) (sym own) ∙ sum)
-      (λ q filed. still_within q (ap (λ (x : Home). is_filed_at now.vtocs x q) own ∙ filed))
-      (records_less a b uid old.records now.records settled less
-      (count ∙ ap (λ (x : Home). taken_after (taken old.records) x.volume Released) own) h.taken.records) h
+      (λ other. rw vtocs (put_uid old.vtocs home {u = uid} p None was_used other))
+      (λ other ne. rw vtocs (put_other old.vtocs home {u = uid} p None was_used other (λ e. ne (e ∙ own))))
+      h.housed {ast = ast} {next = next} {links = links} {whos = whos} (cc) (cc) keeps (cc)
+      (λ q filed. still_within q (cc)) (records_less a b uid old.records now.records settled less
+      (cc) h.taken.records) h
     where
       still_within : (q : ℕ) → is_filed_at now.vtocs home q ≡ true → q < pages_in a.nodes uid
       still_within q filed = elim (cases_eq q p) [
@@ -122,39 +109,35 @@ shown_less : {D : Type 0} (drive : D → List (List ℕ)) (plan : Plan) (s : Sto
     → u.whos ≡ t.whos → u.segs.links ≡ t.segs.links → AreHoused t.accounts t.segs.pages.volumes.vtocs
     → ChangesStored (plain drive t.segs.pages) (plain drive u.segs.pages) (home_of t.accounts uid) p false
     → KeepsWords (plain drive t.segs.pages) (plain drive u.segs.pages) uid (home_of t.accounts uid)
-    → KeepsCounts (plain drive t.segs.pages) (plain drive u.segs.pages)
-    → Shows drive plan s t
+    → KeepsCounts (plain drive t.segs.pages) (plain drive u.segs.pages) → Shows drive plan s t
     → Shows drive plan (record s { stored = without_stored s.stored uid (λ q. eqb q p) }) u
 shown_less drive plan s t u uid p change there on whos links housed stored words keeps h = record {
-  tree = record {
-    nodes = h.tree.nodes ∙ sym change.nodes;
-    next = h.tree.next ∙ sym change.next;
-    counts = counts_less t.accounts u.accounts uid p s.stored change h.pages.once (h.pages.stored uid p ∙ on)
-        h.tree.counts;
-  };
+  tree = assumption (
+    h.tree.nodes ∙ sym change.nodes,
+    h.tree.next ∙ sym change.next,
+    counts_less p s.stored change h.pages.once (h.pages.stored uid p ∙ on) h.tree.counts,
+  );
   known = rw links h.known;
   pages = record {
     stored = λ v q. cc (
       is_stored-without s.stored uid (λ x. eqb x p) v q,
       h.pages.stored v q,
       not_or (eqb v uid && eqb q p) (is_filed t.accounts t.segs.pages.volumes.vtocs v q),
-      filed_changed t.accounts (plain drive t.segs.pages) (plain drive u.segs.pages) uid p false housed there
-          stored v q,
-      filed_recounted t.accounts u.accounts uid _ change u.segs.pages.volumes.vtocs v q,
+      filed_changed uid housed there stored v q,
+      filed_recounted change u.segs.pages.volumes.vtocs v q,
     );
     once = once_without s.stored uid (λ x. eqb x p) h.pages.once;
     words = λ v o. cc (
       h.pages.words v o,
-      picture_kept (plain drive t.segs.pages) (plain drive u.segs.pages) t.accounts
-          uid (home_of t.accounts uid) housed refl words v (o / 1024),
-      picture_recounted t.accounts u.accounts uid _ change (words_at (plain drive u.segs.pages)) v (o / 1024),
+      picture_kept housed refl words v (o / 1024),
+      picture_recounted change (words_at (plain drive u.segs.pages)) v (o / 1024),
     );
   };
   script = record {
-    records = λ v. h.script.records v ∙ sym (same_sizes (plain drive t.segs.pages) (plain drive u.segs.pages) v keeps);
+    records = λ v. h.script.records v ∙ sym (same_sizes v keeps);
     entries = λ v. h.script.entries v
         ∙ sym (same_entries (plain drive t.segs.pages) (plain drive u.segs.pages) v keeps);
-    whos = whos ∙ h.script.whos;
+    whos = cc;
   };
 }
   where
@@ -163,37 +146,28 @@ shown_less drive plan s t u uid p change there on whos links housed stored words
     not_or false y = refl
 
 pub shown_left : {D E : Type 0} (drive : D → List (List ℕ)) (plan : Plan) (s : Store) (t u : Storage D) (uid : ℕ)
-    (home : Home) (p f : ℕ) (r : Result Left E)
-    → IsKept (plain drive t.segs.pages) t.segs.ast t.segs.links
+    (home : Home) (p f : ℕ) (r : Result Left E) → IsKept (plain drive t.segs.pages) t.segs.ast t.segs.links
     → IsStore (plain drive t.segs.pages) t.segs.ast t.segs.links t.accounts t.whos
-    → IsActive t.segs.ast.entries uid → home ≡ home_of t.accounts uid
-    → has_record (word_of t.segs.ast uid p) ≡ true
+    → IsActive t.segs.ast.entries uid → home ≡ home_of t.accounts uid → has_record (word_of t.segs.ast uid p) ≡ true
     → u.whos ≡ t.whos → u.segs.links ≡ t.segs.links
     → plain drive u.segs.pages ≡ after_evict (plain drive t.segs.pages) home p f r
     → IfOk r (λ left. ChangesStored (plain drive t.segs.pages) (plain drive u.segs.pages) home p (is_kept left))
     → KeepsWords (plain drive t.segs.pages) (plain drive u.segs.pages) uid home
-    → KeepsCounts (plain drive t.segs.pages) (plain drive u.segs.pages)
-    → IsSettled t.accounts u.accounts uid r
+    → KeepsCounts (plain drive t.segs.pages) (plain drive u.segs.pages) → IsSettled t.accounts u.accounts uid r
     → Shows drive plan s t → Shows drive plan (page_left s uid p r) u
 shown_left drive plan s t u uid home p f (Err e) kept store active own on whos links effect stored words keeps settled
-    h =
-    shown_kept drive plan s t u uid home settled whos links
-    (record { records = ap (λ (x : Plain). x.records) effect; vtocs = ap (λ (x : Plain). x.vtocs) effect })
-    store.housed own words h
+    h = shown_kept settled whos links
+    (assumption (ap (λ (x : Plain). x.records) effect, ap (λ (x : Plain). x.vtocs) effect)) store.housed own words h
 shown_left drive plan s t u uid home p f (Ok Kept) kept store active own on whos links effect stored words keeps settled
-    h =
-    shown_kept drive plan s t u uid home settled whos links
-    (record { records = ap (λ (x : Plain). x.records) effect; vtocs = ap (λ (x : Plain). x.vtocs) effect })
-    store.housed own words h
+    h = shown_kept settled whos links
+    (assumption (ap (λ (x : Plain). x.records) effect, ap (λ (x : Plain). x.vtocs) effect)) store.housed own words h
 shown_left drive plan s t u uid home p f (Ok Released) kept store active own on whos links effect stored words keeps
     settled h =
     let there = active_there (plain drive t.segs.pages) t.segs.ast t.segs.links t.accounts t.whos kept store uid active
     in
-    shown_less drive plan s t u uid p settled there
-    (filed_there t.accounts t.segs.pages.volumes.vtocs uid p there
+    shown_less drive plan s t u uid p settled there (filed_there t.accounts t.segs.pages.volumes.vtocs uid p there
     ∙ filed_word (plain drive t.segs.pages) t.segs.ast t.segs.links t.accounts t.whos kept store uid active p ∙ on)
-    whos links store.housed
-    (rw own at stored) (rw own at words) keeps h
+    whos links store.housed (rw own at stored) (rw own at words) keeps h
 
 -- ---- a page that is given up
 

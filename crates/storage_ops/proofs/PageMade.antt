@@ -14,17 +14,16 @@ use Rattle.storage_ops.proofs.PageWords.{IsPageChanged, words_told}
 counts_more : (a b : AccountMaps) (uid p : ℕ) (stored : List (ℕ × ℕ)) → Recounts a b uid (count_of a uid + 1)
     → is_stored stored uid p ≡ false → Counts a stored → Counts b (with_stored stored uid p)
 counts_more a b uid p stored change off counts v =
-    let sum : count_by (λ x. eqb x.0 v) (with_stored stored uid p)
-    ≡ count_by (λ x. eqb x.0 v) stored + weight (eqb uid v) = count_with (λ x. eqb x.0 v) stored uid p off in
-    let was : count_of a v ≡ count_by (λ x. eqb x.0 v) stored = counts v in
+    let sum = count_with (λ x. eqb x.0 v) stored uid p off in
+    let was = counts v in
     elim (cases_eq v uid) [
       | inl is ↦
-          (let one : weight (eqb uid v) ≡ 1 = ap weight (eq-eqb uid v (sym is)) in
-          let here : count_of b v ≡ count_of a v + 1 = rw is (recount_here a b uid (count_of a uid + 1) change) in
-          omega (arith, sum, was, one, here))
+          (let one = ap weight (eq-eqb uid v (sym is)) in
+          let here : count_of b v ≡ count_of a v + 1 = rw is (recount_here change) in
+          omega arith)
       | inr ne ↦
-          (let none : weight (eqb uid v) ≡ 0 = ap weight (ne_eqb uid v (λ e. ne (sym e))) in
-          omega (arith, sum, was, none, recount_other a b uid (count_of a uid + 1) change v ne))
+          (let none = ap weight (ne_eqb uid v (λ e. ne (sym e))) in
+          omega (arith, recount_other change v ne))
     ]
 
 -- ---- the whole
@@ -34,35 +33,27 @@ module _ (old now : Plain) (ast next : ActiveSegs) (links : Links) (a b : Accoun
     (active : IsActive ast.entries uid) (own : home ≡ home_of a uid)
     (off : word_of ast uid p ≡ Null) (keeps : KeepsCounts old now) (lt : p < pages_in a.nodes uid)
     (effect : now ≡ created old uid p home (next_record old home) f at w) (word : next ≡ worded ast uid p (Here f))
-    (stored : ChangesStored old now home p true)
-    (count : taken now.records ≡ one_more (taken old.records) home.volume)
+    (stored : ChangesStored old now home p true) (count : taken now.records ≡ one_more (taken old.records) home.volume)
     (change : Recounts a b uid (count_of a uid + 1)) where
   not_filed : is_filed_at old.vtocs home p ≡ false
-  not_filed = rw own (filed_word old ast links a whos kept h uid active p ∙ ap has_record off)
+  not_filed = rw own (cc (filed_word old ast links a whos kept h uid active p))
 
   was_used : uid_at old.vtocs home ≡ Some uid
-  was_used = ap (uid_at old.vtocs) own ∙ (active_home old ast links a whos kept h uid active).used
+  was_used = cc ((active_home old ast links a whos kept h uid active).used)
 
   pub store_made : IsStore now next links b whos
   store_made =
-      let vtocs : now.vtocs ≡ map_put old.vtocs home p (Some (next_record old home))
-      = ap (λ (x : Plain). x.vtocs) effect in
+      let vtocs = ap (λ (x : Plain). x.vtocs) effect in
       let there = active_there old ast links a whos kept h uid active in
-      let named : named_at now.vtocs home ≡ named_at old.vtocs home + 1
-      = rw vtocs
-      (named_more old.vtocs home uid p (next_record old home) was_used not_filed (rw vtocs at stored.here)) in
-      let counted : named_at old.vtocs home ≡ count_of a uid = ap (named_at old.vtocs) own
-      ∙ h.counted.counts uid there in
-      let sum : named_at now.vtocs home ≡ count_of a uid + 1 = omega (arith, named, counted) in
+      let named : named_at now.vtocs home ≡ named_at old.vtocs home + 1 = rw vtocs
+      (named_more old.vtocs home p (next_record old home) was_used not_filed (rw vtocs at stored.here)) in
+      let counted = ap (named_at old.vtocs) own ∙ h.counted.counts uid there in
+      let sum : named_at now.vtocs home ≡ count_of a uid + 1 = omega arith in
       store_recounted old now a b uid (count_of a uid + 1) change there
-      (λ other. rw vtocs (put_uid old.vtocs home uid p (Some (next_record old home)) was_used other))
-      (λ other ne. rw vtocs
-      (put_other old.vtocs home uid p (Some (next_record old home)) was_used other (λ e. ne (e ∙ own))))
-      h.housed ast next links whos (ap (λ (x : ActiveSegs). x.entries) word) (ap (λ (x : ActiveSegs). x.sizes) word)
-      keeps (ap (named_at now.vtocs) (sym own) ∙ sum)
-      (λ q filed. still_within q (ap (λ (x : Home). is_filed_at now.vtocs x q) own ∙ filed))
-      (records_more a b uid old.records now.records change
-      (count ∙ ap (λ (x : Home). one_more (taken old.records) x.volume) own) h.taken.records) h
+      (λ other. rw vtocs (put_uid old.vtocs home p (Some (next_record old home)) was_used other)) (λ other ne. rw vtocs
+      (put_other old.vtocs home p (Some (next_record old home)) was_used other (λ e. ne (e ∙ own)))) h.housed (cc) (cc)
+      keeps (cc) (λ q filed. still_within q (cc)) (records_more a b uid old.records now.records change
+      (cc) h.taken.records) h
     where
       still_within : (q : ℕ) → is_filed_at now.vtocs home q ≡ true → q < pages_in a.nodes uid
       still_within q filed = elim (cases_eq q p) [
@@ -74,36 +65,32 @@ module _ (old now : Plain) (ast next : ActiveSegs) (links : Links) (a b : Accoun
 -- ---- the words
 
 -- a page whose word is `Null` is in no frame, and all zeros
-pub zeros_null : (old : Plain) (ast : ActiveSegs) (links : Links) (a : AccountMaps) (whos : List Who) (uid p : ℕ)
+pub zeros_null : {old : Plain} {ast : ActiveSegs} {links : Links} {a : AccountMaps} {whos : List Who} {uid : ℕ} (p : ℕ)
     → IsKept old ast links → IsStore old ast links a whos → IsActive ast.entries uid → word_of ast uid p ≡ Null
     → words_at old uid (home_of a uid) p ≡ replicate 1024 0
-zeros_null old ast links a whos uid p kept h active off =
+zeros_null {old} {ast} {links} {a} {whos} {uid} p kept h active off =
     sym (picture_there a (words_at old) uid p (active_there old ast links a whos kept h uid active))
-    ∙ picture_none old ast links a whos kept h uid p
-    (word_filed old ast links a whos kept h uid active p ∙ ap has_record off)
+    ∙ picture_none kept h uid p (cc (word_filed old ast links a whos kept h uid active p))
 
-other_words : (old now : Plain) (a : AccountMaps) (uid p : ℕ) (new : List ℕ) → AreHoused a old.vtocs
-    → ChangesWords old now uid (home_of a uid) p new → (u q : ℕ) → (u ≡ uid → q ≡ p → ⊥)
+other_words : {old now : Plain} {a : AccountMaps} {uid p : ℕ} {new : List ℕ} → AreHoused a old.vtocs
+    → ChangesWords old now uid (home_of a uid) p new → (u : ℕ) {q : ℕ} → (u ≡ uid → q ≡ p → ⊥)
     → picture a (words_at now) u q ≡ picture a (words_at old) u q
 unfolding picture
-other_words old now a uid p new housed change u q apart = by (is_there a.nodes u) refl
+other_words {old} {now} {a} housed change u {q} apart = by (is_there a.nodes u) refl
   where
-    by : (z : Bool) → is_there a.nodes u ≡ z
-        → cond z (words_at now u (home_of a u) q) (replicate 1024 0)
+    by : (z : Bool) → is_there a.nodes u ≡ z → cond z (words_at now u (home_of a u) q) (replicate 1024 0)
         ≡ cond z (words_at old u (home_of a u) q) (replicate 1024 0)
-    by true t = change.others u (home_of a u) q
-        (record { used = housed.homes u t; own = λ is. ap (home_of a) is }) apart
+    by true t = change.others u (home_of a u) q (record { used = housed.homes u t; own = λ is. cc }) apart
     by false t = refl
 
-changed_words : (old now : Plain) (a : AccountMaps) (uid p : ℕ) (words new : List ℕ) → AreHoused a old.vtocs
+changed_words : {old now : Plain} {a : AccountMaps} {uid p : ℕ} {words new : List ℕ} → AreHoused a old.vtocs
     → is_there a.nodes uid ≡ true → words_at old uid (home_of a uid) p ≡ words
-    → ChangesWords old now uid (home_of a uid) p new
-    → IsPageChanged a (words_at old) (words_at now) uid p words new
-changed_words old now a uid p words new housed there held change = record {
+    → ChangesWords old now uid (home_of a uid) p new → IsPageChanged a (words_at old) (words_at now) uid p words new
+changed_words {old} {now} {a} {uid} {p} {new} housed there held change = record {
   before = picture_there a (words_at old) uid p there ∙ held;
   here = picture_there a (words_at now) uid p there ∙ change.here;
-  pages = λ q ne. other_words old now a uid p new housed change uid q (λ is page. ne page);
-  others = λ u q ne. other_words old now a uid p new housed change u q (λ is page. ne is);
+  pages = λ q ne. other_words housed change uid (λ is page. ne page);
+  others = λ u q ne. other_words housed change u (λ is page. ne is);
 }
 
 -- one page more is shown
@@ -114,22 +101,20 @@ pub shown_made : {D : Type 0} (drive : D → List (List ℕ)) (plan : Plan) (s :
     → Recounts t.accounts u.accounts uid (count_of t.accounts uid + 1) → u.whos ≡ t.whos → u.segs.links ≡ t.segs.links
     → ChangesStored (plain drive t.segs.pages) (plain drive u.segs.pages) (home_of t.accounts uid) p true
     → ChangesWords (plain drive t.segs.pages) (plain drive u.segs.pages) uid (home_of t.accounts uid) p
-    (set (replicate 1024 0) at w)
-    → KeepsCounts (plain drive t.segs.pages) (plain drive u.segs.pages)
+    (set (replicate 1024 0) at w) → KeepsCounts (plain drive t.segs.pages) (plain drive u.segs.pages)
     → Shows drive plan s t → Shows drive plan (page_made s uid p at w) u
 shown_made drive plan s t u uid p at w kept store active off within change whos links stored words keeps h = (
     let old = plain drive t.segs.pages in
     let there = active_there old t.segs.ast t.segs.links t.accounts t.whos kept store uid active in
-    let unfiled : is_filed t.accounts t.segs.pages.volumes.vtocs uid p ≡ false
-    = filed_there t.accounts t.segs.pages.volumes.vtocs uid p there
-    ∙ filed_word old t.segs.ast t.segs.links t.accounts t.whos kept store uid active p ∙ ap has_record off in
-    let zeros = zeros_null old t.segs.ast t.segs.links t.accounts t.whos uid p kept store active off in
+    let zeros = zeros_null p kept store active off in
     record {
-      tree = record {
-        nodes = h.tree.nodes ∙ sym change.nodes;
-        next = h.tree.next ∙ sym change.next;
-        counts = counts_more t.accounts u.accounts uid p s.stored change (h.pages.stored uid p ∙ unfiled) h.tree.counts;
-      };
+      tree = assumption (
+        h.tree.nodes ∙ sym change.nodes,
+        h.tree.next ∙ sym change.next,
+        counts_more t.accounts u.accounts uid p s.stored change (h.pages.stored uid p
+            ∙ (filed_there t.accounts t.segs.pages.volumes.vtocs uid p there ∙ filed_word old t.segs.ast t.segs.links
+            t.accounts t.whos kept store uid active p ∙ ap has_record off)) h.tree.counts,
+      );
       known = rw links h.known;
       pages = record {
         stored = λ v q. cc (
@@ -138,22 +123,19 @@ shown_made drive plan s t u uid p at w kept store active off within change whos 
           eqb_turned uid v,
           eqb_turned p q,
           or_cond (eqb v uid && eqb q p) (is_filed t.accounts t.segs.pages.volumes.vtocs v q),
-          filed_changed t.accounts old (plain drive u.segs.pages) uid p true store.housed there stored v q,
-          filed_recounted t.accounts u.accounts uid _ change u.segs.pages.volumes.vtocs v q,
+          filed_changed uid store.housed there stored v q,
+          filed_recounted change u.segs.pages.volumes.vtocs v q,
         );
         once = once_with s.stored uid p h.pages.once;
         words = λ v o. words_told t.accounts (words_at old) (words_at (plain drive u.segs.pages)) uid p at w
-            (replicate 1024 0)
-            (changed_words old (plain drive u.segs.pages) t.accounts uid p (replicate 1024 0)
-            (set (replicate 1024 0) at w) store.housed there zeros words)
+            (replicate 1024 0) (changed_words store.housed there zeros words)
             (length-replicate {A = ℕ} 1024 0) within s.words h.pages.words v o
-            ∙ sym (rw (picture_recounted t.accounts u.accounts uid _ change (words_at (plain drive u.segs.pages)) v
-            (o / 1024)));
+            ∙ sym (rw (picture_recounted change (words_at (plain drive u.segs.pages)) v (o / 1024)));
       };
       script = record {
-        records = λ v. h.script.records v ∙ sym (same_sizes old (plain drive u.segs.pages) v keeps);
+        records = λ v. h.script.records v ∙ sym (same_sizes v keeps);
         entries = λ v. h.script.entries v ∙ sym (same_entries old (plain drive u.segs.pages) v keeps);
-        whos = whos ∙ h.script.whos;
+        whos = cc;
       };
     })
   where

@@ -18,115 +18,109 @@ pages_by test xs = count_by (λ x. test x.0) xs
 pub record IsOneMore (small large : List (ℕ × ℕ)) (uid : ℕ) : Type 0 where
   pub each : (test : ℕ → Bool) → pages_by test large ≡ weight (test uid) + pages_by test small
 
-pub one_first : (x : ℕ × ℕ) (xs : List (ℕ × ℕ)) (uid : ℕ) → x.0 ≡ uid → IsOneMore xs (x ∷ xs) uid
-one_first x xs uid is = record {
+pub one_first : (x : ℕ × ℕ) {xs : List (ℕ × ℕ)} {uid : ℕ} → x.0 ≡ uid → IsOneMore xs (x ∷ xs) uid
+one_first x {xs} is = record {
   each = λ test. cc (sum_by-cons (λ (y : ℕ × ℕ). weight (test y.0)) x xs, is);
 }
 
 -- one of a segment is left out
-pub one_out : (xs : List (ℕ × ℕ)) (uid : ℕ) → 1 ≤ pages_by (λ n. eqb n uid) xs
+pub one_out : {xs : List (ℕ × ℕ)} {uid : ℕ} → 1 ≤ pages_by (λ n. eqb n uid) xs
     → (ys : List (ℕ × ℕ)) × IsOneMore ys xs uid
-one_out [] uid some = absurd (omega (arith, some))
-one_out (x ∷ xs) uid some = by (eqb x.0 uid) refl (λ rest. one_out xs uid rest)
+one_out {xs = []} some = absurd (omega arith)
+one_out {xs = x ∷ xs} {uid} some = by (eqb x.0 uid) refl (λ rest. one_out rest)
   where
     first : pages_by (λ n. eqb n uid) (x ∷ xs) ≡ weight (eqb x.0 uid) + pages_by (λ n. eqb n uid) xs
     first = sum_by-cons (λ (y : ℕ × ℕ). weight (eqb y.0 uid)) x xs
 
-    by : (z : Bool) → eqb x.0 uid ≡ z
-        → (1 ≤ pages_by (λ n. eqb n uid) xs → (ys : List (ℕ × ℕ)) × IsOneMore ys xs uid)
+    by : (z : Bool) → eqb x.0 uid ≡ z → (1 ≤ pages_by (λ n. eqb n uid) xs → (ys : List (ℕ × ℕ)) × IsOneMore ys xs uid)
         → (ys : List (ℕ × ℕ)) × IsOneMore ys (x ∷ xs) uid
-    by true is ih = (xs, one_first x xs uid (eqb-true x.0 uid is))
+    by true is ih = (xs, one_first x (eqb-true x.0 uid is))
     by false is ih =
-        let none : weight (eqb x.0 uid) ≡ 0 = ap weight is in
+        let none = ap weight is in
         let sum = first in
-        let out = ih (omega (arith, some, none, sum)) in (
+        let out = ih (omega arith) in (
           x ∷ out.0,
           record {
             each = λ test. (
                 let here = sum_by-cons (λ (y : ℕ × ℕ). weight (test y.0)) x xs in
                 let left = sum_by-cons (λ (y : ℕ × ℕ). weight (test y.0)) x out.0 in
-                let rest = out.1.each test in omega (arith, here, left, rest));
+                omega (arith, out.1.each test));
           },
         )
 
 -- ---- a file map names a record more, or one less
 
-module _ (vtocs : List (List (Option VtocEntry))) (home : Home) (u : ℕ) (used_for : uid_at vtocs home ≡ Some u)
+module _ (vtocs : List (List (Option VtocEntry))) (home : Home) {u : ℕ} (used_for : uid_at vtocs home ≡ Some u)
     (p : ℕ) (place : Option ℕ) where
   recounted : p < length (map_at vtocs home)
       → named_at (map_put vtocs home p place) home + weight (is_some (get_or (map_at vtocs home) p None))
       ≡ named_at vtocs home + weight (is_some place)
-  recounted lt = rw (put_here vtocs home u p place used_for)
+  recounted lt = rw (put_here vtocs home p place used_for)
       (sum_by-set (λ (o : Option ℕ). weight (is_some o)) (map_at vtocs home) p place None lt)
 
 -- a page was filed, and is no more
-pub named_less : (vtocs : List (List (Option VtocEntry))) (home : Home) (u p : ℕ) → uid_at vtocs home ≡ Some u
+pub named_less : (vtocs : List (List (Option VtocEntry))) (home : Home) {u : ℕ} (p : ℕ) → uid_at vtocs home ≡ Some u
     → is_filed_at vtocs home p ≡ true → named_at (map_put vtocs home p None) home + 1 ≡ named_at vtocs home
-named_less vtocs home u p used_for on =
+named_less vtocs home {u} p used_for on =
     let filed = sym (filed_map vtocs home p) ∙ on in
-    let sum = recounted vtocs home u used_for p None (within_some (map_at vtocs home) p filed) in
-    omega (arith, sum, ap weight filed)
+    omega (arith, (recounted vtocs home used_for p None (within_some (map_at vtocs home) p filed)), ap weight filed)
 
 -- a page wasn't filed, and is now
-pub named_more : (vtocs : List (List (Option VtocEntry))) (home : Home) (u p r : ℕ) → uid_at vtocs home ≡ Some u
+pub named_more : (vtocs : List (List (Option VtocEntry))) (home : Home) {u : ℕ} (p r : ℕ) → uid_at vtocs home ≡ Some u
     → is_filed_at vtocs home p ≡ false → is_filed_at (map_put vtocs home p (Some r)) home p ≡ true
     → named_at (map_put vtocs home p (Some r)) home ≡ named_at vtocs home + 1
-named_more vtocs home u p r used_for off on =
-    let filed = sym (filed_map (map_put vtocs home p (Some r)) home p) ∙ on in
-    let lt = within_some (map_at (map_put vtocs home p (Some r)) home) p filed in
-    let long : length (map_at (map_put vtocs home p (Some r)) home) ≡ length (map_at vtocs home)
-    = ap length (put_here vtocs home u p (Some r) used_for) ∙ length-set (map_at vtocs home) p (Some r) in
-    let sum = recounted vtocs home u used_for p (Some r) (omega (arith, lt, long)) in
-    omega (arith, sum, ap weight (sym (filed_map vtocs home p) ∙ off))
+named_more vtocs home {u} p r used_for off on =
+    let lt = within_some (map_at (map_put vtocs home p (Some r)) home) p (sym
+    (filed_map (map_put vtocs home p (Some r)) home p) ∙ on) in
+    let long = ap length (put_here vtocs home p (Some r) used_for) ∙ length-set (map_at vtocs home) p (Some r) in
+    let sum = recounted vtocs home used_for p (Some r) (omega arith) in
+    omega (arith, ap weight (sym (filed_map vtocs home p) ∙ off))
 
 -- ---- the records in use, by the accounts before and after
 
 -- the stored pages that the accounts count on a volume, with one of a segment there and without it
-taken_one : (ns : List Node) (small large : List (ℕ × ℕ)) (uid v : ℕ) → IsOneMore small large uid
+taken_one : (ns : List Node) {small large : List (ℕ × ℕ)} {uid : ℕ} (v : ℕ) → IsOneMore small large uid
     → taken_on ns large v ≡ weight (eqb (volume_in ns uid) v) + taken_on ns small v
 unfolding taken_on
-taken_one ns small large uid v more = more.each (λ n. eqb (volume_in ns n) v)
+taken_one ns v more = more.each (λ n. eqb (volume_in ns n) v)
 
-more_taken : (count : ℕ → ℕ) (volume v n : ℕ) → n ≡ weight (eqb v volume) + count v → one_more count volume v ≡ n
+more_taken : (count : ℕ → ℕ) (volume v : ℕ) {n : ℕ} → n ≡ weight (eqb v volume) + count v → one_more count volume v ≡ n
 unfolding one_more
-more_taken count volume v n = by (eqb v volume)
+more_taken count volume v {n} = by (eqb v volume)
   where
     by : (z : Bool) → n ≡ weight z + count v → cond z (count v + 1) (count v) ≡ n
-    by true e = omega (arith, e)
-    by false e = omega (arith, e)
+    by true e = omega arith
+    by false e = omega arith
 
-less_taken : (count : ℕ → ℕ) (volume v n : ℕ) → count v ≡ weight (eqb v volume) + n → one_less count volume v ≡ n
+less_taken : (count : ℕ → ℕ) (volume v : ℕ) {n : ℕ} → count v ≡ weight (eqb v volume) + n → one_less count volume v ≡ n
 unfolding one_less
-less_taken count volume v n = by (eqb v volume)
+less_taken count volume v {n} = by (eqb v volume)
   where
     by : (z : Bool) → count v ≡ weight z + n → cond z (count v - 1) (count v) ≡ n
-    by true e = omega (arith, e)
-    by false e = omega (arith, e)
+    by true e = omega arith
+    by false e = omega arith
 
 module _ (a b : AccountMaps) (uid : ℕ) (old now : List (List Bool)) where
   -- a page more
-  pub records_more : Recounts a b uid (count_of a uid + 1)
-      → taken now ≡ one_more (taken old) (volume_in a.nodes uid)
+  pub records_more : Recounts a b uid (count_of a uid + 1) → taken now ≡ one_more (taken old) (volume_in a.nodes uid)
       → ((stored : List (ℕ × ℕ)) (v : ℕ) → Counts a stored → taken old v ≡ taken_on a.nodes stored v)
       → (stored : List (ℕ × ℕ)) (v : ℕ) → Counts b stored → taken now v ≡ taken_on b.nodes stored v
   records_more change counted was stored v counts =
-      let here : count_of b uid ≡ count_of a uid + 1 = recount_here a b uid (count_of a uid + 1) change in
-      let all : count_of b uid ≡ pages_by (λ n. eqb n uid) stored = counts uid in
-      let out = one_out stored uid (omega (arith, here, all)) in
-      let each : Counts a out.0 = λ u. before u (pages_by (λ n. eqb n u) out.0) change
-      (counts u ∙ out.1.each (λ n. eqb n u)) in
-      let rest : taken old v ≡ taken_on a.nodes out.0 v = was out.0 v each in
-      let sum = taken_one a.nodes out.0 stored uid v out.1 in
+      let here = recount_here change in
+      let all = counts uid in
+      let out = one_out (omega arith) in
+      let rest : taken old v ≡ taken_on a.nodes out.0 v = was out.0 v (λ u. before u (pages_by (λ n. eqb n u) out.0)
+      change (counts u ∙ out.1.each (λ n. eqb n u))) in
       ap (λ (f : ℕ → ℕ). f v) counted ∙ rw change.nodes (more_taken (taken old) (volume_in a.nodes uid) v
-      (taken_on a.nodes stored v) (rw (eqb_turned v (volume_in a.nodes uid), rest) sum))
+      (rw (eqb_turned v (volume_in a.nodes uid), rest) (taken_one a.nodes v out.1)))
     where
       before : (u n : ℕ) → Recounts a b uid (count_of a uid + 1) → count_of b u ≡ weight (eqb uid u) + n
           → count_of a u ≡ n
       before u n change e = elim (cases_eq u uid) [
-        | inl is ↦ (let here = recount_here a b uid (count_of a uid + 1) change in
-            let all = rw (is, eq-eqb uid uid refl) at e in rw is (omega (arith, here, all)))
-        | inr ne ↦ (let none : weight (eqb uid u) ≡ 0 = ap weight (ne_eqb uid u (λ x. ne (sym x))) in
-            omega (arith, none, recount_other a b uid (count_of a uid + 1) change u ne, e))
+        | inl is ↦ (let here = recount_here change in
+            let all = rw (is, eq-eqb uid uid refl) at e in rw is (omega arith))
+        | inr ne ↦ (let none = ap weight (ne_eqb uid u (λ x. ne (sym x))) in
+            omega (arith, recount_other change u ne))
       ]
 
   -- a page less
@@ -135,36 +129,33 @@ module _ (a b : AccountMaps) (uid : ℕ) (old now : List (List Bool)) where
       → ((stored : List (ℕ × ℕ)) (v : ℕ) → Counts a stored → taken old v ≡ taken_on a.nodes stored v)
       → (stored : List (ℕ × ℕ)) (v : ℕ) → Counts b stored → taken now v ≡ taken_on b.nodes stored v
   records_less change some counted was stored v counts =
-      let one = one_first (uid, 0) stored uid refl in
-      let each : Counts a ((uid, 0) ∷ stored) = λ u. after u change (counts u) ∙ sym (one.each (λ n. eqb n u)) in
-      let large : taken old v ≡ taken_on a.nodes ((uid, 0) ∷ stored) v = was ((uid, 0) ∷ stored) v each in
+      let one = one_first (uid, 0) refl in
+      let large : taken old v ≡ taken_on a.nodes ((uid, 0) ∷ stored) v = was ((uid, 0) ∷ stored) v
+      (λ u. after u change (counts u) ∙ sym (one.each (λ n. eqb n u))) in
       ap (λ (f : ℕ → ℕ). f v) counted ∙ rw change.nodes (less_taken (taken old) (volume_in a.nodes uid) v
-      (taken_on a.nodes stored v) (rw (eqb_turned v (volume_in a.nodes uid))
-      (large ∙ taken_one a.nodes stored ((uid, 0) ∷ stored) uid v one)))
+      (rw (eqb_turned v (volume_in a.nodes uid)) (large ∙ taken_one a.nodes v one)))
     where
       after : (u : ℕ) → Recounts a b uid (count_of a uid - 1) → count_of b u ≡ pages_by (λ n. eqb n u) stored
           → count_of a u ≡ weight (eqb uid u) + pages_by (λ n. eqb n u) stored
       after u change e = elim (cases_eq u uid) [
-        | inl is ↦ (let here = recount_here a b uid (count_of a uid - 1) change in
-            let all = rw is at e in rw (is, eq-eqb uid uid refl) (omega (arith, here, all, some)))
-        | inr ne ↦ (let none : weight (eqb uid u) ≡ 0 = ap weight (ne_eqb uid u (λ x. ne (sym x))) in
-            omega (arith, none, recount_other a b uid (count_of a uid - 1) change u ne, e))
+        | inl is ↦ (let here = recount_here change in
+            let all = rw is at e in rw (is, eq-eqb uid uid refl) (omega arith))
+        | inr ne ↦ (let none = ap weight (ne_eqb uid u (λ x. ne (sym x))) in
+            omega (arith, recount_other change u ne))
       ]
 
 -- ---- the whole
 
 -- the file map of one segment has changed, and its count with it
 module _ (old now : Plain) (a b : AccountMaps) (uid count : ℕ) (change : Recounts a b uid count)
-    (there : is_there a.nodes uid ≡ true)
-    (uids : (other : Home) → uid_at now.vtocs other ≡ uid_at old.vtocs other)
+    (there : is_there a.nodes uid ≡ true) (uids : (other : Home) → uid_at now.vtocs other ≡ uid_at old.vtocs other)
     (maps : (other : Home) → other ≢ home_of a uid → map_at now.vtocs other ≡ map_at old.vtocs other)
     (housed : AreHoused a old.vtocs) where
   pub housed_recounted : AreHoused b now.vtocs
   housed_recounted = record {
-    homes = λ u t. ap (uid_at now.vtocs) (recount_homes a b uid count change u) ∙ uids (home_of a u)
-        ∙ housed.homes u (sym (recount_there a b uid count change u) ∙ t);
-    there = λ home u e. recount_there a b uid count change u ∙ housed.there home u (sym (uids home) ∙ e);
-    only = λ home u e. housed.only home u (sym (uids home) ∙ e) ∙ sym (recount_homes a b uid count change u);
+    homes = λ u t. cc (recount_homes change u, uids (home_of a u), housed.homes u (sym (recount_there change u) ∙ t));
+    there = λ home u e. recount_there change u ∙ housed.there home u (sym (uids home) ∙ e);
+    only = λ home u e. housed.only home u (sym (uids home) ∙ e) ∙ sym (recount_homes change u);
   }
 
   -- another node has another home
@@ -184,46 +175,45 @@ module _ (old now : Plain) (a b : AccountMaps) (uid count : ℕ) (change : Recou
       → AreCounted a old.vtocs → AreCounted b now.vtocs
   counted_recounted named inside h = record {
     counts = λ u t. elim (cases_eq u uid) [
-      | inl is ↦ rw (is, recount_here a b uid count change)
-          (ap (named_at now.vtocs) (recount_homes a b uid count change uid) ∙ named)
-      | inr ne ↦ (let was = sym (recount_there a b uid count change u) ∙ t in
+      | inl is ↦ rw (is, recount_here change) (cc (recount_homes change uid))
+      | inr ne ↦ (let was = sym (recount_there change u) ∙ t in
           cc (
-            recount_homes a b uid count change u,
+            recount_homes change u,
             maps (home_of a u) (other_home u was ne),
             h.counts u was,
-            recount_other a b uid count change u ne,
+            recount_other change u ne,
           ))
     ];
     inside = λ u q t on. (
-        let was = sym (recount_there a b uid count change u) ∙ t in
-        let filed = rw (recount_homes a b uid count change u) at on in
+        let was = sym (recount_there change u) ∙ t in
+        let filed = rw (recount_homes change u) at on in
         rw change.nodes (elim (cases_eq u uid) [
           | inl is ↦ rw is (inside q (rw is at filed))
           | inr ne ↦ h.inside u q was (sym (filed_other u q was ne) ∙ filed)
         ]));
     absent = λ u off. elim (cases_eq u uid) [
-      | inl is ↦ cc (there, recount_there a b uid count change u)
-      | inr ne ↦ recount_other a b uid count change u ne ∙ h.absent u (sym (recount_there a b uid count change u) ∙ off)
+      | inl is ↦ cc (there, recount_there change u)
+      | inr ne ↦ recount_other change u ne ∙ h.absent u (sym (recount_there change u) ∙ off)
     ];
     most = rw change.nodes h.most;
     flat = rw change.nodes h.flat;
   }
 
-  pub store_recounted : (ast next : ActiveSegs) (links : Links) (whos : List Who)
+  pub store_recounted : {ast next : ActiveSegs} {links : Links} {whos : List Who}
       → next.entries ≡ ast.entries → next.sizes ≡ ast.sizes → KeepsCounts old now
       → named_at now.vtocs (home_of a uid) ≡ count
       → ((q : ℕ) → is_filed_at now.vtocs (home_of a uid) q ≡ true → q < pages_in a.nodes uid)
       → ((stored : List (ℕ × ℕ)) (v : ℕ) → Counts b stored → taken now.records v ≡ taken_on b.nodes stored v)
       → IsStore old ast links a whos → IsStore now next links b whos
-  store_recounted ast next links whos entries sizes keeps named inside records h = record {
+  store_recounted {ast} {next} entries sizes keeps named inside records h = record {
     housed = housed_recounted;
     counted = counted_recounted named inside h.counted;
     taken = record {
       records = records;
-      entries = λ v. rw change.nodes (same_used old now v keeps ∙ h.taken.entries v);
-      short = λ v. rw (same_sizes old now v keeps) (h.taken.short v);
+      entries = λ v. rw change.nodes (same_used v keeps ∙ h.taken.entries v);
+      short = λ v. rw (same_sizes v keeps) (h.taken.short v);
     };
-    active = rw change.nodes (tree_still a.nodes ast next entries sizes h.active);
+    active = rw change.nodes (tree_still entries sizes h.active);
     rights = rw (change.nodes, entries) h.rights;
     known = rw change.next h.known;
   }

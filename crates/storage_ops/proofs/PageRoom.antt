@@ -17,30 +17,28 @@ all_taken [] all = refl
 all_taken (flag ∷ flags) all =
     let first = sum_by-cons (λ (x : Bool). cond {A = ℕ} x 1 0) flag flags in
     let one : cond {A = ℕ} flag 1 0 ≡ 1 = rw (all 0 true (omega arith)) in
-    let rest = all_taken flags (λ k d lt. all (suc k) d (omega (arith, lt))) in
-    omega (arith, first, one, rest)
+    let rest = all_taken flags (λ k d lt. all (suc k) d (omega arith)) in
+    omega arith
 
 -- the account of a segment has used up its quota exactly where it can't be charged
-pub spent_told : (nodes : List Node) (stored : List (ℕ × ℕ)) (uid : ℕ) (r : Result (Unit {0}) Full)
+pub spent_told : (nodes : List Node) (stored : List (ℕ × ℕ)) (uid : ℕ) {r : Result (Unit {0}) Full}
     → r ≡ charge_answer nodes stored uid → is_err r ≡ is_spent nodes stored uid
-spent_told nodes stored uid r answer = ap is_err answer ∙ by (is_spent nodes stored uid)
+spent_told nodes stored uid answer = ap is_err answer ∙ by (is_spent nodes stored uid)
   where
     by : (z : Bool)
         → is_err (cond {A = Result (Unit {0}) Full} z (Err (record { account = account_of nodes uid })) (Ok tt)) ≡ z
     by true = refl
     by false = refl
 
-pub used_told : (s : Store) (a : AccountMaps) (uid : ℕ) (r : Result (Unit {0}) Full) → ShowsTree s a
-    → ((stored : List (ℕ × ℕ)) → Counts a stored → r ≡ charge_answer a.nodes stored uid)
-    → is_err r ≡ is_used_up s uid
-used_told s a uid r h answer = cc (spent_told a.nodes s.stored uid r (answer s.stored h.counts), h.nodes)
+pub used_told : {s : Store} {a : AccountMaps} (uid : ℕ) {r : Result (Unit {0}) Full} → ShowsTree s a
+    → ((stored : List (ℕ × ℕ)) → Counts a stored → r ≡ charge_answer a.nodes stored uid) → is_err r ≡ is_used_up s uid
+used_told {s} {a} uid {r} h answer = cc (spent_told a.nodes s.stored uid (answer s.stored h.counts), h.nodes)
 
 -- a volume is full exactly where its records are all in use
 pub full_told : {D : Type 0} (drive : D → List (List ℕ)) (p : Plan) (s : Store) (t : Storage D) (v : ℕ)
     → IsStore (plain drive t.segs.pages) t.segs.ast t.segs.links t.accounts t.whos → Shows drive p s t
     → is_full t.segs.pages.volumes.records v ≡ is_volume_full p s v
-full_told drive p s t v store h =
-    cc (store.taken.records s.stored v h.tree.counts, h.tree.nodes, h.script.records v)
+full_told drive p s t v store h = cc (store.taken.records s.stored v h.tree.counts, h.tree.nodes, h.script.records v)
 
 -- ---- the answers
 
@@ -63,10 +61,10 @@ module _ (p : Plan) (s : Store) (n : Node) where
 -- ---- by process and number
 
 -- what the flat store has once a word other than 0 is written into a page
-pub written_made : (s : Store) (process number offset w uid : ℕ) → known_uid s process number ≡ Some uid → w ≢ 0
+pub written_made : (s : Store) (process number offset w : ℕ) {uid : ℕ} → known_uid s process number ≡ Some uid → w ≢ 0
     → page_made s uid (offset / 1024) (offset % 1024) w
     ≡ after_reference s process (record { number = number; offset = offset; kind = kind.Write w })
 unfolding after_reference
-written_made s process number offset w uid known full =
+written_made s process number offset w known full =
     let same : 1024 * (offset / 1024) + offset % 1024 ≡ offset = omega arith in
     rw (known, same, ne_eqb w 0 full)

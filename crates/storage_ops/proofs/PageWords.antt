@@ -6,7 +6,7 @@ use Rattle.storage_ops.proofs.PagesLess.{words_bound}
 use Rattle.page_control.proofs.Facts.{bound_to}
 
 -- a bound frame has the page of an active segment, whose page table names the frame
-module _ (now : Plain) (ast : ActiveSegs) (links : Links) (kept : IsKept now ast links) (f : ℕ)
+module _ {now : Plain} {ast : ActiveSegs} {links : Links} (kept : IsKept now ast links) (f : ℕ)
     (bound : is_bound (frame_at now.core f) ≡ true) where
   binding : binding_at (bindings now.core) f ≡ Some (uid_in (frame_at now.core f), number_in (frame_at now.core f))
   binding = get_or-map bound_page now.core.frames f Free ∙ bound_to (frame_at now.core f) bound
@@ -27,25 +27,24 @@ module _ (now : Plain) (ast : ActiveSegs) (links : Links) (kept : IsKept now ast
       (λ g e. same_Some g f (sym (bound_table.named g (number_in (frame_at now.core f)) e) ∙ bound_named))
 
 -- and the page is stored
-pub bound_filed : (now : Plain) (ast : ActiveSegs) (links : Links) (a : AccountMaps) (whos : List Who)
+pub bound_filed : {now : Plain} {ast : ActiveSegs} {links : Links} {a : AccountMaps} {whos : List Who}
     → IsKept now ast links → IsStore now ast links a whos → (f : ℕ) → is_bound (frame_at now.core f) ≡ true
     → is_filed a now.vtocs (uid_in (frame_at now.core f)) (number_in (frame_at now.core f)) ≡ true
-bound_filed now ast links a whos kept h f bound =
+bound_filed {now} {ast} {links} {a} {whos} kept h f bound =
     let uid = uid_in (frame_at now.core f) in
     let number = number_in (frame_at now.core f) in
-    let active = bound_active now ast links kept f bound in
-    let named = (active_tie now ast links a whos kept h uid active).table.named f number
-    (binding now ast links kept f bound) in
-    word_filed now ast links a whos kept h uid active number ∙ framed_recorded (word_of ast uid number) f named
+    let active = bound_active kept f bound in
+    word_filed now ast links a whos kept h uid active number ∙ framed_recorded (word_of ast uid number)
+    ((active_tie now ast links a whos kept h uid active).table.named f number (binding kept f bound))
 
 pub same_page : (a : AccountMaps) (image next : ℕ → Home → ℕ → List ℕ) (u q : ℕ)
     → next u (home_of a u) q ≡ image u (home_of a u) q → picture a next u q ≡ picture a image u q
 unfolding picture
-same_page a image next u q e = ap (λ (ws : List ℕ). cond (is_there a.nodes u) ws (replicate 1024 0)) e
+same_page a image next u q e = cc
 
-changed_here : (old : ℕ → ℕ → List ℕ) (u p : ℕ) (ws : List ℕ) → changed_at old u p ws u p ≡ ws
+changed_here : (old : ℕ → ℕ → List ℕ) (u p : ℕ) {ws : List ℕ} → changed_at old u p ws u p ≡ ws
 unfolding changed_at
-changed_here old u p ws = rw (eq-eqb u u refl, eq-eqb p p refl) refl
+changed_here old u p = rw (eq-eqb u u refl, eq-eqb p p refl) refl
 
 changed_uid : (old : ℕ → ℕ → List ℕ) (u p : ℕ) (ws : List ℕ) (v q : ℕ) → v ≢ u → changed_at old u p ws v q ≡ old v q
 unfolding changed_at
@@ -64,13 +63,13 @@ pub record IsPageChanged (a : AccountMaps) (image next : ℕ → Home → ℕ �
   pub others : (u q : ℕ) → u ≢ uid → picture a next u q ≡ picture a image u q
 
 -- by a change of what all pages at all homes have
-pub page_changed : (a : AccountMaps) (image next : ℕ → Home → ℕ → List ℕ) (uid p : ℕ) (old new : List ℕ)
+pub page_changed : {a : AccountMaps} {image next : ℕ → Home → ℕ → List ℕ} {uid p : ℕ} {old new : List ℕ}
     → is_there a.nodes uid ≡ true → next ≡ changed_page image uid p new → image uid (home_of a uid) p ≡ old
     → IsPageChanged a image next uid p old new
-page_changed a image next uid p old new there change held = record {
+page_changed {a} {image} {next} {uid} {p} {new} there change held = record {
   before = picture_there a image uid p there ∙ held;
   here = picture_there a next uid p there ∙ next_at uid (home_of a uid) p
-      ∙ changed_here (λ v. image v (home_of a uid)) uid p new;
+      ∙ changed_here (λ v. image v (home_of a uid)) uid p;
   pages = λ q ne. same_page a image next uid q (next_at uid (home_of a uid) q
       ∙ changed_number (λ v. image v (home_of a uid)) uid p new uid q ne);
   others = λ u q ne. same_page a image next u q (next_at u (home_of a u) q
@@ -85,7 +84,7 @@ module _ (a : AccountMaps) (image next : ℕ → Home → ℕ → List ℕ) (uid
     (long : length words ≡ 1024) (within : at < 1024) where
   -- the word itself, and each other one
   word_here : get_or (picture a next uid p) at 0 ≡ w
-  word_here = cc (change.here, get_or-set_same words at w 0 (omega (arith, long, within)))
+  word_here = cc (change.here, get_or-set_same words at w 0 (omega arith))
 
   word_else : (i : ℕ) → i ≢ at → get_or (picture a next uid p) i 0 ≡ get_or (picture a image uid p) i 0
   word_else i ne = cc (change.here, get_or-set_other words at i w 0 ne, change.before)
@@ -94,24 +93,20 @@ module _ (a : AccountMaps) (image next : ℕ → Home → ℕ → List ℕ) (uid
       → (u o : ℕ) → cond (eqb u uid && eqb o (1024 * p + at)) w (old u o)
       ≡ get_or (picture a next u (o / 1024)) (o % 1024) 0
   words_told old shown u o = elim (cases_eq u uid) [
-    | inr ne ↦ (let off : eqb u uid ≡ false = ne_eqb u uid ne in cc (off, shown u o, change.others u (o / 1024) ne))
-    | inl is ↦ (let on : eqb u uid ≡ true = eq-eqb u uid is in cc (on, is, of_page))
+    | inr ne ↦ (cc ((ne_eqb u uid ne), shown u o, change.others u (o / 1024) ne))
+    | inl is ↦ (cc ((eq-eqb u uid is), is, of_page))
   ]
     where
       of_page : cond (eqb o (1024 * p + at)) w (old uid o) ≡ get_or (picture a next uid (o / 1024)) (o % 1024) 0
       of_page = elim (cases_eq (o / 1024) p) [
         | inr ne ↦
-            (let off : eqb o (1024 * p + at) ≡ false
-            = ne_eqb o (1024 * p + at) (λ e. ne (omega (arith, e, within))) in
-            cc (off, shown uid o, change.pages (o / 1024) ne))
+            (cc ((ne_eqb o (1024 * p + at) (λ e. ne (omega arith))), shown uid o, change.pages (o / 1024) ne))
         | inl page ↦ elim (cases_eq (o % 1024) at) [
           | inr ne ↦
-              (let off : eqb o (1024 * p + at) ≡ false
-              = ne_eqb o (1024 * p + at) (λ e. ne (omega (arith, e, within))) in
-              cc (off, shown uid o, page, word_else (o % 1024) ne))
+              (cc ((ne_eqb o (1024 * p + at) (λ e. ne (omega arith))), shown uid o, page, word_else (o % 1024) ne))
           | inl place ↦
-              (let same : o ≡ 1024 * p + at = omega (arith, page, place) in
-              let on : eqb o (1024 * p + at) ≡ true = eq-eqb o (1024 * p + at) same in cc (on, word_here, page, place))
+              (let on : eqb o (1024 * p + at) ≡ true = eq-eqb o (1024 * p + at) (omega arith) in cc
+              (on, word_here, page, place))
         ]
       ]
 
@@ -121,10 +116,14 @@ pub word_at : {D : Type 0} (drive : D → List (List ℕ)) (plan : Plan) (s : St
     → words_at (plain drive t.segs.pages) uid (home_of t.accounts uid) p ≡ words → at < 1024
     → Shows drive plan s t → s.words uid (1024 * p + at) ≡ get_or words at 0
 word_at drive plan s t uid p at words there held within h =
-    let page : (1024 * p + at) / 1024 ≡ p = omega (arith, within) in
-    let place : (1024 * p + at) % 1024 ≡ at = omega (arith, within) in
-    let image = words_at (plain drive t.segs.pages) in
-    cc (h.pages.words uid (1024 * p + at), page, place, picture_there t.accounts image uid p there)
+    let page : (1024 * p + at) / 1024 ≡ p = omega arith in
+    let place : (1024 * p + at) % 1024 ≡ at = omega arith in
+    cc (
+      h.pages.words uid (1024 * p + at),
+      page,
+      place,
+      picture_there t.accounts (words_at (plain drive t.segs.pages)) uid p there,
+    )
 
 -- a flat store once word `at` of a page is written
 abbrev pub word_written : Store → ℕ → ℕ → ℕ → ℕ → Store
@@ -134,7 +133,7 @@ word_written s uid page at w = record s { words = with_word s.words uid (1024 * 
 pub written_there : (s : Store) (uid p at w : ℕ) → at < 1024 → is_stored s.stored uid p ≡ true
     → word_written s uid p at w ≡ written s uid (1024 * p + at) w
 written_there s uid p at w within on =
-    let page : (1024 * p + at) / 1024 ≡ p = omega (arith, within) in
+    let page : (1024 * p + at) / 1024 ≡ p = omega arith in
     ap (λ (xs : List (ℕ × ℕ)). record s { words = with_word s.words uid (1024 * p + at) w; stored = xs })
     (cc (page, with_old s.stored uid p on, either (eqb w 0)))
   where
@@ -156,13 +155,12 @@ shown_put {D} drive plan s t u uid p at w words accounts whos links volumes ther
     stored = λ v q. rw (volumes, accounts) (h.pages.stored v q);
     once = h.pages.once;
     words = λ v o. rw accounts (words_told t.accounts (words_at (plain drive t.segs.pages))
-        (words_at (plain drive u.segs.pages)) uid p at w words (page_changed t.accounts
-        (words_at (plain drive t.segs.pages)) (words_at (plain drive u.segs.pages)) uid p words (set words at w) there
+        (words_at (plain drive u.segs.pages)) uid p at w words (page_changed there
         change held) long within s.words h.pages.words v o);
   };
   script = record {
     records = λ v. rw volumes (h.script.records v);
     entries = λ v. rw volumes (h.script.entries v);
-    whos = whos ∙ h.script.whos;
+    whos = cc;
   };
 }

@@ -3,9 +3,9 @@ use Rattle.storage_ops.proofs.Prelude.{◌≡◌, ◌≢◌, ℕ, zero, suc, ◌
 use Rattle.storage_ops.proofs.Homes.{filed_map, words_none}
 use Rattle.storage_ops.proofs.Lengths.{filed_there}
 
-not_for : (u : ℕ) (e : Option Entry) → is_for u e ≡ false → uid_in e ≢ Some u
-not_for u None h is = cc
-not_for u (Some e) h is = (let same : e.uid ≡ u = cc in cc (eq-eqb e.uid u same))
+not_for : {u : ℕ} (e : Option Entry) → is_for u e ≡ false → uid_in e ≢ Some u
+not_for None h is = cc
+not_for {u} (Some e) h is = (cc (eq-eqb e.uid u cc))
 
 -- an active segment is in the place that is found for it
 found_at : (xs : List (Option Entry)) (u place : ℕ) → uid_in_place xs place ≡ Some u
@@ -24,7 +24,7 @@ found_at (x ∷ xs) u place at = elim (cases_Bool (is_for u x)) [
     later : ((n : ℕ) → uid_in_place xs n ≡ Some u → uid_in_place xs (position_or_len (is_for u) xs) ≡ Some u)
         → (place : ℕ) → uid_in_place (x ∷ xs) place ≡ Some u → is_for u x ≡ false
         → uid_in_place xs (position_or_len (is_for u) xs) ≡ Some u
-    later ih zero at isnt = absurd (not_for u x isnt at)
+    later ih zero at isnt = absurd (not_for x isnt at)
     later ih (suc n) at isnt = ih n at
 
 pub active_place : (entries : List (Option Entry)) (u : ℕ) → IsActive entries u
@@ -48,44 +48,44 @@ module _ (now : Plain) (ast : ActiveSegs) (links : Links) (a : AccountMaps) (who
   word_filed q = filed_there a now.vtocs u q active_there ∙ filed_map now.vtocs (home_of a u) q
       ∙ active_tie.map.stored q
 
-pub framed_recorded : (w : Ptw) (f : ℕ) → frame_of w ≡ Some f → has_record w ≡ true
-framed_recorded Null f e = cc
-framed_recorded (Out r) f e = cc
-framed_recorded (Here g) f e = refl
-framed_recorded (Leaving g) f e = refl
+pub framed_recorded : (w : Ptw) {f : ℕ} → frame_of w ≡ Some f → has_record w ≡ true
+framed_recorded Null e = cc
+framed_recorded (Out r) e = cc
+framed_recorded (Here g) e = refl
+framed_recorded (Leaving g) e = refl
 
 -- a page that isn't stored is in no frame
-pub unfiled_unframed : (now : Plain) (ast : ActiveSegs) (links : Links) (a : AccountMaps) (whos : List Who)
+pub unfiled_unframed : {now : Plain} {ast : ActiveSegs} {links : Links} {a : AccountMaps} {whos : List Who}
     → IsKept now ast links → IsStore now ast links a whos → (u q : ℕ) → is_filed a now.vtocs u q ≡ false → (f : ℕ)
     → binding_at (bindings now.core) f ≢ Some (u, q)
-unfiled_unframed now ast links a whos k h u q off f e =
+unfiled_unframed {now} {ast} {links} {a} {whos} k h u q off f e =
     let active = k.paged.bound f u q e in
-    let named = (active_tie now ast links a whos k h u active).table.named f q e in
-    cc (framed_recorded (word_of ast u q) f named, word_filed now ast links a whos k h u active q)
+    cc (
+      framed_recorded (word_of ast u q) ((active_tie now ast links a whos k h u active).table.named f q e),
+      word_filed now ast links a whos k h u active q,
+    )
 
 -- a page that isn't stored is all zeros
-pub picture_none : (now : Plain) (ast : ActiveSegs) (links : Links) (a : AccountMaps) (whos : List Who)
+pub picture_none : {now : Plain} {ast : ActiveSegs} {links : Links} {a : AccountMaps} {whos : List Who}
     → IsKept now ast links → IsStore now ast links a whos → (u q : ℕ) → is_filed a now.vtocs u q ≡ false
     → picture a (words_at now) u q ≡ replicate 1024 0
 unfolding picture
-picture_none now ast links a whos k h u q off = by (is_there a.nodes u) refl
+picture_none {now} {ast} {links} {a} {whos} k h u q off = by (is_there a.nodes u) refl
   where
     by : (z : Bool) → is_there a.nodes u ≡ z
         → cond z (words_at now u (home_of a u) q) (replicate 1024 0) ≡ replicate 1024 0
-    by true t = words_none now u q (home_of a u) (unfiled_unframed now ast links a whos k h u q off)
+    by true t = words_none now u q (home_of a u) (unfiled_unframed k h u q off)
         (sym (filed_there a now.vtocs u q t) ∙ off)
     by false t = refl
 
 -- the words of what isn't stored are 0 in each flat store that is shown
-pub blank_shown : {D : Type 0} (drive : D → List (List ℕ)) (p : Plan) (s : Store) (t : Storage D)
+pub blank_shown : {D : Type 0} {drive : D → List (List ℕ)} {p : Plan} {s : Store} {t : Storage D}
     → IsKept (plain drive t.segs.pages) t.segs.ast t.segs.links
-    → IsStore (plain drive t.segs.pages) t.segs.ast t.segs.links t.accounts t.whos
-    → Shows drive p s t → IsBlank s
-blank_shown drive p s t k h shown u o off = cc (
+    → IsStore (plain drive t.segs.pages) t.segs.ast t.segs.links t.accounts t.whos → Shows drive p s t → IsBlank s
+blank_shown {drive} {t} k h shown u o off = cc (
   shown.pages.words u o,
   all_same {X = ℕ} 1024 (o % 1024) 0,
-  picture_none (plain drive t.segs.pages) t.segs.ast t.segs.links t.accounts t.whos k h u (o / 1024)
-      (sym (shown.pages.stored u (o / 1024)) ∙ off),
+  picture_none k h u (o / 1024) (sym (shown.pages.stored u (o / 1024)) ∙ off),
 )
 
 -- ---- what is there, and what isn't
@@ -93,29 +93,29 @@ blank_shown drive p s t k h shown u o off = cc (
 pub picture_there : (a : AccountMaps) (image : ℕ → Home → ℕ → List ℕ) (u q : ℕ) → is_there a.nodes u ≡ true
     → picture a image u q ≡ image u (home_of a u) q
 unfolding picture
-picture_there a image u q t = ap (λ (z : Bool). cond z (image u (home_of a u) q) (replicate 1024 0)) t
+picture_there a image u q t = cc
 
 pub picture_absent : (a : AccountMaps) (image : ℕ → Home → ℕ → List ℕ) (u q : ℕ) → is_there a.nodes u ≡ false
     → picture a image u q ≡ replicate 1024 0
 unfolding picture
-picture_absent a image u q t = ap (λ (z : Bool). cond z (image u (home_of a u) q) (replicate 1024 0)) t
+picture_absent a image u q t = cc
 
 pub filed_absent : (a : AccountMaps) (vtocs : List (List (Option VtocEntry))) (u q : ℕ) → is_there a.nodes u ≡ false
     → is_filed a vtocs u q ≡ false
 unfolding is_filed
-filed_absent a vtocs u q t = ap (λ (z : Bool). z && is_filed_at vtocs (home_of a u) q) t
+filed_absent a vtocs u q t = cc
 
 -- no page from the length of a segment on is stored
-pub past_unfiled : (now : Plain) (ast : ActiveSegs) (links : Links) (a : AccountMaps) (whos : List Who)
-    → IsKept now ast links → IsStore now ast links a whos → (u : ℕ) → IsActive ast.entries u → (page : ℕ)
+pub past_unfiled : {now : Plain} {ast : ActiveSegs} {links : Links} {a : AccountMaps} {whos : List Who}
+    → IsKept now ast links → IsStore now ast links a whos → {u : ℕ} → IsActive ast.entries u → (page : ℕ)
     → pages_in a.nodes u ≤ page → (q : ℕ) → page ≤ q → is_filed a now.vtocs u q ≡ false
-past_unfiled now ast links a whos k h u active page past q le = elim (cases_Bool (is_filed a now.vtocs u q)) [
-  | inr off ↦ off
-  | inl on ↦
-      (let there = active_there now ast links a whos k h u active in
-      let lt : q < pages_in a.nodes u = h.counted.inside u q there
-      (sym (filed_there a now.vtocs u q there) ∙ on) in absurd (omega (arith, lt, past, le)))
-]
+past_unfiled {now} {ast} {links} {a} {whos} k h {u} active page past q le =
+    elim (cases_Bool (is_filed a now.vtocs u q)) [
+      | inr off ↦ off
+      | inl on ↦
+          (let there = active_there now ast links a whos k h u active in
+          let lt = h.counted.inside u q there (sym (filed_there a now.vtocs u q there) ∙ on) in absurd (omega arith))
+    ]
 
 -- the place that is found for an active segment is its place
 pub place_found : (entries : List (Option Entry)) (u place : ℕ) (r : Option ℕ) → IsActive entries u

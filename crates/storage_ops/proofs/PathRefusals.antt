@@ -10,9 +10,9 @@ pub branch_refuses : (ns : List Node) (path : List (List ℕ)) (e : Reply) → b
 branch_refuses = branch_says is_refusal true refl refl refl
 
 -- what refuses is told
-pub refusal_told : (e : Reply) → is_refusal e ≡ true → Some e ≡ refusal e
-refusal_told e is = by (is_refusal e) is
+pub refusal_told : {e : Reply} → is_refusal e ≡ true → Some e ≡ refusal e
+refusal_told {e} is = by (is_refusal e) is
   where
     by : (b : Bool) → b ≡ true → ◌≡◌ {A = Option Reply} (Some e) (cond b (Some e) None)
     by true i = refl
-    by false i = absurd (let no : false ≡ true = i in cc)
+    by false i = cc

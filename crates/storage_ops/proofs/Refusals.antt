@@ -29,8 +29,7 @@ word_none old (kind.Add w) = (refl, refl, refl)
 
 -- the reply where neither access nor the length refuses a reference
 abbrev reply_on : Bool → Bool → Bool → Reply → Reply
-reply_on stores used full otherwise =
-    cond stores (cond used reply.Quota (cond full reply.NoRecord otherwise)) otherwise
+reply_on stores used full otherwise = cond stores (cond used reply.Quota (cond full reply.NoRecord otherwise)) otherwise
 
 abbrev room_on : Bool → Bool → Bool → Option Reply
 room_on stores used full = cond stores (cond used (Some reply.Quota) (cond full (Some reply.NoRecord) None)) None
@@ -68,7 +67,7 @@ abbrev is_outside_of : Result Node Reply → Bool
 is_outside_of (Ok n) = true
 is_outside_of (Err e) = is_outside e
 
-module _ {D : Type 0} (drive : D → List (List ℕ)) (p : Plan) (s : Store) (t : Storage D) (h : Shows drive p s t)
+module _ {D : Type 0} {drive : D → List (List ℕ)} {p : Plan} {s : Store} {t : Storage D} (h : Shows drive p s t)
     (k : ℕ) (r : Reference) where
   who_told : who_of p k ≡ who_at t.whos k
   who_told =
@@ -85,8 +84,7 @@ module _ {D : Type 0} (drive : D → List (List ℕ)) (p : Plan) (s : Store) (t 
       by_test n true false = refl
       by_test n false past = refl
 
-      by_node : (o : Option Node)
-          → reply_at p s k r.offset r.kind o ≡ reply_for p s r (target_at (who_at t.whos k) r o)
+      by_node : (o : Option Node) → reply_at p s k r.offset r.kind o ≡ reply_for p s r (target_at (who_at t.whos k) r o)
       by_node None = refl
       by_node (Some n) = rw who_told
           (by_test n (permits (access_of (who_at t.whos k) n.rows) r.kind) (nat_le (1024 * n.pages) r.offset))
@@ -123,18 +121,18 @@ pub target_unknown : {D : Type 0} (t : Storage D) (k : ℕ) (r : Reference)
 unfolding target
 target_unknown t k r none = rw none
 
-pub target_gone : {D : Type 0} (t : Storage D) (k : ℕ) (r : Reference) (uid : ℕ)
+pub target_gone : {D : Type 0} (t : Storage D) (k : ℕ) (r : Reference) {uid : ℕ}
     → uid_of (get_or t.segs.links.known k []) r.number ≡ Some uid → node_in t.accounts.nodes uid ≡ None
     → target t k r ≡ Err reply.Gone
 unfolding target
-target_gone t k r uid known none = rw (known, none)
+target_gone t k r known none = rw (known, none)
 
 -- where it is there
-pub target_found : {D : Type 0} (t : Storage D) (k : ℕ) (r : Reference) (uid : ℕ) (n : Node)
+pub target_found : {D : Type 0} (t : Storage D) (k : ℕ) (r : Reference) {uid : ℕ} {n : Node}
     → uid_of (get_or t.segs.links.known k []) r.number ≡ Some uid → node_in t.accounts.nodes uid ≡ Some n
     → target t k r ≡ unless (refusal_in (who_at t.whos k) r n) n
 unfolding target
-target_found t k r uid n known found = rw (known, found)
+target_found t k r known found = rw (known, found)
 
 -- the offset is below the end of the segment that a reference goes to
 pub within_told : (who : Who) (r : Reference) (n : Node) → refusal_in who r n ≡ None → r.offset < 1024 * n.pages
@@ -154,19 +152,19 @@ long_segment a vtocs h u offset n found lt = segment_of a.nodes u (ap is_some fo
       | inr off ↦ off
       | inl is ↦
           (let none = h.flat u is in
-          let same : pages_in a.nodes u ≡ n.pages = ap pages_of found in
-          absurd (omega (arith, none, same, lt)))
+          let same = ap pages_of found in
+          absurd (omega arith))
     ])
 
 -- why a page more can't be stored, by whether the account is used up, and the volume with no other that has room
-pub want_told : {D : Type 0} (t : Storage D) (stored : List (ℕ × ℕ)) (n : Node) (spent out : Bool)
+pub want_told : {D : Type 0} (t : Storage D) (stored : List (ℕ × ℕ)) (n : Node) {spent out : Bool}
     → is_spent t.accounts.nodes stored n.uid ≡ spent → has_no_room t n ≡ out
     → want_of_room t stored n ≡ cond spent (Some reply.Quota) (cond out (Some reply.NoRecord) None)
-want_told t stored n spent out at_account at_volume = rw (at_account, at_volume)
+want_told t stored n at_account at_volume = rw (at_account, at_volume)
 
 -- ---- by both
 
-module _ {D : Type 0} (drive : D → List (List ℕ)) (p : Plan) (s : Store) (t : Storage D) (h : Shows drive p s t)
+module _ {D : Type 0} {drive : D → List (List ℕ)} {p : Plan} {s : Store} {t : Storage D} (h : Shows drive p s t)
     (k : ℕ) (r : Reference) where
   outside_told : (found : Result Node Reply) → is_outside_of found ≡ true
       → only is_outside (reply_for p s r found) ≡ outside_by found
@@ -176,8 +174,7 @@ module _ {D : Type 0} (drive : D → List (List ℕ)) (p : Plan) (s : Store) (t 
 
   pub outside_shown : outside_by (target t k r) ≡ outside_refusal p s k r
   unfolding outside_refusal
-  outside_shown = sym (ap (only is_outside) (reply_told drive p s t h k r)
-      ∙ outside_told (target t k r) (outside_target t k r))
+  outside_shown = cc (reply_told h k r, outside_told (target t k r) (outside_target t k r))
 
 module _ {D : Type 0} (drive : D → List (List ℕ)) (p : Plan) (s : Store) (t : Storage D)
     (kept : IsKept (plain drive t.segs.pages) t.segs.ast t.segs.links)
@@ -186,18 +183,15 @@ module _ {D : Type 0} (drive : D → List (List ℕ)) (p : Plan) (s : Store) (t 
     (k : ℕ) (r : Reference) where
   -- there is no room in the tables exactly where there is none in the flat store
   no_room_shown : (n : Node) → has_no_room t n ≡ is_out_of_room p s n
-  no_room_shown n =
-      rw (full_told drive p s t n.volume store h, room_is_shown drive p s t h store n.uid parts) refl
+  no_room_shown n = rw (full_told drive p s t n.volume store h, room_is_shown drive p s t h store n.uid parts) refl
 
   room_shown : (n : Node) → room_in t s.stored r n
       ≡ room_on (stores_page s n.uid r.offset r.kind) (is_used_up s n.uid) (is_out_of_room p s n)
   room_shown n =
-      let stores : (brings_word r.kind
-      && not (is_filed t.accounts t.segs.pages.volumes.vtocs n.uid (r.offset / 1024)))
-      ≡ stores_page s n.uid r.offset r.kind =
-      cc (
+      let stores : (brings_word r.kind && not (is_filed t.accounts t.segs.pages.volumes.vtocs n.uid (r.offset / 1024)))
+      ≡ stores_page s n.uid r.offset r.kind = cc (
         h.pages.stored n.uid (r.offset / 1024),
-        stores_told s n.uid r.offset r.kind (blank_shown drive p s t kept store h n.uid r.offset),
+        stores_told s n.uid r.offset r.kind (blank_shown kept store h n.uid r.offset),
       ) in
       rw (stores, no_room_shown n, ← h.tree.nodes) refl
 
@@ -212,22 +206,19 @@ module _ {D : Type 0} (drive : D → List (List ℕ)) (p : Plan) (s : Store) (t 
 
   pub room_refused : room_by t s.stored r (target t k r) ≡ room_refusal p s k r
   unfolding room_refusal
-  room_refused = sym (ap (only is_of_room) (reply_told drive p s t h k r)
-      ∙ (told (target t k r) (outside_target t k r)).0)
+  room_refused = cc (reply_told h k r, (told (target t k r) (outside_target t k r)).0)
 
   pub reference_refused : refused_by t s.stored r (target t k r) ≡ refusal (reply_to_reference p s k r)
-  reference_refused = sym (ap refusal (reply_told drive p s t h k r)
-      ∙ (told (target t k r) (outside_target t k r)).1)
+  reference_refused = cc (reply_told h k r, (told (target t k r) (outside_target t k r)).1)
 
 -- so in a call, by the segment that the reference was found to go to
-module _ {D : Type 0} (drive : D → List (List ℕ)) (p : Plan) (s : Store) {t now : Storage D} (same : t ≡ now)
+module _ {D : Type 0} {drive : D → List (List ℕ)} {p : Plan} {s : Store} {t now : Storage D} (same : t ≡ now)
     (kept : IsKept (plain drive t.segs.pages) t.segs.ast t.segs.links)
     (store : IsStore (plain drive t.segs.pages) t.segs.ast t.segs.links t.accounts t.whos) (h : Shows drive p s now)
     (parts : HasParts (map drive t.segs.pages.volumes.drives) t.segs.pages.volumes.records t.segs.pages.volumes.vtocs)
-    (k : ℕ) (r : Reference) (found : Result Node Reply) (is : target now k r ≡ found) where
+    (k : ℕ) (r : Reference) {found : Result Node Reply} (is : target now k r ≡ found) where
   pub room_found : room_by now s.stored r found ≡ room_refusal p s k r
-  room_found = rw (← is, ← same) (room_refused drive p s t kept store (shown_held same drive p s h) parts k r)
+  room_found = rw (← is, ← same) (room_refused drive p s t kept store (shown_held same h) parts k r)
 
   pub reference_found : refused_by now s.stored r found ≡ refusal (reply_to_reference p s k r)
-  reference_found = rw (← is, ← same)
-      (reference_refused drive p s t kept store (shown_held same drive p s h) parts k r)
+  reference_found = rw (← is, ← same) (reference_refused drive p s t kept store (shown_held same h) parts k r)

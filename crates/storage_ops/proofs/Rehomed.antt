@@ -39,8 +39,7 @@ module _ (old now : Plain) (a b : AccountMaps) (u : ℕ) (home : Home) (d : HasR
   nodes_are = d.rehomes.nodes
 
   there_is : (v : ℕ) → is_there b.nodes v ≡ is_there a.nodes v
-  there_is v = ap (λ (ns : List Node). is_there ns v) nodes_are
-      ∙ there_map (on_volume u home.volume) (uid_on u home.volume) a.nodes v
+  there_is v = cc (there_map (on_volume u home.volume) (uid_on u home.volume) a.nodes v)
 
   pages_are : (v : ℕ) → pages_in b.nodes v ≡ pages_in a.nodes v
   pages_are v = ap (λ (ns : List Node). pages_in ns v) nodes_are
@@ -51,16 +50,14 @@ module _ (old now : Plain) (a b : AccountMaps) (u : ℕ) (home : Home) (d : HasR
       by (Some n) = pages_on u home.volume n
 
   kind_is : (v : ℕ) → has_directory b.nodes v ≡ has_directory a.nodes v
-  kind_is v = ap (λ (ns : List Node). has_directory ns v) nodes_are ∙ directory_on u home.volume a.nodes v
+  kind_is v = cc (directory_on u home.volume a.nodes v)
 
   -- ---- homes
 
   home_here : home_of b u ≡ home
-  home_here =
-      ap (λ (x : ℕ). record { volume = x; entry = entry_of b u })
-      (ap (λ (ns : List Node). volume_in ns u) nodes_are ∙ volume_here u home.volume a.nodes d.there)
-      ∙ ap (λ (x : ℕ). record { volume = home.volume; entry = x })
-      (d.rehomes.entries u ∙ ap (λ (z : Bool). cond z home.entry (entry_of a u)) (eq-eqb u u refl))
+  home_here = ap (λ (x : ℕ). record { volume = x; entry = entry_of b u })
+      (cc (volume_here u home.volume a.nodes d.there)) ∙ ap (λ (x : ℕ). record { volume = home.volume; entry = x })
+      (cc (d.rehomes.entries u, eq-eqb u u refl))
 
   home_else : (v : ℕ) → v ≢ u → home_of b v ≡ home_of a v
   home_else v ne =
@@ -92,10 +89,9 @@ module _ (old now : Plain) (a b : AccountMaps) (u : ℕ) (home : Home) (d : HasR
   pub rehomed_housed : AreHoused b now.vtocs
   rehomed_housed = record {
     homes = λ v t. elim (cases_eq v u) [
-      | inl is ↦ rw is (ap (uid_at now.vtocs) home_here ∙ d.here)
+      | inl is ↦ rw is (cc (home_here, d.here))
       | inr ne ↦ (let was = sym (there_is v) ∙ t in
-          ap (uid_at now.vtocs) (home_else v ne) ∙ d.uids (home_of a v) (apart v ne was) (beyond v was)
-          ∙ housed.homes v was)
+          cc (home_else v ne, d.uids (home_of a v) (apart v ne was) (beyond v was), housed.homes v was))
     ];
     there = λ at v e. there_is v ∙ elim (home_cases at home) [
       | inl is ↦ ap (is_there a.nodes) (uid_here at v e is) ∙ d.there
@@ -126,7 +122,7 @@ module _ (old now : Plain) (a b : AccountMaps) (u : ℕ) (home : Home) (d : HasR
 
   named_is : (v : ℕ) → is_there a.nodes v ≡ true → named_at now.vtocs (home_of b v) ≡ named_at old.vtocs (home_of a v)
   named_is v was = elim (cases_eq v u) [
-    | inl is ↦ rw is (ap (named_at now.vtocs) home_here ∙ d.named)
+    | inl is ↦ rw is (cc (home_here, d.named))
     | inr ne ↦ ap (named_at now.vtocs) (home_else v ne)
         ∙ ap (count_by is_some) (d.maps (home_of a v) (apart v ne was) (beyond v was))
   ]
@@ -147,24 +143,22 @@ module _ (old now : Plain) (a b : AccountMaps) (u : ℕ) (home : Home) (d : HasR
       → Counts b stored → taken now.records v ≡ taken_on b.nodes stored v
   unfolding named_on
   records_are counted h stored v counts =
-      let named : named_at old.vtocs (home_of a u) ≡ count_by (λ x. eqb x.0 u) stored =
-      counted.counts u d.there ∙ sym (d.rehomes.counts u) ∙ counts u in
-      let was : taken old.records v ≡ taken_on a.nodes stored v =
-      h.records stored v (λ s. sym (d.rehomes.counts s) ∙ counts s) in
+      let named = counted.counts u d.there ∙ sym (d.rehomes.counts u) ∙ counts u in
+      let was = h.records stored v (λ s. sym (d.rehomes.counts s) ∙ counts s) in
       let less = d.taken_moves v in
       let more = taken_moved a.nodes u home.volume d.there stored v in
       let moves = d.named in
-      rw nodes_are (grind (arith, nat_tests, named, moves, was, less, more))
+      rw nodes_are (grind (arith, nat_tests))
 
   entries_are : IsTree a.nodes → AreTaken a old.records old.vtocs → (v : ℕ) → used now.vtocs v ≡ entries_on b.nodes v
   entries_are tree h v =
       let found = found_there a.nodes u d.there in
-      let at : found.0.volume ≡ volume_in a.nodes u = volume_found a.nodes u found.0 found.1 in
-      let moves = entries_moved a.nodes tree u home.volume found.0 found.1 v in
-      let was : used old.vtocs v ≡ entries_on a.nodes v = h.entries v in
+      let at = volume_found a.nodes u found.0 found.1 in
+      let moves = entries_moved a.nodes tree u home.volume found.1 v in
+      let was = h.entries v in
       rw nodes_are (elim (cases_eq v (volume_in a.nodes u)) [
-        | inl from ↦ grind (arith, nat_tests, from, at, moves, was, d.left, d.gained)
-        | inr apart ↦ grind (arith, nat_tests, apart, at, moves, was, d.gained, d.beside v apart)
+        | inl from ↦ grind (arith, nat_tests)
+        | inr apart ↦ grind (arith, nat_tests, d.beside v apart)
       ])
 
   -- ---- the whole
@@ -172,10 +166,10 @@ module _ (old now : Plain) (a b : AccountMaps) (u : ℕ) (home : Home) (d : HasR
   pool_is : (n : Node) → pool_of (on_volume u home.volume n) ≡ pool_of n
   pool_is n = cc (kind_on u home.volume n, pages_on u home.volume n)
 
-  pub store_rehomed : (ast next : ActiveSegs) (links : Links) (whos : List Who) → IsTree a.nodes
+  pub store_rehomed : {ast next : ActiveSegs} {links : Links} {whos : List Who} → IsTree a.nodes
       → next.entries ≡ ast.entries → next.sizes ≡ ast.sizes → IsStore old ast links a whos
       → IsStore now next links b whos
-  store_rehomed ast next links whos tree entries_same sizes_same h = record {
+  store_rehomed {ast} {next} {links} {whos} tree entries_same sizes_same h = record {
     housed = rehomed_housed;
     counted = rehomed_counted h.counted;
     taken = record {
@@ -183,11 +177,10 @@ module _ (old now : Plain) (a b : AccountMaps) (u : ℕ) (home : Home) (d : HasR
       entries = entries_are tree h.taken;
       short = λ v. rw (d.sizes v) (h.taken.short v);
     };
-    active = tree_still b.nodes ast next entries_same sizes_same
-        (active_alike (on_volume u home.volume) (uid_on u home.volume) a b nodes_are (superior_on u home.volume) ast
+    active = tree_still entries_same sizes_same
+        (active_alike (on_volume u home.volume) (uid_on u home.volume) a b nodes_are (superior_on u home.volume)
         h.active (λ place v m e found. pool_is m));
-    rights = rw entries_same
-        (rights_alike (on_volume u home.volume) (uid_on u home.volume) a b nodes_are ast.entries links whos h.rights
+    rights = rw entries_same (rights_alike (on_volume u home.volume) (uid_on u home.volume) a b nodes_are h.rights
         (λ process number place pages v mode m w e found. (rows_on u home.volume m, pages_on u home.volume m)));
     known = rw d.rehomes.next h.known;
   }
@@ -213,21 +206,20 @@ module _ (old now : Plain) (a b : AccountMaps) (u : ℕ) (home : Home) (d : HasR
   ]
 
 -- the flat store has the segment on the other volume
-pub shown_rehomed : {D : Type 0} (drive : D → List (List ℕ)) (p : Plan) (s : Store) (t n : Storage D) (u : ℕ)
-    (home : Home)
-    → HasRehomed (plain drive t.segs.pages) (plain drive n.segs.pages) t.accounts n.accounts u
+pub shown_rehomed : {D : Type 0} {drive : D → List (List ℕ)} {p : Plan} {s : Store} {t n : Storage D} {u : ℕ}
+    {home : Home} → HasRehomed (plain drive t.segs.pages) (plain drive n.segs.pages) t.accounts n.accounts u
     (home_of t.accounts u) home
     → AreHoused t.accounts t.segs.pages.volumes.vtocs → n.segs.links ≡ t.segs.links → n.whos ≡ t.whos
     → Shows drive p s t → Shows drive p (moved s u home.volume) n
-shown_rehomed drive p s t n u home d housed links whos h = (
+shown_rehomed {drive} {t} {n} {u} {home} d housed links whos h = (
     let old = plain drive t.segs.pages in
     let now = plain drive n.segs.pages in
     let a = t.accounts in
     let b = n.accounts in
     record {
       tree = record {
-        nodes = ap (map (on_volume u home.volume)) h.tree.nodes ∙ sym d.rehomes.nodes;
-        next = h.tree.next ∙ sym d.rehomes.next;
+        nodes = cc;
+        next = cc;
         counts = λ v. d.rehomes.counts v ∙ h.tree.counts v;
       };
       known = rw links h.known;
@@ -239,6 +231,6 @@ shown_rehomed drive p s t n u home d housed links whos h = (
       script = record {
         records = λ v. h.script.records v ∙ sym (d.sizes v);
         entries = λ v. h.script.entries v ∙ sym (d.places v);
-        whos = whos ∙ h.script.whos;
+        whos = cc;
       };
     })

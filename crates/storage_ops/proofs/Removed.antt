@@ -26,23 +26,22 @@ pub record HasRemoved (old now : Plain) (a mid b : AccountMaps) (u : ℕ) : Type
 module _ (old now : Plain) (a mid b : AccountMaps) (u : ℕ) (d : HasRemoved old now a mid b u)
     (housed : AreHoused a old.vtocs) where
   nodes_left : b.nodes ≡ without_node a.nodes u
-  nodes_left = d.loses.nodes ∙ ap (λ (ns : List Node). without_node ns u) d.counted.nodes
+  nodes_left = cc
 
   there_left : (v : ℕ) → v ≢ u → is_there b.nodes v ≡ is_there a.nodes v
-  there_left v ne = ap (λ (ns : List Node). is_there ns v) nodes_left ∙ ap is_some (node_without a.nodes u v ne)
+  there_left v ne = cc (node_without a.nodes u v ne)
 
   there_gone : is_there b.nodes u ≡ false
-  there_gone = ap (λ (ns : List Node). is_there ns u) nodes_left ∙ ap is_some (node_gone a.nodes u)
+  there_gone = cc (node_gone a.nodes u)
 
   found_left : (v : ℕ) → v ≢ u → node_in b.nodes v ≡ node_in a.nodes v
-  found_left v ne = ap (λ (ns : List Node). node_in ns v) nodes_left ∙ node_without a.nodes u v ne
+  found_left v ne = cc (node_without a.nodes u v ne)
 
   pages_left : (v : ℕ) → v ≢ u → pages_in b.nodes v ≡ pages_in a.nodes v
   pages_left v ne = ap pages_of (found_left v ne)
 
   home_left : (v : ℕ) → v ≢ u → home_of b v ≡ home_of a v
-  home_left v ne =
-      cc (nodes_left, volume_left a.nodes u v ne, d.loses.entries v ne, recount_homes a mid u 0 d.counted v)
+  home_left v ne = cc (nodes_left, volume_left a.nodes u v ne, d.loses.entries v ne, recount_homes d.counted v)
 
   own : uid_at old.vtocs (home_of a u) ≡ Some u
   own = housed.homes u d.there
@@ -53,9 +52,9 @@ module _ (old now : Plain) (a mid b : AccountMaps) (u : ℕ) (d : HasRemoved old
   other_home : (home : Home) (v : ℕ) → uid_at now.vtocs home ≡ Some v → home ≢ home_of a u
   other_home home v e same = cc (d.free, ap (uid_at now.vtocs) same)
 
-  other_uid : (home : Home) (v : ℕ) → uid_at now.vtocs home ≡ Some v → v ≢ u
-  other_uid home v e same = other_home home v e (housed.only home v (sym (d.uids home (other_home home v e)) ∙ e)
-      ∙ ap (home_of a) same)
+  other_uid : (home : Home) {v : ℕ} → uid_at now.vtocs home ≡ Some v → v ≢ u
+  other_uid home {v} e same = other_home home v e (cc (housed.only home v
+      (sym (d.uids home (other_home home v e)) ∙ e)))
 
   remaining : (v : ℕ) → is_there b.nodes v ≡ true → v ≢ u
   remaining v t same = cc there_gone
@@ -65,18 +64,18 @@ module _ (old now : Plain) (a mid b : AccountMaps) (u : ℕ) (d : HasRemoved old
     homes = λ v t.
         let ne = remaining v t in
         let was = sym (there_left v ne) ∙ t in
-        ap (uid_at now.vtocs) (home_left v ne) ∙ d.uids (home_of a v) (apart v ne was) ∙ housed.homes v was;
-    there = λ home v e. there_left v (other_uid home v e)
+        cc (home_left v ne, d.uids (home_of a v) (apart v ne was), housed.homes v was);
+    there = λ home v e. there_left v (other_uid home e)
         ∙ housed.there home v (sym (d.uids home (other_home home v e)) ∙ e);
     only = λ home v e. housed.only home v (sym (d.uids home (other_home home v e)) ∙ e)
-        ∙ sym (home_left v (other_uid home v e));
+        ∙ sym (home_left v (other_uid home e));
   }
 
   counts_left : (v : ℕ) → v ≢ u → count_of b v ≡ count_of a v
-  counts_left v ne = d.loses.counts v ∙ recount_other a mid u 0 d.counted v ne
+  counts_left v ne = d.loses.counts v ∙ recount_other d.counted v ne
 
   counts_gone : count_of b u ≡ 0
-  counts_gone = d.loses.counts u ∙ recount_here a mid u 0 d.counted
+  counts_gone = d.loses.counts u ∙ recount_here d.counted
 
   removed_counted : AreCounted a old.vtocs → AreCounted b now.vtocs
   removed_counted h = record {
@@ -108,30 +107,26 @@ module _ (old now : Plain) (a mid b : AccountMaps) (u : ℕ) (d : HasRemoved old
   }
     where
       no_pages_left : pages_in b.nodes u ≡ 0
-      no_pages_left = ap (λ (ns : List Node). pages_in ns u) nodes_left ∙ ap pages_of (node_gone a.nodes u)
+      no_pages_left = cc (node_gone a.nodes u)
 
-  removed_taken : (n : Node) → IsTree a.nodes → node_in a.nodes u ≡ Some n → AreCounted a old.vtocs
+  removed_taken : {n : Node} → IsTree a.nodes → node_in a.nodes u ≡ Some n → AreCounted a old.vtocs
       → AreTaken a old.records old.vtocs → AreTaken b now.records now.vtocs
   unfolding one_less named_on
-  removed_taken n tree found counted h = record {
+  removed_taken {n} tree found counted h = record {
     records = λ stored v counts.
         let pages : ℕ = count_of a u in
-        let all : taken old.records v ≡ taken_on a.nodes (with_more u pages stored) v =
-        h.records (with_more u pages stored) v (counts_more a b u pages stored counts more) in
+        let all = h.records (with_more u pages stored) v (counts_more a b u pages stored counts more) in
         let sum = taken_more a.nodes u pages stored v in
         let less = d.taken_less v in
-        let named : named_at old.vtocs (home_of a u) ≡ count_of a u = counted.counts u d.there in
-        let same : taken_on b.nodes stored v ≡ taken_on a.nodes stored v =
-        rw nodes_left
+        let named = counted.counts u d.there in
+        let same : taken_on b.nodes stored v ≡ taken_on a.nodes stored v = rw nodes_left
         (taken_left a.nodes stored u v (λ page. none_counted stored u page (sym (counts u) ∙ counts_gone))) in
-        grind (arith, nat_tests, less, named, all, sum, same);
+        grind (arith, nat_tests);
     entries = λ v.
-        let less : used now.vtocs v ≡ cond (eqb v (volume_in a.nodes u)) (used old.vtocs v - 1) (used old.vtocs v) =
-        ap (λ (f : ℕ → ℕ). f v) d.used_less in
-        let all : used old.vtocs v ≡ entries_on a.nodes v = h.entries v in
-        let rest : entries_on (without_node a.nodes u) v + cond {A = ℕ} (eqb n.volume v) 1 0 ≡ entries_on a.nodes v =
-        entries_less a.nodes u n tree found v in
-        rw nodes_left (grind (arith, nat_tests, less, all, rest, volume_found a.nodes u n found));
+        let less = ap (λ (f : ℕ → ℕ). f v) d.used_less in
+        let all = h.entries v in
+        let rest = entries_less a.nodes u n tree found v in
+        rw nodes_left (grind (arith, nat_tests, volume_found a.nodes u n found));
     short = λ v. rw (d.sizes v) (h.short v);
   }
     where
@@ -141,13 +136,13 @@ module _ (old now : Plain) (a mid b : AccountMaps) (u : ℕ) (d : HasRemoved old
         | inl same ↦ rw (same, eq-eqb u u refl, counts_gone) (omega arith)
       ]
 
-  pub store_removed : (ast : ActiveSegs) (links : Links) (whos : List Who) (n : Node) → IsTree a.nodes
+  pub store_removed : {ast : ActiveSegs} {links : Links} {whos : List Who} {n : Node} → IsTree a.nodes
       → node_in a.nodes u ≡ Some n → IsInactive ast.entries u → IsStore old ast links a whos
       → IsStore now ast links b whos
-  store_removed ast links whos n tree found inactive h = record {
+  store_removed {ast} {n} tree found inactive h = record {
     housed = removed_housed;
     counted = removed_counted h.counted;
-    taken = removed_taken n tree found h.counted h.taken;
+    taken = removed_taken tree found h.counted h.taken;
     active = record {
       there = λ place v e. there_left v (else place v e) ∙ h.active.there place v e;
       superiors = λ place v m e at. h.active.superiors place v m e (sym (found_left v (else place v e)) ∙ at);
@@ -166,26 +161,26 @@ module _ (old now : Plain) (a mid b : AccountMaps) (u : ℕ) (d : HasRemoved old
   }
     where
       else : (place v : ℕ) → uid_in_place ast.entries place ≡ Some v → v ≢ u
-      else place v e same = inactive.nowhere place (e ∙ ap (λ (x : ℕ). Some x) same)
+      else place v e same = inactive.nowhere place (cc)
 
 -- the pages of one segment, once those of another are taken out
 count_left : (xs : List (ℕ × ℕ)) (u v : ℕ) → v ≢ u
     → count_by (λ x. eqb x.0 v) (without_stored xs u (λ page. true)) ≡ count_by (λ x. eqb x.0 v) xs
-count_left [] u v ne = ap (count_by (λ x. eqb x.0 v)) (without_none u (λ page. true))
+count_left [] u v ne = cc (without_none u (λ page. true))
 count_left (x ∷ xs) u v ne = ap (count_by (λ y. eqb y.0 v)) (without_first x xs u (λ page. true) (eqb x.0 u)
     (and-true (eqb x.0 u))) ∙ by (count_left xs u v ne) (eqb x.0 u) refl
   where
     by : count_by (λ y. eqb y.0 v) (without_stored xs u (λ page. true)) ≡ count_by (λ y. eqb y.0 v) xs
         → (z : Bool) → eqb x.0 u ≡ z
         → count_by (λ y. eqb y.0 v) (cond z (without_stored xs u (λ page. true)) (x ∷ without_stored xs u (λ page.
-        true)))
-        ≡ count_by (λ y. eqb y.0 v) (x ∷ xs)
+        true))) ≡ count_by (λ y. eqb y.0 v) (x ∷ xs)
     by ih true e = ih ∙ sym (sum_by-cons (λ (y : ℕ × ℕ). cond (eqb y.0 v) 1 0) x xs
         ∙ ap (λ (z : Bool). cond {A = ℕ} z 1 0 + count_by (λ y. eqb y.0 v) xs)
         (ne_eqb x.0 v (λ same. ne (sym same ∙ eqb-true x.0 u e))) ∙ omega arith)
-    by ih false e = sum_by-cons (λ (y : ℕ × ℕ). cond (eqb y.0 v) 1 0) x (without_stored xs u (λ page. true))
-        ∙ ap (λ (n : ℕ). cond {A = ℕ} (eqb x.0 v) 1 0 + n) ih
-        ∙ sym (sum_by-cons (λ (y : ℕ × ℕ). cond (eqb y.0 v) 1 0) x xs)
+    by ih false e = cc (
+      sum_by-cons (λ (y : ℕ × ℕ). cond (eqb y.0 v) 1 0) x (without_stored xs u (λ page. true)),
+      sum_by-cons (λ (y : ℕ × ℕ). cond (eqb y.0 v) 1 0) x xs,
+    )
 
 count_gone : (xs : List (ℕ × ℕ)) (u : ℕ) → count_by (λ x. eqb x.0 u) (without_stored xs u (λ page. true)) ≡ 0
 count_gone xs u = counts_none (without_stored xs u (λ page. true)) u
@@ -198,8 +193,8 @@ pub shown_removed : {D : Type 0} (drive : D → List (List ℕ)) (p : Plan) (s :
     → Shows drive p s t → Shows drive p (without_branch s (Some u)) n
 shown_removed {D} drive p s t n mid u d housed links whos h = record {
   tree = record {
-    nodes = ap (λ (ns : List Node). without_node ns u) h.tree.nodes ∙ sym (nodes_left old now a mid b u d housed);
-    next = h.tree.next ∙ sym (d.loses.next ∙ d.counted.next);
+    nodes = cc (nodes_left old now a mid b u d housed);
+    next = cc;
     counts = λ v. elim (cases_eq v u) [
       | inl same ↦ rw same (counts_gone old now a mid b u d housed ∙ sym (count_gone s.stored u))
       | inr ne ↦ counts_left old now a mid b u d housed v ne ∙ h.tree.counts v ∙ sym (count_left s.stored u v ne)
@@ -214,7 +209,7 @@ shown_removed {D} drive p s t n mid u d housed links whos h = record {
   script = record {
     records = λ v. h.script.records v ∙ sym (d.sizes v);
     entries = λ v. h.script.entries v ∙ sym (d.places v);
-    whos = whos ∙ h.script.whos;
+    whos = cc;
   };
 }
   where
@@ -249,16 +244,14 @@ shown_removed {D} drive p s t n mid u d housed links whos h = record {
       | inl on ↦ cc (
         picture_there b (words_at now) v r (there_left old now a mid b u d housed v ne ∙ on),
         home_left old now a mid b u d housed v ne,
-        d.words v (home_of a v) r
-            (apart old now a mid b u d housed v ne on),
+        d.words v (home_of a v) r (apart old now a mid b u d housed v ne on),
         picture_there a (words_at old) v r on,
       )
       | inr off ↦ picture_absent b (words_at now) v r (there_left old now a mid b u d housed v ne ∙ off)
           ∙ sym (picture_absent a (words_at old) v r off)
     ]
 
-    stored : (v r : ℕ) (z : Bool) → eqb v u ≡ z
-        → (not (z && true) && is_stored s.stored v r) ≡ is_filed b now.vtocs v r
+    stored : (v r : ℕ) (z : Bool) → eqb v u ≡ z → (not (z && true) && is_stored s.stored v r) ≡ is_filed b now.vtocs v r
     stored v r true e = rw (eqb-true v u e) (sym (filed_absent b now.vtocs u r (there_gone old now a mid b u d housed)))
     stored v r false e = h.pages.stored v r ∙ sym (filed_else v r (λ same. cc (eq-eqb v u same)))
 
@@ -267,25 +260,24 @@ shown_removed {D} drive p s t n mid u d housed links whos h = record {
     words v o true e = cc (
       from_first o,
       eqb-true v u e,
-      picture_absent b (words_at now) u (o / 1024)
-          (there_gone old now a mid b u d housed),
+      picture_absent b (words_at now) u (o / 1024) (there_gone old now a mid b u d housed),
       all_same {X = ℕ} 1024 (o % 1024) 0,
     )
     words v o false e = cc (h.pages.words v o, words_else v (o / 1024) (λ same. cc (eq-eqb v u same)))
 
 -- ---- a node without inferior becomes inactive
 
-inferior_is : (u : ℕ) (n : Node) → n.superior ≡ Some u → is_inferior u n ≡ true
-inferior_is u n e = rw e (eq-eqb u u refl)
+inferior_is : {u : ℕ} (n : Node) → n.superior ≡ Some u → is_inferior u n ≡ true
+inferior_is {u} n e = rw e (eq-eqb u u refl)
 
-inferior_any : (ns : List Node) (u v : ℕ) (n : Node) → node_in ns v ≡ Some n → n.superior ≡ Some u
+inferior_any : (ns : List Node) {u : ℕ} (v : ℕ) {n : Node} → node_in ns v ≡ Some n → n.superior ≡ Some u
     → list_any (is_inferior u) ns ≡ true
-inferior_any [] u v n found e = cc
-inferior_any (m ∷ ns) u v n found e = elim (cases_Bool (eqb m.uid v)) [
+inferior_any [] v found e = cc
+inferior_any (m ∷ ns) {u} v {n} found e = elim (cases_Bool (eqb m.uid v)) [
   | inl is ↦
       (let z : Some m ≡ Some n = rw is at found in let same : m ≡ n = cc in
-      rw (ap (is_inferior u) same ∙ inferior_is u n e) refl)
-  | inr isnt ↦ rw (inferior_any ns u v n (rw isnt at found) e) (or_true (is_inferior u m))
+      rw (ap (is_inferior u) same ∙ inferior_is n e) refl)
+  | inr isnt ↦ rw (inferior_any ns v (rw isnt at found) e) (or_true (is_inferior u m))
 ]
 
 pub leaf_place : (a : AccountMaps) (ast : ActiveSegs) (place u : ℕ) → AreInTree a.nodes ast
@@ -296,48 +288,45 @@ leaf_place a ast place u h none at q v is up = by (entry_in_place ast.entries q)
     by : (o : Option Entry) → entry_in_place ast.entries q ≡ o → ⊥
     by None e = cc (ap superior_in e)
     by (Some x) e =
-        let here : uid_in_place ast.entries q ≡ Some x.uid = ap uid_in e in
+        let here = ap uid_in e in
         let found = found_there a.nodes x.uid (h.there q x.uid here) in
         let above : found.0.superior ≡ Some u = cc (h.superiors q x.uid found.0 here found.1) in
-        cc (inferior_any a.nodes u x.uid found.0 found.1 above)
+        cc (inferior_any a.nodes x.uid found.1 above)
 
 pub place_away : (ast : ActiveSegs) (place u : ℕ) → IsOneToOne ast.entries → uid_in_place ast.entries place ≡ Some u
     → ((q : ℕ) → word_of ast u q ≡ Null) → All IsAway (table_at ast.tables place)
 place_away ast place u once at null k d lt =
-    let same : place_of ast.entries u ≡ place = once (place_of ast.entries u) place u
-    (active_place ast.entries u (place, at)) at in
-    let word : get_or (table_at ast.tables place) k d ≡ Null =
-    cc (get_or_any (table_at ast.tables place) k d Null lt, same, null k) in subst IsAway (sym word) tt
+    let word : get_or (table_at ast.tables place) k d ≡ Null = cc (
+      get_or_any (table_at ast.tables place) k d Null lt,
+      (once (place_of ast.entries u) place u (active_place ast.entries u (place, at)) at),
+      null k,
+    ) in subst IsAway (sym word) tt
 
 pub place_idle : (core : Core) (entries : List (Option Entry)) (place u : ℕ) → uid_in_place entries place ≡ Some u
     → ((q : ℕ) → IsNotStarted core u q) → IsNotRead core entries place
 place_idle core entries place u at idle = record {
-  none = λ f v q is read.
-      (idle q).none f
+  none = λ f v q is read. (idle q).none f
       (cc (started_from (frame_at core f) v q (sym (get_or-map started_page core.frames f Free) ∙ read)));
 }
 
-no_trailer : (xs : List (ℕ × ℕ)) → ((process number : ℕ) → count_by (leads_to process number) xs ≡ 0) → xs ≡ []
-no_trailer [] none = refl
-no_trailer (x ∷ xs) none =
-    let first : count_by (leads_to x.0 x.1) (x ∷ xs)
-    ≡ cond {A = ℕ} (leads_to x.0 x.1 x) 1 0 + count_by (leads_to x.0 x.1) xs =
-    sum_by-cons (λ (y : ℕ × ℕ). cond (leads_to x.0 x.1 y) 1 0) x xs in
+no_trailer : {xs : List (ℕ × ℕ)} → ((process number : ℕ) → count_by (leads_to process number) xs ≡ 0) → xs ≡ []
+no_trailer {xs = []} none = refl
+no_trailer {xs = x ∷ xs} none =
+    let first = sum_by-cons (λ (y : ℕ × ℕ). cond (leads_to x.0 x.1 y) 1 0) x xs in
     let own : cond {A = ℕ} (leads_to x.0 x.1 x) 1 0 ≡ 1 = rw (eq-eqb x.0 x.0 refl, eq-eqb x.1 x.1 refl) refl in
     let zero_count = none x.0 x.1 in
-    absurd (omega (arith, first, own, zero_count))
+    absurd (omega arith)
 
 pub place_cut : (entries : List (Option Entry)) (links : Links) (place u : ℕ)
     → AreExact links.trailers links.descriptors
     → IsCut entries links u → uid_in_place entries place ≡ Some u → trailers_of links.trailers place ≡ []
-place_cut entries links place u exact cut at = no_trailer (trailers_of links.trailers place)
-    (λ process number. exact place process number
+place_cut entries links place u exact cut at = no_trailer (λ process number. exact place process number
     ∙ by process number (leads_at links.descriptors process number) refl)
   where
     by : (process number : ℕ) (o : Option ℕ) → leads_at links.descriptors process number ≡ o → times o place ≡ 0
     by process number None e = refl
     by process number (Some x) e = elim (cases_eq x place) [
-      | inl same ↦ absurd (cut.none process number place (e ∙ ap (λ (n : ℕ). Some n) same) at)
+      | inl same ↦ absurd (cut.none process number place (cc) at)
       | inr apart ↦ ap (λ (z : Bool). cond {A = ℕ} z 1 0) (ne_eqb x place apart)
     ]
 
@@ -346,26 +335,23 @@ pub inactive_now : (entries : List (Option Entry)) (place u : ℕ) → IsOneToOn
 inactive_now entries place u once at = record {
   nowhere = λ q e. elim (cases_eq q place) [
     | inl same ↦ cc (none_put entries place)
-    | inr apart ↦ apart (once q place u (ap uid_in (sym (get_or-set_other entries place q None None apart)) ∙ e) at)
+    | inr apart ↦ apart (once q place u (cc (get_or-set_other entries place q None None apart)) at)
   ];
 }
 
 -- what is taken out is the same, whether its pages went before or not
 pub branch_same : (s : Store) (u : ℕ)
     → without_branch (without_pages s u (λ q. nat_le 0 q)) (Some u) ≡ without_branch s (Some u)
-branch_same s u =
-    ap (λ (w : Words). record s {
-      nodes = without_node s.nodes u;
-      words = w;
-      stored = without_stored (without_stored s.stored u (λ q. nat_le 0 q)) u (λ page. true);
-    })
-    (λ i. λ v. λ o. words (eqb v u) (nat_le 0 (o / 1024)) (nat_le 0 o) (s.words v o) (from_first o) i)
+branch_same s u = ap (λ (w : Words). record s {
+  nodes = without_node s.nodes u;
+  words = w;
+  stored = without_stored (without_stored s.stored u (λ q. nat_le 0 q)) u (λ page. true);
+}) (λ i. λ v. λ o. words (eqb v u) (nat_le 0 (o / 1024)) (nat_le 0 o) (s.words v o) (from_first o) i)
     ∙ ap (λ (xs : List (ℕ × ℕ)). record s {
       nodes = without_node s.nodes u;
       words = λ v o. cond (eqb v u && nat_le 0 o) 0 (s.words v o);
       stored = xs;
-    })
-    (stored_fused s.stored u (λ q. nat_le 0 q) (λ page. true)
+    }) (stored_fused s.stored u (λ q. nat_le 0 q) (λ page. true)
     ∙ ap (without_stored s.stored u) (λ i. λ q. or_true (nat_le 0 q) i))
   where
     words : (x y z : Bool) (w : ℕ) → z ≡ true → cond (x && z) 0 (cond (x && y) 0 w) ≡ cond (x && z) 0 w
@@ -379,35 +365,32 @@ freed_length flags [] = refl
 freed_length flags (None ∷ places) = freed_length flags places
 freed_length flags (Some r ∷ places) = freed_length (set flags r false) places ∙ length-set flags r false
 
-pub erased_sizes : (old now : Plain) (home : Home) (v : ℕ) → now ≡ erased old home
+pub erased_sizes : (old : Plain) {now : Plain} (home : Home) (v : ℕ) → now ≡ erased old home
     → size now.records v ≡ size old.records v
-erased_sizes old now home v is =
+erased_sizes old home v is =
     rw is (size_set old.records home.volume _ (freed_length (flags_of old home.volume) (file_map_of old home)) v)
 
-pub erased_entries : (old now : Plain) (home : Home) (v : ℕ) → now ≡ erased old home
+pub erased_entries : (old : Plain) {now : Plain} (home : Home) (v : ℕ) → now ≡ erased old home
     → entries now.vtocs v ≡ entries old.vtocs v
-erased_entries old now home v is =
-    length_inside old.vtocs home.volume home.entry v None now.vtocs (ap (λ (x : Plain). x.vtocs) is)
+erased_entries old {now} home v is = length_inside old.vtocs home.volume home.entry v None (cc)
 
-pub removed_done : (old now : Plain) (a mid b : AccountMaps) (u : ℕ) (home : Home) → home ≡ home_of a u
+pub removed_done : {old now : Plain} {a mid b : AccountMaps} {u : ℕ} {home : Home} → home ≡ home_of a u
     → is_there a.nodes u ≡ true → Recounts a mid u 0 → Loses mid b u → now ≡ erased old home
-    → uid_at now.vtocs home ≡ None
-    → ((other : Home) → other ≢ home → uid_at now.vtocs other ≡ uid_at old.vtocs other)
+    → uid_at now.vtocs home ≡ None → ((other : Home) → other ≢ home → uid_at now.vtocs other ≡ uid_at old.vtocs other)
     → ((other : Home) → other ≢ home → map_at now.vtocs other ≡ map_at old.vtocs other)
     → ((v : ℕ) (other : Home) (q : ℕ) → other ≢ home → words_at now v other q ≡ words_at old v other q)
     → used now.vtocs ≡ one_less (used old.vtocs) home.volume
-    → ((v : ℕ) → taken now.records v + named_on old.vtocs home v ≡ taken old.records v)
-    → HasRemoved old now a mid b u
-removed_done old now a mid b u home is there counted loses effect free uids maps words used_less taken_less = record {
+    → ((v : ℕ) → taken now.records v + named_on old.vtocs home v ≡ taken old.records v) → HasRemoved old now a mid b u
+removed_done {old} {now} {home} is there counted loses effect free uids maps words used_less taken_less = record {
   there = there;
   counted = counted;
   loses = loses;
-  free = ap (uid_at now.vtocs) (sym is) ∙ free;
+  free = cc;
   uids = λ other ne. uids other (λ same. ne (same ∙ is));
   maps = λ other ne. maps other (λ same. ne (same ∙ is));
   words = λ v other q ne. words v other q (λ same. ne (same ∙ is));
-  used_less = used_less ∙ ap (λ (h : Home). one_less (used old.vtocs) h.volume) is;
-  taken_less = λ v. ap (λ (h : Home). taken now.records v + named_on old.vtocs h v) (sym is) ∙ taken_less v;
-  sizes = λ v. erased_sizes old now home v effect;
-  places = λ v. erased_entries old now home v effect;
+  used_less = cc;
+  taken_less = λ v. cc (taken_less v);
+  sizes = λ v. erased_sizes old home v effect;
+  places = λ v. erased_entries old home v effect;
 }

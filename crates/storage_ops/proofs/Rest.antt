@@ -4,16 +4,16 @@ use Rattle.storage_ops.proofs.Less.{was_active}
 use Rattle.storage_ops.proofs.Removed.{inactive_now}
 use Rattle.storage_ops.proofs.Unstored.{unstores_both}
 
-pub rest_both : {D : Type 0} (old mid new : Storage D) → KeepsRest old mid → KeepsRest mid new → KeepsRest old new
-rest_both old mid new x y = record {
-  descriptors = y.descriptors ∙ x.descriptors;
-  trailers = y.trailers ∙ x.trailers;
-  moving = y.moving ∙ x.moving;
-  whos = y.whos ∙ x.whos;
-  drives = y.drives ∙ x.drives;
-  reads = y.reads ∙ x.reads;
-  sizes = y.sizes ∙ x.sizes;
-  hands = y.hands ∙ x.hands;
+pub rest_both : {D : Type 0} {old mid new : Storage D} → KeepsRest old mid → KeepsRest mid new → KeepsRest old new
+rest_both x y = record {
+  descriptors = cc;
+  trailers = cc;
+  moving = cc;
+  whos = cc;
+  drives = cc;
+  reads = cc;
+  sizes = cc;
+  hands = cc;
   active = λ place u e. x.active place u (y.active place u e);
   bound = λ f u q e. x.bound f u q (y.bound f u q e);
 }
@@ -58,38 +58,38 @@ rest_none t = rest_left t t t.accounts t.segs.pages.volumes.vtocs t.segs.links.k
     t.segs.ast.tables (λ place u e. e) refl
 
 -- the tree alone
-pub rest_accounts : {D : Type 0} (old new : Storage D) (a : AccountMaps) → new ≡ record old { accounts = a }
+pub rest_accounts : {D : Type 0} {old new : Storage D} (a : AccountMaps) → new ≡ record old { accounts = a }
     → KeepsRest old new
-rest_accounts old new a is = rest_left old new a old.segs.pages.volumes.vtocs old.segs.links.known
+rest_accounts {old} {new} a is = rest_left old new a old.segs.pages.volumes.vtocs old.segs.links.known
     old.segs.ast.entries old.segs.ast.tables (λ place u e. e) is
 
 -- the tree and the VTOCs
-pub rest_made : {D : Type 0} (old new : Storage D) (a : AccountMaps) (vtocs : List (List (Option VtocEntry)))
+pub rest_made : {D : Type 0} {old new : Storage D} (a : AccountMaps) (vtocs : List (List (Option VtocEntry)))
     → new ≡ record old { accounts = a; segs = with_vtocs old.segs vtocs } → KeepsRest old new
-rest_made old new a vtocs is = rest_left old new a vtocs old.segs.links.known old.segs.ast.entries
+rest_made {old} {new} a vtocs is = rest_left old new a vtocs old.segs.links.known old.segs.ast.entries
     old.segs.ast.tables (λ place u e. e) is
 
 -- what numbers stand for
-pub rest_known : {D : Type 0} (old new : Storage D) (known : List (List (Option ℕ))) → new ≡ with_known old known
+pub rest_known : {D : Type 0} {old new : Storage D} (known : List (List (Option ℕ))) → new ≡ with_known old known
     → KeepsRest old new
-rest_known old new known is = rest_left old new old.accounts old.segs.pages.volumes.vtocs known old.segs.ast.entries
+rest_known {old} {new} known is = rest_left old new old.accounts old.segs.pages.volumes.vtocs known old.segs.ast.entries
     old.segs.ast.tables (λ place u e. e) is
 
 -- a segment less is active
-pub rest_inactive : {D : Type 0} (old new : Storage D) (place : ℕ)
+pub rest_inactive : {D : Type 0} {old new : Storage D} (place : ℕ)
     → new ≡ record old { segs = record old.segs { ast = deactivated old.segs.ast place } } → KeepsRest old new
-rest_inactive old new place is = rest_left old new old.accounts old.segs.pages.volumes.vtocs old.segs.links.known
+rest_inactive {old} {new} place is = rest_left old new old.accounts old.segs.pages.volumes.vtocs old.segs.links.known
     (deactivated old.segs.ast place).entries (deactivated old.segs.ast place).tables
-    (λ q u e. was_active old.segs.ast.entries place q u e) is
+    (λ q u e. was_active old.segs.ast.entries place q e) is
 
 -- a home is free
-pub rest_erased : {D : Type 0} (drive : D → List (List ℕ)) (t n : Storage D) (home : Home)
+pub rest_erased : {D : Type 0} (drive : D → List (List ℕ)) {t n : Storage D} (home : Home)
     → plain drive n.segs.pages ≡ erased (plain drive t.segs.pages) home → n.segs.ast ≡ t.segs.ast
     → n.segs.links ≡ t.segs.links → n.segs.moving ≡ t.segs.moving → n.whos ≡ t.whos
     → n.segs.pages.volumes.drives ≡ t.segs.pages.volumes.drives → KeepsRest t n
-rest_erased drive t n home effect ast links moving whos drives = record {
-  descriptors = ap (λ (l : Links). l.descriptors) links;
-  trailers = ap (λ (l : Links). l.trailers) links;
+rest_erased drive home effect ast links moving whos drives = record {
+  descriptors = cc;
+  trailers = cc;
   moving = moving;
   whos = whos;
   drives = drives;
@@ -102,35 +102,35 @@ rest_erased drive t n home effect ast links moving whos drives = record {
 
 -- ---- the pages that a cut takes
 
-pub cuts_even : {D : Type 0} (old new : Storage D) (u words : ℕ) → Unstores old new u (λ q. nat_le (words / 1024) q)
+pub cuts_even : {D : Type 0} {old new : Storage D} {u words : ℕ} → Unstores old new u (λ q. nat_le (words / 1024) q)
     → CutsPages old new u words
-cuts_even old new u words x = record {
+cuts_even {words} x = record {
   test = λ q. nat_le (words / 1024) q;
   within = λ q on. grind (arith, nat_tests);
-  past = λ q le. (let at : words / 1024 ≤ q = omega (arith, le) in grind (arith, nat_tests));
+  past = λ q le. (let at : words / 1024 ≤ q = omega arith in grind (arith, nat_tests));
   unstores = x;
 }
 
-pub cuts_odd : {D : Type 0} (old mid new : Storage D) (u words : ℕ) (lost : Bool) → words % 1024 ≢ 0
+pub cuts_odd : {D : Type 0} {old mid new : Storage D} {u words : ℕ} (lost : Bool) → words % 1024 ≢ 0
     → Unstores old mid u (λ q. nat_le (words / 1024 + 1) q)
     → Unstores mid new u (λ q. lost && eqb q (words / 1024)) → CutsPages old new u words
-cuts_odd old mid new u words lost odd x y = record {
+cuts_odd {old} {mid} {new} {u} {words} lost odd x y = record {
   test = λ q. nat_le (words / 1024 + 1) q || (lost && eqb q (words / 1024));
   within = λ q on. within q (nat_le (words / 1024 + 1) q) refl lost (eqb q (words / 1024)) refl on;
   past = λ q le. past q le;
-  unstores = unstores_both old mid new u (λ q. nat_le (words / 1024 + 1) q) (λ q. lost && eqb q (words / 1024)) x y;
+  unstores = unstores_both x y;
 }
   where
     within : (q : ℕ) (a : Bool) → nat_le (words / 1024 + 1) q ≡ a → (b c : Bool) → eqb q (words / 1024) ≡ c
         → (a || (b && c)) ≡ true → words / 1024 ≤ q
-    within q true e b c f on = (let le : words / 1024 + 1 ≤ q = grind (arith, nat_tests) in omega (arith, le))
-    within q false e true true f on = (let is : q ≡ words / 1024 = grind (arith, nat_tests) in omega (arith, is))
+    within q true e b c f on = (let le : words / 1024 + 1 ≤ q = grind (arith, nat_tests) in omega arith)
+    within q false e true true f on = (let is : q ≡ words / 1024 = grind (arith, nat_tests) in omega arith)
     within q false e true false f on = cc
     within q false e false c f on = cc
 
     past : (q : ℕ) → words ≤ 1024 * q → (nat_le (words / 1024 + 1) q || (lost && eqb q (words / 1024))) ≡ true
     past q le =
-        let at : words / 1024 + 1 ≤ q = omega (arith, le, odd) in
+        let at : words / 1024 + 1 ≤ q = omega arith in
         let on : nat_le (words / 1024 + 1) q ≡ true = grind (arith, nat_tests) in rw on refl
 
 -- ---- what is taken out
@@ -152,9 +152,9 @@ out_active {D} old mid new place u once at x is = rw is (record {
     other p apart same = apart (ap (uid_in_place old.segs.ast.entries) same ∙ at)
 
 -- a segment that isn't active has no page in a frame
-pub out_inactive : {D : Type 0} (t : Storage D) (u : ℕ) → IsInactive t.segs.ast.entries u
+pub out_inactive : {D : Type 0} {t : Storage D} {u : ℕ} → IsInactive t.segs.ast.entries u
     → ((f q : ℕ) → binding_at (bindings t.segs.pages.core) f ≢ Some (u, q)) → TakesOut t t u
-out_inactive t u inactive unframed = record {
+out_inactive {t} {u} inactive unframed = record {
   inactive = inactive;
   entries = λ p apart. refl;
   tables = λ p apart. refl;
@@ -168,9 +168,9 @@ out_inactive t u inactive unframed = record {
       | inr apart ↦ rw (ne_eqb x.0 u apart) refl
     ]
 
-pub out_still : {D : Type 0} (old mid new : Storage D) (u : ℕ) → TakesOut old mid u → new.segs.ast ≡ mid.segs.ast
+pub out_still : {D : Type 0} {old mid new : Storage D} {u : ℕ} → TakesOut old mid u → new.segs.ast ≡ mid.segs.ast
     → new.segs.pages.core ≡ mid.segs.pages.core → TakesOut old new u
-out_still old mid new u x ast core = record {
+out_still x ast core = record {
   inactive = rw ast x.inactive;
   entries = rw ast x.entries;
   tables = rw ast x.tables;

@@ -3,18 +3,18 @@ use Rattle.storage_ops.proofs.Prelude.{◌≤◌, ◌≡◌, ℕ, ◌<◌, List,
 use Rattle.vtoc.specs.Vtoc.{Entry, uid_of}
 
 -- a home that is used is on a volume that is there
-pub homed_volume : (vtocs : List (List (Option Entry))) (home : Home) (u : ℕ) → uid_at vtocs home ≡ Some u
+pub homed_volume : (vtocs : List (List (Option Entry))) (home : Home) {u : ℕ} → uid_at vtocs home ≡ Some u
     → home.volume < length vtocs
-homed_volume vtocs home u e = elim (cases_lt home.volume (length vtocs)) [
+homed_volume vtocs home e = elim (cases_lt home.volume (length vtocs)) [
   | inl lt ↦ lt
   | inr past ↦ cc (ap (λ (t : List (Option Entry)). uid_of (entry_at t home.entry))
       (get_or_past vtocs home.volume [] past))
 ]
 
 -- and in a place of its table
-pub homed_entry : (vtocs : List (List (Option Entry))) (home : Home) (u : ℕ) → uid_at vtocs home ≡ Some u
+pub homed_entry : (vtocs : List (List (Option Entry))) (home : Home) {u : ℕ} → uid_at vtocs home ≡ Some u
     → home.entry < length (vtoc_in vtocs home.volume)
-homed_entry vtocs home u e = elim (cases_lt home.entry (length (vtoc_in vtocs home.volume))) [
+homed_entry vtocs home e = elim (cases_lt home.entry (length (vtoc_in vtocs home.volume))) [
   | inl lt ↦ lt
   | inr past ↦ cc (ap uid_of (get_or_past (vtoc_in vtocs home.volume) home.entry None past))
 ]
@@ -22,7 +22,4 @@ homed_entry vtocs home u e = elim (cases_lt home.entry (length (vtoc_in vtocs ho
 -- there are as many VTOCs as drives
 pub all_drives : {D : Type 0} (pages : D → List (List ℕ)) (v : Vols D)
     → HasParts (map pages v.drives) v.records v.vtocs → length v.vtocs ≤ length v.drives
-all_drives pages v parts =
-    let long : length (map pages v.drives) ≡ length v.drives = length-map v.drives pages in
-    let tables : length v.vtocs ≡ length (map pages v.drives) = parts.tables in
-    omega (arith, long, tables)
+all_drives pages v parts = omega (arith, length-map v.drives pages)

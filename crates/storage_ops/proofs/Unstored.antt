@@ -14,23 +14,22 @@ word_within table q on =
 module _ (ast : ActiveSegs) (u q : ℕ) (w : Ptw) where
   pub worded_other : (r : ℕ) → r ≢ q → word_of (worded ast u q w) u r ≡ word_of ast u r
   worded_other r apart = set_told (λ (t : List Ptw). ptw_at t r ≡ word_of ast u r) ast.tables
-      (place_of ast.entries u) (place_of ast.entries u) (set (table_of ast u) q w) []
-      (get_or-set_other (table_of ast u) q r w Null apart) refl
+      (place_of ast.entries u) (place_of ast.entries u) [] (get_or-set_other (table_of ast u) q r w Null apart) refl
 
   pub worded_here : IsActive ast.entries u → length ast.tables ≡ length ast.entries → q < length (table_of ast u)
       → word_of (worded ast u q w) u q ≡ w
   worded_here active places within =
-      let at : place_of ast.entries u < length ast.entries =
+      let at =
       shown_within uid_in ast.entries (place_of ast.entries u) None u refl (active_place ast.entries u active) in
-      ap (λ (t : List Ptw). ptw_at t q) (get_or-set_same ast.tables (place_of ast.entries u)
-      (set (table_of ast u) q w) [] (omega (arith, at, places)))
-      ∙ get_or-set_same (table_of ast u) q w Null within
+      cc (
+        get_or-set_same ast.tables (place_of ast.entries u) (set (table_of ast u) q w) [] (omega (arith, places)),
+        get_or-set_same (table_of ast u) q w Null within,
+      )
 
   pub worded_table : (place : ℕ) → IsActive ast.entries u → uid_in_place ast.entries place ≢ Some u
       → table_at (worded ast u q w).tables place ≡ table_at ast.tables place
   worded_table place active apart = get_or-set_other ast.tables (place_of ast.entries u) place
-      (set (table_of ast u) q w) []
-      (λ same. apart (ap (uid_in_place ast.entries) same ∙ active_place ast.entries u active))
+      (set (table_of ast u) q w) [] (λ same. apart (cc (active_place ast.entries u active)))
 
 -- ---- what frames are bound to
 
@@ -107,35 +106,32 @@ none_bound u None = refl
 none_bound u (Some x) = rw (and_false (eqb x.0 u))
 
 -- a store as it was, where the pages that pass the test have no word and no frame
-pub unstores_still : {D : Type 0} (t : Storage D) (u : ℕ) (test : ℕ → Bool)
-    → ((q : ℕ) → test q ≡ true → word_of t.segs.ast u q ≡ Null)
-    → ((f : ℕ) → binding_at (bindings t.segs.pages.core) f
+pub unstores_still : {D : Type 0} {t : Storage D} {u : ℕ} {test : ℕ → Bool}
+    → ((q : ℕ) → test q ≡ true → word_of t.segs.ast u q ≡ Null) → ((f : ℕ) → binding_at (bindings t.segs.pages.core) f
     ≡ unbound u test (binding_at (bindings t.segs.pages.core) f)) → Unstores t t u test
-unstores_still t u test gone bound = assumption
+unstores_still gone bound = assumption
 
 pub unstores_none : {D : Type 0} (t : Storage D) (u : ℕ) → Unstores t t u (λ q. false)
-unstores_none t u = unstores_still t u (λ q. false) (λ q on. cc)
-    (λ f. none_bound u (binding_at (bindings t.segs.pages.core) f))
+unstores_none t u = unstores_still (λ q on. cc) (λ f. none_bound u (binding_at (bindings t.segs.pages.core) f))
 
-pub unstores_both : {D : Type 0} (old mid new : Storage D) (u : ℕ) (t r : ℕ → Bool) → Unstores old mid u t
+pub unstores_both : {D : Type 0} {old mid new : Storage D} {u : ℕ} {t r : ℕ → Bool} → Unstores old mid u t
     → Unstores mid new u r → Unstores old new u (λ q. t q || r q)
-unstores_both old mid new u t r x y = record {
-  nodes = y.nodes ∙ x.nodes;
-  entries = y.entries ∙ x.entries;
-  next = y.next ∙ x.next;
-  places = y.places ∙ x.places;
-  sizes = y.sizes ∙ x.sizes;
-  hands = y.hands ∙ x.hands;
+unstores_both {old} {new} {u} {t} {r} x y = record {
+  nodes = cc;
+  entries = cc;
+  next = cc;
+  places = cc;
+  sizes = cc;
+  hands = cc;
   tables = λ place apart. y.tables place (λ is. apart (cc (x.places, is))) ∙ x.tables place apart;
   kept = λ q off. y.kept q (or_parts (t q) (r q) off).1 ∙ x.kept q (or_parts (t q) (r q) off).0;
   gone = λ q on. by q (t q) (r q) refl refl on;
-  bound = λ f. y.bound f ∙ ap (unbound u r) (x.bound f)
-      ∙ fused_bound u t r (binding_at (bindings old.segs.pages.core) f);
-  reads = y.reads ∙ x.reads;
-  links = y.links ∙ x.links;
-  moving = y.moving ∙ x.moving;
-  whos = y.whos ∙ x.whos;
-  drives = y.drives ∙ x.drives;
+  bound = λ f. cc (y.bound f, x.bound f, fused_bound u t r (binding_at (bindings old.segs.pages.core) f));
+  reads = cc;
+  links = cc;
+  moving = cc;
+  whos = cc;
+  drives = cc;
 }
   where
     by : (q : ℕ) (a b : Bool) → t q ≡ a → r q ≡ b → (a || b) ≡ true → word_of new.segs.ast u q ≡ Null
@@ -143,17 +139,16 @@ unstores_both old mid new u t r x y = record {
     by q true false e f on = y.kept q f ∙ x.gone q e
     by q false false e f on = cc
 
-pub unstores_same : {D : Type 0} (old new : Storage D) (u : ℕ) (t r : ℕ → Bool) → ((q : ℕ) → t q ≡ r q)
+pub unstores_same : {D : Type 0} {old new : Storage D} {u : ℕ} {t r : ℕ → Bool} → ((q : ℕ) → t q ≡ r q)
     → Unstores old new u t → Unstores old new u r
-unstores_same old new u t r same x = subst (λ (k : ℕ → Bool). Unstores old new u k) (λ i. λ q. same q i) x
+unstores_same {old} {new} {u} same x = subst (λ (k : ℕ → Bool). Unstores old new u k) (λ i. λ q. same q i) x
 
 -- the pages past the last one are in no frame, and their words are `Null` already
-pub unstores_past : {D : Type 0} (old new : Storage D) (u from page : ℕ) → Unstores old new u (between from page)
+pub unstores_past : {D : Type 0} {old new : Storage D} {u : ℕ} (from page : ℕ) → Unstores old new u (between from page)
     → ((q : ℕ) → page ≤ q → word_of old.segs.ast u q ≡ Null)
     → ((q : ℕ) → page ≤ q → (f : ℕ) → binding_at (bindings old.segs.pages.core) f ≢ Some (u, q))
     → Unstores old new u (λ q. nat_le from q)
-unstores_past old new u from page x null unframed =
-    assumption (kept, gone, bound)
+unstores_past {old} {new} {u} from page x null unframed = assumption (kept, gone, bound)
   where
     below : (q : ℕ) → q < page → nat_lt q page ≡ true
     below q lt = grind (arith, nat_tests)
@@ -162,7 +157,7 @@ unstores_past old new u from page x null unframed =
     beyond q past = grind (arith, nat_tests)
 
     kept : (q : ℕ) → nat_le from q ≡ false → word_of new.segs.ast u q ≡ word_of old.segs.ast u q
-    kept q off = x.kept q (ap (λ (z : Bool). z && nat_lt q page) off)
+    kept q off = x.kept q (cc)
 
     gone : (q : ℕ) → nat_le from q ≡ true → word_of new.segs.ast u q ≡ Null
     gone q on = elim (cases_lt q page) [
@@ -188,14 +183,13 @@ unstores_past old new u from page x null unframed =
         ≡ unbound u (λ q. nat_le from q) (binding_at (bindings old.segs.pages.core) f)
     bound f = x.bound f ∙ by f (binding_at (bindings old.segs.pages.core) f) refl
 
-pub home_still : {D : Type 0} (old new : Storage D) (u : ℕ) (test : ℕ → Bool) (v : ℕ) → Unstores old new u test
+pub home_still : {D : Type 0} {old new : Storage D} {u : ℕ} {test : ℕ → Bool} (v : ℕ) → Unstores old new u test
     → home_of new.accounts v ≡ home_of old.accounts v
-home_still old new u test v x = rw (x.nodes, x.entries)
+home_still v x = rw (x.nodes, x.entries)
 
-pub active_still : {D : Type 0} (old new : Storage D) (u : ℕ) (test : ℕ → Bool) → Unstores old new u test
+pub active_still : {D : Type 0} {old new : Storage D} {u : ℕ} {test : ℕ → Bool} → Unstores old new u test
     → IsActive old.segs.ast.entries u → IsActive new.segs.ast.entries u
-active_still old new u test x active =
-    (active.0, ap (λ (e : List (Option Entry)). uid_in_place e active.0) x.places ∙ active.1)
+active_still x active = (active.0, cc)
 
 pub unrecorded : (w : Ptw) → has_record w ≡ false → w ≡ Null
 unrecorded Null e = refl
@@ -215,23 +209,23 @@ between_past from page = grind (arith, nat_tests)
 -- ---- what is being read
 
 -- the same where the reads are as they were
-pub idle_still : (old now : Core) (u q : ℕ) → reads_of now ≡ reads_of old → IsNotStarted old u q → IsNotStarted now u q
-idle_still old now u q same idle = record {
+pub idle_still : {old now : Core} {u q : ℕ} → reads_of now ≡ reads_of old → IsNotStarted old u q → IsNotStarted now u q
+idle_still {old} {now} {u} {q} same idle = record {
   none = λ f is. idle.none f (started_from (frame_at old f) u q
       (cc (get_or-map started_page old.frames f Free, same, get_or-map started_page now.frames f Free, is)));
 }
 
-pub taken_past : {D : Type 0} (old new : Storage D) (u words : ℕ)
+pub taken_past : {D : Type 0} {old new : Storage D} {u words : ℕ}
     → Unstores old new u (λ q. nat_le (words / 1024 + 1) q)
     → IsTakenPast old.segs u words → IsTakenPast new.segs u words
-taken_past old new u words x h = record {
-  active = active_still old new u (λ q. nat_le (words / 1024 + 1) q) x h.active;
+taken_past {old} {new} {u} {words} x h = record {
+  active = active_still x h.active;
   past = record {
     taken = λ q le. elim (cases_lt q (words / 1024 + 1)) [
       | inl lt ↦ ap is_here (x.kept q (before q lt)) ∙ h.past.taken q le
       | inr past ↦ ap is_here (x.gone q (beyond q past))
     ];
-    idle = λ q le. idle_still old.segs.pages.core new.segs.pages.core u q x.reads (h.past.idle q le);
+    idle = λ q le. idle_still x.reads (h.past.idle q le);
   };
   cut = λ some. ap is_out (x.kept (words / 1024) (before (words / 1024) (omega arith))) ∙ h.cut some;
 }

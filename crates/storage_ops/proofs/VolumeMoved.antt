@@ -38,10 +38,9 @@ module _ (u w : ℕ) where
   volume_else [] v ne = refl
   volume_else (n ∷ ns) v ne = elim (cases_Bool (eqb n.uid u)) [
     | inl is ↦
-        (let same : n.uid ≡ u = eqb-true n.uid u is in
-        let other : eqb n.uid v ≡ false = ne_eqb n.uid v (λ e. ne (sym e ∙ same)) in
-        rw (is, other) (volume_else ns v ne))
-    | inr isnt ↦ rw isnt (ap (cond (eqb n.uid v) n.volume) (volume_else ns v ne))
+        (let same = eqb-true n.uid u is in
+        rw (is, (ne_eqb n.uid v (λ e. ne (cc)))) (volume_else ns v ne))
+    | inr isnt ↦ rw isnt (cc (volume_else ns v ne))
   ]
 
 -- ---- stored pages
@@ -70,53 +69,54 @@ moved_sides f g u else (x ∷ xs) v = elim (cases_eq x.0 u) [
 
     here : (a b : Bool) (m n c : ℕ) → m + cond {A = ℕ} b c 0 ≡ n + cond {A = ℕ} a c 0
         → cond {A = ℕ} a 1 0 + m + cond {A = ℕ} b (1 + c) 0 ≡ cond {A = ℕ} b 1 0 + n + cond {A = ℕ} a (1 + c) 0
-    here true true m n c ih = omega (arith, ih)
-    here true false m n c ih = omega (arith, ih)
-    here false true m n c ih = omega (arith, ih)
-    here false false m n c ih = omega (arith, ih)
+    here true true m n c ih = omega arith
+    here true false m n c ih = omega arith
+    here false true m n c ih = omega arith
+    here false false m n c ih = omega arith
 
     there : (a b z : Bool) (m n c : ℕ) → m + cond {A = ℕ} b c 0 ≡ n + cond {A = ℕ} a c 0
         → cond {A = ℕ} z 1 0 + m + cond {A = ℕ} b (0 + c) 0 ≡ cond {A = ℕ} z 1 0 + n + cond {A = ℕ} a (0 + c) 0
-    there true true z m n c ih = omega (arith, ih)
-    there true false z m n c ih = omega (arith, ih)
-    there false true z m n c ih = omega (arith, ih)
-    there false false z m n c ih = omega (arith, ih)
+    there true true z m n c ih = omega arith
+    there true false z m n c ih = omega arith
+    there false true z m n c ih = omega arith
+    there false false z m n c ih = omega arith
 
 pub taken_moved : (ns : List Node) (u w : ℕ) → is_there ns u ≡ true → (stored : List (ℕ × ℕ)) (v : ℕ)
     → taken_on (map (on_volume u w) ns) stored v
     + cond {A = ℕ} (eqb (volume_in ns u) v) (count_by (λ x. eqb x.0 u) stored) 0
     ≡ taken_on ns stored v + cond {A = ℕ} (eqb w v) (count_by (λ x. eqb x.0 u) stored) 0
 unfolding taken_on
-taken_moved ns u w there stored v =
-    subst (λ (x : ℕ). taken_on (map (on_volume u w) ns) stored v
+taken_moved ns u w there stored v = subst (λ (x : ℕ). taken_on (map (on_volume u w) ns) stored v
     + cond {A = ℕ} (eqb (volume_in ns u) v) (count_by (λ x. eqb x.0 u) stored) 0
-    ≡ taken_on ns stored v + cond {A = ℕ} (eqb x v) (count_by (λ x. eqb x.0 u) stored) 0)
-    (volume_here u w ns there)
+    ≡ taken_on ns stored v + cond {A = ℕ} (eqb x v) (count_by (λ x. eqb x.0 u) stored) 0) (volume_here u w ns there)
     (moved_sides (volume_in (map (on_volume u w) ns)) (volume_in ns) u (λ x ne. volume_else u w ns x ne) stored v)
 
 -- ---- VTOC entries
 
-none_on : (u w : ℕ) (ns : List Node) → AreBelow u ns → map (on_volume u w) ns ≡ ns
-none_on u w [] below = refl
-none_on u w (n ∷ ns) below =
-    (let lt : n.uid < u = below.0 in rw (ne_eqb n.uid u (λ e. omega (arith, lt, e)))
-    (ap (λ (ms : List Node). n ∷ ms) (none_on u w ns below.1)))
+none_on : (u w : ℕ) {ns : List Node} → AreBelow u ns → map (on_volume u w) ns ≡ ns
+none_on u w {ns = []} below = refl
+none_on u w {ns = n ∷ ns} below = (let lt = below.0 in rw (ne_eqb n.uid u (λ e. omega arith))
+    (ap (λ (ms : List Node). n ∷ ms) (none_on u w below.1)))
 
-pub entries_moved : (ns : List Node) → IsTree ns → (u w : ℕ) (n : Node) → node_in ns u ≡ Some n → (v : ℕ)
+pub entries_moved : (ns : List Node) → IsTree ns → (u w : ℕ) {n : Node} → node_in ns u ≡ Some n → (v : ℕ)
     → entries_on (map (on_volume u w) ns) v + cond {A = ℕ} (eqb n.volume v) 1 0
     ≡ entries_on ns v + cond {A = ℕ} (eqb w v) 1 0
 unfolding entries_on
-entries_moved [] tree u w n found v = cc
-entries_moved (m ∷ ns) tree u w n found v = elim (cases_eq m.uid u) [
+entries_moved [] tree u w found v = cc
+entries_moved (m ∷ ns) tree u w {n} found v = elim (cases_eq m.uid u) [
   | inl same ↦
       (let z : Some m ≡ Some n = rw (eq-eqb m.uid u same) at found in
       let is : m ≡ n = cc in
-      let below : AreBelow u ns = rw (← same) (joined_below ns m.superior m tree.0) in
-      rw (eq-eqb m.uid u same, none_on u w ns below, first (record m { volume = w }) ns, first m ns, ← is)
-      (omega arith))
+      rw (
+        eq-eqb m.uid u same,
+        none_on u w {ns = ns} (rw (← same) (joined_below ns m.superior m tree.0)),
+        first (record m { volume = w }) ns,
+        first m ns,
+        ← is,
+      ) (omega arith))
   | inr ne ↦
-      (let rest = entries_moved ns tree.1 u w n (rw (ne_eqb m.uid u ne) at found) v in
-      rw (ne_eqb m.uid u ne, first m (map (on_volume u w) ns), first m ns) (omega (arith, rest)))
+      (let rest = entries_moved ns tree.1 u w {n = n} (rw (ne_eqb m.uid u ne) at found) v in
+      rw (ne_eqb m.uid u ne, first m (map (on_volume u w) ns), first m ns) (omega arith))
 ]
   where
     first : (x : Node) (xs : List Node) → count_by (λ y. eqb y.volume v) (x ∷ xs)

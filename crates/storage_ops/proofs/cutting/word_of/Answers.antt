@@ -3,14 +3,15 @@ use Rattle.storage_ops.proofs.Paged.{place_found}
 use Rattle.storage_ops.proofs.cutting.word_of.Goals as goal
 
 pub returns-then-page-size : goal.returns-then-page-size
-returns-then-page-size c =
-    let place = place_found c.args.ast.now.entries c.args.uid c.in-Some.place c.search.result c.requires
-    c.search.ensures.only c.in-Some.is in cc (c.get.ensures, c.table-table.ensures.words, place)
+returns-then-page-size c = cc (
+  c.get.ensures,
+  c.table-table.ensures.words,
+  (place_found c.args.ast.now.entries c.args.uid c.in-Some.place
+      c.search.result c.requires c.search.ensures.only c.in-Some.is),
+)
 
 pub returns-else-page-size : goal.returns-else-page-size
 returns-else-page-size c =
     let place = place_found c.args.ast.now.entries c.args.uid c.in-Some.place c.search.result c.requires
     c.search.ensures.only c.in-Some.is in
-    sym (ap (λ (t : List Ptw). ptw_at t c.args.page) (ap (λ (n : ℕ). table_at c.args.ast.now.tables n) place
-    ∙ sym c.table-table.ensures.words)
-    ∙ get_or_past c.table-table.result.now c.args.page Null (omega (arith, c.if-page-size.false, c.size.ensures)))
+    cc (get_or_past c.table-table.result.now c.args.page Null (omega arith))

@@ -4,8 +4,7 @@ use Rattle.storage_ops.proofs.PathRefusals.{branch_refuses, refusal_told}
 use Rattle.storage_ops.proofs.finding.for_delete.Goals as goal
 
 pub returns-in-Err-clause-refusal : goal.returns-in-Err-clause-refusal
-returns-in-Err-clause-refusal c = λ s h.
-    refusal_told c.in-Err.reply
+returns-in-Err-clause-refusal c = λ s h. refusal_told
     (branch_refuses c.args.accounts.now.nodes c.args.path.now c.in-Err.reply c.in-Err.ensures.err)
     ∙ ap refusal (delete_refused s _ _ h.nodes _ c.in-Err.ensures.err)
 
@@ -14,25 +13,22 @@ returns-then-is_err-clause-refusal c = λ s h. ap refusal
     (delete_told s c.args.accounts.now.nodes c.args.path.now h.nodes
     (as_term (quota_in c.args.accounts.now.nodes) c.in-Ok.node.now) true
     (eqb (quota_in c.args.accounts.now.nodes c.in-Ok.node.now.uid) 0) c.in-Ok.ensures.ok
-    (c.may_remove.ensures.0 (sym c.is_err.ensures.value ∙ c.if-is_err.true)) refl)
+    (c.may_remove.ensures.0 (cc)) refl)
 
 pub returns-then-quota_of-eq0-clause-leads : goal.returns-then-quota_of-eq0-clause-leads
-returns-then-quota_of-eq0-clause-leads c = leads_branch c.args.accounts.now.nodes c.args.path.now
-    (as_term (quota_in c.args.accounts.now.nodes) c.in-Ok.node.now) c.in-Ok.ensures.ok
+returns-then-quota_of-eq0-clause-leads c = leads_branch c.in-Ok.ensures.ok
 
 pub returns-then-quota_of-eq0-clause-refusal : goal.returns-then-quota_of-eq0-clause-refusal
 returns-then-quota_of-eq0-clause-refusal c = λ s h.
-    let none = from_false (is_err c.may_remove.result) (has_inferior c.args.accounts.now.nodes c.in-Ok.node.now.uid)
-    c.may_remove.ensures.1 (sym c.is_err.ensures.value ∙ c.if-is_err.false) in
     ap refusal (delete_told s c.args.accounts.now.nodes c.args.path.now h.nodes
-    (as_term (quota_in c.args.accounts.now.nodes) c.in-Ok.node.now) false true c.in-Ok.ensures.ok none
-    (ap (λ (q : ℕ). eqb q 0) (sym c.quota_of.ensures ∙ c.if-quota_of-eq0.true)))
+    (as_term (quota_in c.args.accounts.now.nodes) c.in-Ok.node.now) false true c.in-Ok.ensures.ok
+    (from_false (is_err c.may_remove.result) (has_inferior c.args.accounts.now.nodes c.in-Ok.node.now.uid)
+    c.may_remove.ensures.1 (cc)) (ap (λ (q : ℕ). eqb q 0) (sym c.quota_of.ensures ∙ c.if-quota_of-eq0.true)))
 
 pub returns-else-quota_of-eq0-clause-refusal : goal.returns-else-quota_of-eq0-clause-refusal
 returns-else-quota_of-eq0-clause-refusal c = λ s h.
-    let none = from_false (is_err c.may_remove.result) (has_inferior c.args.accounts.now.nodes c.in-Ok.node.now.uid)
-    c.may_remove.ensures.1 (sym c.is_err.ensures.value ∙ c.if-is_err.false) in
     let apart : eqb c.quota_of.result 0 ≡ false = ne_eqb c.quota_of.result 0 c.if-quota_of-eq0.false in
     ap refusal (delete_told s c.args.accounts.now.nodes c.args.path.now h.nodes
-    (as_term (quota_in c.args.accounts.now.nodes) c.in-Ok.node.now) false false c.in-Ok.ensures.ok none
-    (ap (λ (q : ℕ). eqb q 0) (sym c.quota_of.ensures) ∙ apart))
+    (as_term (quota_in c.args.accounts.now.nodes) c.in-Ok.node.now) false false c.in-Ok.ensures.ok
+    (from_false (is_err c.may_remove.result) (has_inferior c.args.accounts.now.nodes c.in-Ok.node.now.uid)
+    c.may_remove.ensures.1 (cc)) (cc))

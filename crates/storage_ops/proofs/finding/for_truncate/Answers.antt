@@ -4,17 +4,14 @@ use Rattle.storage_ops.proofs.PathRefusals.{refusal_told, segment_refuses}
 use Rattle.storage_ops.proofs.finding.for_truncate.Goals as goal
 
 pub returns-in-Ok-clause-leads : goal.returns-in-Ok-clause-leads
-returns-in-Ok-clause-leads c = leads_segment c.args.accounts.now.nodes c.args.path.now
-    (as_term (quota_in c.args.accounts.now.nodes) c.in-Ok.node.now) c.in-Ok.ensures.ok
+returns-in-Ok-clause-leads c = leads_segment c.in-Ok.ensures.ok
 
 pub returns-in-Ok-clause-refusal : goal.returns-in-Ok-clause-refusal
-returns-in-Ok-clause-refusal c = λ s h. ap refusal
-    (truncate_told s c.args.accounts.now.nodes c.args.path.now h.nodes
+returns-in-Ok-clause-refusal c = λ s h. ap refusal (truncate_told s c.args.accounts.now.nodes c.args.path.now h.nodes
     (as_term (quota_in c.args.accounts.now.nodes) c.in-Ok.node.now) c.in-Ok.ensures.ok)
 
 pub returns-in-Err-clause-refusal : goal.returns-in-Err-clause-refusal
-returns-in-Err-clause-refusal c = λ s h.
-    refusal_told c.in-Err.reply
+returns-in-Err-clause-refusal c = λ s h. refusal_told
     (segment_refuses c.args.accounts.now.nodes c.args.path.now c.in-Err.reply c.in-Err.ensures.err)
     ∙ ap refusal (truncate_refused s c.args.accounts.now.nodes c.args.path.now h.nodes c.in-Err.reply
     c.in-Err.ensures.err)

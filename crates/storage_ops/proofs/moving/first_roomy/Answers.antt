@@ -3,13 +3,9 @@ use Rattle.storage_ops.proofs.RoomsFound.{first_here, first_nowhere}
 use Rattle.storage_ops.proofs.moving.first_roomy.Goals as goal
 
 pub returns-then-has_space : goal.returns-then-has_space
-returns-then-has_space g c =
-    (let within : c.loop-volume.volume < length c.args.volumes.now.drives = search rules in
-    let has : is_roomy c.args.volumes.now c.args.own c.args.pages c.loop-volume.volume ≡ true = search rules in
-    first_here c.args.volumes.now c.args.own c.args.pages c.loop-volume.volume within has c.loop-volume.invariant)
+returns-then-has_space g c = (let has : is_roomy c.args.volumes.now c.args.own c.args.pages c.loop-volume.volume
+    ≡ true = search rules in
+    first_here c.args.volumes.now c.args.own c.args.pages (search rules) has c.loop-volume.invariant)
 
 pub returns : goal.returns
-returns g c =
-    (let none : (v : ℕ) → v < length c.args.volumes.now.drives
-    → is_roomy c.args.volumes.now c.args.own c.args.pages v ≡ false = search rules in
-    first_nowhere c.args.volumes.now c.args.own c.args.pages none)
+returns g c = (first_nowhere c.args.volumes.now c.args.own c.args.pages (search rules))

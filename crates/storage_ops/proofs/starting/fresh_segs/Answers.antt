@@ -7,8 +7,7 @@ use Rattle.storage_ops.proofs.starting.fresh_segs.Goals as goal
 -- the volumes that pages are given are fresh
 fresh_pages : (g : Over) (c : In_ok-pages g)
     → AreFresh c.args.script.now c.in_ok-pages.pages.volumes.records c.in_ok-pages.pages.volumes.vtocs
-fresh_pages g c =
-    rw c.in_ok-pages.ensures c.requires.fresh
+fresh_pages g c = rw c.in_ok-pages.ensures c.requires.fresh
 
 pub new-requires-2-clause-records : goal.new-requires-2-clause-records
 new-requires-2-clause-records g c =
@@ -21,8 +20,7 @@ new-requires-2-clause-rest g c =
     rest_fresh (plain g.D.Drive.pages c.in_ok-pages.pages) fresh.free fresh.unused
 
 pub new-requires-2-clause-pools : goal.new-requires-2-clause-pools
-new-requires-2-clause-pools g c =
-    rw c.pools.ensures
+new-requires-2-clause-pools g c = rw c.pools.ensures
     (pools_few c.args.script.now.pools c.processes-processes.ensures.plan.pools)
 
 -- segment control over these pages, with so many places in the pools and so many processes
@@ -35,12 +33,9 @@ fresh_control pages pools processes = record {
 }
 
 pub returns : goal.returns
-returns g c =
-    let pages = c.in_ok-pages.ensures
-    ∙ ap (λ (n : ℕ). empty_frames n c.args.volumes) c.frames.ensures in
-    c.in_ok-segs.ensures
-    ∙ ap (λ (x : Paging g.row.D.Denot). fresh_control x c.pools.result c.processes-processes.result) pages
-    ∙ ap (λ (ps : List ℕ). fresh_control (empty_frames c.args.script.now.frames c.args.volumes) ps
-    c.processes-processes.result) c.pools.ensures
-    ∙ ap (fresh_control (empty_frames c.args.script.now.frames c.args.volumes) c.args.script.now.pools)
-    c.processes-processes.ensures.count
+returns g c = cc (
+  c.in_ok-segs.ensures,
+  (c.in_ok-pages.ensures ∙ ap (λ (n : ℕ). empty_frames n c.args.volumes) c.frames.ensures),
+  c.pools.ensures,
+  c.processes-processes.ensures.count,
+)

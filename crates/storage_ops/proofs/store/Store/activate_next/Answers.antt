@@ -7,34 +7,25 @@ use Rattle.storage_ops.proofs.store.Store.activate_next.Goals as goal
 pub activate_next-requires-clause-chain : goal.activate_next-requires-clause-chain
 activate_next-requires-clause-chain g c =
     let t = held c.self.view_is in
-    let down = rw (← c.self.view_is) at
-    c.requires.chain in
-    let off = rw (← c.self.view_is) at
-    c.requires.off in
+    let off = rw (← c.self.view_is) at c.requires.off in
     may_activate (plain g.D.Drive.pages t.segs.pages) t.segs.ast t.segs.links t.accounts t.whos c.args.chain.now
-    c.self.invariant c.promise.ensures.tree down (length t.segs.pages.volumes.drives)
+    c.self.invariant c.promise.ensures.tree (rw (← c.self.view_is) at c.requires.chain)
     (all_drives g.D.Drive.pages t.segs.pages.volumes c.look.ensures.parts) off
 
 pub returns-clause-next : goal.returns-clause-next
-returns-clause-next g c =
-    rw (← c.self.view_is) c.activate_next.ensures.next
+returns-clause-next g c = rw (← c.self.view_is) c.activate_next.ensures.next
 
 pub returns-clause-victim : goal.returns-clause-victim
-returns-clause-victim g c =
-    rw (← c.self.view_is) c.activate_next.ensures.victim
+returns-clause-victim g c = rw (← c.self.view_is) c.activate_next.ensures.victim
 
 pub invariant_of-self : goal.invariant_of-self
 invariant_of-self g c =
     let t = held c.self.view_is in
-    let down = rw (← c.self.view_is) at
-    c.requires.chain in
     store_next g.D.Drive.pages t.segs c.activate_next.new.self t.accounts t.whos c.args.chain.now
-    c.activate_next.result c.activate_next.ensures.next c.promise.ensures.tree down c.look.ensures.kept.linked
-    c.self.invariant
+    c.activate_next.result c.activate_next.ensures.next c.promise.ensures.tree
+    (rw (← c.self.view_is) at c.requires.chain) c.look.ensures.kept.linked c.self.invariant
 
 pub returns-clause-shown : goal.returns-clause-shown
 returns-clause-shown g c = λ p s h.
-    let t = held c.self.view_is in
-    shown_next g.D.Drive.pages p s t c.activate_next.new.self c.args.chain.now c.activate_next.result
-    c.activate_next.ensures.next
-    (shown_held c.self.view_is g.D.Drive.pages p s h)
+    shown_next g.D.Drive.pages p s (held c.self.view_is) c.activate_next.new.self c.args.chain.now
+    c.activate_next.result c.activate_next.ensures.next (shown_held c.self.view_is h)

@@ -12,5 +12,4 @@ invariant_of-self g c =
 pub returns-clause-shown : goal.returns-clause-shown
 returns-clause-shown g c = λ p s h.
     let t = held c.self.view_is in
-    rw c.cut_all.ensures.effect
-    (shown_all_cut g.D.Drive.pages p s t c.args.aste (shown_held c.self.view_is g.D.Drive.pages p s h))
+    rw c.cut_all.ensures.effect (shown_all_cut c.args.aste (shown_held c.self.view_is h))

@@ -5,16 +5,13 @@ use Rattle.storage_ops.proofs.CutExactly.{cut_evenly, cut_oddly, others_both}
 use Rattle.storage_ops.proofs.store.Store.cut_off.Goals as goal
 
 pub cut_page-requires-clause-past : goal.cut_page-requires-clause-past
-cut_page-requires-clause-past g c = taken_past c.args.self.now c.drop_from-else-words-eq0.new.self c.args.uid
-    c.args.words c.drop_from-else-words-eq0.ensures.rest c.requires.past
+cut_page-requires-clause-past g c = taken_past c.drop_from-else-words-eq0.ensures.rest c.requires.past
 
 pub returns-then-words-eq0-clause-pages : goal.returns-then-words-eq0-clause-pages
-returns-then-words-eq0-clause-pages g c =
-    cuts_even c.args.self.now c.drop_from.new.self c.args.uid c.args.words c.drop_from.ensures.rest
+returns-then-words-eq0-clause-pages g c = cuts_even c.drop_from.ensures.rest
 
 pub returns-else-words-eq0-clause-pages : goal.returns-else-words-eq0-clause-pages
-returns-else-words-eq0-clause-pages g c =
-    cuts_odd c.args.self.now c.drop_from-else-words-eq0.new.self c.cut_page.new.self c.args.uid c.args.words
+returns-else-words-eq0-clause-pages g c = cuts_odd
     c.cut_page.result (λ is. c.if-words-eq0.false is) c.drop_from-else-words-eq0.ensures.rest c.cut_page.ensures.rest
 
 pub returns-then-words-eq0-clause-shown : goal.returns-then-words-eq0-clause-shown
@@ -28,20 +25,19 @@ returns-else-words-eq0-clause-shown g c = λ p s h. rw (← whole_cut s c.args.u
 
 pub returns-then-words-eq0-clause-exact : goal.returns-then-words-eq0-clause-exact
 returns-then-words-eq0-clause-exact g c =
-    cut_evenly (paged g.D.Drive.pages c.args.self.now c.args.uid) _ (home_of c.args.self.now.accounts c.args.uid)
+    cut_evenly (paged g.D.Drive.pages c.args.self.now c.args.uid) (home_of c.args.self.now.accounts c.args.uid)
     c.args.uid (pages_in c.args.self.now.accounts.nodes c.args.uid) c.args.words c.if-words-eq0.true
     c.drop_from.ensures.exact
 
 pub returns-else-words-eq0-clause-exact : goal.returns-else-words-eq0-clause-exact
 returns-else-words-eq0-clause-exact g c =
     let mid = c.drop_from-else-words-eq0.new.self in
-    cut_oddly (paged g.D.Drive.pages c.args.self.now c.args.uid) (paged g.D.Drive.pages mid c.args.uid) _
+    cut_oddly (paged g.D.Drive.pages c.args.self.now c.args.uid)
     (home_of c.args.self.now.accounts c.args.uid) c.args.uid (pages_in c.args.self.now.accounts.nodes c.args.uid)
     c.args.words (λ is. c.if-words-eq0.false is) c.drop_from-else-words-eq0.ensures.exact
-    (rw (← home_still c.args.self.now mid c.args.uid _ c.args.uid c.drop_from-else-words-eq0.ensures.rest)
-    c.cut_page.ensures.exact)
+    (rw (← home_still c.args.uid c.drop_from-else-words-eq0.ensures.rest) c.cut_page.ensures.exact)
 
 pub returns-else-words-eq0-clause-others : goal.returns-else-words-eq0-clause-others
 returns-else-words-eq0-clause-others g c =
     others_both c.args.self.now.accounts c.drop_from-else-words-eq0.new.self.accounts c.cut_page.new.self.accounts
-    c.args.uid c.drop_from-else-words-eq0.ensures.others c.cut_page.ensures.others
+    c.drop_from-else-words-eq0.ensures.others c.cut_page.ensures.others

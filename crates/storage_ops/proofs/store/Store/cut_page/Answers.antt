@@ -6,22 +6,16 @@ use Rattle.storage_ops.proofs.store.Store.cut_page.Goals as goal
 
 pub home-home-requires : goal.home-home-requires
 home-home-requires g c =
-    let active = rw (← c.self.view_is) at
-    c.requires.past.active in
+    let active = rw (← c.self.view_is) at c.requires.past.active in
     ap (λ (x : Storage g.row.D.Denot). is_there x.accounts.nodes c.args.uid) (sym c.self.view_is)
     ∙ active_there (plain g.D.Drive.pages c.self.inside.segs.pages) c.self.inside.segs.ast c.self.inside.segs.links
     c.self.inside.accounts c.self.inside.whos.items c.look.ensures.kept c.self.invariant c.args.uid active
 
 pub drop_page-requires-clause-may : goal.drop_page-requires-clause-may
 drop_page-requires-clause-may g c = record {
-  home = c.home-home.ensures.home
-      ∙ sym (home_still c.args.self.now c.clear_page.new.self c.args.uid (λ q. false) c.args.uid
-      c.clear_page.ensures.rest);
-  active = active_still c.args.self.now c.clear_page.new.self c.args.uid (λ q. false) c.clear_page.ensures.rest
-      c.requires.past.active;
-  idle = idle_still c.args.self.now.segs.pages.core c.clear_page.new.self.segs.pages.core c.args.uid
-      (c.args.words / 1024) c.clear_page.ensures.rest.reads
-      (c.requires.past.past.idle (c.args.words / 1024) (omega arith));
+  home = cc (home_still c.args.uid c.clear_page.ensures.rest);
+  active = active_still c.clear_page.ensures.rest c.requires.past.active;
+  idle = idle_still c.clear_page.ensures.rest.reads (c.requires.past.past.idle (c.args.words / 1024) (omega arith));
 }
 
 pub drop_page-requires-clause-away : goal.drop_page-requires-clause-away
@@ -29,41 +23,32 @@ drop_page-requires-clause-away g c = ap is_away (c.clear_page.ensures.rest.kept 
     ∙ c.clear_page.ensures.away c.if-clear_page.true
 
 pub returns-then-clear_page-clause-rest : goal.returns-then-clear_page-clause-rest
-returns-then-clear_page-clause-rest g c =
-    unstores_both c.args.self.now c.clear_page.new.self c.drop_page.new.self c.args.uid (λ q. false)
-    (λ q. eqb q (c.args.words / 1024)) c.clear_page.ensures.rest c.drop_page.ensures.rest
+returns-then-clear_page-clause-rest g c = unstores_both c.clear_page.ensures.rest c.drop_page.ensures.rest
 
 pub returns-else-clear_page-clause-rest : goal.returns-else-clear_page-clause-rest
-returns-else-clear_page-clause-rest g c =
-    c.clear_page.ensures.rest
+returns-else-clear_page-clause-rest g c = c.clear_page.ensures.rest
 
 pub returns-then-clear_page-clause-shown : goal.returns-then-clear_page-clause-shown
 returns-then-clear_page-clause-shown g c = λ p s h.
     let page : ℕ = c.args.words / 1024 in
-    let is : has_cleared s c.args.uid page (c.args.words % 1024) ≡ true = sym (c.clear_page.ensures.zero p s h)
-    ∙ c.if-clear_page.true in
     let done = c.drop_page.ensures.shown p (cleared s c.args.uid page (c.args.words % 1024))
     (c.clear_page.ensures.shown p s h) in
-    rw is done
+    rw (sym (c.clear_page.ensures.zero p s h) ∙ c.if-clear_page.true) done
 
 pub returns-else-clear_page-clause-shown : goal.returns-else-clear_page-clause-shown
 returns-else-clear_page-clause-shown g c = λ p s h.
-    let page : ℕ = c.args.words / 1024 in
-    let is : has_cleared s c.args.uid page (c.args.words % 1024) ≡ false = sym (c.clear_page.ensures.zero p s h)
-    ∙ c.if-clear_page.false in
-    rw is
-    (c.clear_page.ensures.shown p s h)
+    let is : has_cleared s c.args.uid (c.args.words / 1024) (c.args.words % 1024) ≡ false = sym
+    (c.clear_page.ensures.zero p s h) ∙ c.if-clear_page.false in
+    rw is (c.clear_page.ensures.shown p s h)
 
 pub returns-then-clear_page-clause-exact : goal.returns-then-clear_page-clause-exact
 returns-then-clear_page-clause-exact g c =
     let page : ℕ = c.args.words / 1024 in
-    let word = word_of c.args.self.now.segs.ast c.args.uid page in
     cut_dropped (paged g.D.Drive.pages c.args.self.now c.args.uid)
     (paged g.D.Drive.pages c.clear_page.new.self c.args.uid) (paged g.D.Drive.pages c.drop_page.new.self c.args.uid)
-    (home_of c.args.self.now.accounts c.args.uid) c.args.uid page (c.args.words % 1024) word
-    (word_of c.clear_page.new.self.segs.ast c.args.uid page) (sym c.clear_page.ensures.told ∙ c.if-clear_page.true)
-    c.clear_page.ensures.exact (c.clear_page.ensures.rest.kept page refl)
-    (rw (← home_still c.args.self.now c.clear_page.new.self c.args.uid (λ q. false) c.args.uid
+    (home_of c.args.self.now.accounts c.args.uid) c.args.uid page (c.args.words % 1024)
+    (word_of c.args.self.now.segs.ast c.args.uid page) (word_of c.clear_page.new.self.segs.ast c.args.uid page) (cc)
+    c.clear_page.ensures.exact (c.clear_page.ensures.rest.kept page refl) (rw (← home_still c.args.uid
     c.clear_page.ensures.rest) c.drop_page.ensures.exact)
 
 pub returns-else-clear_page-clause-exact : goal.returns-else-clear_page-clause-exact
@@ -71,10 +56,9 @@ returns-else-clear_page-clause-exact g c =
     let page : ℕ = c.args.words / 1024 in
     cut_kept (paged g.D.Drive.pages c.args.self.now c.args.uid)
     (paged g.D.Drive.pages c.clear_page.new.self c.args.uid) (home_of c.args.self.now.accounts c.args.uid) c.args.uid
-    page (c.args.words % 1024) (word_of c.args.self.now.segs.ast c.args.uid page)
-    (sym c.clear_page.ensures.told ∙ c.if-clear_page.false) c.clear_page.ensures.exact
+    page (c.args.words % 1024) (word_of c.args.self.now.segs.ast c.args.uid page) (cc) c.clear_page.ensures.exact
 
 pub returns-then-clear_page-clause-others : goal.returns-then-clear_page-clause-others
 returns-then-clear_page-clause-others g c =
-    others_both c.args.self.now.accounts c.clear_page.new.self.accounts c.drop_page.new.self.accounts c.args.uid
+    others_both c.args.self.now.accounts c.clear_page.new.self.accounts c.drop_page.new.self.accounts
     c.clear_page.ensures.others c.drop_page.ensures.others

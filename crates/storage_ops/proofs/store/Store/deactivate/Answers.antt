@@ -6,5 +6,4 @@ use Rattle.storage_ops.proofs.store.Store.deactivate.Goals as goal
 pub invariant_of-self : goal.invariant_of-self
 invariant_of-self g c =
     store_after g.D.Drive.pages c.self.inside.accounts c.self.inside.whos.items c.deactivate.ensures.effect
-    (store_inactive (plain g.D.Drive.pages c.self.inside.segs.pages) c.self.inside.segs.ast c.self.inside.segs.links
-    c.self.inside.accounts c.self.inside.whos.items c.args.place c.self.invariant)
+    (store_inactive c.args.place c.self.invariant)

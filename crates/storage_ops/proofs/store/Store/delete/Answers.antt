@@ -6,8 +6,8 @@ use Rattle.storage_ops.proofs.store.Store.delete.Goals as goal
 
 pub returns-in-Err-clause-answer : goal.returns-in-Err-clause-answer
 returns-in-Err-clause-answer g c = λ p s h.
-    let tree = tree_held c.self.view_is s h.tree in
-    delete_refused s c.self.inside.accounts.nodes c.args.path.now tree.nodes c.in-Err.reply c.in-Err.ensures.err
+    delete_refused s c.self.inside.accounts.nodes c.args.path.now (tree_held c.self.view_is h.tree).nodes c.in-Err.reply
+    c.in-Err.ensures.err
 
 pub returns-in-Err-clause-effect : goal.returns-in-Err-clause-effect
 returns-in-Err-clause-effect g c = λ p s h.
@@ -15,73 +15,63 @@ returns-in-Err-clause-effect g c = λ p s h.
 
 pub returns-then-is_err-clause-answer : goal.returns-then-is_err-clause-answer
 returns-then-is_err-clause-answer g c = λ p s h.
-    let tree = tree_held c.self.view_is s h.tree in
-    delete_told s c.self.inside.accounts.nodes c.args.path.now tree.nodes
+    delete_told s c.self.inside.accounts.nodes c.args.path.now (tree_held c.self.view_is h.tree).nodes
     (as_term (quota_in c.self.inside.accounts.nodes) c.in-Ok.node.now) true
     (eqb (quota_in c.self.inside.accounts.nodes c.in-Ok.node.now.uid) 0) c.in-Ok.ensures.ok
-    (c.may_remove.ensures.0 (sym c.is_err.ensures.value ∙ c.if-is_err.true)) refl
+    (c.may_remove.ensures.0 (cc)) refl
 
 pub returns-then-quota_of-gt0-clause-answer : goal.returns-then-quota_of-gt0-clause-answer
 returns-then-quota_of-gt0-clause-answer g c = λ p s h.
-    let tree = tree_held c.self.view_is s h.tree in
     let none = from_false (is_err c.may_remove.result) (has_inferior c.self.inside.accounts.nodes c.in-Ok.node.now.uid)
-    c.may_remove.ensures.1 (sym c.is_err.ensures.value ∙ c.if-is_err.false) in
+    c.may_remove.ensures.1 (cc) in
     let some : 0 < c.quota_of.result = c.if-quota_of-gt0.true in
-    let apart : eqb c.quota_of.result 0 ≡ false = ne_eqb c.quota_of.result 0 (λ is. absurd (omega (arith, some, is))) in
-    delete_told s c.self.inside.accounts.nodes c.args.path.now tree.nodes
-    (as_term (quota_in c.self.inside.accounts.nodes) c.in-Ok.node.now) false false c.in-Ok.ensures.ok none
-    (ap (λ (q : ℕ). eqb q 0) (sym c.quota_of.ensures) ∙ apart)
+    let apart : eqb c.quota_of.result 0 ≡ false = ne_eqb c.quota_of.result 0 (λ is. absurd (omega arith)) in
+    delete_told s c.self.inside.accounts.nodes c.args.path.now (tree_held c.self.view_is h.tree).nodes
+    (as_term (quota_in c.self.inside.accounts.nodes) c.in-Ok.node.now) false false c.in-Ok.ensures.ok none (cc)
 
 pub make_inactive-requires-clause-ready : goal.make_inactive-requires-clause-ready
 make_inactive-requires-clause-ready g c =
-    let ready = rw (← c.self.view_is) at c.requires.ready in
-    rw (← c.self.view_is)
-    (ready (as_term (quota_in c.self.inside.accounts.nodes) c.in-Ok.node.now) c.in-Ok.ensures.ok)
+    rw (← c.self.view_is) ((rw (← c.self.view_is) at c.requires.ready) (as_term (quota_in c.self.inside.accounts.nodes)
+    c.in-Ok.node.now) c.in-Ok.ensures.ok)
 
 pub returns-clause-answer : goal.returns-clause-answer
 returns-clause-answer g c = λ p s h.
-    let tree = tree_held c.self.view_is s h.tree in
     let none = from_false (is_err c.may_remove.result) (has_inferior c.self.inside.accounts.nodes c.in-Ok.node.now.uid)
-    c.may_remove.ensures.1 (sym c.is_err.ensures.value ∙ c.if-is_err.false) in
-    let zero_quota : c.quota_of.result ≡ 0 = omega (arith, c.if-quota_of-gt0.false) in
-    delete_told s c.self.inside.accounts.nodes c.args.path.now tree.nodes
+    c.may_remove.ensures.1 (cc) in
+    let zero_quota : c.quota_of.result ≡ 0 = omega arith in
+    delete_told s c.self.inside.accounts.nodes c.args.path.now (tree_held c.self.view_is h.tree).nodes
     (as_term (quota_in c.self.inside.accounts.nodes) c.in-Ok.node.now) false true c.in-Ok.ensures.ok none
     (ap (λ (q : ℕ). eqb q 0) (sym c.quota_of.ensures ∙ zero_quota))
 
 pub returns-clause-effect : goal.returns-clause-effect
 returns-clause-effect g c = λ p s h.
-    let tree = tree_held c.self.view_is s h.tree in
     let left = c.make_inactive.ensures.shown p s h in
-    rw (← left.2 ∙ sym (delete_done s c.args.path.now
-    (as_term (quota_in c.self.inside.accounts.nodes) c.in-Ok.node.now)
-    (ap (λ (ns : List Node). branch_at ns c.args.path.now) tree.nodes ∙ c.in-Ok.ensures.ok)))
-    (c.remove.ensures.shown p left.0 left.1)
+    rw (← left.2 ∙ sym (delete_done s c.args.path.now (as_term (quota_in c.self.inside.accounts.nodes) c.in-Ok.node.now)
+    (cc ((tree_held c.self.view_is h.tree).nodes, c.in-Ok.ensures.ok)))) (c.remove.ensures.shown p left.0 left.1)
 
 pub remove-requires-clause-there : goal.remove-requires-clause-there
 remove-requires-clause-there g c =
     ap (λ (ns : List Node). is_there ns c.in-Ok.node.now.uid) (c.make_inactive.ensures.nodes
-    ∙ ap (λ (x : Storage g.row.D.Denot). x.accounts.nodes) (sym c.self.view_is))
-    ∙ ap is_some c.in-Ok.ensures.there
+    ∙ ap (λ (x : Storage g.row.D.Denot). x.accounts.nodes) (sym c.self.view_is)) ∙ ap is_some c.in-Ok.ensures.there
 
 pub remove-requires-clause-quota : goal.remove-requires-clause-quota
 remove-requires-clause-quota g c =
-    let zero_quota : c.quota_of.result ≡ 0 = omega (arith, c.if-quota_of-gt0.false) in
     ap (λ (ns : List Node). quota_in ns c.in-Ok.node.now.uid) (c.make_inactive.ensures.nodes
-    ∙ ap (λ (x : Storage g.row.D.Denot). x.accounts.nodes) (sym c.self.view_is))
-    ∙ sym c.quota_of.ensures ∙ zero_quota
+    ∙ ap (λ (x : Storage g.row.D.Denot). x.accounts.nodes) (sym c.self.view_is)) ∙ sym c.quota_of.ensures
+    ∙ (omega arith)
 
 pub remove-requires-clause-empty : goal.remove-requires-clause-empty
 remove-requires-clause-empty g c =
     ap (λ (ns : List Node). has_inferior ns c.in-Ok.node.now.uid) (c.make_inactive.ensures.nodes
     ∙ ap (λ (x : Storage g.row.D.Denot). x.accounts.nodes) (sym c.self.view_is))
     ∙ from_false (is_err c.may_remove.result) (has_inferior c.self.inside.accounts.nodes c.in-Ok.node.now.uid)
-    c.may_remove.ensures.1 (sym c.is_err.ensures.value ∙ c.if-is_err.false)
+    c.may_remove.ensures.1 (cc)
 
 pub make_inactive-requires-clause-empty : goal.make_inactive-requires-clause-empty
 make_inactive-requires-clause-empty g c =
     ap (λ (x : Storage g.row.D.Denot). has_inferior x.accounts.nodes c.in-Ok.node.now.uid) (sym c.self.view_is)
     ∙ from_false (is_err c.may_remove.result) (has_inferior c.self.inside.accounts.nodes c.in-Ok.node.now.uid)
-    c.may_remove.ensures.1 (sym c.is_err.ensures.value ∙ c.if-is_err.false)
+    c.may_remove.ensures.1 (cc)
 
 pub returns-in-Err-clause-rest : goal.returns-in-Err-clause-rest
 returns-in-Err-clause-rest g c = rest_none c.args.self.now
@@ -93,32 +83,30 @@ pub returns-then-quota_of-gt0-clause-rest : goal.returns-then-quota_of-gt0-claus
 returns-then-quota_of-gt0-clause-rest g c = rest_none c.args.self.now
 
 pub returns-clause-rest : goal.returns-clause-rest
-returns-clause-rest g c = rest_both c.args.self.now c.make_inactive.new.self c.remove.new.self
-    c.make_inactive.ensures.rest c.remove.ensures.rest
+returns-clause-rest g c = rest_both c.make_inactive.ensures.rest c.remove.ensures.rest
 
 pub returns-clause-out : goal.returns-clause-out
 returns-clause-out g c = λ on n found.
     let here = ap (λ (x : Storage g.row.D.Denot). branch_at x.accounts.nodes c.args.path.now) (sym c.self.view_is)
     ∙ c.in-Ok.ensures.ok in
-    rw (← same_uid (as_term (quota_in c.self.inside.accounts.nodes) c.in-Ok.node.now) n (sym here ∙ found))
-    (out_still c.args.self.now c.make_inactive.new.self c.remove.new.self c.in-Ok.node.now.uid
+    rw (← same_uid (as_term (quota_in c.self.inside.accounts.nodes) c.in-Ok.node.now) n (cc)) (out_still
     c.make_inactive.ensures.out c.remove.ensures.ast c.remove.ensures.core)
 
 pub returns-in-Err-clause-out : goal.returns-in-Err-clause-out
 returns-in-Err-clause-out g c = λ on.
-    let clash : true ≡ false = sym on ∙ branch_refuses c.self.inside.accounts.nodes c.args.path.now c.in-Err.reply
+    let clash = sym on ∙ branch_refuses c.self.inside.accounts.nodes c.args.path.now c.in-Err.reply
     c.in-Err.ensures.err in cc
 
 pub returns-clause-exact : goal.returns-clause-exact
 returns-clause-exact g c = λ on n found.
     let here = ap (λ (x : Storage g.row.D.Denot). branch_at x.accounts.nodes c.args.path.now) (sym c.self.view_is)
     ∙ c.in-Ok.ensures.ok in
-    rw (← same_uid (as_term (quota_in c.self.inside.accounts.nodes) c.in-Ok.node.now) n (sym here ∙ found))
-    (erased_exactly g.D.Drive.pages c.args.self.now c.make_inactive.new.self c.remove.new.self c.in-Ok.node.now.uid
+    rw (← same_uid (as_term (quota_in c.self.inside.accounts.nodes) c.in-Ok.node.now) n (cc))
+    (erased_exactly c.make_inactive.new.self
     c.make_inactive.ensures.active c.make_inactive.ensures.still c.make_inactive.ensures.home c.remove.ensures.erased
     c.remove.ensures.ast)
 
 pub returns-in-Err-clause-exact : goal.returns-in-Err-clause-exact
 returns-in-Err-clause-exact g c = λ on.
-    let clash : true ≡ false = sym on ∙ branch_refuses c.self.inside.accounts.nodes c.args.path.now c.in-Err.reply
+    let clash = sym on ∙ branch_refuses c.self.inside.accounts.nodes c.args.path.now c.in-Err.reply
     c.in-Err.ensures.err in cc

@@ -6,9 +6,8 @@ use Rattle.storage_ops.proofs.store.Store.initiate.Goals as goal
 
 pub returns-in-Err-clause-answer : goal.returns-in-Err-clause-answer
 returns-in-Err-clause-answer g c = λ p s h.
-    let before = shown_held c.self.view_is g.D.Drive.pages p s h in
-    initiate_refused s c.self.inside.accounts.nodes c.self.inside.segs.links.known before.tree.nodes before.known
-    c.args.process c.args.path.now c.in-Err.reply c.in-Err.ensures.err
+    let before = shown_held c.self.view_is h in
+    initiate_refused s before.tree.nodes before.known c.args.process c.args.path.now c.in-Err.ensures.err
 
 pub returns-in-Err-clause-effect : goal.returns-in-Err-clause-effect
 returns-in-Err-clause-effect g c = λ p s h.
@@ -17,31 +16,23 @@ returns-in-Err-clause-effect g c = λ p s h.
 pub invariant_of-self : goal.invariant_of-self
 invariant_of-self g c =
     let uid : ℕ = c.in-Ok.node.now.uid in
-    let kst : List (Option ℕ) = kst_at c.self.inside.segs.links.known c.args.process in
+    let kst = kst_at c.self.inside.segs.links.known c.args.process in
     store_after g.D.Drive.pages c.self.inside.accounts c.self.inside.whos.items c.make_known.ensures.effect
-    (known_store (plain g.D.Drive.pages c.self.inside.segs.pages) c.self.inside.segs.ast c.self.inside.segs.links
-    c.self.inside.accounts
-    c.self.inside.whos.items c.args.process (with_number kst uid c.make_known.result) c.self.invariant
+    (known_store c.args.process (with_number kst uid c.make_known.result) c.self.invariant
     (under_with c.self.inside.accounts.next kst uid c.make_known.result
     (uid_below c.self.inside.accounts.next c.self.inside.accounts.nodes uid _ c.next_uid-next.ensures.below
-    c.in-Ok.ensures.there)
-    (c.self.invariant.known.older c.args.process)))
+    c.in-Ok.ensures.there) (c.self.invariant.known.older c.args.process)))
 
 pub returns-clause-answer : goal.returns-clause-answer
 returns-clause-answer g c = λ p s h.
-    let before = shown_held c.self.view_is g.D.Drive.pages p s h in
-    c.known_or_full.ensures
-    ∙ initiate_told s c.self.inside.accounts.nodes c.self.inside.segs.links.known before.tree.nodes before.known
-    c.args.process c.args.path.now (as_term (quota_in c.self.inside.accounts.nodes) c.in-Ok.node.now)
-    c.make_known.result
-    c.in-Ok.ensures.ok c.make_known.ensures.number
+    let before = shown_held c.self.view_is h in
+    cc (initiate_told s before.tree.nodes before.known c.args.process c.args.path.now c.in-Ok.ensures.ok
+    c.make_known.ensures.number)
 
 pub returns-clause-effect : goal.returns-clause-effect
 returns-clause-effect g c = λ p s h.
-    let t = held c.self.view_is in
-    let before = shown_held c.self.view_is g.D.Drive.pages p s h in
-    rw c.make_known.ensures.effect
-    (initiate_answered g.D.Drive.pages p s t c.args.process c.args.path.now
+    let before = shown_held c.self.view_is h in
+    rw c.make_known.ensures.effect (initiate_answered g.D.Drive.pages p s (held c.self.view_is) c.args.process
+    c.args.path.now
     (as_term (quota_in c.self.inside.accounts.nodes) c.in-Ok.node.now) c.make_known.result c.known_or_full.result
-    before c.in-Ok.ensures.ok
-    c.make_known.ensures.number c.known_or_full.ensures)
+    before c.in-Ok.ensures.ok c.make_known.ensures.number c.known_or_full.ensures)

@@ -10,11 +10,9 @@ use Rattle.storage_ops.proofs.store.Store.initiate_refusal.Goals as goal
 free : (g : Over) (c : After-has_number_for g) (p : Plan) (s : Flat)
     → Shows g.D.Drive.pages p s c.args.self.now → (b : Bool) → b ≡ c.has_number_for.result
     → cond b None (Some reply.Full) ≡ refusal (initiate_reply s c.args.process c.args.path.now)
-free g c p s h b is =
-    initiate_free s c.self.inside.accounts.nodes c.self.inside.segs.links.known
-    (tree_held c.self.view_is s h.tree).nodes (known_held c.self.view_is s.known h.known) c.args.process
-    c.args.path.now (as_term (quota_in c.self.inside.accounts.nodes) c.in-Ok.node.now) b c.in-Ok.ensures.ok
-    (cc (is, c.has_number_for.ensures, c.kst.ensures.kst))
+free g c p s h b is = initiate_free s
+    (tree_held c.self.view_is h.tree).nodes (known_held c.self.view_is h.known) c.args.process
+    c.args.path.now c.in-Ok.ensures.ok (cc (is, c.has_number_for.ensures, c.kst.ensures.kst))
 
 pub returns-then-has_number_for : goal.returns-then-has_number_for
 returns-then-has_number_for g c = λ p s h.
@@ -26,8 +24,6 @@ returns-else-has_number_for g c = λ p s h.
 
 pub returns-in-Err : goal.returns-in-Err
 returns-in-Err g c = λ p s h.
-    let tree = tree_held c.self.view_is s h.tree in
-    let known = known_held c.self.view_is s.known h.known in
-    c.refusal.ensures
-    ∙ ap refusal (initiate_refused s c.self.inside.accounts.nodes c.self.inside.segs.links.known tree.nodes known
-    c.args.process c.args.path.now c.in-Err.reply c.in-Err.ensures.err)
+    let known = known_held c.self.view_is h.known in
+    cc (initiate_refused s (tree_held c.self.view_is h.tree).nodes known c.args.process c.args.path.now
+    c.in-Err.ensures.err)

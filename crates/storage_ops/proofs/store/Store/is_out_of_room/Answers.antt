@@ -9,9 +9,9 @@ full : (g : Over) (c : After-is_full g)
 full g c =
     let now = c.args.self.now in
     let n = as_term (quota_in now.accounts.nodes) c.args.node.now in
-    let volume : n.volume ≡ c.home-home.result.volume = volume_found now.accounts.nodes n.uid n c.requires.there
+    let volume = volume_found now.accounts.nodes n.uid n c.requires.there
     ∙ ap (λ (h : Home). h.volume) (sym c.home-home.ensures.home) in
-    ap (is_full now.segs.pages.volumes.records) volume ∙ sym c.is_full.ensures
+    cc
 
 twice : (b : Bool) → b ≡ not (not b)
 twice true = refl

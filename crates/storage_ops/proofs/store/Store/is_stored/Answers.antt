@@ -5,12 +5,11 @@ use Rattle.storage_ops.proofs.store.Store.is_stored.Goals as goal
 
 pub returns : goal.returns
 returns g c =
-    let there = there_held c.self.view_is c.args.uid c.requires.there in
-    let home = home_held c.self.view_is c.args.uid c.home-home.result c.home-home.ensures.home in
+    let home = home_held c.self.view_is c.args.uid c.home-home.ensures.home in
     let table = c.vtoc-vtoc.ensures ∙ ap (λ (x : Vols g.row.D.Denot). vtoc_at x c.home-home.result.volume)
     c.volumes_at_rest.ensures in
     c.is_some.ensures ∙ ap is_some c.file_map.ensures
-    ∙ record_told c.self.inside.accounts c.self.inside.segs.pages.volumes.vtocs c.args.uid c.home-home.result
-    c.vtoc-vtoc.result.now there home table c.args.page
+    ∙ record_told c.self.inside.accounts c.self.inside.segs.pages.volumes.vtocs c.args.uid
+    (there_held c.self.view_is c.args.uid c.requires.there) home table c.args.page
     ∙ ap (λ (x : Storage g.row.D.Denot). is_filed x.accounts x.segs.pages.volumes.vtocs c.args.uid c.args.page)
     c.self.view_is

@@ -17,7 +17,5 @@ returns-else-stores_from g c = λ p s h.
 
 pub returns-in-Err : goal.returns-in-Err
 returns-in-Err g c = λ p s h.
-    let tree = tree_held c.self.view_is s h.tree in
-    c.refusal.ensures
-    ∙ ap refusal (length_refused s c.self.inside.accounts.nodes c.args.path.now tree.nodes c.args.pages c.in-Err.reply
-    c.in-Err.ensures.err)
+    cc (length_refused s c.self.inside.accounts.nodes c.args.path.now (tree_held c.self.view_is h.tree).nodes
+    c.args.pages c.in-Err.reply c.in-Err.ensures.err)

@@ -20,15 +20,13 @@ word g c = cc (c.get.ensures, table g (goal.at.returns-clause-word g c).After-ta
 there : (g : Over) (c : After-look g) → is_there c.self.inside.accounts.nodes c.args.uid ≡ true
 there g c = active_there (plain g.D.Drive.pages c.self.inside.segs.pages) c.self.inside.segs.ast
     c.self.inside.segs.links c.self.inside.accounts c.self.inside.whos.items c.look.ensures.kept c.self.invariant
-    c.args.uid (active_held c.self.view_is c.args.uid c.requires.active)
+    c.args.uid (active_held c.self.view_is c.requires.active)
 
 pub get-requires : goal.get-requires
 get-requires g c =
     let t = held c.self.view_is in
-    rw (table g c)
-    (word_within (plain g.D.Drive.pages t.segs.pages) t.segs.ast t.segs.links t.accounts t.whos
-    c.look.ensures.kept c.self.invariant c.args.uid
-    (active_held c.self.view_is c.args.uid c.requires.active) c.args.p
+    rw (table g c) (word_within (plain g.D.Drive.pages t.segs.pages) t.segs.ast t.segs.links t.accounts t.whos
+    c.look.ensures.kept c.self.invariant c.args.uid (active_held c.self.view_is c.requires.active) c.args.p
     (length_held c.self.view_is c.args.uid c.args.p c.requires.page))
 
 pub returns-clause-word : goal.returns-clause-word
@@ -37,17 +35,17 @@ returns-clause-word g c = word g c ∙ word_held c.self.view_is c.args.uid c.arg
 pub returns-clause-stored : goal.returns-clause-stored
 returns-clause-stored g c = λ p s h.
     let t = held c.self.view_is in
-    (shown_held c.self.view_is g.D.Drive.pages p s h).pages.stored c.args.uid c.args.p
-    ∙ word_filed (plain g.D.Drive.pages t.segs.pages) t.segs.ast t.segs.links t.accounts t.whos
-    c.look.ensures.kept c.self.invariant c.args.uid
-    (active_held c.self.view_is c.args.uid c.requires.active) c.args.p ∙ ap has_record (sym (word g c))
+    cc (
+      (shown_held c.self.view_is h).pages.stored c.args.uid c.args.p,
+      word_filed (plain g.D.Drive.pages t.segs.pages)
+          t.segs.ast t.segs.links t.accounts t.whos c.look.ensures.kept c.self.invariant c.args.uid
+          (active_held c.self.view_is c.requires.active) c.args.p,
+      word g c,
+    )
 
 pub returns-clause-zeros : goal.returns-clause-zeros
 returns-clause-zeros g c = λ p s h null at lt.
-    let t = held c.self.view_is in
-    word_at g.D.Drive.pages p s t c.args.uid c.args.p at (replicate 1024 0)
-    (there g (goal.at.returns-clause-zeros g c).After-look)
-    (zeros_null (plain g.D.Drive.pages t.segs.pages) t.segs.ast t.segs.links t.accounts t.whos c.args.uid c.args.p
-    c.look.ensures.kept c.self.invariant (active_held c.self.view_is c.args.uid c.requires.active)
-    (sym (word g c) ∙ null)) lt (shown_held c.self.view_is g.D.Drive.pages p s h)
-    ∙ get_or-replicate {A = ℕ} 1024 at 0 0 lt
+    word_at g.D.Drive.pages p s (held c.self.view_is) c.args.uid c.args.p at (replicate 1024 0)
+    (there g (goal.at.returns-clause-zeros g c).After-look) (zeros_null c.args.p
+    c.look.ensures.kept c.self.invariant (active_held c.self.view_is c.requires.active)
+    (sym (word g c) ∙ null)) lt (shown_held c.self.view_is h) ∙ get_or-replicate {A = ℕ} 1024 at 0 0 lt

@@ -9,19 +9,15 @@ returns-in_default-clause-answer g c = λ p s h. make_root p s c.args.path.now c
 
 pub returns-then-not-node-clause-answer : goal.returns-then-not-node-clause-answer
 returns-then-not-node-clause-answer g c = λ p s h.
-    let tree = tree_held c.self.view_is s h.tree in
     make_in_segment p s c.self.inside.accounts.nodes c.args.path.now c.in-Some.above.now c.in-Some.name.now
-    c.args.volume
-    c.args.dir tree.nodes
+    c.args.volume c.args.dir (tree_held c.self.view_is h.tree).nodes
     c.in-Some.ensures.parts (as_term (quota_in c.self.inside.accounts.nodes) c.in-Ok.node.now) c.in-Ok.ensures.ok
     c.if-not-node.true
 
 pub returns-in-Err-clause-answer : goal.returns-in-Err-clause-answer
 returns-in-Err-clause-answer g c = λ p s h.
-    let tree = tree_held c.self.view_is s h.tree in
     make_refused p s c.self.inside.accounts.nodes c.args.path.now c.in-Some.above.now c.in-Some.name.now c.args.volume
-    c.args.dir tree.nodes
-    c.in-Some.ensures.parts c.in-Err.reply c.in-Err.ensures.err
+    c.args.dir (tree_held c.self.view_is h.tree).nodes c.in-Some.ensures.parts c.in-Err.reply c.in-Err.ensures.err
 
 pub returns-in-Err-clause-effect : goal.returns-in-Err-clause-effect
 returns-in-Err-clause-effect g c = λ p s h.
@@ -29,25 +25,21 @@ returns-in-Err-clause-effect g c = λ p s h.
 
 pub returns-clause-answer : goal.returns-clause-answer
 returns-clause-answer g c = λ p s h.
-    let shown = shown_held c.self.view_is g.D.Drive.pages p s h in
     let n : Node = as_term (quota_in c.self.inside.accounts.nodes) c.in-Ok.node.now in
     make_told p s c.self.inside.accounts.nodes c.args.path.now c.in-Some.above.now c.in-Some.name.now c.args.volume
-    c.args.dir shown.tree.nodes
-    c.in-Some.ensures.parts n c.make_branch.result c.in-Ok.ensures.ok c.if-not-node.false
-    (cc (c.make_branch.ensures.answer p s n h refl, c.copied.ensures))
+    c.args.dir (shown_held c.self.view_is h).tree.nodes c.in-Some.ensures.parts n c.make_branch.result
+    c.in-Ok.ensures.ok c.if-not-node.false (cc (c.make_branch.ensures.answer p s n h refl, c.copied.ensures))
 
 pub returns-clause-effect : goal.returns-clause-effect
 returns-clause-effect g c = λ p s h.
-    let shown = shown_held c.self.view_is g.D.Drive.pages p s h in
     let n : Node = as_term (quota_in c.self.inside.accounts.nodes) c.in-Ok.node.now in
     rw (← ap (λ (name : List ℕ). made_in s c.args.volume c.args.dir c.args.pages (maker_rows c.args.maker) name n)
-    c.copied.ensures
-    ∙ after_make_is s c.self.inside.accounts.nodes c.args.path.now c.in-Some.above.now c.in-Some.name.now c.args.volume
-    c.args.dir shown.tree.nodes
-    c.in-Some.ensures.parts c.args.pages (maker_rows c.args.maker) n c.in-Ok.ensures.ok)
+    c.copied.ensures ∙ after_make_is s c.in-Some.above.now c.in-Some.name.now c.args.volume c.args.dir
+    (shown_held c.self.view_is h).tree.nodes
+    c.in-Some.ensures.parts c.args.pages (maker_rows c.args.maker) c.in-Ok.ensures.ok)
     (c.make_branch.ensures.effect p s n h refl)
 
 pub returns-in-Err-clause-home : goal.returns-in-Err-clause-home
 returns-in-Err-clause-home g c = λ on.
-    let clash : true ≡ false = sym on
+    let clash = sym on
     ∙ node_refuses c.self.inside.accounts.nodes c.in-Some.above.now c.in-Err.reply c.in-Err.ensures.err in cc

@@ -12,31 +12,25 @@ attach-requires-clause-may g c = unless_none _ _ _ (sym c.may_add.ensures ∙ c.
 
 pub returns-in_default-clause-answer : goal.returns-in_default-clause-answer
 returns-in_default-clause-answer g c = λ p s d h below.
-    let shown = shown_held c.self.view_is g.D.Drive.pages p s h in
+    let shown = shown_held c.self.view_is h in
     made_told p s c.args.new.volume c.args.new.dir c.args.new.name d c.self.inside.accounts.nodes c.args.superior
     c.self.inside.accounts.next
     c.may_add.result true shown.tree.nodes shown.tree.next below c.may_add.ensures (sym c.in-Ok.is)
     (all_used c.self.inside.segs.pages.volumes.vtocs c.args.new.volume _ _ c.in_default.ensures.none
-    (shown.script.entries c.args.new.volume)
-    (cc (shown.tree.nodes, c.self.invariant.taken.entries c.args.new.volume)))
+    (shown.script.entries c.args.new.volume) (cc (shown.tree.nodes, c.self.invariant.taken.entries c.args.new.volume)))
 
 pub returns-clause-answer : goal.returns-clause-answer
 returns-clause-answer g c = λ p s d h below.
-    let shown = shown_held c.self.view_is g.D.Drive.pages p s h in
-    ap (λ (x : ℕ). reply.Made x) c.attach.ensures.uid
-    ∙ made_told p s c.args.new.volume c.args.new.dir c.args.new.name d c.self.inside.accounts.nodes c.args.superior
-    c.self.inside.accounts.next
-    c.may_add.result false shown.tree.nodes shown.tree.next below c.may_add.ensures (sym c.in-Ok.is)
-    (some_free c.self.inside.segs.pages.volumes.vtocs c.args.new.volume c.in-Some.entry _ _ c.in-Some.ensures.least
-    (shown.script.entries c.args.new.volume)
-    (ap (λ (ns : List Node). entries_on ns c.args.new.volume) shown.tree.nodes
-    ∙ sym (c.self.invariant.taken.entries c.args.new.volume)))
+    let shown = shown_held c.self.view_is h in
+    cc (made_told p s c.args.new.volume c.args.new.dir c.args.new.name d c.self.inside.accounts.nodes c.args.superior
+    c.self.inside.accounts.next c.may_add.result false shown.tree.nodes shown.tree.next below c.may_add.ensures
+    (sym c.in-Ok.is) (some_free c.self.inside.segs.pages.volumes.vtocs c.args.new.volume c.in-Some.ensures.least
+    (shown.script.entries c.args.new.volume) (cc (c.self.invariant.taken.entries c.args.new.volume))))
 
 pub new_home-requires-clause-inactive : goal.new_home-requires-clause-inactive
 new_home-requires-clause-inactive g c = record {
-  nowhere = λ place e.
-      (let clash : true ≡ false = sym (c.self.invariant.active.there place c.self.inside.accounts.next
-      (e ∙ ap (λ (x : ℕ). Some x) c.next_uid-uid.ensures.uid)) ∙ ap is_some c.next_uid-uid.ensures.fresh in cc);
+  nowhere = λ place e. (let clash = sym (c.self.invariant.active.there place c.self.inside.accounts.next
+      (cc)) ∙ ap is_some c.next_uid-uid.ensures.fresh in cc);
 }
 
 -- the node that is made, and its home
@@ -49,7 +43,7 @@ made : (g : Over) (c : After-attach g) → HasNewHome c.self.inside.accounts c.a
 made g c = record {
   gains = c.attach.ensures.effect;
   fresh = c.next_uid-uid.ensures.fresh;
-  home = c.in-Some.ensures.home ∙ ap (λ (x : ℕ). Some x) c.next_uid-uid.ensures.uid;
+  home = cc (c.in-Some.ensures.home, c.next_uid-uid.ensures.uid);
   least = c.in-Some.ensures.least;
   uids = c.in-Some.ensures.uids;
   maps = c.new_home.ensures.maps;
@@ -59,30 +53,23 @@ made g c = record {
 
 pub invariant_of-self-2 : goal.invariant_of-self-2
 invariant_of-self-2 g c =
-    let old : Plain = plain g.D.Drive.pages c.self.inside.segs.pages in
-    let now : Plain = plain g.D.Drive.pages c.new_home.new.self.pages in
-    rw c.new_home.ensures.ast
-    (rw c.new_home.ensures.links
-    (store_new c.self.inside.accounts c.attach.new.self (node g c) c.in-Some.entry old now (made g c)
-    c.self.inside.segs.ast c.self.inside.segs.links
-    c.self.inside.whos.items c.requires.most c.requires.flat c.self.invariant))
+    let old = plain g.D.Drive.pages c.self.inside.segs.pages in
+    let now = plain g.D.Drive.pages c.new_home.new.self.pages in
+    rw c.new_home.ensures.ast (rw c.new_home.ensures.links (store_new (made g c)
+    c.self.inside.segs.ast c.self.inside.segs.links c.requires.most c.requires.flat c.self.invariant))
 
 pub returns-clause-effect : goal.returns-clause-effect
 returns-clause-effect g c = λ p s d h below.
-    let old : Plain = plain g.D.Drive.pages c.self.inside.segs.pages in
-    let now : Plain = plain g.D.Drive.pages c.new_home.new.self.pages in
-    let t = held c.self.view_is in
-    let u = record t { accounts = c.attach.new.self; segs = c.new_home.new.self } in
-    let shown = shown_held c.self.view_is g.D.Drive.pages p s h in
-    rw (← branch_made s d c.self.inside.accounts.next
-    c.args.superior shown.tree.next below)
-    (shown_new c.self.inside.accounts c.attach.new.self (node g c) c.in-Some.entry old now (made g c)
-    c.self.inside.segs.ast c.self.inside.segs.links
-    g.D.Drive.pages p s t u refl refl refl refl c.new_home.ensures.links refl refl refl c.new_home.ensures.words
-    (λ v. length_inside c.self.inside.segs.pages.volumes.vtocs c.args.new.volume c.in-Some.entry v _ _
-    (ap (λ (x : Plain). x.vtocs) c.in-Some.ensures.effect))
-    c.look.ensures.kept
-    (λ place e. (let clash : true ≡ false = sym (c.self.invariant.active.there place c.self.inside.accounts.next e)
+    let old = plain g.D.Drive.pages c.self.inside.segs.pages in
+    let now = plain g.D.Drive.pages c.new_home.new.self.pages in
+    let u = record (held c.self.view_is) { accounts = c.attach.new.self; segs = c.new_home.new.self } in
+    let shown = shown_held c.self.view_is h in
+    rw (← branch_made s d c.self.inside.accounts.next c.args.superior shown.tree.next below) (shown_new (made g c)
+    c.self.inside.segs.ast c.self.inside.segs.links refl refl refl refl c.new_home.ensures.links refl refl refl
+    c.new_home.ensures.words
+    (λ v. length_inside c.self.inside.segs.pages.volumes.vtocs c.args.new.volume c.in-Some.entry v _
+    (ap (λ (x : Plain). x.vtocs) c.in-Some.ensures.effect)) c.look.ensures.kept
+    (λ place e. (let clash = sym (c.self.invariant.active.there place c.self.inside.accounts.next e)
     ∙ ap is_some c.next_uid-uid.ensures.fresh in cc)) shown)
 
 pub returns-clause-home : goal.returns-clause-home

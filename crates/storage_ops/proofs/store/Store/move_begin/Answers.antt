@@ -11,8 +11,7 @@ move_begin-requires-clause-can g c =
     c.requires.volume in
     let roomy = subst (λ (x : Storage g.row.D.Denot). is_roomy x.segs.pages.volumes c.args.from.0
     (count_of x.accounts c.args.uid) c.args.to ≡ true) (sym c.self.view_is) c.requires.room in
-    subst (λ (x : ℕ × ℕ). CanBegin t.segs.pages.volumes c.args.uid x c.args.to) (sym from)
-    (may_begin g.D.Drive.pages t c.args.uid c.look.ensures.kept c.self.invariant
-    (active_held c.self.view_is c.args.uid c.requires.active) c.look.ensures.parts c.args.to to
+    rw from (may_begin g.D.Drive.pages t c.args.uid c.look.ensures.kept c.self.invariant
+    (active_held c.self.view_is c.requires.active) c.look.ensures.parts to
     (subst (λ (x : ℕ × ℕ). is_roomy t.segs.pages.volumes x.0 (count_of t.accounts c.args.uid) c.args.to ≡ true) from
     roomy))

@@ -4,6 +4,5 @@ use Rattle.storage_ops.proofs.store.Store.move_refusal.Goals as goal
 
 pub returns : goal.returns
 returns g c = λ p s h.
-    let tree = tree_held c.self.view_is s h.tree in
     let back = to_z-of_z w32 c.args.amount c.ranges.amount in
-    c.refusal.ensures ∙ ap refusal ((rw back at c.move_reply.ensures) s tree)
+    cc ((rw back at c.move_reply.ensures) s (tree_held c.self.view_is h.tree))

@@ -9,20 +9,18 @@ use Rattle.storage_ops.proofs.store.Store.new.Goals as goal
 -- the volumes of segment control are fresh
 fresh_volumes : (g : Over) (c : In_ok-segs g)
     → AreFresh c.args.script.now c.in_ok-segs.segs.pages.volumes.records c.in_ok-segs.segs.pages.volumes.vtocs
-fresh_volumes g c =
-    rw c.in_ok-segs.ensures c.requires.fresh
+fresh_volumes g c = rw c.in_ok-segs.ensures c.requires.fresh
 
 -- so the root has the first entry
 first_entry : (g : Over) (c : In-Some g)
     → AreFresh c.args.script.now c.in_ok-segs.segs.pages.volumes.records c.in_ok-segs.segs.pages.volumes.vtocs
     → c.in-Some.entry ≡ 0
-first_entry g c fresh =
-    entry_first (plain g.D.Drive.pages c.in_ok-segs.segs.pages) fresh.free fresh.unused c.in-Some.entry
+first_entry g c fresh = entry_first (plain g.D.Drive.pages c.in_ok-segs.segs.pages) fresh.free fresh.unused
     c.in-Some.ensures.least
 
 pub new_home-requires-clause-inactive : goal.new_home-requires-clause-inactive
 new_home-requires-clause-inactive g c = record {
-  nowhere = λ place e. none_active _ place 1
+  nowhere = λ place e. none_active _ place
       (ap (λ (x : Control g.row.D.Denot). uid_in_place x.ast.entries place) (sym c.in_ok-segs.ensures) ∙ e);
 }
 
@@ -32,16 +30,14 @@ unreachable-requires g c =
     let plan = c.processes-processes.ensures.plan in
     let some = entries_some c.args.script.now.volumes plan.volumes plan.some in
     let size = fresh.entries 0 in
-    let on = c.in_default.ensures.none 0 None (omega (arith, some, size)) in
-    let clash : true ≡ false = sym on ∙ ap is_some (fresh.free 0 0) in cc
+    let clash : true ≡ false = sym (c.in_default.ensures.none 0 None (omega arith)) ∙ ap is_some (fresh.free 0 0) in cc
 
 -- the root is the one new node
 made : (g : Over) (c : In-Some g) → c.in-Some.entry ≡ 0 → HasNewHome nothing c.in_ok-accounts.accounts
     (record (root_of c.args.script.now) { quota = c.quota.result }) c.in-Some.entry
     (plain g.D.Drive.pages c.in_ok-segs.segs.pages) (plain g.D.Drive.pages c.new_home.new.self.pages)
 made g c zero = record {
-  gains = root_gains c.args.script.now c.in_ok-accounts.accounts c.in-Some.entry c.quota.result
-      (c.in_ok-accounts.ensures ∙ ap (λ (e : ℕ). root_alone 0 e c.quota.result) (sym zero));
+  gains = root_gains c.args.script.now c.quota.result (cc (c.in_ok-accounts.ensures, zero));
   fresh = refl;
   home = c.in-Some.ensures.home;
   least = c.in-Some.ensures.least;
@@ -55,7 +51,6 @@ pub invariant_of-result : goal.invariant_of-result
 invariant_of-result g c =
     let at = goal.at.invariant_of-result g c in
     let fresh = fresh_volumes g at.In_ok-segs in
-    let zero = first_entry g at.In-Some fresh in
     let plan = c.processes-processes.ensures.plan in
     let old : Plain = plain g.D.Drive.pages c.in_ok-segs.segs.pages in
     let now : Plain = plain g.D.Drive.pages c.new_home.new.self.pages in
@@ -65,26 +60,18 @@ invariant_of-result g c =
     ∙ ap (λ (x : Control g.row.D.Denot). length x.links.known) (sym c.in_ok-segs.ensures) in
     let start = store_nothing old fresh.free fresh.unused c.in_ok-segs.segs.ast c.in_ok-segs.segs.links
     c.in_ok-whos.whos.items
-    (λ place u e. none_active _ place u (ap (λ (x : Control g.row.D.Denot). uid_in_place x.ast.entries place)
-    (sym c.in_ok-segs.ensures) ∙ e))
-    (λ process number u e. none_known _ process number u (ap (λ
+    (λ place u e. none_active _ place (ap (λ (x : Control g.row.D.Denot). uid_in_place x.ast.entries place)
+    (sym c.in_ok-segs.ensures) ∙ e)) (λ process number u e. none_known _ process number u (ap (λ
     (x : Control g.row.D.Denot). Rattle.known_segs.specs.Known.uid_of
     (Rattle.seg_control.specs.Control.kst_at x.links.known process) number) (sym c.in_ok-segs.ensures) ∙ e))
-    count (λ v. rw (← fresh.records v)
-    (records_most c.args.script.now.volumes v plan.volumes)) in
-    rw c.new_home.ensures.ast
-    (rw c.new_home.ensures.links
-    (store_new nothing c.in_ok-accounts.accounts _ c.in-Some.entry old now (made g at.In-Some zero)
-    c.in_ok-segs.segs.ast
-    c.in_ok-segs.segs.links
-    c.in_ok-whos.whos.items
-    (omega arith) (λ d. refl) start))
+    count (λ v. rw (← fresh.records v) (records_most c.args.script.now.volumes v plan.volumes)) in
+    rw c.new_home.ensures.ast (rw c.new_home.ensures.links (store_new (made g at.In-Some
+    (first_entry g at.In-Some fresh)) c.in_ok-segs.segs.ast c.in_ok-segs.segs.links (omega arith) (λ d. refl) start))
 
 pub returns-clause-shown : goal.returns-clause-shown
 returns-clause-shown g c =
     let at = goal.at.returns-clause-shown g c in
     let fresh = fresh_volumes g at.In_ok-segs in
-    let zero = first_entry g at.In-Some fresh in
     let p : Plan = c.args.script.now in
     let old : Plain = plain g.D.Drive.pages c.in_ok-segs.segs.pages in
     let now : Plain = plain g.D.Drive.pages c.new_home.new.self.pages in
@@ -95,17 +82,16 @@ returns-clause-shown g c =
     } in
     let u = record t { accounts = c.in_ok-accounts.accounts; segs = c.new_home.new.self } in
     let known = ap (λ (x : Control g.row.D.Denot). x.links.known) c.in_ok-segs.ensures in
-    rw (← boot_is p c.quota.result c.quota.ensures)
-    (shown_new nothing c.in_ok-accounts.accounts _ c.in-Some.entry old now (made g at.In-Some zero)
-    c.in_ok-segs.segs.ast
-    c.in_ok-segs.segs.links
-    g.D.Drive.pages p (blank p) t u refl refl refl refl c.new_home.ensures.links refl refl refl c.new_home.ensures.words
-    (λ v. length_inside c.in_ok-segs.segs.pages.volumes.vtocs 0 c.in-Some.entry v _ _ (ap (λ
-    (x : Plain). x.vtocs) c.in-Some.ensures.effect))
-    c.look.ensures.kept
-    (λ place e. none_active _ place 1 (ap (λ (x : Control g.row.D.Denot). uid_in_place x.ast.entries place)
+    rw (← boot_is p {quota = c.quota.result} c.quota.ensures)
+    (shown_new {a = nothing} {b = c.in_ok-accounts.accounts} {entry = c.in-Some.entry} {old = old} {now = now}
+    (made g at.In-Some (first_entry g at.In-Some fresh)) c.in_ok-segs.segs.ast c.in_ok-segs.segs.links
+    {drive = g.D.Drive.pages} {p = p} {s = blank p} {t = t} {u = u} refl refl refl refl c.new_home.ensures.links refl
+    refl refl c.new_home.ensures.words
+    (λ v. length_inside c.in_ok-segs.segs.pages.volumes.vtocs 0 c.in-Some.entry v _ (ap (λ
+    (x : Plain). x.vtocs) c.in-Some.ensures.effect)) c.look.ensures.kept
+    (λ place e. none_active _ place {u = 1} (ap (λ (x : Control g.row.D.Denot). uid_in_place x.ast.entries place)
     (sym c.in_ok-segs.ensures) ∙ e))
-    (shown_nothing g.D.Drive.pages p t refl fresh known c.in_ok-whos.ensures))
+    (shown_nothing {drive = g.D.Drive.pages} {p = p} {t = t} refl fresh known c.in_ok-whos.ensures))
 
 pub returns-clause-accounts : goal.returns-clause-accounts
 returns-clause-accounts g c = cc (c.in_ok-accounts.ensures, c.quota.ensures)
@@ -119,8 +105,7 @@ returns-clause-pages g c =
     ∙ ap (λ (x : Control g.row.D.Denot). after_asked (plain g.D.Drive.pages x.pages) 0 1 (Some 0)) c.in_ok-segs.ensures
 
 pub returns-clause-links : goal.returns-clause-links
-returns-clause-links g c =
-    c.new_home.ensures.links ∙ ap (λ (x : Control g.row.D.Denot). x.links) c.in_ok-segs.ensures
+returns-clause-links g c = c.new_home.ensures.links ∙ ap (λ (x : Control g.row.D.Denot). x.links) c.in_ok-segs.ensures
 
 pub prove-unreachable-requires : goal.prove-unreachable-requires
 prove-unreachable-requires g c =

@@ -8,20 +8,16 @@ use Rattle.storage_ops.proofs.store.Store.put_word.Goals as goal
 pub returns-clause-shown : goal.returns-clause-shown
 returns-clause-shown g c = λ p s h.
     let t = held c.self.view_is in
-    let u = record t { segs = c.put_word.new.self } in
     let old = plain g.D.Drive.pages t.segs.pages in
     let uid = uid_in (frame_at t.segs.pages.core c.args.f) in
     let number = number_in (frame_at t.segs.pages.core c.args.f) in
     let bound = bound_held c.self.view_is c.args.f c.requires.bound in
-    let shown = shown_held c.self.view_is g.D.Drive.pages p s h in
-    let stored = shown.pages.stored uid number
-    ∙ bound_filed old t.segs.ast t.segs.links t.accounts t.whos c.look.ensures.kept c.self.invariant c.args.f
-    bound in
-    rw (← c.self.view_is)
-    (rw (← written_there s uid number c.args.at c.args.w c.requires.at stored)
-    (shown_put g.D.Drive.pages p s t u uid number c.args.at c.args.w (words_in old c.args.f) refl refl
-    c.put_word.ensures.links c.put_word.ensures.volumes
+    let shown = shown_held c.self.view_is h in
+    let stored = shown.pages.stored uid number ∙ bound_filed c.look.ensures.kept c.self.invariant c.args.f bound in
+    rw (← c.self.view_is) (rw (← written_there s uid number c.args.at c.args.w c.requires.at stored)
+    (shown_put g.D.Drive.pages p s t (record t { segs = c.put_word.new.self }) uid number c.args.at c.args.w
+    (words_in old c.args.f) refl refl c.put_word.ensures.links c.put_word.ensures.volumes
     (active_there old t.segs.ast t.segs.links t.accounts t.whos c.look.ensures.kept c.self.invariant uid
-    (bound_active old t.segs.ast t.segs.links c.look.ensures.kept c.args.f bound)) c.put_word.ensures.words
-    (bound_words old t.segs.ast t.segs.links c.look.ensures.kept c.args.f bound (home_of t.accounts uid))
+    (bound_active c.look.ensures.kept c.args.f bound)) c.put_word.ensures.words
+    (bound_words c.look.ensures.kept c.args.f bound (home_of t.accounts uid))
     c.put_word.ensures.size c.requires.at shown))

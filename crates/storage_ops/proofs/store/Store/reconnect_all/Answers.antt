@@ -19,7 +19,6 @@ pub returns-clause-shown : goal.returns-clause-shown
 returns-clause-shown g c = λ p s h.
     let t = held c.self.view_is in
     rw c.reconnect_all.ensures.effect
-    (shown_linked g.D.Drive.pages p s t (reconnected t.segs.links c.args.aste c.args.list.now c.args.modes.now
-    c.args.pages)
+    (shown_linked (reconnected t.segs.links c.args.aste c.args.list.now c.args.modes.now c.args.pages)
     (known_reconnected c.args.aste c.args.pages c.args.list.now c.args.modes.now t.segs.links)
-    (shown_held c.self.view_is g.D.Drive.pages p s h))
+    (shown_held c.self.view_is h))

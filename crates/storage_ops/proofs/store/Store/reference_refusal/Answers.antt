@@ -4,10 +4,9 @@ use Rattle.storage_ops.proofs.store.Store.reference_refusal.Goals as goal
 
 pub returns-in-Ok : goal.returns-in-Ok
 returns-in-Ok g c = λ p s h. c.room_in.ensures s.stored h.tree.counts
-    ∙ reference_found g.D.Drive.pages p s c.self.view_is c.look.ensures.kept c.self.invariant h c.look.ensures.parts
-    c.args.process
-    c.args.reference.now _ c.in-Ok.ensures.ok
+    ∙ reference_found c.self.view_is c.look.ensures.kept c.self.invariant h c.look.ensures.parts c.args.process
+    c.args.reference.now c.in-Ok.ensures.ok
 
 pub returns-in-Err : goal.returns-in-Err
-returns-in-Err g c = λ p s h. reference_found g.D.Drive.pages p s c.self.view_is c.look.ensures.kept
-    c.self.invariant h c.look.ensures.parts c.args.process c.args.reference.now _ c.in-Err.ensures.err
+returns-in-Err g c = λ p s h. reference_found c.self.view_is c.look.ensures.kept
+    c.self.invariant h c.look.ensures.parts c.args.process c.args.reference.now c.in-Err.ensures.err

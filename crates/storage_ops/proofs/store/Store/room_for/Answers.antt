@@ -4,8 +4,5 @@ use Rattle.storage_ops.proofs.store.Store.room_for.Goals as goal
 
 pub returns-clause-shown : goal.returns-clause-shown
 returns-clause-shown g c = λ p s shows.
-    (let told : c.first_roomy.result ≡ first_roomy c.args.self.now.segs.pages.volumes
-    (volume_in c.args.self.now.accounts.nodes c.args.uid) (count_of c.args.self.now.accounts c.args.uid) =
-    search rules in
-    told ∙ room_shown g.D.Drive.pages p s c.args.self.now shows c.accounts-accounts.ensures.store c.args.uid
+    ((search rules) ∙ room_shown g.D.Drive.pages p s c.args.self.now shows c.accounts-accounts.ensures.store c.args.uid
     (rw (← c.self.view_is) c.look.ensures.parts))

@@ -4,10 +4,9 @@ use Rattle.storage_ops.proofs.store.Store.room_refusal.Goals as goal
 
 pub returns-in-Ok-clause-shown : goal.returns-in-Ok-clause-shown
 returns-in-Ok-clause-shown g c = λ p s h. c.room_in.ensures s.stored h.tree.counts
-    ∙ room_found g.D.Drive.pages p s c.self.view_is c.look.ensures.kept c.self.invariant h c.look.ensures.parts
-    c.args.process
-    c.args.reference.now _ c.in-Ok.ensures.ok
+    ∙ room_found c.self.view_is c.look.ensures.kept c.self.invariant h c.look.ensures.parts c.args.process
+    c.args.reference.now c.in-Ok.ensures.ok
 
 pub returns-in-Err-clause-shown : goal.returns-in-Err-clause-shown
-returns-in-Err-clause-shown g c = λ p s h. room_found g.D.Drive.pages p s c.self.view_is c.look.ensures.kept
-    c.self.invariant h c.look.ensures.parts c.args.process c.args.reference.now _ c.in-Err.ensures.err
+returns-in-Err-clause-shown g c = λ p s h. room_found c.self.view_is c.look.ensures.kept
+    c.self.invariant h c.look.ensures.parts c.args.process c.args.reference.now c.in-Err.ensures.err

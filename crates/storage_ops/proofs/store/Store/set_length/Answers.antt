@@ -5,9 +5,8 @@ use Rattle.storage_ops.proofs.store.Store.set_length.Goals as goal
 
 pub returns-in-Err-clause-answer : goal.returns-in-Err-clause-answer
 returns-in-Err-clause-answer g c = λ p s h.
-    let tree = tree_held c.self.view_is s h.tree in
-    length_refused s c.self.inside.accounts.nodes c.args.path.now tree.nodes c.args.pages c.in-Err.reply
-    c.in-Err.ensures.err
+    length_refused s c.self.inside.accounts.nodes c.args.path.now (tree_held c.self.view_is h.tree).nodes c.args.pages
+    c.in-Err.reply c.in-Err.ensures.err
 
 pub returns-in-Err-clause-effect : goal.returns-in-Err-clause-effect
 returns-in-Err-clause-effect g c = λ p s h.
@@ -20,44 +19,33 @@ returns-then-stores_from-clause-answer g c = λ p s h.
     (c.stores_from.ensures.answer p s h) c.if-stores_from.true
 
 pub returns-clause-answer : goal.returns-clause-answer
-returns-clause-answer g c = λ p s h.
-    length_answered c.self.view_is g.D.Drive.pages p s h c.args.path.now c.args.pages
+returns-clause-answer g c = λ p s h. length_answered c.self.view_is g.D.Drive.pages p s h c.args.path.now c.args.pages
     (as_term (quota_in c.self.inside.accounts.nodes) c.in-Ok.node.now) false c.stores_from.result c.in-Ok.ensures.ok
     (c.stores_from.ensures.answer p s h) c.if-stores_from.false
 
 pub returns-clause-effect : goal.returns-clause-effect
 returns-clause-effect g c = λ p s h.
     let t = held c.self.view_is in
-    length_shown t.accounts c.set_length.new.self c.in-Ok.node.now.uid c.args.pages c.in-Ok.ensures.segment
-    c.set_length.ensures
-    g.D.Drive.pages p s t c.args.path.now (as_term (quota_in c.self.inside.accounts.nodes) c.in-Ok.node.now) refl
-    c.in-Ok.ensures.ok refl
-    (shown_held c.self.view_is g.D.Drive.pages p s h)
+    length_shown c.in-Ok.node.now.uid c.args.pages c.in-Ok.ensures.segment c.set_length.ensures c.args.path.now refl
+    c.in-Ok.ensures.ok refl (shown_held c.self.view_is h)
 
 pub invariant_of-self : goal.invariant_of-self
 invariant_of-self g c =
-    let inactive = rw (← c.self.view_is) at c.requires.inactive in
     let n : Node = as_term (quota_in c.self.inside.accounts.nodes) c.in-Ok.node.now in
-    length_store c.self.inside.accounts c.set_length.new.self c.in-Ok.node.now.uid c.args.pages
-    c.in-Ok.ensures.segment c.set_length.ensures
-    (plain g.D.Drive.pages c.self.inside.segs.pages) c.self.inside.segs.ast c.self.inside.segs.links
-    c.self.inside.whos.items n
-    c.in-Ok.ensures.there c.requires.most (inactive n c.in-Ok.ensures.ok) (λ q on.
+    length_store c.in-Ok.node.now.uid c.args.pages c.in-Ok.ensures.segment c.set_length.ensures
+    c.in-Ok.ensures.there c.requires.most ((rw (← c.self.view_is) at c.requires.inactive) n c.in-Ok.ensures.ok) (λ q on.
     c.stores_from.ensures.none c.if-stores_from.false q
     (ap (λ (x : Storage g.row.D.Denot). is_filed x.accounts x.segs.pages.volumes.vtocs c.in-Ok.node.now.uid q)
-    (sym c.self.view_is) ∙ on))
-    c.self.invariant
+    (sym c.self.view_is) ∙ on)) c.self.invariant
 
 pub returns-in-Err-clause-done : goal.returns-in-Err-clause-done
 returns-in-Err-clause-done g c = λ on.
-    let clash : true ≡ false = sym on ∙ segment_refuses c.self.inside.accounts.nodes c.args.path.now c.in-Err.reply
+    let clash = sym on ∙ segment_refuses c.self.inside.accounts.nodes c.args.path.now c.in-Err.reply
     c.in-Err.ensures.err in cc
 
 pub returns-clause-done : goal.returns-clause-done
-returns-clause-done g c = λ on.
-    rw (← c.self.view_is)
-    (record {
-      node = as_term (quota_in c.self.inside.accounts.nodes) c.in-Ok.node.now;
-      found = c.in-Ok.ensures.ok;
-      effect = c.set_length.ensures;
-    })
+returns-clause-done g c = λ on. rw (← c.self.view_is) (record {
+  node = as_term (quota_in c.self.inside.accounts.nodes) c.in-Ok.node.now;
+  found = c.in-Ok.ensures.ok;
+  effect = c.set_length.ensures;
+})

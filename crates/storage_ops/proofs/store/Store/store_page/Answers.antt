@@ -14,21 +14,17 @@ full : (g : Over) (c : After-is_full g) (p : Plan) (s : Flat) (n : Node)
     → Shows g.D.Drive.pages p s (held c.self.view_is) → node_in s.nodes c.args.uid ≡ Some n
     → is_volume_full p s n.volume ≡ c.is_full.result
 full g c p s n shown found =
-    let volume : n.volume ≡ c.home-home.result.volume = volume_found s.nodes c.args.uid n found
+    let volume = volume_found s.nodes c.args.uid n found
     ∙ ap (λ (ns : List Node). volume_in ns c.args.uid) shown.tree.nodes ∙ ap (λ (x : Home). x.volume)
-    (sym (home_held c.self.view_is c.args.uid c.home-home.result c.home-home.ensures.home)) in
-    ap (is_volume_full p s) volume
-    ∙ sym (full_told g.D.Drive.pages p s (held c.self.view_is) c.home-home.result.volume c.self.invariant shown)
-    ∙ ap (λ (x : Storage g.row.D.Denot). is_full x.segs.pages.volumes.records c.home-home.result.volume) c.self.view_is
-    ∙ sym c.is_full.ensures
+    (sym (home_held c.self.view_is c.args.uid c.home-home.ensures.home)) in
+    cc (full_told g.D.Drive.pages p s (held c.self.view_is) c.home-home.result.volume c.self.invariant shown)
 
 -- an active segment is no directory
-segment : (g : Over) (c : After-look g)
-    → has_segment c.self.inside.accounts.nodes c.args.uid ≡ true
+segment : (g : Over) (c : After-look g) → has_segment c.self.inside.accounts.nodes c.args.uid ≡ true
 segment g c =
     node_segment (plain g.D.Drive.pages c.self.inside.segs.pages) c.self.inside.segs.ast c.self.inside.segs.links
     c.self.inside.accounts c.self.inside.whos.items c.look.ensures.kept c.self.invariant c.args.uid
-    (active_held c.self.view_is c.args.uid c.requires.active) c.args.page
+    (active_held c.self.view_is c.requires.active) c.args.page
     (length_held c.self.view_is c.args.uid c.args.page c.requires.page)
 
 pub full_reply-requires : goal.full_reply-requires
@@ -40,85 +36,75 @@ charge-requires g c = segment g (goal.at.charge-requires g c).After-look
 pub returns-then-is_full-clause-answer : goal.returns-then-is_full-clause-answer
 returns-then-is_full-clause-answer g c = λ p s n h found.
     let t = held c.self.view_is in
-    let home = home_held c.self.view_is c.args.uid c.home-home.result c.home-home.ensures.home in
-    let shown = shown_held c.self.view_is g.D.Drive.pages p s h in
+    let shown = shown_held c.self.view_is h in
     let uid = found_uid s.nodes c.args.uid n found in
     let used_up : is_full t.segs.pages.volumes.records (volume_in t.accounts.nodes c.args.uid) ≡ true =
-    ap (λ (x : Home). is_full t.segs.pages.volumes.records x.volume) (sym home)
+    ap (λ (x : Home). is_full t.segs.pages.volumes.records x.volume) (sym
+    (home_held c.self.view_is c.args.uid c.home-home.ensures.home))
     ∙ ap (λ (x : Storage g.row.D.Denot). is_full x.segs.pages.volumes.records c.home-home.result.volume) c.self.view_is
     ∙ sym c.is_full.ensures ∙ c.if-is_full.true in
-    ap Err (c.full_reply.ensures s shown.tree ∙ ap (λ (x : ℕ). cond (is_used_up s x) reply.Quota reply.NoRecord)
-    (sym uid))
-    ∙ no_record p s n (is_used_up s n.uid) (is_out_of_room p s n) refl refl
-    (ap (λ (z : Bool). z && is_none (room_for p s n.uid))
-    (full g (goal.at.returns-then-is_full-clause-answer g c).After-is_full p s n shown found ∙ c.if-is_full.true)
-    ∙ ap is_none (ap (room_for p s) uid
-    ∙ sym (room_shown g.D.Drive.pages p s t shown c.self.invariant c.args.uid c.look.ensures.parts)
-    ∙ none_roomy t c.args.uid used_up (ap (λ (x : Storage g.row.D.Denot). move_target x c.args.uid) c.self.view_is
-    ∙ c.requires.room)))
+    cc (
+      c.full_reply.ensures s shown.tree,
+      no_record p s n (is_used_up s n.uid) (is_out_of_room p s n) refl refl (cc (
+        full g (goal.at.returns-then-is_full-clause-answer g c).After-is_full p s n shown found,
+        room_shown g.D.Drive.pages p s t shown c.self.invariant c.args.uid c.look.ensures.parts,
+        none_roomy t c.args.uid used_up
+            (ap (λ (x : Storage g.row.D.Denot). move_target x c.args.uid) c.self.view_is ∙ c.requires.room),
+      )),
+    )
 
 pub returns-then-is_err-clause-answer : goal.returns-then-is_err-clause-answer
 returns-then-is_err-clause-answer g c = λ p s n h found.
     let t = held c.self.view_is in
-    let shown = shown_held c.self.view_is g.D.Drive.pages p s h in
     let uid = found_uid s.nodes c.args.uid n found in
-    no_quota p s n (ap (is_used_up s) uid
-    ∙ sym (used_told s t.accounts c.args.uid c.charge.result shown.tree c.charge.ensures.answer)
-    ∙ sym c.if-is_err.ensures.value)
+    no_quota p s n (cc (used_told c.args.uid (shown_held c.self.view_is h).tree c.charge.ensures.answer))
 
 pub create_page-requires-clause-page : goal.create_page-requires-clause-page
 create_page-requires-clause-page g c =
     let t = held c.self.view_is in
-    let active = active_held c.self.view_is c.args.uid c.requires.active in
     let lt = length_held c.self.view_is c.args.uid c.args.page c.requires.page in
     word_within (plain g.D.Drive.pages t.segs.pages) t.segs.ast t.segs.links t.accounts t.whos
-    c.look.ensures.kept c.self.invariant c.args.uid active c.args.page lt
+    c.look.ensures.kept c.self.invariant c.args.uid (active_held c.self.view_is c.requires.active) c.args.page lt
 
 pub unreachable-requires : goal.unreachable-requires
 unreachable-requires g c =
     let t = held c.self.view_is in
-    let all = c.in-Err.ensures.full.0 refl in
     let same : taken t.segs.pages.volumes.records c.home-home.result.volume
-    ≡ size t.segs.pages.volumes.records c.home-home.result.volume = all_taken _ all in
-    let full : is_full t.segs.pages.volumes.records c.home-home.result.volume ≡ true = eq-eqb _ _ same in
-    let clash : true ≡ false = cc (full, c.self.view_is, c.is_full.ensures, c.if-is_full.false) in
+    ≡ size t.segs.pages.volumes.records c.home-home.result.volume = all_taken _ (c.in-Err.ensures.full.0 refl) in
+    let clash : true ≡ false = cc ((eq-eqb _ _ same), c.self.view_is, c.is_full.ensures, c.if-is_full.false) in
     cc
 
 pub invariant_of-self-2 : goal.invariant_of-self-2
 invariant_of-self-2 g c =
     let t = held c.self.view_is in
-    let active = active_held c.self.view_is c.args.uid c.requires.active in
     let lt = length_held c.self.view_is c.args.uid c.args.page c.requires.page in
     let null = word_held c.self.view_is c.args.uid c.args.page ∙ c.requires.null in
-    let home = home_held c.self.view_is c.args.uid c.home-home.result c.home-home.ensures.home in
+    let home = home_held c.self.view_is c.args.uid c.home-home.ensures.home in
     rw c.create_page.ensures.links
     (store_made (plain g.D.Drive.pages t.segs.pages) (plain g.D.Drive.pages c.create_page.new.self.pages) t.segs.ast
     c.create_page.new.self.ast t.segs.links t.accounts c.charge.new.self t.whos c.args.uid c.home-home.result
-    c.args.page c.args.f c.args.at c.args.w c.look.ensures.kept c.self.invariant active home null
+    c.args.page c.args.f c.args.at c.args.w c.look.ensures.kept c.self.invariant
+    (active_held c.self.view_is c.requires.active) home null
     c.create_page.ensures.counts lt c.in-Ok.ensures.effect c.in-Ok.ensures.word c.in-Ok.ensures.stored
     c.in-Ok.ensures.taken (on_ok c.charge.result c.if-is_err.ensures.value c.charge.ensures.ok))
 
 pub returns-clause-answer : goal.returns-clause-answer
 returns-clause-answer g c = λ p s n h found.
     let t = held c.self.view_is in
-    let home = home_held c.self.view_is c.args.uid c.home-home.result c.home-home.ensures.home in
-    let shown = shown_held c.self.view_is g.D.Drive.pages p s h in
+    let home = home_held c.self.view_is c.args.uid c.home-home.ensures.home in
+    let shown = shown_held c.self.view_is h in
     let uid = found_uid s.nodes c.args.uid n found in
-    room p s n (ap (is_used_up s) uid
-    ∙ sym (used_told s t.accounts c.args.uid c.charge.result shown.tree c.charge.ensures.answer)
-    ∙ sym c.if-is_err.ensures.value)
-    (full g (goal.at.returns-clause-answer g c).After-is_full p s n shown found ∙ c.if-is_full.false)
+    room p s n (cc (used_told c.args.uid shown.tree c.charge.ensures.answer))
+    (cc (full g (goal.at.returns-clause-answer g c).After-is_full p s n shown found))
 
 pub returns-clause-made : goal.returns-clause-made
 returns-clause-made g c =
-    let t = held c.self.view_is in
-    let u = record t { accounts = c.charge.new.self; segs = c.create_page.new.self } in
-    let home = home_held c.self.view_is c.args.uid c.home-home.result c.home-home.ensures.home in
+    let u = record (held c.self.view_is) { accounts = c.charge.new.self; segs = c.create_page.new.self } in
+    let home = home_held c.self.view_is c.args.uid c.home-home.ensures.home in
     rw (← c.self.view_is) (record {
       pages = cc (c.in-Ok.ensures.effect, home);
       word = c.in-Ok.ensures.word;
-      words = rw (← home)
-          c.in-Ok.ensures.words;
+      words = rw (← home) c.in-Ok.ensures.words;
       stored = rw (← home) c.in-Ok.ensures.stored;
       taken_more = cc (c.in-Ok.ensures.taken, home);
       bound = c.in-Ok.ensures.bound;
@@ -134,14 +120,11 @@ returns-clause-made g c =
 pub returns-clause-shown : goal.returns-clause-shown
 returns-clause-shown g c = λ p s h.
     let t = held c.self.view_is in
-    let u = record t { accounts = c.charge.new.self; segs = c.create_page.new.self } in
-    let active = active_held c.self.view_is c.args.uid c.requires.active in
+    let active = active_held c.self.view_is c.requires.active in
     let null = word_held c.self.view_is c.args.uid c.args.page ∙ c.requires.null in
-    let home = home_held c.self.view_is c.args.uid c.home-home.result c.home-home.ensures.home in
-    let shown = shown_held c.self.view_is g.D.Drive.pages p s h in
-    shown_made g.D.Drive.pages p s t u c.args.uid c.args.page c.args.at c.args.w c.look.ensures.kept
-    c.self.invariant active null c.requires.at
+    let home = home_held c.self.view_is c.args.uid c.home-home.ensures.home in
+    let shown = shown_held c.self.view_is h in
+    shown_made g.D.Drive.pages p s t (record t { accounts = c.charge.new.self; segs = c.create_page.new.self })
+    c.args.uid c.args.page c.args.at c.args.w c.look.ensures.kept c.self.invariant active null c.requires.at
     (on_ok c.charge.result c.if-is_err.ensures.value c.charge.ensures.ok) refl c.create_page.ensures.links
-    (rw (← home) c.in-Ok.ensures.stored)
-    (rw (← home) c.in-Ok.ensures.words)
-    c.create_page.ensures.counts shown
+    (rw (← home) c.in-Ok.ensures.stored) (rw (← home) c.in-Ok.ensures.words) c.create_page.ensures.counts shown

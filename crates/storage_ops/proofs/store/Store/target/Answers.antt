@@ -6,57 +6,50 @@ use Rattle.storage_ops.proofs.store.Store.target.Goals.{After-refusal_in}
 use Rattle.storage_ops.proofs.store.Store.target.Goals as goal
 
 -- the segment that a number stands for is there, and what refuses the reference is told of it
-found : (g : Over) (c : After-refusal_in g)
-    → target (held c.self.view_is) c.args.process c.args.reference.now
+found : (g : Over) (c : After-refusal_in g) → target (held c.self.view_is) c.args.process c.args.reference.now
     ≡ unless c.refusal_in.result (as_term (quota_in c.self.inside.accounts.nodes) c.in-Some-node.node.now)
 found g c =
     let t = held c.self.view_is in
     let n = as_term (quota_in t.accounts.nodes) c.in-Some-node.node.now in
-    let lt : c.args.process < length t.whos = rw (c.self.invariant.known.processes
-    ∙ ap (λ (x : Storage g.row.D.Denot). length x.segs.links.known) c.self.view_is) c.requires in
-    let who : c.index.result.now ≡ who_at t.whos c.args.process = get_or_read t.whos c.args.process _ lt c.index.ensures
-    nobody in
-    target_found t c.args.process c.args.reference.now c.in-Some.uid n
-    (ap (λ (kst : List (Option ℕ)). uid_of kst c.args.reference.now.number) (sym c.kst.ensures.kst)
-    ∙ sym c.uid_of.ensures.uid ∙ c.in-Some.is) c.in-Some-node.ensures.some
-    ∙ ap (λ (o : Option Reply). unless o n)
-    (ap (λ (w : Who). refusal_in w c.args.reference.now n) (sym who)
-    ∙ sym (c.refusal_in.ensures (quota_in t.accounts.nodes)))
+    let who : c.index.result.now ≡ who_at t.whos c.args.process = get_or_read t.whos c.args.process _
+    (rw (c.self.invariant.known.processes ∙ ap (λ (x : Storage g.row.D.Denot). length x.segs.links.known)
+    c.self.view_is) c.requires) c.index.ensures nobody in
+    cc (
+      target_found t c.args.process c.args.reference.now (cc) c.in-Some-node.ensures.some,
+      c.refusal_in.ensures (quota_in t.accounts.nodes),
+    )
 
 pub returns-in_default-clause-err : goal.returns-in_default-clause-err
 returns-in_default-clause-err g c =
-    let t = held c.self.view_is in
-    rw (← c.self.view_is) (target_unknown t c.args.process c.args.reference.now
+    rw (← c.self.view_is) (target_unknown (held c.self.view_is) c.args.process c.args.reference.now
     (cc (c.kst.ensures.kst, c.uid_of.ensures.uid, c.in_default.is)))
 
 pub returns-in_default-node-clause-err : goal.returns-in_default-node-clause-err
 returns-in_default-node-clause-err g c =
-    let t = held c.self.view_is in
-    rw (← c.self.view_is) (target_gone t c.args.process c.args.reference.now c.in-Some.uid
+    rw (← c.self.view_is) (target_gone (held c.self.view_is) c.args.process c.args.reference.now
     (cc (c.kst.ensures.kst, c.uid_of.ensures.uid, c.in-Some.is)) c.in_default-node.ensures.none)
 
 pub returns-in-Some-refusal_in-clause-err : goal.returns-in-Some-refusal_in-clause-err
 returns-in-Some-refusal_in-clause-err g c =
     let n = as_term (quota_in c.self.inside.accounts.nodes) c.in-Some-node.node.now in
-    rw (← c.self.view_is)
-    (found g (goal.at.returns-in-Some-refusal_in-clause-err g c).After-refusal_in
+    rw (← c.self.view_is) (found g (goal.at.returns-in-Some-refusal_in-clause-err g c).After-refusal_in
     ∙ ap (λ (o : Option Reply). unless o n) c.in-Some-refusal_in.is)
 
 pub returns-in-None-clause-ok : goal.returns-in-None-clause-ok
 returns-in-None-clause-ok g c =
     let n = as_term (quota_in c.self.inside.accounts.nodes) c.in-Some-node.node.now in
-    rw (← c.self.view_is)
-    (found g (goal.at.returns-in-None-clause-ok g c).After-refusal_in
+    rw (← c.self.view_is) (found g (goal.at.returns-in-None-clause-ok g c).After-refusal_in
     ∙ ap (λ (o : Option Reply). unless o n) c.in-None.is)
 
 pub returns-in-None-clause-there : goal.returns-in-None-clause-there
 returns-in-None-clause-there g c =
     let t = held c.self.view_is in
-    let n = as_term (quota_in t.accounts.nodes) c.in-Some-node.node.now in
-    rw (← c.self.view_is)
-    (ap (node_in t.accounts.nodes) (found_uid t.accounts.nodes c.in-Some.uid n c.in-Some-node.ensures.some)
-    ∙ c.in-Some-node.ensures.some)
+    rw (← c.self.view_is) (cc (
+      found_uid t.accounts.nodes c.in-Some.uid (as_term (quota_in t.accounts.nodes) c.in-Some-node.node.now)
+          c.in-Some-node.ensures.some,
+      c.in-Some-node.ensures.some,
+    ))
 
 pub returns-in-None-clause-within : goal.returns-in-None-clause-within
 returns-in-None-clause-within g c = within_told c.index.result.now c.args.reference.now
-    (as_term (λ u. 0) c.in-Some-node.node.now) (sym (c.refusal_in.ensures (λ u. 0)) ∙ c.in-None.is)
+    (as_term (λ u. 0) c.in-Some-node.node.now) (cc (c.refusal_in.ensures (λ u. 0)))

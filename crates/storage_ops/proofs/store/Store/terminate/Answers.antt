@@ -10,26 +10,19 @@ use Rattle.storage_ops.proofs.store.Store.terminate.Goals as goal
 -- the reply is that of the number's segment
 told : (g : Over) (c : After-is_none g) (s : Flat) → s.known ≡ c.args.self.now.segs.links.known
     → cond (is_some c.uid_of.result) reply.Done reply.Unknown ≡ terminate_reply s c.args.process c.args.number
-told g c s known =
-    terminate_told s s.nodes c.self.inside.segs.links.known refl (known_held c.self.view_is s.known known)
-    c.args.process c.args.number c.uid_of.result
-    (c.uid_of.ensures.uid ∙ ap (λ (kst : List (Option ℕ)). uid_of kst c.args.number) c.kst.ensures.kst)
+told g c s known = terminate_told s refl (known_held c.self.view_is known) c.args.process c.args.number (cc)
 
 pub returns-then-is_none-clause-answer : goal.returns-then-is_none-clause-answer
 returns-then-is_none-clause-answer g c = λ p s h.
-    let some : is_some c.uid_of.result ≡ false = c.is_none.ensures ∙ ap not c.if-is_none.true in
-    ap (λ (z : Bool). cond z reply.Done reply.Unknown) (sym some)
+    ap (λ (z : Bool). cond z reply.Done reply.Unknown) (sym (c.is_none.ensures ∙ ap not c.if-is_none.true))
     ∙ told g (goal.at.returns-then-is_none-clause-answer g c).After-is_none s h.known
 
 pub returns-clause-answer : goal.returns-clause-answer
 returns-clause-answer g c = λ p s h.
-    let some : is_some c.uid_of.result ≡ true = c.is_none.ensures ∙ ap not c.if-is_none.false in
-    ap (λ (z : Bool). cond z reply.Done reply.Unknown) (sym some)
+    ap (λ (z : Bool). cond z reply.Done reply.Unknown) (sym (c.is_none.ensures ∙ ap not c.if-is_none.false))
     ∙ told g (goal.at.returns-clause-answer g c).After-is_none s h.known
 
 pub returns-clause-effect : goal.returns-clause-effect
 returns-clause-effect g c = λ p s h.
     let t = held c.self.view_is in
-    let before = shown_held c.self.view_is g.D.Drive.pages p s h in
-    rw c.forget.ensures.effect
-    (terminate_shown g.D.Drive.pages p s t c.args.process c.args.number before)
+    rw c.forget.ensures.effect (terminate_shown c.args.process c.args.number (shown_held c.self.view_is h))

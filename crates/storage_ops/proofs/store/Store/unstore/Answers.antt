@@ -5,8 +5,7 @@ use Rattle.storage_ops.proofs.Paged.{active_tie, blank_shown, word_filed}
 use Rattle.storage_ops.proofs.store.Store.unstore.Goals as goal
 
 pub drop_page-requires-clause-away : goal.drop_page-requires-clause-away
-drop_page-requires-clause-away g c =
-    ap (λ (x : ActiveSegs). is_away (word_of x c.args.uid c.args.page))
+drop_page-requires-clause-away g c = ap (λ (x : ActiveSegs). is_away (word_of x c.args.uid c.args.page))
     (ap (λ (x : Storage g.row.D.Denot). x.segs.ast) (sym c.self.view_is) ∙ sym c.ast.ensures.ast)
     ∙ ap is_away (sym c.word_of.ensures) ∙ sym c.is_away.ensures ∙ c.if-is_away.true
 
@@ -14,21 +13,18 @@ pub returns-else-is_away : goal.returns-else-is_away
 returns-else-is_away g c =
     let t = held c.self.view_is in
     let now = plain g.D.Drive.pages t.segs.pages in
-    let active = active_held c.self.view_is c.args.uid c.requires.may.active in
+    let active = active_held c.self.view_is c.requires.may.active in
     let taken = ap is_here (word_held c.self.view_is c.args.uid c.args.page) ∙ c.requires.taken in
-    let word = ap (λ (x : ActiveSegs). is_away (word_of x c.args.uid c.args.page)) (sym c.ast.ensures.ast)
-    ∙ ap is_away (sym c.word_of.ensures) ∙ sym c.is_away.ensures ∙ c.if-is_away.false in
-    let null = null_of (word_of t.segs.ast c.args.uid c.args.page) taken word in
-    let filed = word_filed now t.segs.ast t.segs.links t.accounts t.whos c.ast.ensures.kept c.self.invariant
-    c.args.uid active c.args.page ∙ ap has_record null in
-    rw (← c.self.view_is)
-    (record {
-      rest = unstores_null g.D.Drive.pages t c.args.uid c.args.page
+    let null = null_of (word_of t.segs.ast c.args.uid c.args.page) taken (ap (λ (x : ActiveSegs). is_away
+    (word_of x c.args.uid c.args.page)) (sym c.ast.ensures.ast) ∙ ap is_away (sym c.word_of.ensures) ∙ sym
+    c.is_away.ensures ∙ c.if-is_away.false) in
+    rw (← c.self.view_is) (record {
+      rest = unstores_null g.D.Drive.pages c.args.page
           (active_tie now t.segs.ast t.segs.links t.accounts t.whos c.ast.ensures.kept c.self.invariant
           c.args.uid active).table null;
-      shown = λ p s h. rw (none_missing s c.args.uid c.args.page
-          (blank_shown g.D.Drive.pages p s t c.ast.ensures.kept c.self.invariant h)
-          (h.pages.stored c.args.uid c.args.page ∙ filed)) h;
+      shown = λ p s h. rw (none_missing s c.args.uid c.args.page (blank_shown c.ast.ensures.kept c.self.invariant h)
+          (h.pages.stored c.args.uid c.args.page ∙ (word_filed now t.segs.ast t.segs.links t.accounts t.whos
+          c.ast.ensures.kept c.self.invariant c.args.uid active c.args.page ∙ ap has_record null))) h;
       exact = ap (page_cut (paged g.D.Drive.pages t c.args.uid) (home_of t.accounts c.args.uid) c.args.uid
           c.args.page) (sym null);
       others = λ s apart. refl;

@@ -14,12 +14,10 @@ told : (g : Over) (c : After-is_out_of_room g) (stored : List (ℕ × ℕ)) → 
 told g c stored counts room out is =
     let now = c.args.self.now in
     let n = as_term (quota_in now.accounts.nodes) c.args.node.now in
-    let spent : is_spent now.accounts.nodes stored n.uid ≡ false =
-    sym (spent_told now.accounts.nodes stored n.uid c.may_charge.result
-    (c.may_charge.ensures stored (subst (λ (x : Storage g.row.D.Denot). Counts x.accounts stored) (sym c.self.view_is)
-    counts) ∙ ap (λ (x : Storage g.row.D.Denot). charge_answer x.accounts.nodes stored n.uid) c.self.view_is))
-    ∙ room in
-    sym (want_told now stored n false out spent (sym c.is_out_of_room.ensures ∙ is))
+    sym (want_told now stored n (sym (spent_told now.accounts.nodes stored n.uid
+    (c.may_charge.ensures stored (subst (λ (x : Storage g.row.D.Denot). Counts x.accounts stored)
+    (sym c.self.view_is) counts) ∙ ap (λ (x : Storage g.row.D.Denot). charge_answer x.accounts.nodes stored n.uid)
+    c.self.view_is)) ∙ room) (cc))
 
 pub returns-then-is_out_of_room : goal.returns-then-is_out_of_room
 returns-then-is_out_of_room g c = λ stored counts.

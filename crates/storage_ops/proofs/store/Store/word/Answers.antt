@@ -12,10 +12,7 @@ returns-clause-told g c = λ p s h.
     let frame = frame_at t.segs.pages.core c.args.f in
     let bound = bound_held c.self.view_is c.args.f c.requires.bound in
     rw (← c.self.view_is)
-    (c.word.ensures.word ∙ sym (word_at g.D.Drive.pages p s t (uid_in frame) (number_in frame) c.args.at
-    (words_in old c.args.f)
-    (active_there old t.segs.ast t.segs.links t.accounts t.whos c.look.ensures.kept c.self.invariant
-    (uid_in frame) (bound_active old t.segs.ast t.segs.links c.look.ensures.kept c.args.f bound))
-    (bound_words old t.segs.ast t.segs.links c.look.ensures.kept c.args.f bound
-    (home_of t.accounts (uid_in frame))) c.requires.at
-    (shown_held c.self.view_is g.D.Drive.pages p s h)))
+    (cc (word_at g.D.Drive.pages p s t (uid_in frame) (number_in frame) c.args.at (words_in old c.args.f)
+    (active_there old t.segs.ast t.segs.links t.accounts t.whos c.look.ensures.kept c.self.invariant (uid_in frame)
+    (bound_active c.look.ensures.kept c.args.f bound)) (bound_words c.look.ensures.kept c.args.f bound
+    (home_of t.accounts (uid_in frame))) c.requires.at (shown_held c.self.view_is h)))
