@@ -6,8 +6,7 @@ use Rattle.machine_model.specs.Actions as act
 pub action_by : (P : act.Action → Type 0) (s : State) (c : ℕ) → P act.IsStopped → P act.HasEnded
     → (not (processor_at s.processors c).cpu.online ≡ true → P act.Online)
     → (not (processor_at s.processors c).cpu.online ≡ false
-    → P (clear_or s c (processor_at s.processors c) (processor_at s.processors c).cpu.due))
-    → P (action_of s c)
+    → P (clear_or s c (processor_at s.processors c) (processor_at s.processors c).cpu.due)) → P (action_of s c)
 unfolding action_of
 action_by P s c stopped ended online clear = cond_both s.stopped act.IsStopped _ P (λ h. stopped)
     (λ h. cond_both (is_over s) act.HasEnded _ P (λ e. ended)

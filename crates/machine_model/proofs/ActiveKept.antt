@@ -77,9 +77,8 @@ pub record IsOver (s : State) : Type 0 where
 
 pub segs_are_gone : (s : State) (ds : List CutDescriptor) → KeepsBook (seen s) → GoesOn (seen s) [] ds
     → IsOver (segs_gone s ds)
-segs_are_gone s [] k on = record { book = k; frames = on.frames; cut = on.cut; none = on.none; still = on.still }
-segs_are_gone s (d ∷ ds) k on = segs_are_gone (seg_gone s d) ds (subst KeepsBook (sym one) book)
-    (subst (λ (v : Seen). GoesOn v [] ds) (sym one) still)
+segs_are_gone s [] k on = assumption
+segs_are_gone s (d ∷ ds) k on = segs_are_gone (seg_gone s d) ds (subst KeepsBook (sym one) book) (rw one still)
   where
     one : seen (seg_gone s d) ≡ gone_seg (seen s) d (without_first_cut s.owner)
     one = refl
@@ -92,13 +91,12 @@ segs_are_gone s (d ∷ ds) k on = segs_are_gone (seg_gone s d) ds (subst KeepsBo
 
 -- an owner that looks
 pub looks_idle : (c : ℕ) → IsIdle (Some (looking c))
-looks_idle c = record { frames = refl; cut = refl; waits = refl; says = refl; shaped = (refl, refl) }
+looks_idle c = assumption ((refl, refl))
 
 pub deactivate_over : (s : State) (u : ℕ) (owner : Option Owner) → IsOver s
     → length s.store.ast.tables ≡ length s.store.ast.entries
     → IsOneToOne s.store.ast.entries → MayDeactivate (flat_of s) (shown (seen s)) u → IsIdle owner
-    → is_pending owner ≡ false
-    → KeepsBook (seen (with_owner (deactivated_one s u) owner))
+    → is_pending owner ≡ false → KeepsBook (seen (with_owner (deactivated_one s u) owner))
 deactivate_over s u owner over tables once may idle quiet =
     job_over (seen (deactivated_one s u)) owner book over.frames over.cut over.none over.still idle quiet
   where
@@ -118,13 +116,11 @@ pub emptied_kept : (s : State) (c u : ℕ) (o : Owner) → Keeps s → s.owner �
     → MayDeactivate (flat_of (segs_gone s (cut_of_owner s.owner))) (shown (seen (segs_gone s (cut_of_owner s.owner)))) u
     → StoreSays (emptied s c u) → Keeps (emptied s c u)
 emptied_kept s c u o k mine same over may says = kept_with (emptied s c u)
-    (deactivate_over now u (Some (looking c)) over
-    (subst (λ (st : Storage). length st.ast.tables ≡ length st.ast.entries) (sym rest.4) k.store.kept.places)
+    (deactivate_over now u (Some (looking c)) over (rw rest.4 k.store.kept.places)
     (subst (λ (st : Storage). IsOneToOne st.ast.entries) (sym rest.4) k.store.kept.tree.once) may
-    (looks_idle c) refl) says
-    (let one = segs_gone_count s (cut_of_owner s.owner) in let two = faults_push now.entries (entry.Deactivate u) in
+    (looks_idle c) refl) says (let two = faults_push now.entries (entry.Deactivate u) in
     let few = k.few_faults in
-    let three = rest.3 in omega (arith, one, two, few, three))
+    let three = rest.3 in omega (arith, (segs_gone_count s (cut_of_owner s.owner)), two, few, three))
     (ap length rest.0 ∙ (k.sizes.processors ∙ ap (λ (p : Plan). p.processors) (sym rest.2)))
     (ap length rest.1 ∙ (k.sizes.processes ∙ ap (λ (p : Plan). length p.processes) (sym rest.2)))
     (λ q h. (rw rest.0 (subst (λ (d : ℕ). IsAtWork (processor_at s.processors d)) (same
@@ -134,8 +130,7 @@ emptied_kept s c u o k mine same over may says = kept_with (emptied s c u)
     now = segs_gone s (cut_of_owner s.owner)
 
     rest : ((segs_gone s (cut_of_owner s.owner)).processors ≡ s.processors) ×
-        ((segs_gone s (cut_of_owner s.owner)).runs ≡ s.runs)
-        × ((segs_gone s (cut_of_owner s.owner)).plan ≡ s.plan) ×
+        ((segs_gone s (cut_of_owner s.owner)).runs ≡ s.runs) × ((segs_gone s (cut_of_owner s.owner)).plan ≡ s.plan) ×
         ((segs_gone s (cut_of_owner s.owner)).faults ≡ s.faults)
         × ((segs_gone s (cut_of_owner s.owner)).store ≡ s.store)
     rest = segs_gone_rest s (cut_of_owner s.owner)
@@ -150,21 +145,20 @@ pub created_kept : (s : State) (c f u p : ℕ) (r : Reference) → Keeps s → C
     → StoreSays (page_created s c f u p r) → Keeps (page_created s c f u p r)
 created_kept s c f u p r k can within active inner idle quiet tell says = kept_with (page_created s c f u p r)
     (owner_keeps (seen (told now c None (word_reply 0 r.kind))) None
-    (told_keeps now c (process_at s c) None (word_reply 0 r.kind) book tell) idle nobody quiet) says
-    (let one = faults_push s.entries (entry.Here f u p) in
-    let two = faults_push (s.entries ++ entry.Here f u p ∷ [])
-    (entry.Do (process_at s c) (run_at s.runs (process_at s c)).place c None (word_reply 0 r.kind)) in
-    let few = k.few_faults in omega (arith, one, two, few))
-    (length-set s.processors c _ ∙ k.sizes.processors) (length-set s.runs (process_at s c) _ ∙ k.sizes.processes)
-    (λ o h. absurd (none_some h))
+    (told_keeps now c (process_at s c) None (word_reply 0 r.kind) book tell) idle nobody quiet) says (omega (
+      arith,
+      faults_push s.entries (entry.Here f u p),
+      faults_push (s.entries ++ entry.Here f u p ∷ [])
+          (entry.Do (process_at s c) (run_at s.runs (process_at s c)).place c None (word_reply 0 r.kind)),
+    )) (length-set s.processors c _ ∙ k.sizes.processors) (length-set s.runs (process_at s c) _ ∙ k.sizes.processes)
+    (λ o h. cc)
   where
     now : State
     now = page_made s f u p r
 
     book : KeepsBook (seen now)
     book = subst KeepsBook (sym (made_seen s f u p (r.offset % 1024) (new_word 0 r.kind) within active
-        (subst (λ (n : ℕ). place_of s.store.ast.entries u < n) (sym k.store.kept.places) active) inner))
-        (here_keeps (seen s) f u p k.book can)
+        (rw k.store.kept.places active) inner)) (here_keeps (seen s) f u p k.book can)
 
 -- ---- a word is reached through a frame
 
@@ -194,14 +188,13 @@ through_seen s f r = by (alters r.kind)
 
 pub through_kept : (s : State) (c f : ℕ) (r : Reference) → Keeps s
     → CanTell (with_store s (with_pages s.store (pages_after s.store.pages f r))) c (process_at s c) (Some f)
-    (word_reply (old_word s.store.pages f r) r.kind)
-    → StoreSays (went_through s c f r) → Keeps (went_through s c f r)
+    (word_reply (old_word s.store.pages f r) r.kind) → StoreSays (went_through s c f r) → Keeps (went_through s c f r)
 through_kept s c f r k can says = kept_with (went_through s c f r)
     (told_keeps (with_store s (with_pages s.store (pages_after s.store.pages f r))) c (process_at s c) (Some f)
-    (word_reply (old_word s.store.pages f r) r.kind)
-    (subst KeepsBook (sym (through_seen s f r)) k.book) can) says
-    (let one = faults_push s.entries (entry.Do (process_at s c) (run_at s.runs (process_at s c)).place c (Some f)
-    (word_reply (old_word s.store.pages f r) r.kind)) in
-    let few = k.few_faults in omega (arith, one, few))
-    (length-set s.processors c _ ∙ k.sizes.processors) (length-set s.runs (process_at s c) _ ∙ k.sizes.processes)
+    (word_reply (old_word s.store.pages f r) r.kind) (subst KeepsBook (sym (through_seen s f r)) k.book) can) says
+    (omega (
+      arith,
+      faults_push s.entries (entry.Do (process_at s c) (run_at s.runs (process_at s c)).place c (Some f)
+          (word_reply (old_word s.store.pages f r) r.kind)),
+    )) (length-set s.processors c _ ∙ k.sizes.processors) (length-set s.runs (process_at s c) _ ∙ k.sizes.processes)
     (λ o h. works_counted s.processors c _ o.cpu can.there (k.at_work o h))

@@ -16,18 +16,17 @@ pub record ChangesSegment (v : Seen) (u : ℕ) (words : ℕ → ℕ → Ptw) : T
 module _ (v : Seen) (u : ℕ) (words : ℕ → ℕ → Ptw) (k : KeepsBook v) (change : ChangesSegment v u words) where
   -- a page of another segment has the word that it had
   kept : (f w q : ℕ) → v.bound f ≡ Some (w, q) → words w q ≡ v.words w q
-  kept f w q h = change.others w q (λ e. not_there f
-      (sym (change.before q) ∙ (ap (λ (x : ℕ). names (v.words x q)) (sym e) ∙ k.tied.named f w q h)))
+  kept f w q h = change.others w q (λ e. not_there f (cc (change.before q, k.tied.named f w q h)))
 
   tied_segment : IsTied v.bound v.reads words
   tied_segment = record {
     named = λ f w q h. ap names (kept f w q h) ∙ k.tied.named f w q h;
     back = λ f w q h. elim (eqb_tells w u) [
-      | inl e ↦ absurd (not_there f (sym (change.after q) ∙ (ap (λ (x : ℕ). names (words x q)) (sym e.1) ∙ h)))
-      | inr n ↦ k.tied.back f w q (sym (ap names (change.others w q n.1)) ∙ h)
+      | inl e ↦ absurd (not_there f (cc (change.after q)))
+      | inr n ↦ k.tied.back f w q (cc (change.others w q n.1))
     ];
     out = λ f w q h. elim (eqb_tells w u) [
-      | inl e ↦ absurd (change.unread f q (h ∙ ap (λ (x : ℕ). Some (x, q)) e.1))
+      | inl e ↦ absurd (change.unread f q (cc))
       | inr n ↦ ap is_out (change.others w q n.1) ∙ k.tied.out f w q h
     ];
     alone = k.tied.alone;
@@ -39,7 +38,7 @@ module _ (v : Seen) (u : ℕ) (words : ℕ → ℕ → Ptw) (k : KeepsBook v) (c
     where
       by : (x : Option (ℕ × ℕ)) → v.bound f ≡ x → frame_use words x (v.reads f) ≡ frame_use v.words x (v.reads f)
       by None e = refl
-      by (Some page) e = ap (bound_use page) (kept f page.0 page.1 e)
+      by (Some page) e = cc (kept f page.0 page.1 e)
 
 -- the segment is active, or is it no more, by an entry that says so and nothing else
 activity_keeps : (v : Seen) (u : ℕ) (words : ℕ → ℕ → Ptw) (active : Bool) (e : Entry) → KeepsBook v
@@ -49,13 +48,11 @@ activity_keeps : (v : Seen) (u : ℕ) (words : ℕ → ℕ → Ptw) (active : Bo
     → pending_after (is_pending v.owner) e ≡ is_pending v.owner
     → ((j : ℕ) → IsRun (progress_of (after_entry v.plan (flat v) e) j) (v.runs j))
     → KeepsBook (record v { active = at_put v.active u active; words = words; entries = v.entries ++ e ∷ [] })
-activity_keeps v u words active e k change lawful allowed online next pending runs =
-    book_next v e _ refl refl k
+activity_keeps v u words active e k change lawful allowed online next pending runs = book_next v e _ refl refl k
     (assumption (
       (λ i. record (shown v) {
         active = at_put v.active u active;
-        frame = λ f. uses_same v u words k
-            change f i;
+        frame = λ f. uses_same v u words k change f i;
       }) ∙ sym next,
       sym pending,
       subst (λ (c : Custody). IsOwned c v.owner) (sym next)
@@ -80,7 +77,7 @@ activates v u words k can = record {
   others = can.others;
   before = λ q. ap names (can.blank q);
   after = can.nowhere;
-  unread = λ f q h. (let no : false ≡ true = sym (ap is_out (can.blank q)) ∙ k.tied.out f u q h in cc);
+  unread = λ f q h. (let no = sym (ap is_out (can.blank q)) ∙ k.tied.out f u q h in cc);
 }
 
 pub activate_keeps : (v : Seen) (u : ℕ) (words : ℕ → ℕ → Ptw) → KeepsBook v → CanActivate v u words

@@ -16,35 +16,34 @@ module _ {X : Type 0} (p : X → Bool) where
   pub none_length : (xs : List X) → list_any p xs ≡ false → position_or_len p xs ≡ length xs
   none_length [] h = refl
   none_length (x ∷ xs) h = let parts = or_parts (p x) (list_any p xs) h in let ih = none_length xs parts.1 in
-      ap (λ (b : Bool). cond (not b) (1 + position_or_len p xs) 0) parts.0
-      ∙ (let one : 1 + position_or_len p xs ≡ suc (length xs) = omega (arith, ih) in one)
+      ap (λ (b : Bool). cond (not b) (1 + position_or_len p xs) 0) parts.0 ∙ (omega arith)
 
   pub some_within : (xs : List X) → list_any p xs ≡ true → position_or_len p xs < length xs
-  some_within [] h = absurd (let no : false ≡ true = h in cc)
+  some_within [] h = cc
   some_within (x ∷ xs) h = by (p x) (some_within xs) h
     where
       by : (b : Bool) → (list_any p xs ≡ true → position_or_len p xs < length xs) → (b || list_any p xs) ≡ true
           → cond (not b) (1 + position_or_len p xs) 0 < length (x ∷ xs)
       by true rest e = omega arith
-      by false rest e = let ih = rest e in omega (arith, ih)
+      by false rest e = omega (arith, rest e)
 
   pub within_some : (xs : List X) → position_or_len p xs < length xs → list_any p xs ≡ true
   within_some xs h = by (list_any p xs) refl
     where
       by : (b : Bool) → list_any p xs ≡ b → b ≡ true
       by true e = refl
-      by false e = absurd (let same = none_length xs e in omega (arith, same, h))
+      by false e = absurd (omega (arith, none_length xs e))
 
   -- an element stands for one that passes where it does
   any_same : (xs : List X) (i : ℕ) (y d : X) → p y ≡ p (get_or xs i d) → list_any p (set xs i y) ≡ list_any p xs
   any_same [] i y d h = refl
-  any_same (x ∷ xs) zero y d h = ap (λ (b : Bool). b || list_any p xs) h
-  any_same (x ∷ xs) (suc i) y d h = ap (λ (b : Bool). p x || b) (any_same xs i y d h)
+  any_same (x ∷ xs) zero y d h = cc
+  any_same (x ∷ xs) (suc i) y d h = cc (any_same xs i y d h)
 
   -- what passes is found
   pub any_at : (xs : List X) (i : ℕ) (d : X) → p (get_or xs i d) ≡ true → p d ≡ false → list_any p xs ≡ true
-  any_at [] i d h none = absurd (let no : true ≡ false = sym h ∙ none in cc)
-  any_at (x ∷ xs) zero d h none = ap (λ (b : Bool). b || list_any p xs) h
+  any_at [] i d h none = cc
+  any_at (x ∷ xs) zero d h none = cc
   any_at (x ∷ xs) (suc i) d h none = or_right (p x) (any_at xs i d h none)
     where
       or_right : (a : Bool) {b : Bool} → b ≡ true → (a || b) ≡ true
@@ -55,7 +54,7 @@ module _ {X : Type 0} (p : X → Bool) where
 
 not_for : (u : ℕ) (o : Option Entry) → uid_in o ≢ Some u → is_for u o ≡ false
 not_for u None h = refl
-not_for u (Some e) h = elim (eqb_tells e.uid u) [ inl a ↦ absurd (h (ap (λ (x : ℕ). Some x) a.1)) | inr n ↦ n.0 ]
+not_for u (Some e) h = elim (eqb_tells e.uid u) [ inl a ↦ absurd (h (cc)) | inr n ↦ n.0 ]
 
 -- the place of an active segment has it
 pub active_place : (ast : ActiveSegs) (u : ℕ) → is_active ast u ≡ true
@@ -65,7 +64,7 @@ active_place ast u h = let within = some_within (is_for u) ast.entries h in
     let own = passed_there (λ (e : Entry). eqb e.uid u) (entry_at ast.entries (position_or_len (is_for u) ast.entries))
     (found (is_for u) ast.entries None within) in (
       within,
-      ap uid_in own.1 ∙ ap Some (eqb-true own.0.uid u own.2),
+      cc (eqb-true own.0.uid u own.2),
     )
 
 -- a segment that isn't active has no words
@@ -73,7 +72,7 @@ pub inactive_blank : (ast : ActiveSegs) (u : ℕ) → length ast.tables ≡ leng
     → (q : ℕ) → word_of ast u q ≡ ptw.Null
 unfolding place_of
 inactive_blank ast u tables h q = rw (get_or_past ast.tables (position_or_len (is_for u) ast.entries) []
-    (let none = none_length (is_for u) ast.entries h in omega (arith, none, tables)))
+    (omega (arith, none_length (is_for u) ast.entries h)))
 
 -- ---- a segment becomes active
 
@@ -104,14 +103,14 @@ module _ (ast : ActiveSegs) (u place : ℕ) (superior : Option ℕ) (table : Lis
 
   for_new : (v : ℕ) → v ≢ u → is_for v (Some (record { uid = u; superior = superior }))
       ≡ is_for v (entry_at ast.entries place)
-  for_new v n = not_for v (Some (record { uid = u; superior = superior })) (λ e. n (let same : u ≡ v = cc in sym same))
-      ∙ sym (ap (is_for v) free)
+  for_new v n = cc (not_for v (Some (record { uid = u; superior = superior })) (λ e. n (sym cc)))
 
   pub active_more : (v : ℕ) → is_active now v ≡ at_put (λ x. is_active ast x) u true v
   active_more v = by_place (λ (b : Bool). is_active now v ≡ b) (λ x. is_active ast x) u true v
-      (λ e. any_set (is_for v) ast.entries place (Some (record { uid = u; superior = superior })) None within
-      (ap (is_for v) free)
-      ∙ ap (λ (b : Bool). b || list_any (is_for v) ast.entries) (own e))
+      (λ e. cc (
+        any_set (is_for v) ast.entries place (Some (record { uid = u; superior = superior })) None within (cc),
+        own e,
+      ))
       (λ n. any_same (is_for v) ast.entries place (Some (record { uid = u; superior = superior })) None (for_new v n))
     where
       own : v ≡ u → eqb u v ≡ true
@@ -120,18 +119,17 @@ module _ (ast : ActiveSegs) (u place : ℕ) (superior : Option ℕ) (table : Lis
   -- another segment has the words that it had
   pub words_more : (v q : ℕ) → v ≢ u → word_of now v q ≡ word_of ast v q
   unfolding place_of
-  words_more v q n = ap (λ (i : ℕ). get_or (get_or (set ast.tables place table) i []) q ptw.Null)
-      (position_or_len-set (is_for v) ast.entries place (Some (record { uid = u; superior = superior })) None
-      (for_new v n))
-      ∙ ap (λ (t : List Ptw). get_or t q ptw.Null)
-      (get_or-set_other ast.tables place (position_or_len (is_for v) ast.entries) table [] other)
+  words_more v q n = cc (
+    position_or_len-set (is_for v) ast.entries place (Some
+        (record { uid = u; superior = superior })) None (for_new v n),
+    get_or-set_other ast.tables place (position_or_len (is_for v) ast.entries) table [] other,
+  )
     where
       other : position_or_len (is_for v) ast.entries ≢ place
       other e = elim (cases_Bool (list_any (is_for v) ast.entries)) [
-        | inl is ↦ (let no : false ≡ true = sym (ap (is_for v) free)
-            ∙ (ap (λ (i : ℕ). is_for v (entry_at ast.entries i)) (sym e)
+        | inl is ↦ (let no : false ≡ true = sym (cc) ∙ (ap (λ (i : ℕ). is_for v (entry_at ast.entries i)) (sym e)
             ∙ found (is_for v) ast.entries None (some_within (is_for v) ast.entries is)) in cc)
-        | inr isnt ↦ (let long = none_length (is_for v) ast.entries isnt in omega (arith, long, e, within))
+        | inr isnt ↦ (omega (arith, none_length (is_for v) ast.entries isnt))
       ]
 
   -- its own words name no frame, where those of its table don't
@@ -141,9 +139,7 @@ module _ (ast : ActiveSegs) (u place : ℕ) (superior : Option ℕ) (table : Lis
     | inl e ↦ ap (λ (t : List Ptw). names (get_or t q ptw.Null))
         (get_or_past (set ast.tables place table) (position_or_len (is_for u) now.entries) [] e.1)
     | inr m ↦ ap (λ (i : ℕ). names (get_or (get_or (set ast.tables place table) i []) q ptw.Null)) at
-        ∙ (ap (λ (t : List Ptw). names (get_or t q ptw.Null))
-        (get_or-set_same ast.tables place table [] (subst (λ (n : ℕ). place < n) (sym tables) within))
-        ∙ none q)
+        ∙ (cc (get_or-set_same ast.tables place table [] (rw tables within), none q))
   ]
     where
       there : is_for u (entry_at now.entries (position_or_len (is_for u) now.entries)) ≡ true
@@ -157,18 +153,16 @@ module _ (ast : ActiveSegs) (u place : ℕ) (superior : Option ℕ) (table : Lis
       ]
         where
           no_other : (i : ℕ) → is_for u (entry_at ast.entries i) ≡ true → ⊥
-          no_other i h = let no : true ≡ false = sym (any_at (is_for u) ast.entries i None h refl) ∙ inactive in cc
+          no_other i h = let no = sym (any_at (is_for u) ast.entries i None h refl) ∙ inactive in cc
 
           elsewhere : position_or_len (is_for u) now.entries ≢ place → ⊥
-          elsewhere n = let old : is_for u (entry_at ast.entries (position_or_len (is_for u) now.entries)) ≡ true =
-              ap (is_for u) (sym (get_or-set_other ast.entries place
-              (position_or_len (is_for u) now.entries) _ None n)) ∙ there in
-              no_other (position_or_len (is_for u) now.entries) old
+          elsewhere n = no_other (position_or_len (is_for u) now.entries)
+              (ap (is_for u) (sym (get_or-set_other ast.entries place (position_or_len (is_for u) now.entries) _ None
+              n)) ∙ there)
 
 -- descriptors lead where they led: none led to the place
 pub links_more : (s : State) (u place : ℕ) (superior : Option ℕ) (table : List Ptw)
-    → entry_at s.store.ast.entries place ≡ None
-    → ((k n aste : ℕ) → leads_at s.store.links.descriptors k n ≡ Some aste
+    → entry_at s.store.ast.entries place ≡ None → ((k n aste : ℕ) → leads_at s.store.links.descriptors k n ≡ Some aste
     → (x : ℕ) × (uid_at s.store.ast.entries aste ≡ Some x)) → (k n : ℕ)
     → led_to (made_active s.store.ast place u superior table).entries (descriptor_of s.store.links k n)
     ≡ (seen s).linked k n
@@ -181,22 +175,17 @@ links_more s u place superior table free live k n = by (descriptor_of s.store.li
       where
         other : aste ≢ place
         other same = let there = live k n aste (ap leads e) in
-            let no : None ≡ Some there.0 = sym (ap uid_in free)
-            ∙ (ap (uid_at s.store.ast.entries) (sym same) ∙ there.1) in none_some no
+            let no : None ≡ Some there.0 = sym (ap uid_in free) ∙ (cc) in none_some no
 
 -- what custody sees of a segment that becomes active
 pub activate_seen : (s : State) (u place : ℕ) (superior : Option ℕ) (table : List Ptw)
     → entry_at s.store.ast.entries place ≡ None
     → place < length s.store.ast.entries → length s.store.ast.tables ≡ length s.store.ast.entries
-    → is_active s.store.ast u ≡ false
-    → ((k n aste : ℕ) → leads_at s.store.links.descriptors k n ≡ Some aste
-    → (x : ℕ) × (uid_at s.store.ast.entries aste ≡ Some x))
-    → seen (record s {
+    → is_active s.store.ast u ≡ false → ((k n aste : ℕ) → leads_at s.store.links.descriptors k n ≡ Some aste
+    → (x : ℕ) × (uid_at s.store.ast.entries aste ≡ Some x)) → seen (record s {
       store = record s.store { ast = made_active s.store.ast place u superior table };
-      entries =
-          s.entries ++ entry.Activate u ∷ [];
-    })
-    ≡ activated (seen s) u (λ v q. word_of (made_active s.store.ast place u superior table) v q)
+      entries = s.entries ++ entry.Activate u ∷ [];
+    }) ≡ activated (seen s) u (λ v q. word_of (made_active s.store.ast place u superior table) v q)
 activate_seen s u place superior table free within tables inactive live = λ i. record (seen s) {
   active = λ v. active_more s.store.ast u place superior table free within tables inactive v i;
   words = λ v q. word_of (made_active s.store.ast place u superior table) v q;
@@ -216,11 +205,11 @@ module _ (ast : ActiveSegs) (u : ℕ) (active : is_active ast u ≡ true) (once 
 
   not_its : (v : ℕ) → v ≢ u → is_for v (entry_at ast.entries (place_of ast.entries u)) ≡ false
   not_its v n = not_for v (entry_at ast.entries (place_of ast.entries u))
-      (λ e. n (let same : Some v ≡ Some u = sym e ∙ its_place.1 in cc))
+      (λ e. n (let same = sym e ∙ its_place.1 in cc))
 
   pub active_less : (v : ℕ) → is_active less v ≡ at_put (λ x. is_active ast x) u false v
   active_less v = by_place (λ (b : Bool). is_active less v ≡ b) (λ x. is_active ast x) u false v
-      (λ e. subst (λ (x : ℕ). is_active less x ≡ false) (sym e) (gone (is_active less u) refl))
+      (λ e. rw e (gone (is_active less u) refl))
       (λ n. any_same (is_for v) ast.entries (place_of ast.entries u) None None (sym (not_its v n)))
     where
       gone : (b : Bool) → is_active less u ≡ b → b ≡ false
@@ -233,16 +222,15 @@ module _ (ast : ActiveSegs) (u : ℕ) (active : is_active ast u ≡ true) (once 
                 (get_or-set_same ast.entries (place_of ast.entries u) None None its_place.0))
                 ∙ (ap (uid_at less.entries) (sym a.1) ∙ h))
             | inr n ↦ n.1 (once i (place_of ast.entries u) u
-                (sym (ap uid_in (get_or-set_other ast.entries (place_of ast.entries u) i None None n.1)) ∙ h)
-                its_place.1)
+                (cc (get_or-set_other ast.entries (place_of ast.entries u) i None None n.1)) its_place.1)
           ]
 
   pub words_less : (v q : ℕ) → v ≢ u → word_of less v q ≡ word_of ast v q
   unfolding place_of
-  words_less v q n = ap (λ (i : ℕ). get_or (get_or (set ast.tables (place_of ast.entries u) blank) i []) q ptw.Null)
-      (position_or_len-set (is_for v) ast.entries (place_of ast.entries u) None None (sym (not_its v n)))
-      ∙ ap (λ (t : List Ptw). get_or t q ptw.Null)
-      (get_or-set_other ast.tables (place_of ast.entries u) (position_or_len (is_for v) ast.entries) blank [] other)
+  words_less v q n = cc (
+    position_or_len-set (is_for v) ast.entries (place_of ast.entries u) None None (sym (not_its v n)),
+    get_or-set_other ast.tables (place_of ast.entries u) (position_or_len (is_for v) ast.entries) blank [] other,
+  )
     where
       blank : List Ptw
       blank = replicate (length (table_at ast.tables (place_of ast.entries u))) ptw.Null
@@ -250,16 +238,13 @@ module _ (ast : ActiveSegs) (u : ℕ) (active : is_active ast u ≡ true) (once 
       other : position_or_len (is_for v) ast.entries ≢ place_of ast.entries u
       other e = elim (cases_Bool (list_any (is_for v) ast.entries)) [
         | inl is ↦ (let no : false ≡ true = sym (not_its v n)
-            ∙ (ap (λ (i : ℕ). is_for v (entry_at ast.entries i)) (sym e)
-            ∙ found (is_for v) ast.entries None (some_within (is_for v) ast.entries is)) in cc)
-        | inr isnt ↦ (let long = none_length (is_for v) ast.entries isnt in let within = its_place.0 in
-            omega (arith, long, e, within))
+            ∙ (cc (found (is_for v) ast.entries None (some_within (is_for v) ast.entries is))) in cc)
+        | inr isnt ↦ (omega (arith, none_length (is_for v) ast.entries isnt, e, its_place.0))
       ]
 
   pub blank_less : (q : ℕ) → word_of less u q ≡ ptw.Null
-  blank_less q = inactive_blank less u
-      (length-set ast.tables (place_of ast.entries u) _
-      ∙ (tables ∙ sym (length-set ast.entries (place_of ast.entries u) None)))
+  blank_less q = inactive_blank less u (length-set ast.tables (place_of ast.entries u) _
+      ∙ (cc (length-set ast.entries (place_of ast.entries u) None)))
       (active_less u ∙ by_place (λ (b : Bool). b ≡ false) (λ x. is_active ast x) u false u (λ e. refl)
       (λ n. absurd (n refl))) q
 
@@ -267,12 +252,10 @@ pub deactivate_seen : (s : State) (u : ℕ) → is_active s.store.ast u ≡ true
     → length s.store.ast.tables ≡ length s.store.ast.entries → ((k n : ℕ) → (seen s).linked k n ≢ Some u)
     → seen (record s {
       store = record s.store {
-        ast = deactivated s.store.ast
-            (place_of s.store.ast.entries u);
+        ast = deactivated s.store.ast (place_of s.store.ast.entries u);
       };
       entries = s.entries ++ entry.Deactivate u ∷ [];
-    })
-    ≡ no_more_active (seen s) u (λ v q. word_of (deactivated s.store.ast (place_of s.store.ast.entries u)) v q)
+    }) ≡ no_more_active (seen s) u (λ v q. word_of (deactivated s.store.ast (place_of s.store.ast.entries u)) v q)
 deactivate_seen s u active once tables none = λ i. record (seen s) {
   active = λ v. active_less s.store.ast u active once tables v i;
   words = λ v q. word_of (deactivated s.store.ast (place_of s.store.ast.entries u)) v q;
@@ -288,5 +271,4 @@ deactivate_seen s u active once tables none = λ i. record (seen s) {
             → led_to (deactivated s.store.ast (place_of s.store.ast.entries u)).entries x ≡ led_to s.store.ast.entries x
         by sdw.Fault e = refl
         by (sdw.Present aste m pages) e = rw (get_or-set_other s.store.ast.entries (place_of s.store.ast.entries u) aste
-            None None (λ same. none k n (ap (led_to s.store.ast.entries) e ∙ (ap (uid_at s.store.ast.entries) same
-            ∙ (active_place s.store.ast u active).1))))
+            None None (λ same. none k n (cc ((active_place s.store.ast u active).1))))

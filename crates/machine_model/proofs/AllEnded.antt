@@ -8,20 +8,20 @@ use Rattle.machine_model.proofs.TieLaws.{none_some}
 
 empty_is : (xs : List ℕ) → is_empty xs ≡ true → xs ≡ []
 empty_is [] h = refl
-empty_is (x ∷ xs) h = absurd (let none : false ≡ true = h in cc)
+empty_is (x ∷ xs) h = cc
 
 nobody_runs : (ps : List Processor) (d k : ℕ) → list_any has_process ps ≡ false → (cpu_at ps d).process ≢ Some k
 nobody_runs [] d k h e = none_some e
-nobody_runs (p ∷ ps) zero k h e = not_both (ap (λ (x : Option ℕ). is_some x) e) (first_off (has_process p) h)
+nobody_runs (p ∷ ps) zero k h e = not_both (cc) (first_off (has_process p) h)
   where
     first_off : (b : Bool) → (b || list_any has_process ps) ≡ false → b ≡ false
     first_off false i = refl
-    first_off true i = absurd (let none : true ≡ false = i in cc)
+    first_off true i = cc
 nobody_runs (p ∷ ps) (suc d) k h e = nobody_runs ps d k (rest_off (has_process p) h) e
   where
     rest_off : (b : Bool) → (b || list_any has_process ps) ≡ false → list_any has_process ps ≡ false
     rest_off false i = i
-    rest_off true i = absurd (let none : true ≡ false = i in cc)
+    rest_off true i = cc
 
 -- no processor has a process
 pub over_idle : (s : State) → is_over s ≡ true → (d k : ℕ) → (cpu_at s.processors d).process ≢ Some k
@@ -30,12 +30,12 @@ over_idle s over d k = nobody_runs s.processors d k (off (list_any has_process s
   where
     off : (b : Bool) → not b ≡ true → b ≡ false
     off false e = refl
-    off true e = absurd (let none : false ≡ true = e in cc)
+    off true e = cc
 
 module _ (s : State) (all : KeepsAll s) (over : is_over s ≡ true) where
   none_may : (k : ℕ) → MayRun s.plan s.runs k → ⊥
   none_may k m = elim (all.machine.scheduled.placed k m) [
-    | inl r ↦ (let none : false ≡ true =
+    | inl r ↦ (let none =
         sym (ap (λ (xs : List ℕ). has xs k) (empty_is s.ready (and_parts (is_empty s.ready) _ over).0)) ∙ r in cc)
     | inr x ↦ over_idle s over x.0 k x.1
   ]
@@ -45,11 +45,11 @@ module _ (s : State) (all : KeepsAll s) (over : is_over s ≡ true) where
     where
       by : (b : Bool) → (run_at s.runs k).ended ≡ b → b ≡ true
       by true e = refl
-      by false e = absurd (none_may k (record { planned = planned; going = e; turn = turn }))
+      by false e = absurd (none_may k (assumption))
 
   -- each process has ended
   pub over_ended : (k : ℕ) → k < length s.plan.processes → (run_at s.runs k).ended ≡ true
-  over_ended k planned = ends k planned (inr (inr (ends 0 (omega (arith, planned)) (inr (inl refl)))))
+  over_ended k planned = ends k planned (inr (inr (ends 0 (omega arith) (inr (inl refl)))))
 
   -- and so the flat store says
   pub flat_ended : (k : ℕ) → k < length s.plan.processes → (progress_of (flat_of s) k).ended ≡ true
@@ -67,8 +67,7 @@ module _ (p : Plan) (s : Store) (k : ℕ) (going : (progress_of s k).ended ≡ f
   IsItsEnd (entry.Do j place cpu frame r) = (j ≡ k) × (command_at p j place ≡ Some command.End)
   IsItsEnd _ = ⊥
 
-  base_same : (c : Command) (r : Reply) (j : ℕ) → (cond (takes_effect r) (effect_of p s j c) s).processes
-      ≡ s.processes
+  base_same : (c : Command) (r : Reply) (j : ℕ) → (cond (takes_effect r) (effect_of p s j c) s).processes ≡ s.processes
   base_same c r j = by (takes_effect r)
     where
       by : (x : Bool) → (cond x (effect_of p s j c) s).processes ≡ s.processes
@@ -77,7 +76,7 @@ module _ (p : Plan) (s : Store) (k : ℕ) (going : (progress_of s k).ended ≡ f
 
   end_of : (c : Command) → is_end c ≡ true → c ≡ command.End
   end_of command.End h = refl
-  end_of _ h = absurd (let none : false ≡ true = h in cc)
+  end_of _ h = cc
 
   do_ends : (j : ℕ) (c : Command) (r : Reply) → (progress_of s j).ended ≡ false
       → (progress_of (after_command p s j c r) k).ended ≡ true → (j ≡ k) × (c ≡ command.End)
@@ -87,7 +86,7 @@ module _ (p : Plan) (s : Store) (k : ℕ) (going : (progress_of s k).ended ≡ f
       sym e.1,
       end_of c (by (tries_on (progress_of s j) c r) (cc (here e.1))),
     )
-    | inr n ↦ absurd (not_both h (ap (λ (q : Progress). q.ended) (away n.1) ∙ going))
+    | inr n ↦ absurd (not_both h (cc (away n.1)))
   ]
     where
       now : Progress
@@ -95,7 +94,7 @@ module _ (p : Plan) (s : Store) (k : ℕ) (going : (progress_of s k).ended ≡ f
 
       at : (i : ℕ) → get_or (set (cond (takes_effect r) (effect_of p s j c) s).processes j now) i ended_progress
           ≡ get_or (set s.processes j now) i ended_progress
-      at i = ap (λ (qs : List Progress). get_or (set qs j now) i ended_progress) (base_same c r j)
+      at i = cc (base_same c r j)
 
       here : k ≡ j → progress_of (after_command p s j c r) k ≡ now
       here e = cc (at k, get_or-set_same s.processes j now ended_progress (going_within s j its))
@@ -106,7 +105,7 @@ module _ (p : Plan) (s : Store) (k : ℕ) (going : (progress_of s k).ended ≡ f
       by : (x : Bool) → (cond x (record (progress_of s j) { tries = (progress_of s j).tries + 1; faulted = false })
           (record { place = (progress_of s j).place + 1; tries = 0; ended = is_end c; faulted = false })).ended ≡ true
           → is_end c ≡ true
-      by true i = absurd (not_both i its)
+      by true i = cc
       by false i = i
 
   -- a failure that is told ends none
@@ -129,7 +128,7 @@ module _ (p : Plan) (s : Store) (k : ℕ) (going : (progress_of s k).ended ≡ f
           → (progress_of (after_do p s j x r) k).ended ≡ true → (j ≡ k) × (command_at p j place ≡ Some command.End)
       by None e i f = absurd i
       by (Some c) e i f = let its = do_ends j c r h.going f in
-          (its.0, e ∙ ap (λ (x : Command). Some x) its.1)
+          (its.0, cc)
   entry_ends (entry.Release uid page) h ended = not_both ended going
   entry_ends (entry.Fault process) h ended = by process h ended
     where
@@ -159,26 +158,25 @@ module _ (p : Plan) (k : ℕ) where
   )
     where
       other : k ≢ j
-      other e = not_both over (ap (λ (i : ℕ). (progress_of s i).ended) e ∙ h.going)
+      other e = not_both over (cc)
 
       by : (x : Option Command) → IsAnswer p s j x r → (progress_of (after_do p s j x r) k).ended ≡ true
       by None i = absurd i
-      by (Some c) i = ap (λ (q : Progress). q.ended) (other_do s j c r other) ∙ over
+      by (Some c) i = cc (other_do s j c r other)
   stays_ended s (entry.Release uid page) over h = (refl, over)
   stays_ended s (entry.Fault process) over h = (refl, by process h)
     where
       by : (x : Option ℕ) → MayFault s x → (progress_of (after_fault s x) k).ended ≡ true
       by None i = over
       by (Some j) i = ap (λ (q : Progress). q.ended) (get_or-set_other s.processes j k _ ended_progress
-          (λ e. not_both over (ap (λ (m : ℕ). (progress_of s m).ended) e ∙ i))) ∙ over
+          (λ e. not_both over (cc))) ∙ over
   stays_ended s _ over h = (refl, over)
 
   none_later : (s : Store) (es : List Entry) → (progress_of s k).ended ≡ true → IsLegalFrom p s es → part k es ≡ []
   unfolding IsLegalFrom part
   none_later s [] over h = refl
   none_later s (e ∷ es) over h = let step = stays_ended s e over h.0 in
-      ap (λ (b : Bool). cond b (e ∷ filter (is_part k) es) (filter (is_part k) es)) step.0
-      ∙ none_later (after_entry p s e) es step.1 h.1
+      cc (none_later (after_entry p s e) es step.1 h.1)
 
   -- an entry more before the last
   end_on : (e : Entry) (es : List Entry) → IsEnd p k (last_of es) → IsEnd p k (last_of (e ∷ es))
@@ -193,8 +191,7 @@ module _ (p : Plan) (k : ℕ) where
       (λ g. book_ends (after_entry p s e) es g h.1 over)
     where
       ends_now : (d : Entry) → IsItsEnd p s k going d → IsEnd p k (last_of (cond (is_part k d) (d ∷ []) []))
-      ends_now (entry.Do j place cpu frame r) its = rw (own j its.0)
-          (subst (λ (i : ℕ). command_at p i place ≡ Some command.End) its.0 its.1)
+      ends_now (entry.Do j place cpu frame r) its = rw (own j its.0) (rw (← its.0) its.1)
         where
           own : (i : ℕ) → i ≡ k → eqb i k ≡ true
           own i x = elim (eqb_tells i k) [ inl y ↦ y.0 | inr n ↦ absurd (n.1 x) ]
@@ -215,9 +212,9 @@ unfolding boot
 boot_goes p k lt = by (length p.processes) k lt
   where
     by : (n i : ℕ) → i < n → (get_or (replicate n at_first) i ended_progress).ended ≡ false
-    by zero i h = absurd (omega (arith, h))
+    by zero i h = absurd (omega arith)
     by (suc n) zero h = refl
-    by (suc n) (suc i) h = by n i (omega (arith, h))
+    by (suc n) (suc i) h = by n i (omega arith)
 
 -- The book of a machine in which no process is ready or running is complete.
 pub over_complete : (s : State) → KeepsAll s → is_over s ≡ true → IsComplete s.plan s.entries

@@ -21,8 +21,7 @@ use Rattle.machine_model.proofs.TransferKept.{kept_with}
 
 -- pages that come back change the store, the owner and the book alone
 pages_rest : (s : State) (fs : List ℕ) → ((pages_back s fs).processors ≡ s.processors) ×
-    ((pages_back s fs).runs ≡ s.runs)
-    × ((pages_back s fs).plan ≡ s.plan) × ((pages_back s fs).faults ≡ s.faults)
+    ((pages_back s fs).runs ≡ s.runs) × ((pages_back s fs).plan ≡ s.plan) × ((pages_back s fs).faults ≡ s.faults)
 pages_rest s [] = (refl, refl, refl, refl)
 pages_rest s (f ∷ fs) = pages_rest (page_back s f) fs
 
@@ -49,14 +48,13 @@ here_there st f (Some page) [] h = tt
 here_there st f (Some page) (d ∷ ds) h = (h.0, here_there st f (Some page) ds h.1)
 
 pages_are_back : (s : State) (fs : List ℕ) (ds : List CutDescriptor) → HasTables s → KeepsBook (seen s)
-    → GoesOn (seen s) fs ds → AreThere s.store ds
-    → IsBack s (pages_back s fs) ds
-pages_are_back s [] ds tables k on there = record { tables = tables; book = k; on = on; there = there }
+    → GoesOn (seen s) fs ds → AreThere s.store ds → IsBack s (pages_back s fs) ds
+pages_are_back s [] ds tables k on there = assumption
 pages_are_back s (f ∷ fs) ds tables k on there = let rest =
     pages_are_back now fs ds (here_tables s.store f (bound_page (frame_in s.store.pages f)) tables)
-    (subst KeepsBook (sym one) book) (subst (λ (v : Seen). GoesOn v fs ds) (sym one) still)
+    (subst KeepsBook (sym one) book) (rw one still)
     (here_there s.store f (bound_page (frame_in s.store.pages f)) ds there) in
-    record { tables = rest.tables; book = rest.book; on = rest.on; there = rest.there }
+    assumption
   where
     now : State
     now = page_back s f
@@ -104,21 +102,20 @@ pub relink_there : (st : Storage) (c : CutDescriptor) (ds : List CutDescriptor) 
 relink_there st c [] h = tt
 relink_there st c (d ∷ ds) h = (
   (
-    subst (λ (n : ℕ). d.process < n) (sym (length-set st.links.descriptors c.process _)) h.0.0,
-    subst (λ (n : ℕ). d.number < n) (sym (sdws_length st.links.descriptors c.process _ d.process
-        (length-set (sdws_at st.links.descriptors c.process) c.number _))) h.0.1,
+    rw (length-set st.links.descriptors c.process _) h.0.0,
+    rw (sdws_length st.links.descriptors c.process _ d.process (length-set (sdws_at st.links.descriptors c.process)
+        c.number _)) h.0.1,
     h.0.2,
   ),
   relink_there st c ds h.1,
 )
 
 segs_are_back : (s : State) (ds : List CutDescriptor) → HasTables s → KeepsBook (seen s) → GoesOn (seen s) [] ds
-    → AreThere s.store ds
-    → IsBack s (segs_back s ds) []
-segs_are_back s [] tables k on there = record { tables = tables; book = k; on = on; there = tt }
+    → AreThere s.store ds → IsBack s (segs_back s ds) []
+segs_are_back s [] tables k on there = assumption
 segs_are_back s (d ∷ ds) tables k on there = let rest = segs_are_back now ds tables (subst KeepsBook (sym one) book)
-    (subst (λ (v : Seen). GoesOn v [] ds) (sym one) still) (relink_there s.store d ds there.1) in
-    record { tables = rest.tables; book = rest.book; on = rest.on; there = rest.there }
+    (rw one still) (relink_there s.store d ds there.1) in
+    assumption
   where
     now : State
     now = seg_back s d
@@ -154,34 +151,38 @@ module _ (s : State) (c faults : ℕ) (fs : List ℕ) (ds : List CutDescriptor) 
   failed_with now is book can says = kept_with (with_owner (told now c None reply.Device) None)
       (told_keeps (with_owner now None) c (process_at now c) None reply.Device book can) says
       few (cc (length-set now.processors c _, same_processors, k.sizes.processors, same_plan))
-      (cc (length-set now.runs (process_at now c) _, same_runs, k.sizes.processes, same_plan))
-      (λ o h. absurd (none_some h))
+      (cc (length-set now.runs (process_at now c) _, same_runs, k.sizes.processes, same_plan)) (λ o h. cc)
     where
       pages : State
       pages = pages_back told_of fs
 
       same_processors : now.processors ≡ s.processors
-      same_processors = ap (λ (x : State). x.processors) is ∙ ((segs_rest pages ds).0 ∙ (pages_rest told_of fs).0)
+      same_processors = cc ((segs_rest pages ds).0, (pages_rest told_of fs).0)
 
       same_runs : now.runs ≡ s.runs
-      same_runs = ap (λ (x : State). x.runs) is ∙ ((segs_rest pages ds).1 ∙ (pages_rest told_of fs).1)
+      same_runs = cc ((segs_rest pages ds).1, (pages_rest told_of fs).1)
 
       same_plan : now.plan ≡ s.plan
-      same_plan = ap (λ (x : State). x.plan) is ∙ ((segs_rest pages ds).2 ∙ (pages_rest told_of fs).2)
+      same_plan = cc ((segs_rest pages ds).2, (pages_rest told_of fs).2)
 
       same_faults : now.faults ≡ faults
-      same_faults = ap (λ (x : State). x.faults) is ∙ ((segs_rest pages ds).3 ∙ (pages_rest told_of fs).3)
+      same_faults = cc ((segs_rest pages ds).3, (pages_rest told_of fs).3)
 
       count : count_by is_fault now.entries ≡ count_by is_fault (s.entries ++ entry.Fault (Some (process_at s c)) ∷ [])
-      count = ap (λ (x : State). count_by is_fault x.entries) is ∙ (segs_count pages ds ∙ pages_count told_of fs)
+      count = cc (segs_count pages ds, pages_count told_of fs)
 
       few : min (count_by is_fault (now.entries ++ entry.Do (process_at now c)
           (run_at now.runs (process_at now c)).place c None reply.Device ∷ [])) (2 ^ 63) ≤ now.faults
-      few = let one = faults_push s.entries (entry.Fault (Some (process_at s c))) in
-          let two = faults_push now.entries (entry.Do (process_at now c)
-          (run_at now.runs (process_at now c)).place c None reply.Device) in
-          let sum = count in let of = same_faults in let was =
-          k.few_faults in omega (arith, one, two, sum, of, was, rose)
+      few = omega (
+        arith,
+        faults_push s.entries (entry.Fault (Some (process_at s c))),
+        faults_push now.entries
+            (entry.Do (process_at now c) (run_at now.runs (process_at now c)).place c None reply.Device),
+        rose,
+        count,
+        same_faults,
+        k.few_faults,
+      )
 
   -- a deactivation, or what a command takes away, comes back
   pub all_failed_kept : frames_of_owner s.owner ≡ fs → cut_of_owner s.owner ≡ ds → GoesOn (seen s) fs ds
@@ -201,7 +202,7 @@ module _ (s : State) (c faults : ℕ) (fs : List ℕ) (ds : List CutDescriptor) 
       on_told = goes_with refl on.none on
 
       pages : IsBack told_of (pages_back told_of fs) ds
-      pages = pages_are_back told_of fs ds k.store.kept.places told_book on_told (subst (AreThere s.store) cut k.cut)
+      pages = pages_are_back told_of fs ds k.store.kept.places told_book on_told (rw (← cut) k.cut)
 
       segs : IsBack (pages_back told_of fs) now []
       segs = segs_are_back (pages_back told_of fs) ds pages.tables pages.book pages.on pages.there
@@ -211,8 +212,7 @@ module _ (s : State) (c faults : ℕ) (fs : List ℕ) (ds : List CutDescriptor) 
 
   -- an evicted page comes back
   pub eviction_failed_kept : (f u p : ℕ) → frames_of_owner s.owner ≡ f ∷ [] → cut_of_owner s.owner ≡ [] → fs ≡ f ∷ []
-      → ds ≡ []
-      → CanFinish (seen s) f u p (Some (looking c))
+      → ds ≡ [] → CanFinish (seen s) f u p (Some (looking c))
       → CanTell (with_owner (all_back s c faults (f ∷ []) []) None) c
       (process_at (all_back s c faults (f ∷ []) []) c) None reply.Device
       → StoreSays (write_failed s c faults) → Keeps (write_failed s c faults)

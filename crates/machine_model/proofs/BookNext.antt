@@ -18,8 +18,7 @@ pub book_next : (v : Seen) (e : Entry) (now : Seen) → now.plan ≡ v.plan → 
     → KeepsBook v → Books v e now → KeepsBook now
 book_next v e now plan entries k b = record {
   legal = rw (plan, entries) (legal_push v.plan v.entries e k.legal b.lawful);
-  clean = rw (plan, entries) (clean_push v.plan v.entries e k.clean
-      (subst (λ (c : Custody). IsAllowed v.plan (flat v) c e) k.held b.allowed));
+  clean = rw (plan, entries) (clean_push v.plan v.entries e k.clean (rw (← k.held) b.allowed));
   held = b.next ∙ (ap (λ (c : Custody). custody_next v.plan (flat v) c e) k.held ∙
       rw (plan, entries) (sym (custody_after-push v.plan v.entries e)));
   stale_due = rw (b.next, b.pending) (fine_next v.plan (flat v) (shown v)
@@ -28,7 +27,7 @@ book_next v e now plan entries k b = record {
   tied = b.tied;
   holding_right = b.holding_right;
   under_way = b.under_way;
-  runs = λ j. subst (λ (s : Store). IsRun (progress_of s j) (now.runs j)) (sym flat_is) (b.runs j);
+  runs = λ j. rw flat_is (b.runs j);
 }
   where
     flat_is : flat now ≡ after_entry v.plan (flat v) e

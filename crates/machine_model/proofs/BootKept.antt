@@ -50,32 +50,31 @@ blank_keeps p runs are = record {
     cuts = λ k n. refl;
     once = tt;
     apart = tt;
-    due = λ d w h. absurd (none_some h);
-    alive = λ d w h. absurd (none_some h);
-    says = λ w h. absurd (none_some h);
+    due = λ d w h. cc;
+    alive = λ d w h. cc;
+    says = λ w h. cc;
     shaped = tt;
   };
   tied = record {
-    named = λ f u q h. absurd (none_some h);
-    back = λ f u q h. absurd (none_some h);
-    out = λ f u q h. absurd (none_some h);
-    alone = λ f g u q h. absurd (none_some h);
-    unbound = λ f u q h. absurd (none_some h);
+    named = λ f u q h. cc;
+    back = λ f u q h. cc;
+    out = λ f u q h. cc;
+    alone = λ f g u q h. cc;
+    unbound = λ f u q h. cc;
   };
   holding_right = λ d. record {
     pages = tt;
     segs = refl;
     few_pages = omega arith;
     few_segs = omega arith;
-    warned = λ w
-        h. absurd (none_some h);
+    warned = λ w h. cc;
   };
   under_way = record {
-    reading = λ d t h. absurd (none_some h);
-    reader = λ f u q h. absurd (none_some h);
-    alone = λ d e t v h. absurd (none_some h);
+    reading = λ d t h. cc;
+    reader = λ f u q h. cc;
+    alone = λ d e t v h. cc;
   };
-  runs = λ k. subst (λ s. IsRun (progress_of s k) (runs k)) (sym (store_after-nil p)) (are k);
+  runs = λ k. rw (store_after-nil p) (are k);
 }
 
 -- ---- the machine at first
@@ -90,7 +89,7 @@ no_progress = record { place = 0; tries = 0; ended = true; faulted = false }
 
 runs_alone : (n k : ℕ) → IsRun (get_or (replicate n at_first) k no_progress) (get_or (replicate n first_run) k no_run)
 runs_alone (suc n) (suc k) = runs_alone n k
-runs_alone _ _ = record { place = refl; tries = refl; ended = refl }
+runs_alone _ _ = assumption
 
 runs_first : (p : Plan) (k : ℕ) → IsRun (progress_of (boot p) k)
     (get_or (replicate (length p.processes) first_run) k no_run)
@@ -121,4 +120,4 @@ pub boot_keeps : (p : Plan) (words : List (List ℕ)) (disks : List (List (List 
 boot_keeps p words disks says = kept_with (booted p words disks)
     (subst KeepsBook (sym (first_seen p words disks says.store.kept.places)) (blank_keeps p _ (runs_first p))) says
     (omega arith) (length-replicate p.processors no_processor) (length-replicate (length p.processes) first_run)
-    (λ o h. absurd (none_some h))
+    (λ o h. cc)

@@ -20,7 +20,7 @@ module _ (test : ℕ → Bool) where
     where
       by : (b : Bool) → cond b (Some x) (find test (xs ++ ys)) ≡ None
           → (find test (xs ++ ys) ≡ None → find test xs ≡ None) → cond b (Some x) (find test xs) ≡ None
-      by true e rest = absurd (let none : Some x ≡ None = e in cc)
+      by true e rest = cc
       by false e rest = rest e
 
   none_back : (xs ys : List ℕ) → find test (xs ++ ys) ≡ None → find test ys ≡ None
@@ -29,7 +29,7 @@ module _ (test : ℕ → Bool) where
     where
       by : (b : Bool) → cond b (Some x) (find test (xs ++ ys)) ≡ None
           → (find test (xs ++ ys) ≡ None → find test ys ≡ None) → find test ys ≡ None
-      by true e rest = absurd (let none : Some x ≡ None = e in cc)
+      by true e rest = cc
       by false e rest = rest e
 
   alone_fails : (x : ℕ) → find test (x ∷ []) ≡ None → test x ≡ false
@@ -37,7 +37,7 @@ module _ (test : ℕ → Bool) where
     where
       by : (b : Bool) → test x ≡ b → cond b (Some x) None ≡ None → b ≡ false
       by false e i = refl
-      by true e i = absurd (let none : Some x ≡ None = i in cc)
+      by true e i = cc
 
   none_turned : (xs : List ℕ) → find test (reverse xs) ≡ None → AllFail test xs
   none_turned [] h = tt
@@ -49,11 +49,11 @@ module _ (test : ℕ → Bool) where
   -- the first of a chain turned round: what is above it fails
   first_turned : (up : ℕ → List ℕ) (xs : List ℕ) (v : ℕ) → IsChain up xs → find test (reverse xs) ≡ Some v
       → AllFail test (up v)
-  first_turned up [] v chain h = absurd (none_some h)
+  first_turned up [] v chain h = cc
   first_turned up (x ∷ xs) v chain h = by (find test (reverse xs)) refl (first_turned up xs v chain.2)
     where
       at : find test (reverse xs ++ x ∷ []) ≡ Some v
-      at = ap (find test) (sym (turned x xs)) ∙ h
+      at = cc (turned x xs)
 
       front_some : (ys zs : List ℕ) (w : ℕ) → find test ys ≡ Some w → find test (ys ++ zs) ≡ Some w
       front_some ys zs w e = found_front test ys zs w e
@@ -64,7 +64,7 @@ module _ (test : ℕ → Bool) where
       by : (r : Option ℕ) → find test (reverse xs) ≡ r
           → (find test (reverse xs) ≡ Some v → AllFail test (up v)) → AllFail test (up v)
       by (Some w) e rest = rest (e ∙ (sym (front_some (reverse xs) (x ∷ []) w e) ∙ at))
-      by None e rest = subst (AllFail test) is (none_turned xs e)
+      by None e rest = rw (← is) (none_turned xs e)
         where
           one : find test (x ∷ []) ≡ Some v
           one = sym (past (reverse xs) (x ∷ []) e) ∙ at
@@ -73,8 +73,8 @@ module _ (test : ℕ → Bool) where
           same = alone (test x) one
             where
               alone : (b : Bool) → cond b (Some x) None ≡ Some v → x ≡ v
-              alone true i = let is : x ≡ v = cc in is
-              alone false i = absurd (none_some i)
+              alone true i = cc
+              alone false i = cc
 
           is : xs ≡ up v
           is = chain.0 ∙ ap up same
@@ -96,7 +96,7 @@ module _ (ns : List Node) (t : IsTree ns) (ast : ActiveSegs) where
     where
       by : (b : Bool) → not b ≡ false → b ≡ true
       by true e = refl
-      by false e = absurd (let none : true ≡ false = e in cc)
+      by false e = cc
 
   -- where the whole chain is active, the node at its end is
   pub chain_active : (u : ℕ) → first_inactive ast (chain_of ns u) ≡ None → is_active ast u ≡ true
@@ -126,13 +126,11 @@ module _ (ns : List Node) (t : IsTree ns) (ast : ActiveSegs) where
     where
       turn : (ys : List ℕ) → IsMember v (reverse ys) → IsMember v ys
       turn [] m = m
-      turn (y ∷ ys) m = elim (member_parts v (reverse ys) (y ∷ [])
-          (subst (IsMember v) (turned y ys) m)) [
-            | inl front ↦ inr (turn ys front)
-            | inr back ↦ elim back [ inl e ↦ inl e | inr none ↦ absurd none ]
-          ]
+      turn (y ∷ ys) m = elim (member_parts v (reverse ys) (y ∷ []) (rw (← (turned y ys)) m)) [
+        | inl front ↦ inr (turn ys front)
+        | inr back ↦ elim back [ inl e ↦ inl e | inr none ↦ absurd none ]
+      ]
 
   pub first_there : (u v : ℕ) → is_some (node_in ns u) ≡ true → first_inactive ast (chain_of ns u) ≡ Some v
       → is_some (node_in ns v) ≡ true
-  first_there u v there h = link_there (above ns u) (chains.directories u) u v there
-      (found_turned (u ∷ above ns u) v h)
+  first_there u v there h = link_there (above ns u) (chains.directories u) u v there (found_turned (u ∷ above ns u) v h)

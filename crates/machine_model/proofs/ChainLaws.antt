@@ -48,14 +48,11 @@ pub here_after : (v : Seen) (c : ℕ) (aim : Aim) (w : What) (f : ℕ) (fs : Lis
     → (taken v c aim w f (page_at v f).0 (page_at v f).1).words (page_at v g).0 (page_at v g).1 ≡ ptw.Here g
 here_after v c aim w f fs first once here g h =
     by_places (λ (x : Ptw). x ≡ ptw.Here g) v.words (page_at v f).0 (page_at v f).1
-    (ptw.Leaving f) (page_at v g).0 (page_at v g).1
-    (λ a b. absurd (not_both (subst (λ (i : ℕ). has fs i ≡ true) (same a b) h) once))
+    (ptw.Leaving f) (page_at v g).0 (page_at v g).1 (λ a b. cc (subst (λ (i : ℕ). has fs i ≡ true) (same a b) h))
     (λ n. here g (has_tail f fs g h))
   where
     same : (page_at v g).0 ≡ (page_at v f).0 → (page_at v g).1 ≡ (page_at v f).1 → g ≡ f
-    same a b = let one = here g (has_tail f fs g h) in
-        let both : ptw.Here g ≡ ptw.Here f = sym one ∙ (ap (λ (x : ℕ). v.words x (page_at v g).1) a
-        ∙ (ap (λ (x : ℕ). v.words (page_at v f).0 x) b ∙ first)) in
+    same a b = let both : ptw.Here g ≡ ptw.Here f = sym (here g (has_tail f fs g h)) ∙ (cc) in
         cc
 
 -- the machine keeps what it keeps, the owner waits for nothing still, and what goes is named
@@ -66,7 +63,7 @@ pub record HasTaken (v : Seen) (w : What) : Type 0 where
 
 pub takes_keep : (v : Seen) (c : ℕ) (aim : Aim) (w : What) (fs : List ℕ) → KeepsBook v → CanTakeAll v aim w fs
     → HasTaken (takes v c aim w fs) w
-takes_keep v c aim w [] k can = record { book = k; others = can.others; still = can.still }
+takes_keep v c aim w [] k can = assumption
 takes_keep v c aim w (f ∷ fs) k can = takes_keep now c aim w fs book (record {
   here = here;
   once = can.once.1;
@@ -86,13 +83,11 @@ takes_keep v c aim w (f ∷ fs) k can = takes_keep now c aim w fs book (record {
     now = taken v c aim w f u p
 
     book : KeepsBook now
-    book = take_keeps v c aim w f u p k (record {
-      here = can.here f (has_head f fs);
-      still = can.still;
-      others = can.others;
-      this = can.named f (has_head f fs);
-      aimed = can.aimed (frames_of_owner v.owner ++ f ∷ []) (cut_of_owner v.owner);
-    })
+    book = take_keeps v c aim w f u p k (assumption (
+      can.here f (has_head f fs),
+      can.named f (has_head f fs),
+      can.aimed (frames_of_owner v.owner ++ f ∷ []) (cut_of_owner v.owner),
+    ))
 
     here : (g : ℕ) → has fs g ≡ true → now.words (page_at v g).0 (page_at v g).1 ≡ ptw.Here g
     here = here_after v c aim w f fs (can.here f (has_head f fs)) can.once.0 can.here
@@ -136,11 +131,11 @@ pub record GoesOn (v : Seen) (fs : List ℕ) (ds : List CutDescriptor) : Type 0 
 pub goes_with : {v now : Seen} {fs : List ℕ} {ds : List CutDescriptor} → now.owner ≡ v.owner → NoneDue (shown now)
     → GoesOn v fs ds → GoesOn now fs ds
 goes_with same none on = record {
-  frames = ap frames_of_owner same ∙ on.frames;
-  cut = ap cut_of_owner same ∙ on.cut;
+  frames = cc;
+  cut = cc;
   none = none;
-  still = ap is_pending same ∙ on.still;
-  quiet = ap says same ∙ on.quiet;
+  still = cc;
+  quiet = cc;
   steady = subst IsSteady (sym same) on.steady;
 }
 
@@ -177,15 +172,14 @@ left_by xs first left same quiet shaped =
 -- it goes on without its first frame
 left_first : (o : Option Owner) (f : ℕ) (fs : List ℕ) → frames_of_owner o ≡ f ∷ fs → says o ≡ None → IsSteady o
     → HasLeft o (without_first_frame o) f
-left_first o f fs frames quiet steady = left_by fs frames ((frame_goes o).frames ∙ ap rest_of frames)
+left_first o f fs frames quiet steady = left_by fs frames (cc ((frame_goes o).frames))
     (frame_goes o).cut ((frame_goes o).says ∙ quiet)
     (shaped_steady (without_first_frame o) ((frame_goes o).steady steady))
 
 -- and without its first descriptor
 left_first_cut : (o : Option Owner) (d : CutDescriptor) (ds : List CutDescriptor) → cut_of_owner o ≡ d ∷ ds
-    → says o ≡ None → IsSteady o
-    → HasLeftCut o (without_first_cut o) d
-left_first_cut o d ds cut quiet steady = left_by ds cut ((cut_goes o).cut ∙ ap rest_of cut)
+    → says o ≡ None → IsSteady o → HasLeftCut o (without_first_cut o) d
+left_first_cut o d ds cut quiet steady = left_by ds cut (cc ((cut_goes o).cut))
     (cut_goes o).frames ((cut_goes o).says ∙ quiet) (shaped_steady (without_first_cut o) ((cut_goes o).steady steady))
 
 -- a frame that is going has a page whose word says so
@@ -195,7 +189,7 @@ going_word v f k going = by (v.bound f) refl going
   where
     word : (page : ℕ × ℕ) (w : Ptw) → names w ≡ Some f → is_going_frame (bound_use page w) ≡ true → w ≡ ptw.Leaving f
     word page (ptw.Leaving g) n h = cc
-    word page _ n h = absurd (let no : false ≡ true = h in cc)
+    word page _ n h = cc
 
     read : (y : Option (ℕ × ℕ)) → is_going_frame (read_use y) ≡ false
     read None = refl
@@ -203,7 +197,7 @@ going_word v f k going = by (v.bound f) refl going
 
     by : (x : Option (ℕ × ℕ)) → v.bound f ≡ x → is_going_frame (frame_use v.words x (v.reads f)) ≡ true
         → v.words (page_or_zero x).0 (page_or_zero x).1 ≡ ptw.Leaving f
-    by None e h = absurd (not_both h (read (v.reads f)))
+    by None e h = cc (read (v.reads f))
     by (Some page) e h = word page (v.words page.0 page.1) (k.tied.named f page.0 page.1 e) h
 
 pub record HasGone (v : Seen) (fs : List ℕ) (ds : List CutDescriptor) : Type 0 where
@@ -212,56 +206,48 @@ pub record HasGone (v : Seen) (fs : List ℕ) (ds : List CutDescriptor) : Type 0
 
 module _ (v : Seen) (f : ℕ) (fs : List ℕ) (ds : List CutDescriptor) (k : KeepsBook v) (on : GoesOn v (f ∷ fs) ds) where
   first_going : is_going_frame ((shown v).frame f) ≡ true
-  first_going = k.going_owned.frames f ∙ (ap (λ (gs : List ℕ). has gs f) on.frames ∙ has_head f fs)
+  first_going = cc (k.going_owned.frames f, has_head f fs)
 
   pub first_finish : CanFinish v f (page_at v f).0 (page_at v f).1 (without_first_frame v.owner)
-  first_finish = record {
-    leaving = going_word v f k first_going;
-    none = on.none;
-    still = on.still;
-    after = (frame_goes v.owner).pending ∙ on.still;
-    first = left_first v.owner f fs on.frames on.quiet on.steady;
-  }
+  first_finish = assumption (
+    going_word v f k first_going,
+    (frame_goes v.owner).pending ∙ on.still,
+    left_first v.owner f fs on.frames on.quiet on.steady,
+  )
 
 -- the owner goes on without its first frame, whatever became of that
 pub back_on : (v : Seen) (f : ℕ) (fs : List ℕ) (ds : List CutDescriptor) → GoesOn v (f ∷ fs) ds
     → GoesOn (back v f (page_at v f).0 (page_at v f).1 (without_first_frame v.owner)) fs ds
-back_on v f fs ds on = record {
-  frames = (frame_goes v.owner).frames ∙ ap rest_of on.frames;
-  cut = (frame_goes v.owner).cut ∙ on.cut;
-  none = on.none;
-  still = (frame_goes v.owner).pending ∙ on.still;
-  quiet = (frame_goes v.owner).says ∙ on.quiet;
-  steady = (frame_goes v.owner).steady on.steady;
-}
+back_on v f fs ds on = assumption (
+  (frame_goes v.owner).frames ∙ ap rest_of on.frames,
+  (frame_goes v.owner).cut ∙ on.cut,
+  (frame_goes v.owner).pending ∙ on.still,
+  (frame_goes v.owner).says ∙ on.quiet,
+  (frame_goes v.owner).steady on.steady,
+)
 
 pub gones_keep : (v : Seen) (fs : List ℕ) (ds : List CutDescriptor) → KeepsBook v → GoesOn v fs ds
     → HasGone (gones v fs) [] ds
-gones_keep v [] ds k on = record { book = k; on = on }
+gones_keep v [] ds k on = assumption
 gones_keep v (f ∷ fs) ds k on = gones_keep (gone v f (page_at v f).0 (page_at v f).1 ptw.Null
-    (without_first_frame v.owner)) fs ds
-    (gone_keeps v f (page_at v f).0 (page_at v f).1 (without_first_frame v.owner) k
-    (first_finish v f fs ds k on) ptw.Null refl)
-    (goes_with refl on.none (back_on v f fs ds on))
+    (without_first_frame v.owner)) fs ds (gone_keeps v f (page_at v f).0 (page_at v f).1 (without_first_frame v.owner) k
+    (first_finish v f fs ds k on) ptw.Null refl) (goes_with refl on.none (back_on v f fs ds on))
 
 pub first_finish_seg : (v : Seen) (fs : List ℕ) (d : CutDescriptor) (ds : List CutDescriptor) → GoesOn v fs (d ∷ ds)
     → CanFinishSeg v d (without_first_cut v.owner)
-first_finish_seg v fs d ds on = record {
-  none = on.none;
-  still = on.still;
-  after = (cut_goes v.owner).pending ∙ on.still;
-  first = left_first_cut v.owner d ds on.cut on.quiet on.steady;
-}
+first_finish_seg v fs d ds on = assumption (
+  (cut_goes v.owner).pending ∙ on.still,
+  left_first_cut v.owner d ds on.cut on.quiet on.steady,
+)
 
 pub uncut_on : (v now : Seen) (fs : List ℕ) (d : CutDescriptor) (ds : List CutDescriptor) → GoesOn v fs (d ∷ ds)
-    → NoneDue (shown now)
-    → now.owner ≡ without_first_cut v.owner → GoesOn now fs ds
+    → NoneDue (shown now) → now.owner ≡ without_first_cut v.owner → GoesOn now fs ds
 uncut_on v now fs d ds on none same = record {
-  frames = ap frames_of_owner same ∙ ((cut_goes v.owner).frames ∙ on.frames);
-  cut = ap cut_of_owner same ∙ ((cut_goes v.owner).cut ∙ ap rest_of on.cut);
+  frames = cc ((cut_goes v.owner).frames);
+  cut = cc ((cut_goes v.owner).cut);
   none = none;
-  still = ap is_pending same ∙ ((cut_goes v.owner).pending ∙ on.still);
-  quiet = ap says same ∙ ((cut_goes v.owner).says ∙ on.quiet);
+  still = cc ((cut_goes v.owner).pending);
+  quiet = cc ((cut_goes v.owner).says);
   steady = subst IsSteady (sym same) ((cut_goes v.owner).steady on.steady);
 }
 
@@ -272,11 +258,10 @@ segs_keep : (step : Seen → CutDescriptor → Option Owner → Seen)
     → ((v : Seen) (d : CutDescriptor) (o : Option Owner) → KeepsBook v → CanFinishSeg v d o → KeepsBook (step v d o))
     → (v : Seen) (fs : List ℕ) (ds : List CutDescriptor) → KeepsBook v → GoesOn v fs ds
     → HasGone (each_seg step v ds) fs []
-segs_keep step owner none keeps v fs [] k on = record { book = k; on = on }
+segs_keep step owner none keeps v fs [] k on = assumption
 segs_keep step owner none keeps v fs (d ∷ ds) k on =
     let now = step v d (without_first_cut v.owner) in
-    segs_keep step owner none keeps now fs ds
-    (keeps v d (without_first_cut v.owner) k (first_finish_seg v fs d ds on))
+    segs_keep step owner none keeps now fs ds (keeps v d (without_first_cut v.owner) k (first_finish_seg v fs d ds on))
     (uncut_on v now fs d ds on (none v d (without_first_cut v.owner) on.none) (owner v d (without_first_cut v.owner)))
 
 pub gone_segs_keep : (v : Seen) (fs : List ℕ) (ds : List CutDescriptor) → KeepsBook v → GoesOn v fs ds

@@ -25,7 +25,7 @@ page_named v _ e h = refl
 
 seg_named : (v : Seen) (w : What) (k : ℕ) (e : HeldSeg) → leads_to ((shown v).descriptor k e.number) ≡ Some e.uid
     → names_descriptor (shown v) w k e.number ≡ names_seg w e
-seg_named v (what.Seg u) k e h = ap (is_uid u) h
+seg_named v (what.Seg u) k e h = cc
 seg_named v _ k e h = refl
 
 pages_dropped : (v : Seen) (w : What) (es : List HeldPage) → AreHeldPages v.bound es
@@ -64,29 +64,24 @@ told_seat : (v : Seen) (c : ℕ) (w : What) (d : ℕ) → HoldsRight v.bound (sh
 told_seat v c w d right = by (eqb d c) (v.processors d).cpu.online
   where
     by : (b online : Bool) → seat_of (cond b (dropped (v.processors d) w)
-        (cond online (warned (v.processors d) w) (v.processors d)))
-        ≡ cond b (cleared (shown v) w ((shown v).seat d))
+        (cond online (warned (v.processors d) w) (v.processors d))) ≡ cond b (cleared (shown v) w ((shown v).seat d))
         (cond online (record ((shown v).seat d) { due = Some w }) ((shown v).seat d))
     by true online = dropped_seat v w (v.processors d) right
     by false true = refl
     by false false = refl
 
 segs_right : (descriptor : ℕ → ℕ → DescriptorUse) (w : What) (o : Option ℕ) (es : List HeldSeg)
-    → AreOfProcess descriptor o es
-    → AreOfProcess descriptor o (filter (λ e. not (names_seg w e)) es)
+    → AreOfProcess descriptor o es → AreOfProcess descriptor o (filter (λ e. not (names_seg w e)) es)
 segs_right descriptor w None es held = rw held refl
 segs_right descriptor w (Some k) es held = segs_kept descriptor k (λ e. not (names_seg w e)) es held
 
 dropped_right : (bound : ℕ → Option (ℕ × ℕ)) (descriptor : ℕ → ℕ → DescriptorUse) (w : What) (p : Processor)
-    → HoldsRight bound descriptor p
-    → HoldsRight bound descriptor (dropped p w)
+    → HoldsRight bound descriptor p → HoldsRight bound descriptor (dropped p w)
 dropped_right bound descriptor w p right = record {
   pages = pages_kept bound (λ e. not (names_page w e)) p.cpu.assoc.pages right.pages;
   segs = segs_right descriptor w p.cpu.process p.cpu.assoc.segs right.segs;
-  few_pages = let kept = few_kept (λ e. not (names_page w e)) p.cpu.assoc.pages in let few =
-      right.few_pages in omega (arith, kept, few);
-  few_segs = let kept = few_kept (λ e. not (names_seg w e)) p.cpu.assoc.segs in let few =
-      right.few_segs in omega (arith, kept, few);
+  few_pages = omega (arith, (few_kept (λ e. not (names_page w e)) p.cpu.assoc.pages));
+  few_segs = omega (arith, (few_kept (λ e. not (names_seg w e)) p.cpu.assoc.segs));
   warned = right.warned;
 }
 
@@ -116,8 +111,8 @@ says_waits None w h = refl
 says_waits (Some o) w h = by o.phase h
   where
     by : (x : Phase) → says (Some (record o { phase = x })) ≡ Some w → waits_for (Some (record o { phase = x })) ≡ None
-    by (phase.Waiting aim w) h = absurd (none_some h)
-    by (phase.Moving m) h = absurd (none_some h)
+    by (phase.Waiting aim w) h = cc
+    by (phase.Moving m) h = cc
     by _ h = refl
 
 -- the owner is to signal this, and waits for it afterwards
@@ -173,12 +168,10 @@ clear_keeps v c w k due = book_next v (entry.Clear c w) (cleared_at v c w) refl 
   going_owned = owned_clear (shown v) v.owner c w k.going_owned;
   tied = k.tied;
   holding_right = λ d. by_place (λ (x : Processor). HoldsRight v.bound (shown v).descriptor x) v.processors c
-      (done_dropping (v.processors c) w) d
-      (λ i. right) (λ n. k.holding_right d);
+      (done_dropping (v.processors c) w) d (λ i. right) (λ n. k.holding_right d);
   under_way = under_way_alike v.reads v.processors (at_put v.processors c (done_dropping (v.processors c) w))
       (λ d. by_place (λ (x : Processor). x.cpu.transfer ≡ (v.processors d).cpu.transfer) v.processors c
-      (done_dropping (v.processors c) w) d
-      (λ i. ap (λ (j : ℕ). (v.processors j).cpu.transfer) (sym i)) (λ n. refl)) k.under_way;
+      (done_dropping (v.processors c) w) d (λ i. cc) (λ n. refl)) k.under_way;
   runs = k.runs;
 })
   where
@@ -188,5 +181,4 @@ clear_keeps v c w k due = book_next v (entry.Clear c w) (cleared_at v c w) refl 
 
     right : HoldsRight v.bound (shown v).descriptor (done_dropping (v.processors c) w)
     right = right_like (dropped (v.processors c) w) (done_dropping (v.processors c) w)
-        (dropped_right v.bound (shown v).descriptor w (v.processors c) (k.holding_right c)) refl refl
-        (λ v h. absurd (none_some h))
+        (dropped_right v.bound (shown v).descriptor w (v.processors c) (k.holding_right c)) refl refl (λ v h. cc)

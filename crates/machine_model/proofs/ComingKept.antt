@@ -38,17 +38,16 @@ abbrev pub Tale : State → ℕ → act.Action → State → Type 0
 Tale s c a t = SameRuns s t ⊎ ((tells a ≡ true) × WasTold s c t)
 
 abbrev same_runs : {s t : State} → t.plan ≡ s.plan → t.runs ≡ s.runs → SameRuns s t
-same_runs plan runs = record { plan = plan; runs = runs }
+same_runs plan runs = assumption
 
 chained : (s t u : State) → SameRuns s t → SameRuns t u → SameRuns s u
-chained s t u a b = record { plan = b.plan ∙ a.plan; runs = b.runs ∙ a.runs }
+chained s t u a b = assumption (b.plan ∙ a.plan, b.runs ∙ a.runs)
 
 -- ---- lists of frames and descriptors
 
 taken : (s : State) (c : ℕ) (a : Aim) (w : What) (fs : List ℕ) → SameRuns s (take_all s c a w fs)
 taken s c a w [] = same_runs refl refl
-taken s c a w (f ∷ fs) =
-    chained s (take_one s c a w f) (take_all (take_one s c a w f) c a w fs) (same_runs refl refl)
+taken s c a w (f ∷ fs) = chained s (take_one s c a w f) (take_all (take_one s c a w f) c a w fs) (same_runs refl refl)
     (taken (take_one s c a w f) c a w fs)
 
 all_cut : (s : State) (c : ℕ) (a : Aim) (w : What) (pairs : List (ℕ × ℕ)) → SameRuns s (cut_all s c a w pairs)
@@ -59,8 +58,7 @@ all_cut s c a w (pair ∷ pairs) =
 
 pub all_taken : (s : State) (c : ℕ) (a : Aim) (w : What) (fs : List ℕ) (pairs : List (ℕ × ℕ))
     → SameRuns s (took s c a w fs pairs)
-all_taken s c a w fs pairs =
-    chained s (take_all s c a w fs) (took s c a w fs pairs) (taken s c a w fs)
+all_taken s c a w fs pairs = chained s (take_all s c a w fs) (took s c a w fs pairs) (taken s c a w fs)
     (all_cut (take_all s c a w fs) c a w pairs)
 
 all_gone : (s : State) (ds : List CutDescriptor) → SameRuns s (segs_gone s ds)
@@ -84,18 +82,16 @@ record SameSeats (s t : State) : Type 0 where
   pub processors : t.processors ≡ s.processors
 
 seated : (s t u : State) → SameSeats s t → SameSeats t u → SameSeats s u
-seated s t u a b = record { same = chained s t u a.same b.same; processors = b.processors ∙ a.processors }
+seated s t u a b = assumption (chained s t u a.same b.same, b.processors ∙ a.processors)
 
 pages_seats : (s : State) (fs : List ℕ) → SameSeats s (pages_back s fs)
 pages_seats s [] = record { same = same_runs refl refl; processors = refl }
-pages_seats s (f ∷ fs) =
-    seated s (page_back s f) (pages_back (page_back s f) fs)
+pages_seats s (f ∷ fs) = seated s (page_back s f) (pages_back (page_back s f) fs)
     (record { same = same_runs refl refl; processors = refl }) (pages_seats (page_back s f) fs)
 
 segs_seats : (s : State) (ds : List CutDescriptor) → SameSeats s (segs_back s ds)
 segs_seats s [] = record { same = same_runs refl refl; processors = refl }
-segs_seats s (d ∷ ds) =
-    seated s (seg_back s d) (segs_back (seg_back s d) ds)
+segs_seats s (d ∷ ds) = seated s (seg_back s d) (segs_back (seg_back s d) ds)
     (record { same = same_runs refl refl; processors = refl }) (segs_seats (seg_back s d) ds)
 
 -- ---- answers
@@ -124,15 +120,14 @@ failed_transfer s c t faults = record {
 
 -- what came back after a failed write
 abbrev back_of : State → ℕ → ℕ → State
-back_of s c faults =
-    segs_back (pages_back (fault_told s (Some (process_at s c)) faults) (frames_of_owner s.owner))
+back_of s c faults = segs_back (pages_back (fault_told s (Some (process_at s c)) faults) (frames_of_owner s.owner))
     (cut_of_owner s.owner)
 
 failed_write : (s : State) (c faults : ℕ) → WasTold s c (write_failed s c faults)
 failed_write s c faults = record {
   reply = reply.Device;
   process = process_at (back_of s c faults) c;
-  here = λ (lt : c < length s.processors). ap (λ (ps : List Processor). or_zero (cpu_at ps c).process) seats.processors;
+  here = λ (lt : c < length s.processors). cc (seats.processors);
   plan = seats.same.plan;
   runs = set_of (back_of s c faults) seats.same;
 }
@@ -153,8 +148,7 @@ failed_write s c faults = record {
     set_of : (u : State) → SameRuns s u → set u.runs (process_at (back_of s c faults) c) (run_after
         (run_at u.runs (process_at (back_of s c faults) c))
         (next_command u (process_at (back_of s c faults) c)) reply.Device)
-        ≡ set s.runs (process_at (back_of s c faults) c) (run_after
-        (run_at s.runs (process_at (back_of s c faults) c))
+        ≡ set s.runs (process_at (back_of s c faults) c) (run_after (run_at s.runs (process_at (back_of s c faults) c))
         (next_command s (process_at (back_of s c faults) c)) reply.Device)
     set_of u same =
         let k = process_at (back_of s c faults) c in
@@ -169,8 +163,7 @@ abbrev commit_booked : State → ℕ → Command → State
 commit_booked s c command =
     let k = process_at s c in
     let uid = uid_of_command s.store k command in
-    let st = with_effect s.store k uid (frames_of_owner s.owner) command in
-    booked (with_store s st) (gone_entries s uid command)
+    booked (with_store s (with_effect s.store k uid (frames_of_owner s.owner) command)) (gone_entries s uid command)
 
 commits : (s : State) (c : ℕ) (o : Option Command) → Tale s c act.Commit (committed_at s c o)
 commits s c None = inl (same_runs refl refl)
@@ -207,8 +200,7 @@ tale s c (act.CopyPage m p) o =
 tale s c (act.FinishEviction f) o =
     either (Tale s c (act.FinishEviction f)) o.failed (eviction_done (with_faults s o.faults) c f)
     (write_failed s c o.faults) (inl (same_runs refl refl)) (inr (refl, failed_write s c o.faults))
-tale s c (act.FinishPage f) o =
-    either (Tale s c (act.FinishPage f)) o.failed (page_done (with_faults s o.faults) f)
+tale s c (act.FinishPage f) o = either (Tale s c (act.FinishPage f)) o.failed (page_done (with_faults s o.faults) f)
     (write_failed s c o.faults) (inl (same_runs refl refl)) (inr (refl, failed_write s c o.faults))
 tale s c (act.Deactivate uid) o = inl (is_emptied s c uid)
 tale s c act.Commit o = commits s c (next_command s (process_at s c))
@@ -228,8 +220,7 @@ unfolding AllCome AllOf
 of_all s come = come
 
 pub come_same : (s t : State) → t.plan ≡ s.plan → t.runs ≡ s.runs → AllCome s → AllCome t
-come_same s t plan runs come =
-    of_all t (rw plan (subst (λ (rs : List Run). AllOf s.plan rs) (sym runs) (all_of s come)))
+come_same s t plan runs come = of_all t (rw plan (rw runs (all_of s come)))
 
 pub all_come : (s : State) (c : ℕ) (a : act.Action) (o : Outcome) → IsPlan s.plan → AllCome s
     → (tells a ≡ true → MayAnswer s c) → AllCome (after s c a o)
@@ -241,7 +232,6 @@ all_come s c a o plan come may = elim (tale s c a o) [
     answered_come : WasTold s c (after s c a o) → MayAnswer s c → AllCome (after s c a o)
     answered_come was by =
         let k = by.process in
-        let same : was.process ≡ k = was.here by.can.within ∙ ap or_zero by.can.process in
-        come_same (told_by s c k None was.reply) (after s c a o) was.plan
-        (was.runs ∙ ap (λ (j : ℕ). set s.runs j (run_after (run_at s.runs j) (next_command s j) was.reply)) same)
+        let same = was.here by.can.within ∙ ap or_zero by.can.process in
+        come_same (told_by s c k None was.reply) (after s c a o) was.plan (cc)
         (told_come s c k None was.reply by.command plan come by.can.there by.can.planned by.can.on)

@@ -10,7 +10,7 @@ use Rattle.machine_model.proofs.LeftLaws.{no_process}
 -- a try that doesn't end an `await` leaves another
 tries_less : (q : Progress) (c : Command) (r : Reply) → tries_on q c r ≡ true → q.tries + 1 < weight c
 tries_less q (command.Await number offset word tries) (reply.Word w) h =
-    let last = (and_parts (not (w == word)) (nat_lt (q.tries + 1) tries) h).1 in grind (arith, nat_tests)
+    grind (arith, (and_parts (not (w == word)) (nat_lt (q.tries + 1) tries) h).1, nat_tests)
 tries_less q c r h = absurd cc
 
 -- after a command that isn't the end comes another
@@ -23,8 +23,7 @@ more_there (a ∷ []) zero c once at more = absurd cc
 more_there (a ∷ []) (suc place) c once at more = absurd cc
 more_there (a ∷ b ∷ cs) zero c once at more = omega arith
 more_there (a ∷ b ∷ cs) (suc place) c once at more =
-    let parts = and_parts (not (script.is_end a)) (ends_once (b ∷ cs)) once in
-    let rest : place + 1 < length (b ∷ cs) = more_there (b ∷ cs) place c parts.1 at more in omega (arith, rest)
+    omega (arith, more_there (b ∷ cs) place c (and_parts (not (script.is_end a)) (ends_once (b ∷ cs)) once).1 at more)
 
 pub record IsThere (cs : List Command) (place : ℕ) : Type 0 where
   pub command : Command
@@ -42,11 +41,7 @@ comes_to volumes cs place are lt =
     let it = there cs place lt in
     record {
       command = it.command;
-      on = record {
-        going = refl;
-        next = it.at;
-        tries = heavy volumes it.command (command_of volumes cs place it.command are it.at);
-      };
+      on = assumption (heavy volumes it.command (command_of volumes cs place it.command are it.at));
     }
 
 some_there : (cs : List Command) → ends_once cs ≡ true → 0 < length cs
@@ -72,7 +67,7 @@ comes_after volumes cs run c r are once on =
         → (then again ends).ended ≡ false → Comes cs (then again ends)
     by true ends less more going = record {
       command = c;
-      on = record { going = on.going; next = on.next; tries = less refl };
+      on = assumption (less refl);
     }
     by false true less more going = absurd cc
     by false false less more going =
@@ -117,14 +112,14 @@ booted_come p words disks h k lt more = at_first
     scripts = scripts_are p h
 
     within : k < length p.processes
-    within = let n = length-replicate (length p.processes) first_run in omega (arith, lt, n)
+    within = omega (arith, length-replicate (length p.processes) first_run)
 
     run : run_at (replicate (length p.processes) first_run) k ≡ first_run
     run = get_or-replicate (length p.processes) k first_run no_run within
 
     at_first : Comes (commands_of p k) (run_at (replicate (length p.processes) first_run) k)
-    at_first = subst (λ (r : Run). Comes (commands_of p k) r) (sym run)
-        (comes_at_first (length p.volumes) (commands_of p k) (scripts.ranges k within) (scripts.ends k within))
+    at_first = rw run (comes_at_first (length p.volumes) (commands_of p k) (scripts.ranges k within)
+        (scripts.ends k within))
 
 -- after an answer
 pub told_come : (s : State) (c k : ℕ) (f : Option ℕ) (r : Reply) (command : Command) → IsPlan s.plan → AllCome s
@@ -140,12 +135,11 @@ told_come s c k f r command h come there planned on j lt more =
     at_it : j ≡ k → (run_at after j).ended ≡ false → Comes (commands_of s.plan j) (run_at after j)
     at_it same going =
         subst (λ (i : ℕ). (run_at after i).ended ≡ false → Comes (commands_of s.plan i) (run_at after i)) (sym same)
-        (subst (λ (x : Run). x.ended ≡ false → Comes (commands_of s.plan k) x)
-        (sym (get_or-set_same s.runs k (run_after (run_at s.runs k) (next_command s k) r) no_run there))
+        (rw (get_or-set_same s.runs k (run_after (run_at s.runs k) (next_command s k) r) no_run there)
         (rw on.next (comes_after (length s.plan.volumes) (commands_of s.plan k) (run_at s.runs k) command r
         ((scripts_are s.plan h).ranges k planned) ((scripts_are s.plan h).ends k planned) on))) going
 
     elsewhere : j ≢ k → (run_at after j).ended ≡ false → Comes (commands_of s.plan j) (run_at after j)
     elsewhere other going =
         (rw (← (get_or-set_other s.runs k j (run_after (run_at s.runs k) (next_command s k) r) no_run other)) at (come j
-        (let n = length-set s.runs k (run_after (run_at s.runs k) (next_command s k) r) in omega (arith, lt, n)))) going
+        (omega (arith, length-set s.runs k (run_after (run_at s.runs k) (next_command s k) r))))) going

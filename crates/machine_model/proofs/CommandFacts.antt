@@ -9,8 +9,8 @@ refuses_not : (r : Reply) → is_refusal r ≡ true → refusal r ≡ None → �
 refuses_not r h e = by (is_refusal r) h e
   where
     by : (b : Bool) → b ≡ true → cond b (Some r) None ≡ None → ⊥
-    by true i j = let none : Some r ≡ None = j in cc
-    by false i j = let none : false ≡ true = i in cc
+    by true i j = let none = j in cc
+    by false i j = let none = i in cc
 
 -- ---- the node that it is about
 
@@ -39,9 +39,8 @@ module _ (s : State) (k : ℕ) (keeps : Keeps s) where
   segment_by path n h = record {
     node = n;
     found = h;
-    uid = ap uid_of_node (ap (λ (ns : List Node). node_at ns path) (sym same_nodes)
-        ∙ plain (node_at (flat_of s).nodes path) h);
-    there = ap (λ (ns : List Node). node_in ns n.uid) (sym same_nodes) ∙ both.0;
+    uid = cc (plain (node_at (flat_of s).nodes path) h);
+    there = cc (same_nodes, both.0);
     segment = both.1;
   }
     where
@@ -49,11 +48,11 @@ module _ (s : State) (k : ℕ) (keeps : Keeps s) where
       both = segment_found (flat_of s).nodes path n h
 
       plain : (r : Result Node Reply) → only_segment r ≡ Ok n → r ≡ Ok n
-      plain (Err e) i = absurd (let none : Err e ≡ Ok n = i in cc)
+      plain (Err e) i = cc
       plain (Ok x) i = dir x.directory i
         where
           dir : (b : Bool) → cond b (Err reply.IsDir) (Ok x) ≡ Ok n → ◌≡◌ {A = Result Node Reply} (Ok x) (Ok n)
-          dir true g = absurd (let none : Err reply.IsDir ≡ Ok n = g in cc)
+          dir true g = cc
           dir false g = g
 
   pub truncate_stands : (path : List (List ℕ)) (words : ℕ) → refusal_of s k (command.Truncate path words) ≡ None
@@ -86,11 +85,9 @@ module _ (s : State) (k : ℕ) (keeps : Keeps s) where
       by (Ok n) e i = record {
         node = n;
         found = e;
-        uid = ap uid_of_node (ap (λ (ns : List Node). node_at ns path) (sym same_nodes)
-            ∙ (branch_found (flat_of s).nodes path n e).0);
-        there = ap (λ (ns : List Node). node_in ns n.uid) (sym same_nodes)
-            ∙ node_found (flat_of s).nodes path n (branch_found (flat_of s).nodes path n e).0;
-        empty = ap (list_any (is_inferior n.uid)) (sym same_nodes) ∙ alone.0;
+        uid = cc ((branch_found (flat_of s).nodes path n e).0);
+        there = cc (node_found (flat_of s).nodes path n (branch_found (flat_of s).nodes path n e).0);
+        empty = cc (same_nodes, alone.0);
         quota = alone.1;
       }
         where
@@ -99,7 +96,7 @@ module _ (s : State) (k : ℕ) (keeps : Keeps s) where
             where
               none_is : (b : Bool) → eqb n.quota 0 ≡ b → refusal (cond b reply.Done reply.HasQuota) ≡ None → b ≡ true
               none_is true x y = refl
-              none_is false x y = absurd (let none : Some reply.HasQuota ≡ None = y in cc)
+              none_is false x y = cc
 
               zero_is : eqb n.quota 0 ≡ true → n.quota ≡ 0
               zero_is x = elim (eqb_tells n.quota 0) [ inl y ↦ y.1 | inr y ↦ absurd (not_both x y.0) ]
@@ -107,5 +104,5 @@ module _ (s : State) (k : ℕ) (keeps : Keeps s) where
               cases : (b : Bool) → list_any (is_inferior n.uid) (flat_of s).nodes ≡ b
                   → refusal (cond b reply.NotEmpty (cond (eqb n.quota 0) reply.Done reply.HasQuota)) ≡ None
                   → (b ≡ false) × (n.quota ≡ 0)
-              cases true x y = absurd (let none : Some reply.NotEmpty ≡ None = y in cc)
+              cases true x y = cc
               cases false x y = (refl, zero_is (none_is (eqb n.quota 0) refl y))

@@ -1,6 +1,6 @@
 -- What a step of a processor brings that has a process while nobody owns the supervisor, and of one that has none
 -- while no processor has.
-use Rattle.machine_model.proofs.Prelude.{◌≡◌, ◌≢◌, ◌<◌, ℕ, ◌+◌, ◌-◌, Bool, true, false, not, cond, ◌&&◌, nat_lt, List, length, Option, Some, None, is_some, set, refl, sym, ap, subst, ◌∙◌, inl, inr, arith, get_or-set_same, Transfer, Want, Refer, Runner, no_runner, Keeper, Outline, Turn, runner_at, want_at, with_runner, with_frame, is_of, wanted_fits, want_lack, lack, all_rank, command_rank, command_left, Comes, Clears, Works, Loads, Leaves, Commands, rule_of, owns, Step, ends, comes, clears, reads, loses, works, awaits_clear, awaits_transfer, loads, idles, leaves, fills, replies, faults, enters, waits, IsEnded, HasLost, HasLoaded, HasLeft, IsFilled, IsReplied, with_bound, not_reading, IsKept, IsReference, IsPast, IsNearer, CommandStep, not_both}
+use Rattle.machine_model.proofs.Prelude.{and_parts, ◌≡◌, ◌≢◌, ◌<◌, ℕ, ◌+◌, ◌-◌, Bool, true, false, not, cond, nat_lt, List, length, Option, Some, None, is_some, set, refl, sym, ap, subst, ◌∙◌, inl, inr, arith, get_or-set_same, Transfer, Want, Refer, Runner, no_runner, Outline, Turn, runner_at, want_at, with_runner, with_frame, wanted_fits, want_lack, lack, all_rank, command_rank, command_left, Comes, Clears, Works, Loads, Leaves, Commands, rule_of, Step, ends, comes, clears, reads, loses, works, awaits_clear, awaits_transfer, loads, idles, leaves, fills, replies, faults, enters, waits, IsEnded, HasLost, HasLoaded, HasLeft, IsFilled, IsReplied, with_bound, not_reading, IsKept, IsReference, IsPast, IsNearer, CommandStep, not_both}
 use Rattle.core_map.specs.declared.Frame.TheVariants as frame
 use Rattle.machine_model.specs.Outline.{frame_in}
 use Rattle.machine_model.specs.Measures.{is_over}
@@ -10,17 +10,14 @@ use Rattle.machine_model.proofs.GoesLaws.{all_set, gone_from}
 use Rattle.machine_model.proofs.RuleLaws.{tells}
 use Rattle.machine_model.proofs.StepLaws.{inside, none_due}
 
--- nothing is due while nobody owns the supervisor, so a processor that has a process neither comes online nor clears
-not_comes : (s : Outline) (c : ℕ) → IsKept s → (runner_at s.runners c).running ≡ true → rule_of s c ≡ Comes → ⊥
-not_comes s c k running h = not_both (k.tied.runners_online c running) (tells s c Comes h)
-
+-- nothing is due while nobody owns the supervisor, so no processor clears
 not_clears : (s : Outline) (c : ℕ) → IsKept s → s.owner ≡ None → rule_of s c ≡ Clears → ⊥
 not_clears s c k none h =
     let told = tells s c Clears h in
     not_both told.1 (none_due s.runners c (inside s.runners c told.0) (k.job.quiet none))
 
 not_works : (s : Outline) (c : ℕ) → s.owner ≡ None → rule_of s c ≡ Works → ⊥
-not_works s c none h = not_both (tells s c Works h).2 (ap (λ (o : Option Keeper). owns o c) none)
+not_works s c none h = not_both (tells s c Works h).2 (cc)
 
 not_loads : (s : Outline) (c : ℕ) → (runner_at s.runners c).running ≡ true → rule_of s c ≡ Loads → ⊥
 not_loads s c running h = not_both running (tells s c Loads h).3
@@ -51,9 +48,9 @@ read_fits : (s t : Outline) (r : Transfer) (used modified : Bool) (w : Want) →
     → wanted_fits s w (Some r) ≡ true → wanted_fits t w None ≡ true
 read_fits s t r used modified w lt started frames stored h =
     wanted_more s t w (Some r) None (λ uid page makes there. cc (here_more s.frames r.frame uid page
-    (frame.Bound r.uid r.page used modified) lt (ap (is_of uid page) started) there))
+    (frame.Bound r.uid r.page used modified) lt (cc) there))
     (λ uid page read. inl (cc (here_now s.frames r.frame uid page (frame.Bound r.uid r.page used modified) lt
-    (ap (is_of uid page) started) read))) (λ uid page out. ap (λ (f : ℕ → ℕ → Bool). f uid page) stored ∙ out) h
+    (cc) read))) (λ uid page out. cc) h
 
 read_nearer : (s : Outline) (c : ℕ) (r : Transfer) (used modified : Bool) → IsKept s → s.owner ≡ None
     → (runner_at s.runners c).reading ≡ Some r → IsNearer s (not_reading (with_bound s r used modified) c) c
@@ -68,7 +65,7 @@ read_nearer s c r used modified k none reading =
     let bit : cond {A = ℕ} (is_some x.reading) 1 0 ≡ 1 =
     ap (λ (o : Option Transfer). cond {A = ℕ} (is_some o) 1 0) reading in
     nearer_by s (not_reading (with_bound s r used modified) c) c (record (runner_at s.runners c) { reading = None })
-    (inside s.runners c online) none refl refl refl refl refl refl refl refl (omega (arith, lacks, was, bit))
+    (inside s.runners c online) none refl refl refl refl refl refl refl refl (omega arith)
 
 fill_nearer : (s : Outline) (c : ℕ) (x : Runner) → c < length s.runners → s.owner ≡ None
     → IsFilled (runner_at s.runners c) x → IsNearer s (with_runner s c x) c
@@ -78,8 +75,7 @@ fill_nearer s c x within none filled =
     let bit : cond {A = ℕ} (is_some x.reading) 1 0 ≡ cond (is_some (runner_at s.runners c).reading) 1 0 =
     ap (λ (o : Option Transfer). cond {A = ℕ} (is_some o) 1 0) filled.reading in
     nearer_by s (with_runner s c x) c x within none refl refl refl filled.online filled.running filled.since
-    filled.tried
-    filled.want (omega (arith, lacks, bit, filled.missing))
+    filled.tried filled.want (omega arith)
 
 -- ---- the command is past
 
@@ -94,10 +90,8 @@ left_past s c x l within none turn left =
     let now : cond {A = ℕ} (is_over x) 1 0 ≡ 0 = rw (left.running) refl in
     record {
       owner = none;
-      gone = gone_from (runner_at (set s.runners c x) c) (runner_at s.runners c).since (λ h.
-          absurd (not_both h (ap (λ (y : Runner). y.running) same ∙ left.running)));
-      all = all_turn s (record (with_runner s c x) { ready = s.ready + 1 }) l.sizes refl
-          (omega (arith, count, was, now));
+      gone = gone_from (runner_at (set s.runners c x) c) (runner_at s.runners c).since (λ h. cc);
+      all = all_turn s (record (with_runner s c x) { ready = s.ready + 1 }) l.sizes refl (omega arith);
     }
 
 lost_past : (s : Outline) (c : ℕ) (r : Transfer) (x : Runner) (left : ℕ) → IsKept s
@@ -110,14 +104,13 @@ lost_past s c r x left k l none reading lost fewer =
     get_or-set_same s.runners c x no_runner (inside s.runners c online) in
     record {
       owner = none;
-      gone = gone_from (runner_at (set s.runners c x) c) (runner_at s.runners c).since (λ h.
-          ap (λ (y : Runner). y.since) same ∙ lost.since);
+      gone = gone_from (runner_at (set s.runners c x) c) (runner_at s.runners c).since (λ h. cc);
       all = all_fewer s (record (with_runner (with_frame s r.frame frame.Free) c x) { left = left }) l.sizes fewer;
     }
 
 replied_past : (s t : Outline) (c : ℕ) → IsKept t → s.owner ≡ None → IsReplied s c t → IsPast s t c
 replied_past s t c l none replied = record {
-  owner = replied.owner ∙ none;
+  owner = cc;
   gone = gone_from (runner_at t.runners c) (runner_at s.runners c).since (λ h. replied.since);
   all = all_fewer s t l.sizes replied.fewer;
 }
@@ -129,18 +122,14 @@ is_no_reference _ h is = is
 
 -- a processor leaves a process that has had its turn
 turn_over : (s : Outline) (c : ℕ) → rule_of s c ≡ Leaves → is_over (runner_at s.runners c) ≡ true
-turn_over s c h = first (is_over (runner_at s.runners c)) (nat_lt 0 s.ready) (tells s c Leaves h).4
-  where
-    first : (a b : Bool) → (a && b) ≡ true → a ≡ true
-    first true b e = refl
-    first false b e = e
+turn_over s c h = (and_parts (is_over (runner_at s.runners c)) (nat_lt 0 s.ready) (tells s c Leaves h).4).0
 
 -- ---- a step
 
 pub command_step : (s : Outline) (c : ℕ) (turn : Turn) (t : Outline) → IsKept s → IsKept t → s.owner ≡ None
     → (runner_at s.runners c).running ≡ true → Step s c turn t → CommandStep turn s t c
 command_step s c turn t k l none running (ends ended) = not_both running (ended.running c)
-command_step s c turn t k l none running (comes h) = absurd (not_comes s c k running h)
+command_step s c turn t k l none running (comes h) = cc (k.tied.runners_online c running, tells s c Comes h)
 command_step s c turn t k l none running (clears x h cleared) = absurd (not_clears s c k none h)
 command_step s c turn t k l none running (reads r used modified h is) =
     inr (inr (read_nearer s c r used modified k none is))
@@ -170,8 +159,7 @@ loaded_round : (s : Outline) (c : ℕ) (x : Runner) → IsKept (record (with_run
 loaded_round s c x l within some idle loaded =
     let count = over_set s.runners c x within in
     let now : cond {A = ℕ} (is_over x) 1 0 ≡ 0 = rw (loaded.running, loaded.since, loaded.tried) refl in
-    all_loaded s (record (with_runner s c x) { ready = s.ready - 1 }) l.sizes refl (omega (arith, count, now))
-    (omega (arith, some))
+    all_loaded s (record (with_runner s c x) { ready = s.ready - 1 }) l.sizes refl (omega arith) (omega arith)
 
 online_round : (s : Outline) (c : ℕ) → c < length s.runners → (runner_at s.runners c).online ≡ false
     → all_rank (with_runner s c (record (runner_at s.runners c) { online = true })) < all_rank s
@@ -180,8 +168,8 @@ online_round s c within off =
     let offs = offline_set s.runners c (record (runner_at s.runners c) { online = true }) within in
     let was : cond {A = ℕ} (not (runner_at s.runners c).online) 1 0 ≡ 1 =
     ap (λ (b : Bool). cond {A = ℕ} (not b) 1 0) off in
-    all_online s (with_runner s c (record (runner_at s.runners c) { online = true })) refl (omega (arith, turns)) refl
-    (omega (arith, offs, was))
+    all_online s (with_runner s c (record (runner_at s.runners c) { online = true })) refl (omega arith) refl
+    (omega arith)
 
 pub idle_step : (s : Outline) (c : ℕ) (turn : Turn) (t : Outline) → IsKept s → IsKept t → c < length s.runners
     → s.owner ≡ None → ((d : ℕ) → (runner_at s.runners d).running ≡ false) → (IsEnded s → ⊥) → Step s c turn t
@@ -189,24 +177,19 @@ pub idle_step : (s : Outline) (c : ℕ) (turn : Turn) (t : Outline) → IsKept s
 idle_step s c turn t k l within none idle more (ends ended) = absurd (more ended)
 idle_step s c turn t k l within none idle more (comes h) = (none, online_round s c within (tells s c Comes h))
 idle_step s c turn t k l within none idle more (clears x h cleared) = absurd (not_clears s c k none h)
-idle_step s c turn t k l within none idle more (reads r used modified h is) =
-    absurd (not_both (k.tied.readers_run c r is) (idle c))
-idle_step s c turn t k l within none idle more (loses r x left h is lost fewer) =
-    absurd (not_both (k.tied.readers_run c r is) (idle c))
+idle_step s c turn t k l within none idle more (reads r used modified h is) = cc (k.tied.readers_run c r is, idle c)
+idle_step s c turn t k l within none idle more (loses r x left h is lost fewer) = cc (k.tied.readers_run c r is, idle c)
 idle_step s c turn t k l within none idle more (works _ h step) = absurd (not_works s c none h)
 idle_step s c turn t k l within none idle more (awaits_clear w e h waiting online due) = absurd (not_works s c none h)
 idle_step s c turn t k l within none idle more (awaits_transfer g uid page h look started) =
     absurd (not_works s c none h)
 idle_step s c turn t k l within none idle more (loads x h some loaded) =
     (none, loaded_round s c x l within some (idle c) loaded)
-idle_step s c turn t k l within none idle more (idles busy h zero_ready) =
-    absurd (more (record { ready = zero_ready; running = idle }))
-idle_step s c turn t k l within none idle more (leaves x h left) = absurd (not_both (tells s c Leaves h).3 (idle c))
-idle_step s c turn t k l within none idle more (fills x h filled) = absurd (not_both (tells s c Commands h).3 (idle c))
-idle_step s c turn t k l within none idle more (replies _ h replied) =
-    absurd (not_both (tells s c Commands h).3 (idle c))
+idle_step s c turn t k l within none idle more (idles busy h zero_ready) = absurd (more (assumption))
+idle_step s c turn t k l within none idle more (leaves x h left) = cc ((tells s c Leaves h).3, idle c)
+idle_step s c turn t k l within none idle more (fills x h filled) = cc ((tells s c Commands h).3, idle c)
+idle_step s c turn t k l within none idle more (replies _ h replied) = cc ((tells s c Commands h).3, idle c)
 idle_step s c turn t k l within none idle more (faults chain uid page makes h free want lacks) =
-    absurd (not_both (tells s c Commands h).3 (idle c))
-idle_step s c turn t k l within none idle more (enters h free want) =
-    absurd (not_both (tells s c Commands h).3 (idle c))
-idle_step s c turn t k l within none idle more (waits o h some) = absurd (not_both (tells s c Commands h).3 (idle c))
+    cc ((tells s c Commands h).3, idle c)
+idle_step s c turn t k l within none idle more (enters h free want) = cc ((tells s c Commands h).3, idle c)
+idle_step s c turn t k l within none idle more (waits o h some) = cc ((tells s c Commands h).3, idle c)

@@ -18,7 +18,7 @@ use Rattle.machine_model.proofs.TransferKept.{kept_with}
 
 queue_same : (t : Store) (run : Run) (ready : List ℕ) (k : ℕ) (o : Option ℕ) → o ≡ Some k → IsRun (progress_of t k) run
     → queued_by t ready o ≡ queued run ready k
-queue_same t run ready k o h is = ap (queued_by t ready) h ∙ ap (λ (b : Bool). cond b ready (ready ++ k ∷ [])) is.ended
+queue_same t run ready k o h is = cc
 
 -- the ready list by the runs is that by the flat store
 pub ready_left : (s : State) (c k : ℕ) → KeepsBook (seen s) → (processor_at s.processors c).cpu.process ≡ Some k
@@ -30,9 +30,11 @@ ready_left s c k book process = cc (queue_same (flat_of s) (run_at s.runs k) s.r
 -- what custody sees of a process that leaves its processor
 pub left_seen : (s : State) (c k : ℕ) → KeepsBook (seen s) → c < length s.processors
     → (processor_at s.processors c).cpu.process ≡ Some k → seen (left_at s c) ≡ left (seen s) c
-left_seen s c k book there process = reseated_seen s c (emptied (processor_at s.processors c))
-    (queued (run_at s.runs (process_at s c)) s.ready (process_at s c)) (entry.Leave c) there
-    ∙ ap (λ (ready : List ℕ). record (left (seen s) c) { ready = ready }) (ready_left s c k book process)
+left_seen s c k book there process = cc (
+  reseated_seen s c (emptied (processor_at s.processors c))
+      (queued (run_at s.runs (process_at s c)) s.ready (process_at s c)) (entry.Leave c) there,
+  ready_left s c k book process,
+)
 
 pub left_keeps_book : (s : State) (c k : ℕ) → KeepsBook (seen s) → c < length s.processors
     → (processor_at s.processors c).cpu.process ≡ Some k
@@ -93,9 +95,12 @@ gone_are s u c h none = cc (no_inactive s.store u c h, append-nil (map cut_entry
 
 pub cut_faults : (es : List Entry) (ds : List CutDescriptor)
     → count_by is_fault (es ++ map cut_entry ds) ≡ count_by is_fault es
-cut_faults es [] = ap (count_by is_fault) (append-nil es)
-cut_faults es (d ∷ ds) = ap (count_by is_fault) (sym (append_assoc es (cut_entry d ∷ []) (map cut_entry ds)))
-    ∙ (cut_faults (es ++ cut_entry d ∷ []) ds ∙ quiet_push es (cut_entry d) refl)
+cut_faults es [] = cc (append-nil es)
+cut_faults es (d ∷ ds) = cc (
+  append_assoc es (cut_entry d ∷ []) (map cut_entry ds),
+  cut_faults (es ++ cut_entry d ∷ []) ds,
+  quiet_push es (cut_entry d) refl,
+)
 
 -- ---- the command
 
@@ -127,17 +132,17 @@ module _ (s : State) (c k : ℕ) (cmd : Command) (keeps : Keeps s) (pages : Take
     commit_kept stays its tell says = subst Keeps (sym same)
         (kept_with (with_owner (told now c None (reply_of s k cmd)) None)
         (told_keeps (with_owner now None) c (process_at s c) None (reply_of s k cmd) effected_book tell)
-        (subst StoreSays same says)
-        (let one = faults_push now.entries (entry.Do (process_at s c) (run_at s.runs (process_at s c)).place c None
-        (reply_of s k cmd)) in
-        let two = cut_faults s.entries (cut_of_owner s.owner) in
-        let three = ap (λ (es : List Entry). count_by is_fault (s.entries ++ es)) gone_is in
-        let few = keeps.few_faults in omega (arith, one, two, three, few))
-        (length-set s.processors c _ ∙ keeps.sizes.processors)
-        (length-set s.runs (process_at s c) _ ∙ keeps.sizes.processes) (λ o h. absurd (none_some h)))
+        (subst StoreSays same says) (omega (
+          arith,
+          faults_push now.entries (entry.Do (process_at s c) (run_at s.runs (process_at s c)).place c None
+              (reply_of s k cmd)),
+          cut_faults s.entries (cut_of_owner s.owner),
+          (ap (λ (es : List Entry). count_by is_fault (s.entries ++ es)) gone_is),
+        )) (length-set s.processors c _ ∙ keeps.sizes.processors)
+        (length-set s.runs (process_at s c) _ ∙ keeps.sizes.processes) (λ o h. cc))
       where
         same : committed s c k cmd ≡ with_owner (told now c None (reply_of s k cmd)) None
-        same = ap (λ (x : State). with_owner x None) (stays (told now c None (reply_of s k cmd)))
+        same = cc (stays (told now c None (reply_of s k cmd)))
 
 -- ---- the end of a process
 
@@ -162,13 +167,17 @@ module _ (s : State) (c k : ℕ) (keeps : Keeps s) (none : frames_of_owner s.own
       (let one = faults_push (effected s k command.End).entries
       (entry.Do k (run_at s.runs k).place c None (reply_of s k command.End)) in
       let two = cut_faults s.entries (cut_of_owner s.owner) in
-      let three = ap (λ (es : List Entry). count_by is_fault (s.entries ++ es))
-      (gone_are s (uid_of_command s.store k command.End) command.End tt none) in
       let four = faults_push ended.entries (entry.Leave c) in
-      let few = keeps.few_faults in omega (arith, one, two, three, four, few))
-      (length-set ended.processors c _ ∙ (length-set s.processors c _ ∙ keeps.sizes.processors))
-      (length-set s.runs k _ ∙ keeps.sizes.processes)
-      (λ o h. absurd (none_some h)))
+      let few = keeps.few_faults in omega (
+        arith,
+        one,
+        two,
+        (ap (λ (es : List Entry). count_by is_fault
+            (s.entries ++ es)) (gone_are s (uid_of_command s.store k command.End) command.End tt none)),
+        four,
+        few,
+      )) (length-set ended.processors c _ ∙ (length-set s.processors c _ ∙ keeps.sizes.processors))
+      (length-set s.runs k _ ∙ keeps.sizes.processes) (λ o h. absurd (none_some h)))
     where
       same : committed s c k command.End ≡ left_at ended c
       same = ap (λ (j : ℕ). left_at (told_by ending c j None (reply_of s k command.End)) c) (ap or_zero process)

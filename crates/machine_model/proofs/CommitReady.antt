@@ -21,12 +21,11 @@ pub record IsCommitting (s : State) (c : ℕ) (x : Command) : Type 0 where
 
 pub committing : (s : State) (c : ℕ) → KeepsAll s → c < length s.processors → action_of s c ≡ act.Commit
     → (x : Command) → next_command s (process_at s c) ≡ Some x → IsCommitting s c x
-committing s c all there is x next = subst (IsCommitting s c) (some_same knows.command x (sym knows.speaks.next ∙ next))
+committing s c all there is x next = rw (← (some_same knows.command x (sym knows.speaks.next ∙ next)))
     (assumption (knows.owner, knows.speaks, knows.tree, knows.taken.stands, ready.0, ready.1))
   where
     knows : Commits s c
     knows = subst (Knows s c) is (step_knows s c (no_call s) all.machine there all.working)
 
-    ready : IsReadyFor s.store (process_at s c) knows.command
-        × OwnsFor s.store (frames_of_owner s.owner) knows.command
+    ready : IsReadyFor s.store (process_at s c) knows.command × OwnsFor s.store (frames_of_owner s.owner) knows.command
     ready = ready_by s (process_at s c) all.machine.keeps knows.command knows.taken knows.out

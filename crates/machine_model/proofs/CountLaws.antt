@@ -20,7 +20,7 @@ count_cons p x xs = sum_by-cons (λ y. cond (p y) 1 0) x xs
 
 -- a test that passes wherever another does counts no less, and more where it passes besides
 cond_le : (a b : Bool) → (a ≡ true → b ≡ true) → cond {A = ℕ} a 1 0 ≤ cond b 1 0
-cond_le true b h = let t : b ≡ true = h refl in rw t (omega arith)
+cond_le true b h = rw (h refl) (omega arith)
 cond_le false b h = omega arith
 
 pub count_le : {A : Type 0} (p q : A → Bool) (xs : List A)
@@ -29,10 +29,8 @@ pub count_le : {A : Type 0} (p q : A → Bool) (xs : List A)
 count_le p q [] h = omega arith
 count_le p q (x ∷ xs) h =
     let rest = count_le p q xs (λ k d lt. h (suc k) d (omega arith)) in
-    let one : cond {A = ℕ} (q x) 1 0 ≤ cond (p x) 1 0 = cond_le (q x) (p x) (h zero x (omega arith)) in
-    let a = count_cons q x xs in
-    let b = count_cons p x xs in
-    omega (arith, rest, one, a, b)
+    let one = cond_le (q x) (p x) (h zero x (omega arith)) in
+    omega (arith, count_cons q x xs, count_cons p x xs)
 
 pub count_falls : {A : Type 0} (p q : A → Bool) (xs : List A) (i : ℕ) (d : A) → i < length xs
     → ((k : ℕ) (d : A) → k < length xs → q (get_or xs k d) ≡ true → p (get_or xs k d) ≡ true)
@@ -40,17 +38,11 @@ pub count_falls : {A : Type 0} (p q : A → Bool) (xs : List A) (i : ℕ) (d : A
 count_falls p q [] i d lt h passes out = absurd (omega arith)
 count_falls p q (x ∷ xs) zero d lt h passes out =
     let rest = count_le p q xs (λ k e l. h (suc k) e (omega arith)) in
-    let on : cond {A = ℕ} (p x) 1 0 ≡ 1 = ap bit passes in
-    let off : cond {A = ℕ} (q x) 1 0 ≡ 0 = ap bit out in
-    let a = count_cons q x xs in
-    let b = count_cons p x xs in
-    omega (arith, rest, on, off, a, b)
+    omega (arith, ap bit passes, ap bit out, count_cons q x xs, count_cons p x xs)
 count_falls p q (x ∷ xs) (suc i) d lt h passes out =
     let rest = count_falls p q xs i d (omega arith) (λ k e l. h (suc k) e (omega arith)) passes out in
-    let one : cond {A = ℕ} (q x) 1 0 ≤ cond (p x) 1 0 = cond_le (q x) (p x) (h zero x (omega arith)) in
-    let a = count_cons q x xs in
-    let b = count_cons p x xs in
-    omega (arith, rest, one, a, b)
+    let one = cond_le (q x) (p x) (h zero x (omega arith)) in
+    omega (arith, count_cons q x xs, count_cons p x xs)
 
 -- whether any element passes, where one that didn't was changed
 pub any_set : {A : Type 0} (p : A → Bool) (xs : List A) (i : ℕ) (y d : A) → i < length xs → p (get_or xs i d) ≡ false
@@ -59,7 +51,7 @@ any_set p [] i y d lt h = absurd (omega arith)
 any_set p (x ∷ xs) zero y d lt h = by (p x) (p y) (list_any p xs) h
   where
     by : (a b c : Bool) → a ≡ false → (b || c) ≡ (b || (a || c))
-    by true b c e = let no : true ≡ false = e in absurd cc
+    by true b c e = let no = e in absurd cc
     by false b c e = refl
 any_set p (x ∷ xs) (suc i) y d lt h = cc (any_set p xs i y d (omega arith) h, swap (p x) (p y) (list_any p xs))
   where
@@ -80,24 +72,21 @@ pub activation_falls : (entries : List (Option Entry)) (place uid : ℕ) (superi
 unfolding idle_links
 activation_falls entries place uid superior chain there idle free lt =
     count_falls (λ v. not (is_active entries v)) (λ v. not (is_active (with_active entries place uid superior) v)) chain
-    there.0 uid there.1 kept
-    (rw (there.2) (ap not idle)) (rw (there.2) (ap not itself))
+    there.0 uid there.1 kept (rw (there.2) (ap not idle)) (rw (there.2) (ap not itself))
   where
     changed : (v : ℕ) → is_active (with_active entries place uid superior) v ≡ (eqb uid v || is_active entries v)
-    changed v = any_set (is_for v) entries place (Some (record { uid = uid; superior = superior })) None lt
-        (ap (is_for v) free)
+    changed v = any_set (is_for v) entries place (Some (record { uid = uid; superior = superior })) None lt (cc)
 
     itself : is_active (with_active entries place uid superior) uid ≡ true
-    itself = changed uid ∙ ap (λ (b : Bool). b || is_active entries uid) (eqb_self uid)
+    itself = cc (changed uid, eqb_self uid)
 
     kept : (k d : ℕ) → k < length chain → not (is_active (with_active entries place uid superior) (get_or chain k d))
-        ≡ true
-        → not (is_active entries (get_or chain k d)) ≡ true
+        ≡ true → not (is_active entries (get_or chain k d)) ≡ true
     kept k d l h = by (eqb uid (get_or chain k d)) (is_active entries (get_or chain k d))
-        (sym (ap not (changed (get_or chain k d))) ∙ h)
+        (cc (changed (get_or chain k d)))
       where
         by : (a b : Bool) → not (a || b) ≡ true → not b ≡ true
-        by true b e = let no : false ≡ true = e in absurd cc
+        by true b e = let no = e in absurd cc
         by false b e = e
 
 off_now : (chain : List ℕ) (o : Option Entry) → off_chain chain o ≡ true → (v : ℕ) → Contains chain v
@@ -108,21 +97,18 @@ off_now chain (Some e) off v there = by (eqb e.uid v) refl
     other : eqb e.uid v ≡ true → list_any (λ u. eqb u e.uid) chain ≡ true
     other h =
         let same : e.uid ≡ v = grind (arith, nat_tests) in
-        let at : eqb (get_or chain there.0 v) e.uid ≡ true = rw (there.2, same) (eqb_self v) in
-        list_any_at (λ u. eqb u e.uid) chain there.0 v there.1 at
+        list_any_at (λ u. eqb u e.uid) chain there.0 v there.1 (rw (there.2, same) (eqb_self v))
 
     by : (b : Bool) → eqb e.uid v ≡ b → b ≡ false
     by false h = refl
-    by true h = let no : not true ≡ true = sym (ap not (other h)) ∙ off in absurd cc
+    by true h = let no = sym (ap not (other h)) ∙ off in absurd cc
 
 -- a segment off the chain that becomes inactive is one less of those, and leaves the links as they were
 pub emptying_off : (entries : List (Option Entry)) (place : ℕ) (chain : List ℕ) → IsOffChain entries chain place
     → place < length entries → off_links (set entries place None) chain < off_links entries chain
 unfolding off_links
 emptying_off entries place chain off lt =
-    let count = count_set (off_chain chain) entries place None None lt in
-    let was : cond {A = ℕ} (off_chain chain (get_or entries place None)) 1 0 ≡ 1 = ap bit off in
-    omega (arith, count, was)
+    omega (arith, count_set (off_chain chain) entries place None None lt, ap bit off)
 
 pub emptying_idle : (entries : List (Option Entry)) (place : ℕ) (chain : List ℕ) → IsOffChain entries chain place
     → place < length entries → idle_links (set entries place None) chain ≤ idle_links entries chain
@@ -134,17 +120,15 @@ emptying_idle entries place chain off lt =
         → not (is_active entries (get_or chain k d)) ≡ true
     kept k d l h =
         let v : ℕ = get_or chain k d in
-        let gone : is_for v (get_or entries place None) ≡ false =
-        off_now chain (get_or entries place None) off v (Contains-get_or chain k d l) in
-        sym (ap not (any_set (is_for v) entries place None None lt gone)) ∙ h
+        cc (any_set (is_for v) entries place None None lt (off_now chain (get_or entries place None) off v
+        (Contains-get_or chain k d l)))
 
 -- ---- frames
 
 pub freed_is_free : (frames : List Frame) (f : ℕ) → f < length frames → has_free (set frames f frame.Free) ≡ true
 unfolding has_free
 freed_is_free frames f lt =
-    let long : length (set frames f frame.Free) ≡ length frames = length-set frames f frame.Free in
-    list_any_at is_free (set frames f frame.Free) f frame.Free (rw long lt)
+    list_any_at is_free (set frames f frame.Free) f frame.Free (rw (length-set frames f frame.Free) lt)
     (ap is_free (get_or-set_same frames f frame.Free frame.Free lt))
 
 -- ---- processors
@@ -153,14 +137,11 @@ freed_is_free frames f lt =
 pub count_like : {A : Type 0} (p : A → Bool) (xs ys : List A) (d : A) → length ys ≡ length xs
     → ((i : ℕ) → p (get_or ys i d) ≡ p (get_or xs i d)) → count_by p ys ≡ count_by p xs
 count_like p [] [] d long same = refl
-count_like p [] (y ∷ ys) d long same = let no : suc (length ys) ≡ 0 = long in absurd (omega (arith, no))
-count_like p (x ∷ xs) [] d long same = let no : 0 ≡ suc (length xs) = long in absurd (omega (arith, no))
+count_like p [] (y ∷ ys) d long same = let no = long in absurd (omega arith)
+count_like p (x ∷ xs) [] d long same = let no = long in absurd (omega arith)
 count_like p (x ∷ xs) (y ∷ ys) d long same =
-    let rest = count_like p xs ys d (omega (arith, long)) (λ i. same (suc i)) in
-    let one : cond {A = ℕ} (p y) 1 0 ≡ cond (p x) 1 0 = ap bit (same zero) in
-    let a = count_cons p x xs in
-    let b = count_cons p y ys in
-    omega (arith, rest, one, a, b)
+    let rest = count_like p xs ys d (omega arith) (λ i. same (suc i)) in
+    omega (arith, ap bit (same zero), count_cons p x xs, count_cons p y ys)
 
 pub readers_set : (xs : List Runner) (c : ℕ) (x : Runner) → c < length xs
     → readers (set xs c x) + cond (is_some (runner_at xs c).reading) 1 0 ≡ readers xs + cond (is_some x.reading) 1 0
@@ -175,8 +156,7 @@ dues_set xs c x lt = count_set (λ r. r.due) xs c x no_runner lt
 pub readers_like : (xs ys : List Runner) → length ys ≡ length xs
     → ((d : ℕ) → (runner_at ys d).reading ≡ (runner_at xs d).reading) → readers ys ≡ readers xs
 unfolding readers
-readers_like xs ys long same =
-    count_like (λ r. is_some r.reading) xs ys no_runner long (λ i. ap (λ (o : Option Transfer). is_some o) (same i))
+readers_like xs ys long same = count_like (λ r. is_some r.reading) xs ys no_runner long (λ i. cc (same i))
 
 pub dues_few : (xs : List Runner) → dues xs ≤ length xs
 unfolding dues

@@ -16,41 +16,36 @@ without_one u (x ∷ xs) = cond (eqb x.0 u) xs (x ∷ without_one u xs)
 
 one_less : (test : ℕ → Bool) (u : ℕ) (xs : List (ℕ × ℕ)) → 0 < pages_of (λ n. eqb n u) xs
     → pages_of test xs ≡ cond {A = ℕ} (test u) 1 0 + pages_of test (without_one u xs)
-one_less test u [] some = absurd (omega (arith, some))
+one_less test u [] some = absurd (omega arith)
 one_less test u (x ∷ xs) some = elim (eqb_tells x.0 u) [
-  | inl same ↦ pages_cons test x xs
-      ∙ (ap (λ (n : ℕ). cond {A = ℕ} (test n) 1 0 + pages_of test xs) same.1
-      ∙ sym (ap (λ (b : Bool). cond {A = ℕ} (test u) 1 0
-      + pages_of test (cond b xs (x ∷ without_one u xs))) same.0))
+  | inl same ↦ pages_cons test x xs ∙ (cc)
   | inr other ↦ (let here = pages_cons (λ n. eqb n u) x xs ∙ ap (λ (b : Bool). cond {A = ℕ} b 1 0
       + pages_of (λ n. eqb n u) xs) other.0 in
-      let rest = one_less test u xs (omega (arith, some, here)) in
-      let all = pages_cons test x xs in
+      let rest = one_less test u xs (omega arith) in
       let left = ap (λ (b : Bool). pages_of test (cond b xs (x ∷ without_one u xs))) other.0
       ∙ pages_cons test x (without_one u xs) in
-      omega (arith, rest, all, left))
+      omega (arith, (pages_cons test x xs)))
 ]
 
 own_page : (x : ℕ × ℕ) (xs : List (ℕ × ℕ)) → 0 < pages_of (λ n. eqb n x.0) (x ∷ xs)
 own_page x xs = elim (eqb_tells x.0 x.0) [
-  | inl same ↦ (let all = pages_cons (λ n. eqb n x.0) x xs ∙ ap (λ (b : Bool). cond {A = ℕ} b 1 0
-      + pages_of (λ n. eqb n x.0) xs) same.0 in omega (arith, all))
+  | inl same ↦ (omega (
+    arith,
+    (pages_cons (λ n. eqb n x.0) x xs ∙ ap (λ (b : Bool). cond {A = ℕ} b 1 0 + pages_of (λ n. eqb n x.0) xs) same.0),
+  ))
   | inr other ↦ absurd (other.1 refl)
 ]
 
 as_many : (test : ℕ → Bool) (xs ys : List (ℕ × ℕ))
     → ((u : ℕ) → pages_of (λ n. eqb n u) xs ≡ pages_of (λ n. eqb n u) ys) → pages_of test xs ≡ pages_of test ys
 as_many test [] [] same = refl
-as_many test [] (y ∷ ys) same = let none = same y.0 in let some = own_page y ys in absurd (omega (arith, none, some))
+as_many test [] (y ∷ ys) same = let none = same y.0 in let some = own_page y ys in absurd (omega arith)
 as_many test (x ∷ xs) ys same = let some = own_page x xs in let here = same x.0 in
-    let there : 0 < pages_of (λ n. eqb n x.0) ys = omega (arith, some, here) in
-    let rest = as_many test xs (without_one x.0 ys) (λ u. (let each = same u in
-    let one = pages_cons (λ n. eqb n u) x xs in
+    let there : 0 < pages_of (λ n. eqb n x.0) ys = omega arith in
+    let rest = as_many test xs (without_one x.0 ys) (λ u. (let one = pages_cons (λ n. eqb n u) x xs in
     let less = one_less (λ n. eqb n u) x.0 ys there in
-    omega (arith, each, one, less))) in
-    let all = pages_cons test x xs in
-    let less = one_less test x.0 ys there in
-    omega (arith, rest, all, less)
+    omega (arith, (same u)))) in
+    omega (arith, one_less test x.0 ys there, (pages_cons test x xs))
 
 -- each account is charged for as many pages
 pub charged_alike : (ns : List Node) (xs ys : List (ℕ × ℕ)) (account : ℕ)

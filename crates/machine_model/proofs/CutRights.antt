@@ -17,8 +17,8 @@ use Rattle.machine_model.proofs.TakeWhole.{take_linked}
 
 push_cases : {A : Type 0} (xs : List A) (x : A) (i : ℕ) (y : A) → slice_get (xs ++ x ∷ []) i ≡ Some y
     → (slice_get xs i ≡ Some y) ⊎ (x ≡ y)
-push_cases [] x zero y h = inr (let same : x ≡ y = cc in same)
-push_cases [] x (suc i) y h = absurd (none_some h)
+push_cases [] x zero y h = inr (cc)
+push_cases [] x (suc i) y h = cc
 push_cases (z ∷ zs) x zero y h = inl h
 push_cases (z ∷ zs) x (suc i) y h = push_cases zs x i y h
 
@@ -56,15 +56,14 @@ inner_length : (xss : List (List Sdw)) (k n i : ℕ) (x : Sdw) → k < length xs
     → length (get_or (set xss k (set (get_or xss k []) n x)) i []) ≡ length (get_or xss i [])
 inner_length xss k n i x within = elim (eqb_tells i k) [
   | inl e ↦ ap (λ (j : ℕ). length (get_or (set xss k (set (get_or xss k []) n x)) j [])) e.1
-      ∙ (ap (λ (ys : List Sdw). length ys) (get_or-set_same xss k (set (get_or xss k []) n x) [] within)
-      ∙ (length-set (get_or xss k []) n x ∙ ap (λ (j : ℕ). length (get_or xss j [])) (sym e.1)))
+      ∙ (cc (get_or-set_same xss k (set (get_or xss k []) n x) [] within, length-set (get_or xss k []) n x))
   | inr m ↦ ap (λ (ys : List Sdw). length ys) (get_or-set_other xss k i (set (get_or xss k []) n x) [] m.1)
 ]
 
 module _ (st : Storage) (k n aste pages : ℕ) (m : Mode) (here : descriptor_of st.links k n ≡ sdw.Present aste m pages)
   where
     some_there : descriptor_of st.links k n ≢ sdw.Fault
-    some_there e = let no : sdw.Present aste m pages ≡ sdw.Fault = sym here ∙ e in cc
+    some_there e = let no = sym here ∙ e in cc
 
     within : (k < length st.links.descriptors) × (n < length (sdws_at st.links.descriptors k))
     within = linked_within st.links k n some_there
@@ -84,15 +83,14 @@ module _ (st : Storage) (k n aste pages : ℕ) (m : Mode) (here : descriptor_of 
             → descriptor_of st.links j i ≡ sdw.Present place mode p
         was j i place p mode at = by_places (λ (x : Sdw). x ≡ sdw.Present place mode p
             → descriptor_of st.links j i ≡ sdw.Present place mode p)
-            (λ a b. descriptor_of st.links a b) k n sdw.Fault j i
-            (λ a b e. absurd (let no : sdw.Fault ≡ sdw.Present place mode p = e in cc)) (λ o e. e)
+            (λ a b. descriptor_of st.links a b) k n sdw.Fault j i (λ a b e. cc) (λ o e. e)
             (sym (descriptors_put st.links links.trailers k n sdw.Fault within.0 within.1 j i) ∙ at)
 
     still_there : (ds : List CutDescriptor) → AreThere st ds → AreThere (record st { links = links }) ds
     still_there [] h = tt
     still_there (d ∷ ds) h = (
       (
-        subst (λ (x : ℕ). d.process < x) (sym (length-set st.links.descriptors k _)) h.0.0,
+        rw (length-set st.links.descriptors k _) h.0.0,
         rw (inner_length st.links.descriptors k n d.process sdw.Fault within.0) h.0.1,
         h.0.2,
       ),
@@ -123,9 +121,9 @@ module _ (s : State) (k n u : ℕ) (cuts : Cuts s) (linked : (seen s).linked k n
     });
     cut = push_there (record s.store { links = unlinked s.store.links k n (Some aste) }) (cut_of_owner s.owner) note
         (still_there s.store k n aste pages m e (cut_of_owner s.owner) cuts.cut) (
-          subst (λ (x : ℕ). k < x) (sym (length-set s.store.links.descriptors k _)) there.0,
-          subst (λ (x : ℕ). n < x) (sym (inner_length s.store.links.descriptors k n k sdw.Fault there.0)) there.1,
-          ap (is_active s.store.ast) uid_is ∙ active_at s.store.ast aste u leads_there,
+          rw (length-set s.store.links.descriptors k _) there.0,
+          rw (inner_length s.store.links.descriptors k n k sdw.Fault there.0) there.1,
+          cc (active_at s.store.ast aste u leads_there),
         );
   }
     where
@@ -136,26 +134,24 @@ module _ (s : State) (k n u : ℕ) (cuts : Cuts s) (linked : (seen s).linked k n
       there = within s.store k n aste pages m e
 
       leads_there : uid_at s.store.ast.entries aste ≡ Some u
-      leads_there = ap (led_to s.store.ast.entries) (sym e) ∙ linked
+      leads_there = cc
 
       uid_is : note.uid ≡ u
       uid_is = ap or_zero leads_there
 
-      its : (x : Node) → node_in s.store.accounts.nodes note.uid ≡ Some x
-          → node_in s.store.accounts.nodes u ≡ Some x
+      its : (x : Node) → node_in s.store.accounts.nodes note.uid ≡ Some x → node_in s.store.accounts.nodes u ≡ Some x
       its x at = ap (node_in s.store.accounts.nodes) (sym uid_is) ∙ at
 
   one_cut : (c : ℕ) (a : Aim) (w : What) → Cuts (cut_one s c a w (k, n))
   one_cut c a w = let p = parts (descriptor_of s.store.links k n) refl in
-      record { have = p.have; had = p.had; cut = p.cut }
+      assumption
 
 -- ---- and some
 
 pub all_cut : (s : State) (c : ℕ) (a : Aim) (w : What) (pairs : List (ℕ × ℕ)) → Cuts s
     → ArePairs (seen s).linked w pairs → Cuts (cut_all s c a w pairs)
 all_cut s c a w [] cuts are = cuts
-all_cut s c a w (x ∷ xs) cuts are = all_cut (cut_one s c a w x) c a w xs
-    (one_cut s x.0 x.1 are.0.0 cuts are.0.1 c a w)
+all_cut s c a w (x ∷ xs) cuts are = all_cut (cut_one s c a w x) c a w xs (one_cut s x.0 x.1 are.0.0 cuts are.0.1 c a w)
     (pairs_left s c a w x xs are)
 
 -- what a job that takes leaves as it is
@@ -165,29 +161,27 @@ record IsTaken (s now : State) : Type 0 where
   flat : store_after now.plan now.entries ≡ store_after s.plan s.entries
 
 taken_on : {s t u : State} → IsTaken s t → IsTaken t u → IsTaken s u
-taken_on a b = record { plan = b.plan ∙ a.plan; pages = b.pages ∙ a.pages; flat = b.flat ∙ a.flat }
+taken_on a b = assumption (b.plan ∙ a.plan, b.pages ∙ a.pages, b.flat ∙ a.flat)
 
 cut_taken : (s : State) (c : ℕ) (a : Aim) (w : What) (pairs : List (ℕ × ℕ)) → IsTaken s (cut_all s c a w pairs)
-cut_taken s c a w [] = record { plan = refl; pages = refl; flat = refl }
+cut_taken s c a w [] = assumption
 cut_taken s c a w (x ∷ xs) = taken_on (assumption (one_still s.plan s.entries (entry.Cut x.0 x.1) refl))
     (cut_taken (cut_one s c a w x) c a w xs)
 
 page_taken : (s : State) (c : ℕ) (a : Aim) (w : What) (fs : List ℕ) → IsTaken s (take_all s c a w fs)
-page_taken s c a w [] = record { plan = refl; pages = refl; flat = refl }
-page_taken s c a w (f ∷ fs) = taken_on (record {
-  plan = refl;
-  pages = leaving_pages s.store f (bound_page (frame_in s.store.pages f));
-  flat = one_still s.plan s.entries (entry.Take f) refl;
-}) (page_taken (take_one s c a w f) c a w fs)
+page_taken s c a w [] = assumption
+page_taken s c a w (f ∷ fs) = taken_on (assumption (
+  leaving_pages s.store f (bound_page (frame_in s.store.pages f)),
+  one_still s.plan s.entries (entry.Take f) refl,
+)) (page_taken (take_one s c a w f) c a w fs)
 
 -- pages leave the tree, the descriptors and the places as they are
 leaving_cuts : (s now : State) (f : ℕ) (x : Option (ℕ × ℕ)) → now.store ≡ leaving_if s.store f x
-    → cut_of_owner now.owner ≡ cut_of_owner s.owner → (seen now).linked ≡ (seen s).linked
-    → Cuts s → Cuts now
+    → cut_of_owner now.owner ≡ cut_of_owner s.owner → (seen now).linked ≡ (seen s).linked → Cuts s → Cuts now
 leaving_cuts s now f x store cut linked cuts = record {
   have = rw store (by_have x);
-  had = rw store (subst (HadRights _ _) (sym cut) (by_had x));
-  cut = rw store (subst (AreThere (leaving_if s.store f x)) (sym cut) (by_cut x));
+  had = rw store (rw cut (by_had x));
+  cut = rw store (rw cut (by_cut x));
 }
   where
     by_have : (y : Option (ℕ × ℕ)) → HaveRights (leaving_if s.store f y).accounts.nodes
@@ -219,24 +213,17 @@ module _ (s : State) (c : ℕ) (a : Aim) (w : What) (fs : List ℕ) (pairs : Lis
   after_take = took s c a w fs pairs
 
   took_cuts : Cuts after_take
-  took_cuts = all_cut (take_all s c a w fs) c a w pairs
-      (take_cuts s c a w fs (record { have = k.store.counted.rights; had = k.rights; cut = k.cut }))
-      (subst (λ (l : ℕ → ℕ → Option ℕ). ArePairs l w pairs) (sym (take_linked s c a w fs)) are)
+  took_cuts = all_cut (take_all s c a w fs) c a w pairs (take_cuts s c a w fs (assumption))
+      (rw (take_linked s c a w fs) are)
 
   took_is : IsTaken s after_take
   took_is = taken_on (page_taken s c a w fs) (cut_taken (take_all s c a w fs) c a w pairs)
 
   pub took_says : StoreKept after_take.store → IsFaithful s.plan (flat_of s) after_take.store → StoreSays after_take
   took_says kept shown = says_by s after_take (flat_of s) k kept shown
-      (alike_by (alike (flat_of s)) took_is.flat) k.conserved.total (record {
-        plan = took_is.plan;
-        frames = ap (λ (pages : Plain). length pages.core.frames) took_is.pages;
-        rights = took_cuts.had;
-        cut = took_cuts.cut;
-      })
+      (alike_by (alike (flat_of s)) took_is.flat) k.conserved.total (assumption
+      (ap (λ (pages : Plain). length pages.core.frames) took_is.pages, took_is.plan, took_cuts.had, took_cuts.cut))
 
   pub take_away_says : (o : Outcome) → a ≡ aim.Committing → Says s c o (act.TakeAway fs pairs w) → StoreSays after_take
   unfolding after
-  take_away_says o same says = took_says
-      (subst (λ (x : Aim). StoreKept (took s c x w fs pairs).store) (sym same) says.store)
-      (rw same (says.shown (flat_of s) k.faithful))
+  take_away_says o same says = took_says (rw same says.store) (rw same (says.shown (flat_of s) k.faithful))

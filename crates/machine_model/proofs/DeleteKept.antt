@@ -1,6 +1,6 @@
 -- The machine keeps its promise where a `delete` takes effect: the pages of the node have left their frames, its
 -- descriptors are gone, and it is active no more.
-use Rattle.machine_model.proofs.Prelude.{◌≡◌, ◌≢◌, ◌<◌, ℕ, Bool, true, false, cond, if◌then◌else◌, count_by, List, [], ◌∷◌, ◌++◌, map, length, Option, Some, None, refl, sym, ap, subst, ◌∙◌, arith, length-set, Path, Entry, reads_of, Ptw, erased, framed, Plain, binding_at, bindings, word_of, read_at, MayDeactivate, has, at_put, gone_segs, gones, page_at, page_or_zero, no_more_active, gone, gone_seg, committed, cut_entry, frames_freed, gone_entries, AreDistinct, KeepsBook, is_pending, names, seen, with_inactive, Keeps, StoreSays, is_fault, cut_of_owner, frames_of_owner, home_in, is_active, process_at, run_at, reply_of, uid_of_command, Seen, flat, shown, CutDescriptor, State, Storage, booked, with_owner, with_pages, with_store, without_first_cut, without_first_frame, append-nil, append_assoc, Core, has_head, has_tail}
+use Rattle.machine_model.proofs.Prelude.{not_both, cond_both, [], ◌≡◌, ◌≢◌, ◌<◌, ℕ, Bool, not, not-true, and_parts, list_all, Command, frame_entry, inactive_entries, told, true, false, cond, if◌then◌else◌, count_by, List, ◌∷◌, ◌++◌, map, length, Option, Some, None, refl, sym, ap, subst, ◌∙◌, arith, length-set, Path, Entry, reads_of, Ptw, erased, framed, Plain, binding_at, bindings, word_of, read_at, MayDeactivate, has, at_put, gone_segs, gones, page_at, page_or_zero, no_more_active, gone, gone_seg, committed, cut_entry, frames_freed, gone_entries, AreDistinct, KeepsBook, is_pending, names, seen, with_inactive, Keeps, StoreSays, is_fault, cut_of_owner, frames_of_owner, home_in, is_active, process_at, run_at, reply_of, uid_of_command, Seen, flat, shown, CutDescriptor, State, Storage, booked, with_owner, with_pages, with_store, without_first_cut, without_first_frame, append-nil, append_assoc, Core, has_head, has_tail}
 use Rattle.script.specs.declared.commands.Command.TheVariants as command
 use Rattle.book.specs.declared.entries.Entry.TheVariants as entry
 use Rattle.core_map.specs.declared.Frame.TheVariants as frame
@@ -9,7 +9,9 @@ use Rattle.machine_model.specs.Commits.{lost}
 use Rattle.machine_model.proofs.ActiveLaws.{deactivate_keeps}
 use Rattle.machine_model.proofs.ActiveSeen.{active_less, blank_less, deactivate_seen, words_less}
 use Rattle.machine_model.proofs.ChainLaws.{GoesOn, IsDone, gone_done, idle_done, going_word, gone_segs_keep, gones_keep, LeavesRest}
-use Rattle.machine_model.proofs.CommitKept.{cut_faults, effected}
+use Rattle.machine_model.proofs.CommitKept.{effected}
+use Rattle.machine_model.proofs.EffectLaws.{frame_entry_has}
+use Rattle.std.proofs.lemmas.List.Folds.{list_all-append}
 use Rattle.machine_model.proofs.FinishKept.{bound_within}
 use Rattle.machine_model.proofs.KeepLaws.{faults_push, quiet_push}
 use Rattle.machine_model.proofs.LeaveSeen.{unread_put}
@@ -18,7 +20,6 @@ use Rattle.machine_model.proofs.OwnerLaws.{job_over}
 use Rattle.machine_model.proofs.Places.{by_place, by_places}
 use Rattle.machine_model.proofs.SeenLaws.{bound_put, reads_put}
 use Rattle.machine_model.proofs.TellKept.{CanTell, told_keeps}
-use Rattle.machine_model.proofs.TieLaws.{none_some}
 use Rattle.machine_model.proofs.TransferKept.{kept_with}
 use Rattle.core_map.specs.CoreMap.{with_frame}
 
@@ -34,14 +35,13 @@ freed_length pages [] = refl
 freed_length pages (f ∷ fs) = freed_length (framed pages f frame.Free) fs ∙ length-set pages.core.frames f frame.Free
 
 -- so are the pages of frames that are freed
-freed_at : (see : Core → ℕ → Option (ℕ × ℕ))
-    → ((core : Core) (f : ℕ) → f < length core.frames → (g : ℕ)
+freed_at : (see : Core → ℕ → Option (ℕ × ℕ)) → ((core : Core) (f : ℕ) → f < length core.frames → (g : ℕ)
     → see (with_frame core f frame.Free) g ≡ at_put (see core) f None g)
     → (pages : Plain) (fs : List ℕ) → ((f : ℕ) → has fs f ≡ true → f < length pages.core.frames) → (g : ℕ)
     → see (frames_freed pages fs).core g ≡ freed (see pages.core) fs g
 freed_at see put pages [] within g = refl
 freed_at see put pages (f ∷ fs) within g = freed_at see put (framed pages f frame.Free) fs
-    (λ h e. subst (λ (n : ℕ). h < n) (sym (length-set pages.core.frames f frame.Free)) (within h (has_tail f fs h e))) g
+    (λ h e. rw (length-set pages.core.frames f frame.Free) (within h (has_tail f fs h e))) g
     ∙ (λ i. freed (λ h. put pages.core f (within f (has_head f fs)) h i) fs g)
 
 pub freed_bound : (pages : Plain) (fs : List ℕ) → ((f : ℕ) → has fs f ≡ true → f < length pages.core.frames) → (g : ℕ)
@@ -110,8 +110,7 @@ segs_entries v (d ∷ ds) = segs_entries (gone_seg v d (without_first_cut v.owne
 
 -- a segment keeps its words where no page of it leaves a frame
 gones_words : (v : Seen) (fs : List ℕ) (u : ℕ) → AreDistinct fs → ((f : ℕ) → has fs f ≡ true → (page_at v f).0 ≡ u)
-    → (w q : ℕ) → w ≢ u
-    → (gones v fs).words w q ≡ v.words w q
+    → (w q : ℕ) → w ≢ u → (gones v fs).words w q ≡ v.words w q
 gones_words v [] u once its w q n = refl
 gones_words v (f ∷ fs) u once its w q n = gones_words now fs u once.1 still w q n
     ∙ by_places (λ (x : Ptw). x ≡ v.words w q) v.words (page_at v f).0 (page_at v f).1 ptw.Null w q
@@ -120,17 +119,86 @@ gones_words v (f ∷ fs) u once its w q n = gones_words now fs u once.1 still w 
     now : Seen
     now = gone v f (page_at v f).0 (page_at v f).1 ptw.Null (without_first_frame v.owner)
 
-    no_and : {b : Bool} → b ≡ true → b ≡ false → ⊥
-    no_and t e = let no : true ≡ false = sym t ∙ e in cc
-
     still : (g : ℕ) → has fs g ≡ true → (page_at now g).0 ≡ u
     still g h = by_place (λ (x : Option (ℕ × ℕ)). (page_or_zero x).0 ≡ u) v.bound f None g
-        (λ e. absurd (no_and (subst (λ (i : ℕ). has fs i ≡ true) e h) once.0)) (λ m. its g (has_tail f fs g h))
+        (λ e. absurd (not_both (rw (← e) h) once.0)) (λ m. its g (has_tail f fs g h))
 
-gone_faults : (es : List Entry) (fs : List ℕ) → count_by is_fault (es ++ map gone_entry fs) ≡ count_by is_fault es
-gone_faults es [] = ap (count_by is_fault) (append-nil es)
-gone_faults es (f ∷ fs) = ap (count_by is_fault) (sym (append_assoc es (entry.GonePage f ∷ []) (map gone_entry fs)))
-    ∙ (gone_faults (es ++ entry.GonePage f ∷ []) fs ∙ quiet_push es (entry.GonePage f) refl)
+-- ---- the entries of what goes
+
+-- a test that entries of these kinds pass is passed by all the entries of what goes
+pub gone_pass : (test : Entry → Bool) → ((f : ℕ) → test (entry.BackPage f) ≡ true)
+    → ((f : ℕ) → test (entry.GonePage f) ≡ true) → ((k n : ℕ) → test (entry.GoneSeg k n) ≡ true)
+    → ((u : ℕ) → test (entry.Deactivate u) ≡ true) → (s : State) (u : ℕ) (c : Command)
+    → list_all test (gone_entries s u c) ≡ true
+gone_pass test back page seg inactive s u c = cc (
+  list_all-append test (map (frame_entry s.store c) (frames_of_owner s.owner))
+      (map cut_entry (cut_of_owner s.owner) ++ inactive_entries s.store u c),
+  list_all-append test (map cut_entry (cut_of_owner s.owner)) (inactive_entries s.store u c),
+  frames (frames_of_owner s.owner),
+  cuts (cut_of_owner s.owner),
+  last c,
+)
+  where
+    frames : (fs : List ℕ) → list_all test (map (frame_entry s.store c) fs) ≡ true
+    frames [] = refl
+    frames (f ∷ fs) = cc (frame_entry_has (λ e. test e ≡ true) s.store c f (back f) (page f), frames fs)
+
+    cuts : (ds : List CutDescriptor) → list_all test (map cut_entry ds) ≡ true
+    cuts [] = refl
+    cuts (d ∷ ds) = cc (seg d.process d.number, cuts ds)
+
+    last : (cmd : Command) → list_all test (inactive_entries s.store u cmd) ≡ true
+    last (command.Delete path) = cond_both (is_active s.store.ast u) (entry.Deactivate u ∷ []) []
+        (λ es. list_all test es ≡ true) (λ h. cc (inactive u)) (λ h. refl)
+    last _ = refl
+
+-- entries that tell no drive's failure
+no_faults : (es more : List Entry) → list_all (λ e. not (is_fault e)) more ≡ true
+    → count_by is_fault (es ++ more) ≡ count_by is_fault es
+no_faults es [] h = cc (append-nil es)
+no_faults es (e ∷ more) h = let both = and_parts (not (is_fault e)) (list_all (λ x. not (is_fault x)) more) h in
+    cc (
+      append_assoc es (e ∷ []) more,
+      no_faults (es ++ e ∷ []) more both.1,
+      quiet_push es e (not-true (is_fault e) both.0),
+    )
+
+-- A command is told, and the supervisor given up, where the book keeps custody once what was taken is gone.
+pub told_commit : (s : State) (c k : ℕ) (cmd : Command) → Keeps s
+    → KeepsBook (seen (with_owner (effected s k cmd) None))
+    → CanTell (with_owner (effected s k cmd) None) c (process_at s c) None (reply_of s k cmd)
+    → StoreSays (with_owner (told (effected s k cmd) c None (reply_of s k cmd)) None)
+    → Keeps (with_owner (told (effected s k cmd) c None (reply_of s k cmd)) None)
+told_commit s c k cmd keeps book tell says =
+    kept_with (with_owner (told (effected s k cmd) c None (reply_of s k cmd)) None)
+    (told_keeps (with_owner (effected s k cmd) None) c (process_at s c) None (reply_of s k cmd) book tell) says
+    (let one = faults_push (effected s k cmd).entries
+    (entry.Do (process_at s c) (run_at s.runs (process_at s c)).place c None (reply_of s k cmd)) in
+    let quiet = no_faults s.entries (gone_entries s (uid_of_command s.store k cmd) cmd)
+    (gone_pass (λ e. not (is_fault e)) (λ f. refl) (λ f. refl) (λ j n. refl) (λ u. refl) s
+    (uid_of_command s.store k cmd) cmd) in
+    omega arith) (length-set s.processors c _ ∙ keeps.sizes.processors)
+    (length-set s.runs (process_at s c) _ ∙ keeps.sizes.processes) (λ o h. cc)
+
+-- ---- the frames that a job took
+
+-- such a frame has a page, whose word names it
+pub taken_word : (s : State) → Keeps s → (f : ℕ) → has (frames_of_owner s.owner) f ≡ true
+    → (seen s).words (page_at (seen s) f).0 (page_at (seen s) f).1 ≡ ptw.Leaving f
+taken_word s k f h = going_word (seen s) f k.book (k.book.going_owned.frames f ∙ h)
+
+pub taken_bound : (s : State) → Keeps s → (f : ℕ) → has (frames_of_owner s.owner) f ≡ true
+    → (seen s).bound f ≡ Some (page_at (seen s) f)
+taken_bound s k f h = k.book.tied.back f (page_at (seen s) f).0 (page_at (seen s) f).1 (ap names (taken_word s k f h))
+
+-- a frame with a page isn't being read into
+pub bound_unread : (s : State) → Keeps s → (f : ℕ) (page : ℕ × ℕ) → (seen s).bound f ≡ Some page
+    → (seen s).reads f ≡ None
+bound_unread s k f page h = by ((seen s).reads f) refl
+  where
+    by : (x : Option (ℕ × ℕ)) → (seen s).reads f ≡ x → x ≡ None
+    by None e = refl
+    by (Some p) e = cc (k.book.tied.unbound f p.0 p.1 e)
 
 -- ---- the command
 
@@ -166,15 +234,16 @@ module _ (s : State) (c k : ℕ) (path : Path) where
     pub its : (f : ℕ) → has fs f ≡ true → (page_at (seen s) f).0 ≡ node
     pub may : MayDeactivate (flat all_gone) (shown all_gone) node
 
-  -- A deletion of an active node: the job has taken it whole.
-  pub record CanDelete : Type 0 where
-    pub whole : GoesWhole
-    pub done : IsDone all_gone
-    pub tell : CanTell (with_owner (effected s k (command.Delete path)) None) c (process_at s c) None
-        (reply_of s k (command.Delete path))
-    pub says : StoreSays (committed s c k (command.Delete path))
+  -- the store, by whether the node is active, and the frames that were taken
+  abbrev deleted_store : Bool → List ℕ → Storage
+  deleted_store b gs = record (if b then with_inactive
+      (with_pages s.store (erased (frames_freed s.store.pages gs) (home_in s.store node))) node
+      else with_pages s.store (erased (frames_freed s.store.pages gs) (home_in s.store node))) {
+        accounts = lost s.store.accounts node;
+      }
 
-  module _ (keeps : Keeps s) (can : CanDelete) where
+  -- A deletion of an active node: the job has taken it whole.
+  module _ (keeps : Keeps s) (whole : GoesWhole) (done : IsDone all_gone) where
     abbrev words : ℕ → ℕ → Ptw
     words = λ v q. word_of (with_inactive s.store node).ast v q
 
@@ -182,69 +251,45 @@ module _ (s : State) (c k : ℕ) (path : Path) where
     rest = chain_leaves (seen s) fs ds
 
     others : (w q : ℕ) → w ≢ node → words w q ≡ all_gone.words w q
-    others w q n = words_less s.store.ast node can.whole.active keeps.store.kept.tree.once keeps.store.kept.places w q n
-        ∙ sym (ap (λ (x : ℕ → ℕ → Ptw). x w q) (segs_words (gones (seen s) fs) ds)
-        ∙ gones_words (seen s) fs node keeps.book.going_owned.once can.whole.its w q n)
+    others w q n = cc (
+      words_less s.store.ast node whole.active keeps.store.kept.tree.once keeps.store.kept.places w q n,
+      segs_words (gones (seen s) fs) ds,
+      gones_words (seen s) fs node keeps.book.going_owned.once whole.its w q n,
+    )
 
     inactive : KeepsBook (no_more_active all_gone node words)
-    inactive = deactivate_keeps all_gone node words can.done.book (record {
-      may = can.whole.may;
+    inactive = deactivate_keeps all_gone node words done.book (record {
+      may = whole.may;
       others = others;
-      blank = blank_less s.store.ast node can.whole.active keeps.store.kept.tree.once keeps.store.kept.places;
+      blank = blank_less s.store.ast node whole.active keeps.store.kept.tree.once keeps.store.kept.places;
     })
 
     over : KeepsBook (record (no_more_active all_gone node words) { owner = None })
-    over = job_over (no_more_active all_gone node words) None inactive can.done.frames can.done.cut can.done.none
-        can.done.still nobody refl
-
-    going : (f : ℕ) → has fs f ≡ true → (page : ℕ × ℕ) × ((seen s).bound f ≡ Some page)
-    going f h = by ((seen s).bound f) refl
-      where
-        word : (seen s).words (page_at (seen s) f).0 (page_at (seen s) f).1 ≡ ptw.Leaving f
-        word = going_word (seen s) f keeps.book (keeps.book.going_owned.frames f ∙ h)
-
-        by : (x : Option (ℕ × ℕ)) → (seen s).bound f ≡ x → (page : ℕ × ℕ) × ((seen s).bound f ≡ Some page)
-        by x e = (
-          page_at (seen s) f,
-          keeps.book.tied.back f (page_at (seen s) f).0 (page_at (seen s) f).1
-              (ap names word),
-        )
+    over = job_over (no_more_active all_gone node words) None inactive done.frames done.cut done.none
+        done.still nobody refl
 
     within : (f : ℕ) → has fs f ≡ true → f < length s.store.pages.core.frames
-    within f h = let at = going f h in bound_within s f at.0 at.1
+    within f h = bound_within s f (page_at (seen s) f) (taken_bound s keeps f h)
 
     unread : (f : ℕ) → has fs f ≡ true → (seen s).reads f ≡ None
-    unread f h = by ((seen s).reads f) refl
-      where
-        by : (x : Option (ℕ × ℕ)) → (seen s).reads f ≡ x → x ≡ None
-        by None e = refl
-        by (Some page) e = absurd (none_some (sym (keeps.book.tied.unbound f page.0 page.1 e) ∙ (going f h).1))
+    unread f h = bound_unread s keeps f (page_at (seen s) f) (taken_bound s keeps f h)
 
     unlinked : (j n : ℕ) → (seen s).linked j n ≢ Some node
-    unlinked j n h = can.whole.may.descriptors j n (cc rest)
+    unlinked j n h = whole.may.descriptors j n (cc rest)
 
     entries_are : s.entries ++ gone_entries s node (command.Delete path)
         ≡ all_gone.entries ++ entry.Deactivate node ∷ []
-    entries_are = ap (λ (b : Bool). s.entries ++
-        (map gone_entry fs ++ (map cut_entry ds ++ cond b (entry.Deactivate node ∷ []) []))) can.whole.active
-        ∙ (sym (append_assoc s.entries (map gone_entry fs) (map cut_entry ds ++ entry.Deactivate node ∷ []))
-        ∙ (sym (append_assoc (s.entries ++ map gone_entry fs) (map cut_entry ds) (entry.Deactivate node ∷ []))
-        ∙ ap (λ (es : List Entry). es ++ entry.Deactivate node ∷ []) (sym (segs_entries (gones (seen s) fs) ds
-        ∙ ap (λ (es : List Entry). es ++ map cut_entry ds) (gones_entries (seen s) fs)))))
-
-    -- the store, where the node is active
-    abbrev deleted_store : Bool → Storage
-    deleted_store b = record (if b then with_inactive
-        (with_pages s.store (erased (frames_freed s.store.pages fs) (home_in s.store node))) node
-        else with_pages s.store (erased (frames_freed s.store.pages fs) (home_in s.store node))) {
-          accounts =
-              lost s.store.accounts node;
-        }
+    entries_are = cc (
+      append_assoc s.entries (map gone_entry fs) (map cut_entry ds ++ entry.Deactivate node ∷ []),
+      append_assoc (s.entries ++ map gone_entry fs) (map cut_entry ds) (entry.Deactivate node ∷ []),
+      segs_entries (gones (seen s) fs) ds,
+      gones_entries (seen s) fs,
+    )
 
     deleted_seen : seen (with_owner (effected s k (command.Delete path)) None)
         ≡ record (no_more_active all_gone node words) { owner = None }
     deleted_seen = ap (λ (b : Bool). seen (with_owner
-        (booked (with_store s (deleted_store b)) (gone_entries s node (command.Delete path))) None)) can.whole.active
+        (booked (with_store s (deleted_store b fs)) (gone_entries s node (command.Delete path))) None)) whole.active
         ∙ (λ i. record {
           plan = (sym rest i).plan;
           entries = entries_are i;
@@ -253,11 +298,10 @@ module _ (s : State) (c k : ℕ) (path : Path) where
           reads = λ g. (freed_reads s.store.pages fs within g ∙ (freed_none (seen s).reads fs unread g
               ∙ ap (λ (x : Seen). x.reads g) (sym rest))) i;
           words = words;
-          active = λ v. (active_less s.store.ast node can.whole.active keeps.store.kept.tree.once
-              keeps.store.kept.places v
+          active = λ v. (active_less s.store.ast node whole.active keeps.store.kept.tree.once keeps.store.kept.places v
               ∙ ap (λ (x : Seen). at_put x.active node false v) (sym rest)) i;
           linked = λ j n. (ap (λ (v : Seen). v.linked j n)
-              (deactivate_seen s node can.whole.active keeps.store.kept.tree.once keeps.store.kept.places unlinked)
+              (deactivate_seen s node whole.active keeps.store.kept.tree.once keeps.store.kept.places unlinked)
               ∙ ap (λ (x : Seen). x.linked j n) (sym rest)) i;
           ready = (sym rest i).ready;
           processors = (sym rest i).processors;
@@ -265,66 +309,34 @@ module _ (s : State) (c k : ℕ) (path : Path) where
           runs = (sym rest i).runs;
         })
 
-    pub delete_kept : Keeps (committed s c k (command.Delete path))
-    delete_kept = kept_with (committed s c k (command.Delete path))
-        (told_keeps (with_owner (effected s k (command.Delete path)) None) c (process_at s c) None
+    pub delete_kept : CanTell (with_owner (effected s k (command.Delete path)) None) c (process_at s c) None
         (reply_of s k (command.Delete path))
-        (subst KeepsBook (sym deleted_seen) over) can.tell) can.says
-        (let a = faults_push (s.entries ++ gone_entries s node (command.Delete path))
-        (entry.Do (process_at s c) (run_at s.runs (process_at s c)).place c None
-        (reply_of s k (command.Delete path))) in
-        let b = ap (count_by is_fault) entries_are in
-        let d = faults_push all_gone.entries (entry.Deactivate node) in
-        let e = ap (count_by is_fault) (segs_entries (gones (seen s) fs) ds) in
-        let f = cut_faults (gones (seen s) fs).entries ds in
-        let g = ap (count_by is_fault) (gones_entries (seen s) fs) in
-        let h = gone_faults s.entries fs in
-        let few = keeps.few_faults in omega (arith, a, b, d, e, f, g, h, few))
-        (length-set s.processors c _ ∙ keeps.sizes.processors)
-        (length-set s.runs (process_at s c) _ ∙ keeps.sizes.processes) (λ o h. absurd (none_some h))
+        → StoreSays (committed s c k (command.Delete path)) → Keeps (committed s c k (command.Delete path))
+    delete_kept tell says = told_commit s c k (command.Delete path) keeps (subst KeepsBook (sym deleted_seen) over) tell
+        says
 
--- ---- a node that isn't active
+  -- ---- a node that isn't active
 
--- A deletion of a node that isn't active: the job has taken nothing.
-pub record CanDeleteInactive (s : State) (c k : ℕ) (path : Path) : Type 0 where
-  pub inactive : is_active s.store.ast (uid_of_command s.store k (command.Delete path)) ≡ false
-  pub done : IsDone (seen s)
-  pub tell : CanTell (with_owner (effected s k (command.Delete path)) None) c (process_at s c) None
+  -- Where the node isn't active the job has taken nothing.
+  pub record TookNothing : Type 0 where
+    pub inactive : is_active s.store.ast node ≡ false
+    pub frames : frames_of_owner s.owner ≡ []
+    pub cut : cut_of_owner s.owner ≡ []
+
+  pub delete_inactive_kept : Keeps s → TookNothing → IsDone (seen s)
+      → CanTell (with_owner (effected s k (command.Delete path)) None) c (process_at s c) None
       (reply_of s k (command.Delete path))
-  pub says : StoreSays (committed s c k (command.Delete path))
+      → StoreSays (committed s c k (command.Delete path)) → Keeps (committed s c k (command.Delete path))
+  delete_inactive_kept keeps none done tell says = told_commit s c k (command.Delete path) keeps
+      (subst KeepsBook (sym seen_is) (job_over (seen s) None keeps.book none.frames none.cut done.none done.still nobody
+      refl)) tell says
+    where
+      entries_are : s.entries ++ gone_entries s node (command.Delete path) ≡ s.entries
+      entries_are = (λ i. s.entries ++ (map gone_entry (none.frames i) ++
+          (map cut_entry (none.cut i) ++ cond (none.inactive i) (entry.Deactivate node ∷ []) [])))
+          ∙ append-nil s.entries
 
-pub delete_inactive_kept : (s : State) (c k : ℕ) (path : Path) → Keeps s → CanDeleteInactive s c k path
-    → Keeps (committed s c k (command.Delete path))
-delete_inactive_kept s c k path keeps can = kept_with (committed s c k (command.Delete path))
-    (told_keeps (with_owner (effected s k (command.Delete path)) None) c (process_at s c) None
-    (reply_of s k (command.Delete path))
-    (subst KeepsBook (sym seen_is) (job_over
-    (seen s) None keeps.book can.done.frames can.done.cut can.done.none can.done.still nobody refl)) can.tell)
-    can.says
-    (let a = faults_push (s.entries ++ gone_entries s node (command.Delete path))
-    (entry.Do (process_at s c) (run_at s.runs (process_at s c)).place c None
-    (reply_of s k (command.Delete path))) in
-    let b = ap (count_by is_fault) entries_are in let few = keeps.few_faults in omega (arith, a, b, few))
-    (length-set s.processors c _ ∙ keeps.sizes.processors)
-    (length-set s.runs (process_at s c) _ ∙ keeps.sizes.processes) (λ o h. absurd (none_some h))
-  where
-    node : ℕ
-    node = uid_of_command s.store k (command.Delete path)
-
-    entries_are : s.entries ++ gone_entries s node (command.Delete path) ≡ s.entries
-    entries_are = (λ i. s.entries ++ (map gone_entry (can.done.frames i) ++
-        (map cut_entry (can.done.cut i) ++ cond (can.inactive i) (entry.Deactivate node ∷ []) [])))
-        ∙ append-nil s.entries
-
-    deleted : Bool → List ℕ → Storage
-    deleted b fs = record (if b then with_inactive
-        (with_pages s.store (erased (frames_freed s.store.pages fs) (home_in s.store node))) node
-        else with_pages s.store (erased (frames_freed s.store.pages fs) (home_in s.store node))) {
-          accounts =
-              lost s.store.accounts node;
-        }
-
-    seen_is : seen (with_owner (effected s k (command.Delete path)) None) ≡ record (seen s) { owner = None }
-    seen_is = (λ i. seen (with_owner (booked (with_store s (deleted (can.inactive i) (can.done.frames i)))
-        (gone_entries s node (command.Delete path))) None))
-        ∙ (λ i. record (seen s) { owner = None; entries = entries_are i })
+      seen_is : seen (with_owner (effected s k (command.Delete path)) None) ≡ record (seen s) { owner = None }
+      seen_is = (λ i. seen (with_owner (booked (with_store s (deleted_store (none.inactive i) (none.frames i)))
+          (gone_entries s node (command.Delete path))) None))
+          ∙ (λ i. record (seen s) { owner = None; entries = entries_are i })

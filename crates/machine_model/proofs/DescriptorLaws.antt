@@ -17,30 +17,30 @@ cut_none (d ∷ ds) k n h = let parts = or_parts (is_cut_at k n d) (has_cut ds k
     rw parts.0 (cut_none ds k n parts.1)
 
 cut_head : (d : CutDescriptor) (ds : List CutDescriptor) → cut_uid (d ∷ ds) d.process d.number ≡ Some d.uid
-cut_head d ds = ap (λ (b : Bool). cond b (Some d.uid) (cut_uid ds d.process d.number)) (cut_at_same d)
+cut_head d ds = cc (cut_at_same d)
 
 cut_rest : (d : CutDescriptor) (ds : List CutDescriptor) (k n : ℕ) → (k ≡ d.process → n ≡ d.number → ⊥)
     → cut_uid (d ∷ ds) k n ≡ cut_uid ds k n
-cut_rest d ds k n h = ap (λ (b : Bool). cond b (Some d.uid) (cut_uid ds k n)) (cut_at_other k n d h)
+cut_rest d ds k n h = cc (cut_at_other k n d h)
 
 cut_pushed : (ds : List CutDescriptor) (d : CutDescriptor) → has_cut ds d.process d.number ≡ false
     → cut_uid (ds ++ d ∷ []) d.process d.number ≡ Some d.uid
 cut_pushed [] d h = cut_head d []
 cut_pushed (x ∷ xs) d h = let parts = or_parts (is_cut_at d.process d.number x) (has_cut xs d.process d.number) h in
-    ap (λ (b : Bool). cond b (Some x.uid) (cut_uid (xs ++ d ∷ []) d.process d.number)) parts.0 ∙ cut_pushed xs d parts.1
+    cc (cut_pushed xs d parts.1)
 
 cut_kept : (ds : List CutDescriptor) (d : CutDescriptor) (k n : ℕ) → (k ≡ d.process → n ≡ d.number → ⊥)
     → cut_uid (ds ++ d ∷ []) k n ≡ cut_uid ds k n
 cut_kept [] d k n h = cut_rest d [] k n h
-cut_kept (x ∷ xs) d k n h = ap (λ (o : Option ℕ). cond (is_cut_at k n x) (Some x.uid) o) (cut_kept xs d k n h)
+cut_kept (x ∷ xs) d k n h = cc (cut_kept xs d k n h)
 
 unlinked_going : (x y : Option ℕ) → is_going_descriptor (descriptor_use x y) ≡ true → x ≡ None
 unlinked_going None y h = refl
-unlinked_going (Some u) y h = absurd (let no : false ≡ true = h in cc)
+unlinked_going (Some u) y h = cc
 
 -- a descriptor's use by the segment that it leads to
 use_linked : (v : Seen) (k n u : ℕ) → v.linked k n ≡ Some u → (shown v).descriptor k n ≡ descriptor.Current u
-use_linked v k n u h = ap (λ (o : Option ℕ). descriptor_use o (cut_uid (cut_of_owner v.owner) k n)) h
+use_linked v k n u h = cc
 
 -- ---- cut
 
@@ -69,10 +69,12 @@ cut_keeps v c aim w d k can = book_next v (entry.Cut d.process d.number) (cut v 
   pending = refl;
   going_owned = owned_cut (shown v) v.owner c d aim w k.going_owned current can.still can.others can.this can.aimed;
   tied = k.tied;
-  holding_right = λ e. right_alike v.bound (shown v).descriptor now (v.processors e) (λ j n. ap leads_to (next_at j n)
-      ∙ by_places (λ (x : DescriptorUse). leads_to x ≡ leads_to ((shown v).descriptor j n))
-      (shown v).descriptor d.process d.number made j n
-      (λ a b. leads_cut ((shown v).descriptor d.process d.number) ∙ rw (a, b) refl) (λ m. refl)) (k.holding_right e);
+  holding_right = λ e. right_alike v.bound (shown v).descriptor now (v.processors e) (λ j n. cc (
+    next_at j n,
+    by_places (λ (x : DescriptorUse). leads_to x ≡ leads_to ((shown v).descriptor j n))
+        (shown v).descriptor d.process d.number made j n (λ a b. leads_cut ((shown v).descriptor d.process d.number)
+        ∙ rw (a, b) refl) (λ m. refl),
+  )) (k.holding_right e);
   under_way = k.under_way;
   runs = k.runs;
 })
@@ -105,7 +107,7 @@ cut_keeps v c aim w d k can = book_next v (entry.Cut d.process d.number) (cut v 
     other : (j n : ℕ) → (j ≡ d.process → n ≡ d.number → ⊥) → now j n ≡ (shown v).descriptor j n
     other j n m = by_places (λ (o : Option ℕ). descriptor_use o (cut_uid (ds ++ d ∷ []) j n)
         ≡ (shown v).descriptor j n) v.linked d.process d.number None j n
-        (λ a b. absurd (m a b)) (λ x. ap (descriptor_use (v.linked j n)) (cut_kept ds d j n m))
+        (λ a b. absurd (m a b)) (λ x. cc (cut_kept ds d j n m))
 
     next_at : (j n : ℕ) → now j n ≡ at_put_two (shown v).descriptor d.process d.number made j n
     next_at = one_place_of_two (shown v).descriptor now d.process d.number made here other
@@ -129,11 +131,8 @@ module _ (v : Seen) (d : CutDescriptor) (owner : Option Owner) (k : KeepsBook v)
       (cut_uid (cut_of_owner v.owner) d.process d.number) cut_going
 
   cut_nobody : NobodyHoldsSeg (shown v) d.process d.number
-  cut_nobody = nobody_holds_going_seg (shown v) d.process d.number
-      (subst (Fine (shown v)) can.still k.stale_due) can.none
-      (ap (λ (o : Option ℕ). is_current_descriptor
-      (descriptor_use o (cut_uid (cut_of_owner v.owner) d.process d.number))) cut_unlinked
-      ∙ not_current (cut_uid (cut_of_owner v.owner) d.process d.number))
+  cut_nobody = nobody_holds_going_seg (shown v) d.process d.number (rw (← can.still) k.stale_due) can.none
+      (cc (cut_unlinked, not_current (cut_uid (cut_of_owner v.owner) d.process d.number)))
     where
       not_current : (y : Option ℕ) → is_current_descriptor (cut_use y) ≡ false
       not_current None = refl
@@ -151,12 +150,10 @@ module _ (v : Seen) (d : CutDescriptor) (owner : Option Owner) (k : KeepsBook v)
 
   -- the descriptor is used otherwise, as one that nobody holds
   finished_keeps : (e : Entry) (linked : ℕ → ℕ → Option ℕ) (made : DescriptorUse) → IsLawful v.plan (flat v) e
-      → IsAllowed v.plan (flat v) (shown v) e → FillsOnline (shown v) e
-      → custody_next v.plan (flat v) (shown v) e
+      → IsAllowed v.plan (flat v) (shown v) e → FillsOnline (shown v) e → custody_next v.plan (flat v) (shown v) e
       ≡ record (shown v) { descriptor = at_put_two (shown v).descriptor d.process d.number made }
       → pending_after (is_pending v.owner) e ≡ is_pending v.owner
-      → ((j : ℕ) → IsRun (progress_of (after_entry v.plan (flat v) e) j) (v.runs j))
-      → is_going_descriptor made ≡ false
+      → ((j : ℕ) → IsRun (progress_of (after_entry v.plan (flat v) e) j) (v.runs j)) → is_going_descriptor made ≡ false
       → descriptor_use (linked d.process d.number) (cut_uid (cut_of_owner owner) d.process d.number) ≡ made
       → ((j n : ℕ) → (j ≡ d.process → n ≡ d.number → ⊥) → linked j n ≡ v.linked j n)
       → KeepsBook (record v { linked = linked; owner = owner; entries = v.entries ++ e ∷ [] })
@@ -166,7 +163,7 @@ module _ (v : Seen) (d : CutDescriptor) (owner : Option Owner) (k : KeepsBook v)
         allowed = allowed;
         online = online;
         next = (λ i. record (shown v) { descriptor = λ j n. next_at j n i }) ∙ sym next;
-        pending = can.after ∙ (sym can.still ∙ sym pending);
+        pending = cc;
         going_owned = rw next (owned_left_cut (shown v) v.owner owner d made k.going_owned can.none can.first goes);
         tied = k.tied;
         holding_right = λ c. subst (λ (x : ℕ → ℕ → DescriptorUse). HoldsRight v.bound x (v.processors c))
@@ -187,9 +184,7 @@ module _ (v : Seen) (d : CutDescriptor) (owner : Option Owner) (k : KeepsBook v)
   unfolding IsLawful after_entry custody_next
   gone_seg_keeps = finished_keeps (entry.GoneSeg d.process d.number) v.linked descriptor.Free tt
       (record { going = cut_going; nobody = cut_nobody }) tt refl refl k.runs refl
-      (ap (λ (o : Option ℕ). descriptor_use o (cut_uid (cut_of_owner owner) d.process d.number)) cut_unlinked
-      ∙ ap cut_use (ap (λ (ds : List CutDescriptor). cut_uid ds d.process d.number) can.first.left
-      ∙ cut_none can.first.rest d.process d.number cut_apart.0)) (λ j n m. refl)
+      (cc (cut_unlinked, can.first.left, cut_none can.first.rest d.process d.number cut_apart.0)) (λ j n m. refl)
 
   pub back_seg_keeps : KeepsBook (back_seg v d owner)
   unfolding IsLawful after_entry custody_next
@@ -253,8 +248,7 @@ connect_keeps v j n u k can = book_next v (entry.Connect j n u) (connected v j n
 
     other : (x y : ℕ) → (x ≡ j → y ≡ n → ⊥) → now x y ≡ (shown v).descriptor x y
     other x y m = by_places (λ (o : Option ℕ). descriptor_use o (cut_uid (cut_of_owner v.owner) x y)
-        ≡ (shown v).descriptor x y) v.linked j n (Some u) x y
-        (λ a b. absurd (m a b)) (λ z. refl)
+        ≡ (shown v).descriptor x y) v.linked j n (Some u) x y (λ a b. absurd (m a b)) (λ z. refl)
 
     next_at : (x y : ℕ) → now x y ≡ at_put_two (shown v).descriptor j n (descriptor.Current u) x y
     next_at = one_place_of_two (shown v).descriptor now j n (descriptor.Current u) here other

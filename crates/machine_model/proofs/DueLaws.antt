@@ -11,19 +11,18 @@ none_due c o k still d = by (c.seat d).due refl
   where
     by : (x : Option What) → (c.seat d).due ≡ x → x ≡ None
     by None e = refl
-    by (Some w) e = absurd (none_some (sym still ∙ k.due d w e))
+    by (Some w) e = cc (k.due d w e)
 
 -- what a processor is to drop changes nothing of what goes
 goes_same : (c e : Custody) → e.frame ≡ c.frame → e.descriptor ≡ c.descriptor → SomethingGoes c → SomethingGoes e
 goes_same c e f d (inl g) = inl (record {
   at = g.at;
-  going = ap (λ (h : ℕ → FrameUse). is_going_frame (h g.at)) f
-      ∙ g.going;
+  going = cc;
 })
 goes_same c e f d (inr g) = inr (record {
   process = g.process;
   number = g.number;
-  going = ap (λ (h : ℕ → ℕ → DescriptorUse). is_going_descriptor (h g.process g.number)) d ∙ g.going;
+  going = cc;
 })
 
 -- an owner that has said what it was to say, and waits for it
@@ -36,16 +35,15 @@ pub record HasSaid (o q : Option Owner) (w : What) : Type 0 where
 
 -- the signal is given
 pub owned_signal : (c : Custody) (o q : Option Owner) (d : ℕ) (w : What) → IsOwned c o → NoneDue c → SomethingGoes c
-    → HasSaid o q w
-    → IsOwned (signalled c d w) q
+    → HasSaid o q w → IsOwned (signalled c d w) q
 owned_signal c o q d w k none goes said = record {
-  frames = λ f. k.frames f ∙ ap (λ (fs : List ℕ). has fs f) (sym said.frames);
-  cuts = λ j n. k.cuts j n ∙ ap (λ (ds : List CutDescriptor). has_cut ds j n) (sym said.cut);
+  frames = λ f. cc (k.frames f);
+  cuts = λ j n. cc (k.cuts j n);
   once = subst AreDistinct (sym said.frames) k.once;
   apart = subst AreApart (sym said.cut) k.apart;
-  due = λ e v h. said.waits ∙ ap (λ (x : What). Some x) (due_is e v (eqb e d) (c.seat e).online h);
+  due = λ e v h. cc (due_is e v (eqb e d) (c.seat e).online h);
   alive = λ e v h. goes_same c (signalled c d w) refl refl goes;
-  says = λ v h. absurd (none_some (sym said.says ∙ h));
+  says = λ v h. cc;
   shaped = said.shaped;
 }
   where
@@ -53,7 +51,7 @@ owned_signal c o q d w k none goes said = record {
         → (cond b (cleared c w (c.seat e)) (cond online (record (c.seat e) { due = Some w }) (c.seat e))).due ≡ Some v
         → w ≡ v
     due_is e v false true h = cc
-    due_is e v _ _ h = absurd (none_some (sym (none e) ∙ h))
+    due_is e v _ _ h = cc (none e)
 
 -- a processor clears
 pub owned_clear : (c : Custody) (o : Option Owner) (d : ℕ) (w : What) → IsOwned c o → IsOwned (answered_clear c d w) o
@@ -76,8 +74,7 @@ owned_clear c o d w k = record {
   where
     was : (e : ℕ) (v : What) → ((answered_clear c d w).seat e).due ≡ Some v → (c.seat e).due ≡ Some v
     was e v = by_place (λ (x : Seat). x.due ≡ Some v → (c.seat e).due ≡ Some v) c.seat d
-        (record (cleared c w (c.seat d)) { due = None }) e
-        (λ i h. absurd (none_some h)) (λ n h. h)
+        (record (cleared c w (c.seat d)) { due = None }) e (λ i h. cc) (λ n h. h)
 
     names_same : (v : What) (f : ℕ) → names_frame (answered_clear c d w) v f ≡ names_frame c v f
     names_same _ f = refl
@@ -110,18 +107,16 @@ head_not fs f g h = elim (eqb_tells f g) [ inl e ↦ absurd (h (sym e.1)) | inr 
 
 -- the first frame is gone or back
 pub owned_left : (c : Custody) (o q : Option Owner) (f : ℕ) (x : FrameUse) → IsOwned c o → NoneDue c → HasLeft o q f
-    → is_going_frame x ≡ false
-    → IsOwned (with_frame c f x) q
+    → is_going_frame x ≡ false → IsOwned (with_frame c f x) q
 owned_left c o q f x k none left still = record {
   frames = λ g. by_place (λ (y : FrameUse). is_going_frame y ≡ has (frames_of_owner q) g) c.frame f x g
-      (λ e. still ∙ sym (ap (has (frames_of_owner q)) e ∙ (ap (λ (fs : List ℕ). has fs f) left.left ∙ once.0)))
-      (λ n. cc (k.frames g, left.first, head_not left.rest f g n, left.left));
-  cuts = λ j n. k.cuts j n ∙ ap (λ (ds : List CutDescriptor). has_cut ds j n) (sym left.same);
+      (λ e. cc (still, e, left.left, once.0)) (λ n. cc (k.frames g, left.first, head_not left.rest f g n, left.left));
+  cuts = λ j n. cc (k.cuts j n);
   once = subst AreDistinct (sym left.left) once.1;
   apart = subst AreApart (sym left.same) k.apart;
-  due = λ e w h. absurd (none_some (sym (none e) ∙ h));
-  alive = λ e w h. absurd (none_some (sym (none e) ∙ h));
-  says = λ w h. absurd (none_some (sym left.says ∙ h));
+  due = λ e w h. cc (none e);
+  alive = λ e w h. cc (none e);
+  says = λ w h. cc;
   shaped = left.shaped;
 }
   where
@@ -137,19 +132,18 @@ head_cut_not ds d k n h = by (is_cut_at k n d) refl
     by true e = let both = cut_at_tells k n d e in absurd (h both.0 both.1)
 
 pub owned_left_cut : (c : Custody) (o q : Option Owner) (d : CutDescriptor) (x : DescriptorUse) → IsOwned c o
-    → NoneDue c → HasLeftCut o q d
-    → is_going_descriptor x ≡ false → IsOwned (with_descriptor c d.process d.number x) q
+    → NoneDue c → HasLeftCut o q d → is_going_descriptor x ≡ false → IsOwned (with_descriptor c d.process d.number x) q
 owned_left_cut c o q d x k none left still = record {
-  frames = λ g. k.frames g ∙ ap (λ (fs : List ℕ). has fs g) (sym left.same);
+  frames = λ g. cc (k.frames g);
   cuts = λ i j. by_places (λ (y : DescriptorUse). is_going_descriptor y
       ≡ has_cut (cut_of_owner q) i j) c.descriptor d.process d.number x i j
       (λ a b. still ∙ sym (ap (λ (ds : List CutDescriptor). has_cut ds i j) left.left ∙ rw (a, b) apart.0))
       (λ m. cc (k.cuts i j, left.first, head_cut_not left.rest d i j m, left.left));
   once = subst AreDistinct (sym left.same) k.once;
   apart = subst AreApart (sym left.left) apart.1;
-  due = λ e w h. absurd (none_some (sym (none e) ∙ h));
-  alive = λ e w h. absurd (none_some (sym (none e) ∙ h));
-  says = λ w h. absurd (none_some (sym left.says ∙ h));
+  due = λ e w h. cc (none e);
+  alive = λ e w h. cc (none e);
+  says = λ w h. cc;
   shaped = left.shaped;
 }
   where

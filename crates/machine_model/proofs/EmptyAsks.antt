@@ -30,7 +30,7 @@ unread_any core u h f p e = no_and passes (position_none
     (λ x. is_page_of u any_page (started_page x)) core.frames frame.Free f h refl)
   where
     no_and : {b : Bool} → b ≡ true → b ≡ false → ⊥
-    no_and t i = let none : true ≡ false = sym t ∙ i in cc
+    no_and t i = let none = sym t ∙ i in cc
 
     passes : is_page_of u any_page (started_page (frame_at core f)) ≡ true
     passes = ap (is_page_of u any_page) (sym (map_list started_page core.frames f frame.Free) ∙ e)
@@ -43,15 +43,13 @@ module _ (s : State) (c u : ℕ) (k : Keeps s) (idle : IsIdle s.owner) (still : 
   over = nothing_over s k idle still
 
   segment_asks : (fs : List ℕ) (pairs : List (ℕ × ℕ)) → StoreKept (segment_taken s c u fs pairs).store
-      → IsFaithful s.plan (flat_of s) (segment_taken s c u fs pairs).store
-      → ArePairs (seen s).linked (what.Seg u) pairs
+      → IsFaithful s.plan (flat_of s) (segment_taken s c u fs pairs).store → ArePairs (seen s).linked (what.Seg u) pairs
       → (fs ≡ [] → pairs ≡ [] → MayDeactivate (flat_of (segs_gone s (cut_of_owner s.owner)))
-      (shown (seen (segs_gone s (cut_of_owner s.owner)))) u)
-      → AsksSegment s c u fs pairs
-  segment_asks [] [] kept shown_is are may = record {
-    may = may refl refl;
-    says = emptied_says s c u (emptied s c u).store k kept shown_is refl;
-  }
+      (shown (seen (segs_gone s (cut_of_owner s.owner)))) u) → AsksSegment s c u fs pairs
+  segment_asks [] [] kept shown_is are may = assumption (
+    may refl refl,
+    emptied_says s c u (emptied s c u).store k kept shown_is refl,
+  )
   segment_asks [] (x ∷ xs) kept shown_is are may =
       took_says s c (aim.Deactivating u) (what.Seg u) [] (x ∷ xs) k are kept shown_is
   segment_asks (f ∷ fs) pairs kept shown_is are may =
@@ -74,36 +72,32 @@ module _ (s : State) (c u : ℕ) (k : Keeps s) (idle : IsIdle s.owner) (still : 
 -- what lies below something lies below a directory
 pub segment_inferiors : (s : State) (u : ℕ) (n : Node) → Keeps s → node_in s.store.accounts.nodes u ≡ Some n
     → n.directory ≡ false → (v : ℕ) → node_superior (node_in (flat_of s).nodes v) ≢ Some u
-segment_inferiors s u n k at segment v h = by (node_in s.store.accounts.nodes v) refl
-    (ap (λ (ns : List Node). node_superior (node_in ns v)) (sym k.faithful.tree.nodes) ∙ h)
+segment_inferiors s u n k at segment v h = by (node_in s.store.accounts.nodes v) refl (cc)
   where
     nodes : List Node
     nodes = s.store.accounts.nodes
 
     directory_is : (ns : List Node) (w : ℕ) (x : Node) → node_in ns w ≡ Some x → has_directory ns w ≡ x.directory
-    directory_is [] w x e = absurd (none_some e)
+    directory_is [] w x e = cc
     directory_is (y ∷ ys) w x e = cases (eqb y.uid w) e (directory_is ys w x)
       where
         cases : (b : Bool) → cond b (Some y) (node_in ys w) ≡ Some x
             → (node_in ys w ≡ Some x → has_directory ys w ≡ x.directory)
             → cond b y.directory (has_directory ys w) ≡ x.directory
-        cases true i rest = let same : y ≡ x = cc in ap (λ (z : Node). z.directory) same
+        cases true i rest = let same : y ≡ x = cc in cc
         cases false i rest = rest i
 
     by : (x : Option Node) → node_in nodes v ≡ x → node_superior x ≡ Some u → ⊥
     by None e i = none_some i
     by (Some m) e i =
-        let up : IsUp nodes v (Some u) = subst (IsUp nodes v)
-        (superior_found nodes v m e ∙ i)
-        (superior_up nodes k.store.accounts.tree v) in
-        let none : true ≡ false = sym up.1 ∙ (directory_is nodes u n at ∙ segment) in cc
+        let none : true ≡ false = sym (subst (IsUp nodes v) (superior_found nodes v m e ∙ i)
+        (superior_up nodes k.store.accounts.tree v)).1 ∙ (directory_is nodes u n at ∙ segment) in cc
 
 pub length_asks : (s : State) (c : ℕ) (o : Outcome) (j u : ℕ) (cmd : Command) → Keeps s → IsIdle s.owner
     → is_pending s.owner ≡ false → FindsActive s j cmd u → Says s c o (act.Empty u) → AsksEmpty s c u
 unfolding after
 length_asks s c o j u cmd k idle still finds says = empty_asks s c u k idle still says.store
-    (says.shown (flat_of s) k.faithful) finds.active finds.unread
-    (λ v active. segment_inferiors s u leads.node k
+    (says.shown (flat_of s) k.faithful) finds.active finds.unread (λ v active. segment_inferiors s u leads.node k
     (ap (node_in s.store.accounts.nodes) (sym same) ∙ leads.there) leads.segment v)
   where
     leads : LeadsToSegment s finds.path
@@ -161,8 +155,7 @@ victim_asks s c o j pool chain u cmd k idle still finds says = record {
     active : is_active s.store.ast u ≡ true
     active = active_at s.store.ast finds.place u at
 
-    moved_active : (x : Option ℕ) → is_active s.store.ast u ≡ true
-        → is_active (hand_past s.store.ast pool x) u ≡ true
+    moved_active : (x : Option ℕ) → is_active s.store.ast u ≡ true → is_active (hand_past s.store.ast pool x) u ≡ true
     moved_active None h = h
     moved_active (Some place) h = h
 

@@ -27,7 +27,7 @@ is_fault _ = false
 take_faults : (o : Option Owner) (r : Reference) (x : Move) → act.by_move o r x ≡ act.TakeSupervisor → x ≡ move.Fault
 unfolding is_take
 take_faults o r move.Fault h = refl
-take_faults o r _ h = absurd (let none : false ≡ true = ap is_take h in cc)
+take_faults o r _ h = cc
 
 module _ (s : State) (c : ℕ) (m : IsMachine s) (entitled : IsEntitledToAll s) (none : s.owner ≡ None)
     (rest : (cpu_at s.processors c).transfer ≡ None) (cmd : Command) (sp : Speaks s c (process_at s c) cmd)
@@ -45,8 +45,7 @@ module _ (s : State) (c : ℕ) (m : IsMachine s) (entitled : IsEntitledToAll s) 
   unfolding is_fault
   word_lacks u p makes ptw.Null active e same h = ap (λ (b : Bool). b || (false || (not ((outline_of s).stored u p)
       && not makes))) (not_here s keeps u p (ap names e))
-      ∙ (ap (λ (b : Bool). not ((outline_of s).stored u p) && not b) (sym same)
-      ∙ by (eqb (new_word 0 r.kind) 0) h)
+      ∙ (ap (λ (b : Bool). not ((outline_of s).stored u p) && not b) (sym same) ∙ by (eqb (new_word 0 r.kind) 0) h)
     where
       and_false : (b : Bool) → (b && false) ≡ false
       and_false true = refl
@@ -54,15 +53,15 @@ module _ (s : State) (c : ℕ) (m : IsMachine s) (entitled : IsEntitledToAll s) 
 
       by : (b : Bool) → cond b (move.Plain (word_reply 0 r.kind)) move.Fault ≡ move.Fault
           → (not ((outline_of s).stored u p) && not (not b)) ≡ false
-      by true i = absurd (let no_fault : false ≡ true = ap is_fault i in cc)
+      by true i = cc
       by false i = and_false (not ((outline_of s).stored u p))
-  word_lacks u p makes (ptw.Out n) active e same h = ap (λ (b : Bool). b || (false || (not ((outline_of s).stored u p)
-      && not makes))) (not_here s keeps u p (ap names e))
-      ∙ ap (λ (b : Bool). not b && not makes) (stored_outlined s keeps u p active ∙ ap has_record e)
-  word_lacks u p makes (ptw.Here f) active e same h = absurd (let no_fault : false ≡ true = ap is_fault h in cc)
-  word_lacks u p makes (ptw.Leaving f) active e same h = absurd (let here : ptw.Leaving f ≡ ptw.Here f =
-      sym e ∙ bound_here (seen s) f u p keeps.book (ap frames_of_owner none)
-      (keeps.book.tied.back f u p (ap names e)) in let off : true ≡ false = ap is_leaving here in cc)
+  word_lacks u p makes (ptw.Out n) active e same h = cc (
+    not_here s keeps u p (ap names e),
+    stored_outlined s keeps u p active,
+  )
+  word_lacks u p makes (ptw.Here f) active e same h = cc
+  word_lacks u p makes (ptw.Leaving f) active e same h = cc (ap is_leaving (sym e ∙ bound_here (seen s) f u p keeps.book
+      (ap frames_of_owner none) (keeps.book.tied.back f u p (ap names e))))
     where
       is_leaving : Ptw → Bool
       is_leaving (ptw.Leaving g) = true
@@ -71,9 +70,7 @@ module _ (s : State) (c : ℕ) (m : IsMachine s) (entitled : IsEntitledToAll s) 
   module _ (chain : List ℕ) (u p : ℕ) (makes : Bool)
       (to : IsReferring s.store.accounts.nodes s.store.links.known k r chain u p makes) where
     held_same : (e : HeldSeg) → seg_of (cpu_at s.processors c).assoc r.number ≡ Some e → e.uid ≡ u
-    held_same e h = let one : Some e.uid ≡ Some u =
-        sym (known s c keeps entitled cmd sp r is e h)
-        ∙ (ap (λ (x : List (List (Option ℕ))). uid_of (kst_at x k) r.number) keeps.faithful.known ∙ to.stands) in cc
+    held_same e h = let one : Some e.uid ≡ Some u = sym (known s c keeps entitled cmd sp r is e h) ∙ (cc) in cc
 
     held_lacks : (e : HeldSeg) → seg_of (cpu_at s.processors c).assoc r.number ≡ Some e
         → by_held (cpu_at s.processors c).assoc (word_of s.store.ast) r e ≡ move.Fault
@@ -88,7 +85,7 @@ module _ (s : State) (c : ℕ) (m : IsMachine s) (entitled : IsEntitledToAll s) 
         by false false None j = (λ n. page_fits (outline_of s) None (sym (held_same e h) n) (sym to.page_is n) makes)
             ∙ word_lacks e.uid (r.offset / 1024) makes (word_of s.store.ast e.uid (r.offset / 1024))
             (held_active s c keeps entitled cmd sp r is e h) refl to.makes_is j
-        by _ _ _ j = absurd (let no_fault : false ≡ true = ap is_fault j in cc)
+        by _ _ _ j = cc
 
     -- a fault where all is there that the reference wants
     lacking : act.move_of s (cpu_at s.processors c) k r ≡ move.Fault
@@ -100,25 +97,22 @@ module _ (s : State) (c : ℕ) (m : IsMachine s) (entitled : IsEntitledToAll s) 
         and_false true = refl
         and_false false = refl
 
-        seg : (w : Sdw) → descriptor_of s.store.links k r.number ≡ w
-            → is_fault (by_descriptor w) ≡ true
-            → (is_connected (descriptor_of s.store.links k r.number) && page_fits (outline_of s) None u p makes)
-            ≡ false
-        seg sdw.Fault e i = ap (λ (x : Sdw). is_connected x && page_fits (outline_of s) None u p makes) e
-        seg (sdw.Present aste mode pages) e i = absurd (let no_fault : false ≡ true = i in cc)
+        seg : (w : Sdw) → descriptor_of s.store.links k r.number ≡ w → is_fault (by_descriptor w) ≡ true
+            → (is_connected (descriptor_of s.store.links k r.number) && page_fits (outline_of s) None u p makes) ≡ false
+        seg sdw.Fault e i = cc
+        seg (sdw.Present aste mode pages) e i = cc
 
         by : (o : Option HeldSeg) → seg_of (cpu_at s.processors c).assoc r.number ≡ o
             → by_seg (cpu_at s.processors c).assoc (sdws_at s.store.links.descriptors k) (word_of s.store.ast) r o
             ≡ move.Fault
-            → (is_connected (descriptor_of s.store.links k r.number) && page_fits (outline_of s) None u p makes)
-            ≡ false
+            → (is_connected (descriptor_of s.store.links k r.number) && page_fits (outline_of s) None u p makes) ≡ false
         by None e i = seg (descriptor_of s.store.links k r.number) refl (ap is_fault i)
         by (Some x) e i = cc (held_lacks x e i, and_false (is_connected (descriptor_of s.store.links k r.number)))
 
   -- ---- a reference that faults
 
   want_is : want_at (outline_of s) c ≡ want_of_reference (around s) k r
-  want_is = want_here s c k sp.its ∙ (ap (want_of (around s) k) sp.next ∙ ap (want_by (around s) k cmd) is)
+  want_is = cc (want_here s c k sp.its)
 
   linked_is : (runner_at (outline_of s).runners c).linked ≡ is_connected (descriptor_of s.store.links k r.number)
   linked_is = cc (linked_here s c k sp.its)
@@ -134,11 +128,9 @@ module _ (s : State) (c : ℕ) (m : IsMachine s) (entitled : IsEntitledToAll s) 
       by (Refer chain u p makes) e = inl (
         record { chain = chain; uid = u; page = p; makes = makes; want = want_is ∙ e },
         (λ i. want_lack (outline_of s) ((want_is ∙ e) i) (linked_is i) (reading_none i))
-            ∙ ap (λ (b : Bool). cond {A = ℕ} b 0 1) (lacking chain u p makes
-            (refers s k r chain u p makes e) h),
+            ∙ ap (λ (b : Bool). cond {A = ℕ} b 0 1) (lacking chain u p makes (refers s k r chain u p makes e) h),
       )
-      by _ e =
-          inr (λ xs v q b i. (let off : false ≡ true = ap is_refer (sym (want_is ∙ e) ∙ i) in cc))
+      by _ e = inr (λ xs v q b i. (let off = ap is_refer (sym (want_is ∙ e) ∙ i) in cc))
 
 module _ (s : State) (c : ℕ) (m : IsMachine s) (entitled : IsEntitledToAll s) (there : c < length s.processors) where
   -- a processor without a process wants nothing
@@ -160,22 +152,20 @@ module _ (s : State) (c : ℕ) (m : IsMachine s) (entitled : IsEntitledToAll s) 
       command_enters cmd sp (Some r) is h = reference_enters s c m entitled none rest cmd sp r is
           (take_faults s.owner r (act.move_of s (cpu_at s.processors c) (process_at s c) r) h)
 
-      its : (k : ℕ) → (cpu_at s.processors c).process ≡ Some k
-          → (cpu_at s.processors c).process ≡ Some (process_at s c)
-      its k e = e ∙ ap (λ (x : Option ℕ). Some (or_zero x)) (sym e)
+      its : (k : ℕ) → (cpu_at s.processors c).process ≡ Some k → (cpu_at s.processors c).process ≡ Some (process_at s c)
+      its k e = cc
 
       by : (x : Option ℕ) → (cpu_at s.processors c).process ≡ x → MayEnter s c
-      by None e = inr (λ xs v q b i. (let off : false ≡ true = ap is_refer (sym (nothing_wanted e) ∙ i) in cc))
+      by None e = inr (λ xs v q b i. (let off = ap is_refer (sym (nothing_wanted e) ∙ i) in cc))
       by (Some k) e = let one = speaks s c (process_at s c) m there (its k e) in
-          command_enters one.0 one.1 (reference_of one.0) refl
-          (ap (act.come_to s (cpu_at s.processors c) (process_at s c)) (sym one.1.next) ∙ takes)
+          command_enters one.0 one.1 (reference_of one.0) refl (cc)
 
   -- a transfer that fails is for a command that isn't the end of its process
   pub may_lose : IsReading s → is_some (cpu_at s.processors c).transfer ≡ true → MayLose s c
   may_lose reading h = by (cpu_at s.processors c).transfer refl h
     where
       by : (x : Option Transfer) → (cpu_at s.processors c).transfer ≡ x → is_some x ≡ true → MayLose s c
-      by None e i = absurd (let none : false ≡ true = i in cc)
+      by None e i = cc
       by (Some t) e i = record {
         process = may.process;
         command = may.command;
@@ -185,8 +175,7 @@ module _ (s : State) (c : ℕ) (m : IsMachine s) (entitled : IsEntitledToAll s) 
           only = λ d other is. other (m.scheduled.alone d c may.process is may.can.process);
         };
         more = fails_more s may.process (flat_of s) m.keeps.faithful may.command
-            (subst (MayFailBy s.store may.process) may.can.on.next
-            (subst (λ (j : ℕ). MayFailBy s.store j (next_command s j)) (ap or_zero may.can.process) reads.may));
+            (subst (MayFailBy s.store may.process) may.can.on.next (rw (← (ap or_zero may.can.process)) reads.may));
       }
         where
           reads : ReadsFor s c

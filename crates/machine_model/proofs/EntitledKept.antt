@@ -52,20 +52,16 @@ module _ (nodes : List Node) (whos : List Who) (known : List (List (Option ℕ))
           → ((eqb c d ≡ true) × (c ≡ d)) ⊎ ((eqb c d ≡ false) × (c ≢ d))
           → AreEntitled nodes whos known k (cpu_at (set ps c p) d).assoc.segs
       by d k i (inl same) = rw (← same.1) (subst (λ (x : Processor). AreEntitled nodes whos known k x.cpu.assoc.segs)
-          (sym (get_or-set_same ps c p no_processor there))
-          (one k (ap (λ (x : Processor). x.cpu.process) (sym (get_or-set_same ps c p no_processor there))
-          ∙ (ap (λ (j : ℕ). (cpu_at (set ps c p) j).process) same.1 ∙ i))))
+          (sym (get_or-set_same ps c p no_processor there)) (one k (cc (get_or-set_same ps c p no_processor there))))
       by d k i (inr other) = subst (λ (x : Processor). AreEntitled nodes whos known k x.cpu.assoc.segs)
           (sym (get_or-set_other ps c d p no_processor (λ e. other.1 (sym e))))
-          (h.each d k (ap (λ (x : Processor). x.cpu.process)
-          (sym (get_or-set_other ps c d p no_processor (λ e. other.1 (sym e)))) ∙ i))
+          (h.each d k (cc (get_or-set_other ps c d p no_processor (λ e. other.1 (sym e)))))
 
   told_entitled : (c : ℕ) (w : What) (ps : List Processor) → HoldEntitled nodes whos known ps
       → HoldEntitled nodes whos known (told_from c w 0 ps)
   told_entitled c w ps h = record {
     each = λ d k i. (rw (← (told_reads c w ps 0 d)) at (by (0 + d) (processor_at ps d) k
-        (h.each d k (sym (told_process c w (0 + d) (processor_at ps d))
-        ∙ (ap (λ (x : Processor). x.cpu.process) (sym (told_reads c w ps 0 d)) ∙ i)))));
+        (h.each d k (cc (told_process c w (0 + d) (processor_at ps d), told_reads c w ps 0 d)))));
   }
     where
       by : (d : ℕ) (p : Processor) (k : ℕ) → AreEntitled nodes whos known k p.cpu.assoc.segs
@@ -83,18 +79,13 @@ pub record SameNames (s t : State) : Type 0 where
 
 pub names_stay : {s t : State} → t.store.accounts.nodes ≡ s.store.accounts.nodes → t.store.whos ≡ s.store.whos
     → t.store.links.known ≡ s.store.links.known → t.processors ≡ s.processors → SameNames s t
-names_stay nodes whos known processors = record { nodes = nodes; whos = whos; known = known; processors = processors }
+names_stay nodes whos known processors = assumption
 
 pub on : (s t u : State) → SameNames s t → SameNames t u → SameNames s u
-on s t u a b =
-    names_stay (b.nodes ∙ a.nodes) (b.whos ∙ a.whos) (b.known ∙ a.known) (b.processors ∙ a.processors)
+on s t u a b = names_stay (cc) (cc) (cc) (cc)
 
 names_kept : (s t : State) → SameNames s t → IsEntitledToAll s → IsEntitledToAll t
-names_kept s t same h = subst (λ (ns : List Node). HoldEntitled ns t.store.whos t.store.links.known t.processors)
-    (sym same.nodes) (subst (λ (ws : List Who). HoldEntitled s.store.accounts.nodes ws t.store.links.known t.processors)
-    (sym same.whos) (subst (λ (x : List (List (Option ℕ))). HoldEntitled s.store.accounts.nodes s.store.whos x
-    t.processors) (sym same.known)
-    (subst (HoldEntitled s.store.accounts.nodes s.store.whos s.store.links.known) (sym same.processors) h)))
+names_kept s t same h = rw (same.nodes, same.whos, same.known, same.processors) h
 
 pub one_taken : (s : State) (c : ℕ) (a : Aim) (w : What) (f : ℕ) → SameNames s (take_one s c a w f)
 one_taken s c a w f = by (bound_page (frame_in s.store.pages f))
@@ -156,8 +147,7 @@ pub evicted : (s : State) (c f : ℕ) → SameNames s (eviction_done s c f)
 evicted s c f = by (left_of (words_in s.store.pages f))
   where
     by : (how : Left) → SameNames s (record (eviction_done s c f) {
-      store = with_left s.store f how
-          (page_in s.store f);
+      store = with_left s.store f how (page_in s.store f);
     })
     by left.Released = names_stay refl refl refl refl
     by left.Kept = names_stay refl refl refl refl
@@ -180,13 +170,11 @@ by_end o well ill a b = by o.failed
 
 -- what was taken is back, where a write failed
 abbrev pub all_back : State → ℕ → ℕ → State
-all_back s c faults =
-    segs_back (pages_back (fault_told s (Some (process_at s c)) faults) (frames_of_owner s.owner))
+all_back s c faults = segs_back (pages_back (fault_told s (Some (process_at s c)) faults) (frames_of_owner s.owner))
     (cut_of_owner s.owner)
 
 pub failed_names : (s : State) (c faults : ℕ) → SameNames s (all_back s c faults)
-failed_names s c faults =
-    on s told (all_back s c faults) (names_stay refl refl refl refl)
+failed_names s c faults = on s told (all_back s c faults) (names_stay refl refl refl refl)
     (on told (pages_back told (frames_of_owner s.owner)) (all_back s c faults)
     (all_pages_back told (frames_of_owner s.owner))
     (all_segs_back (pages_back told (frames_of_owner s.owner)) (cut_of_owner s.owner)))
@@ -208,14 +196,13 @@ module _ (s : State) (c : ℕ) (o : Outcome) (k : Keeps s) (there : c < length s
   held j e = h.each c j e
 
   -- what a descriptor gives
-  to_hold_is : (n j : ℕ) (y : Sdw) → descriptor_of s.store.links j n ≡ y
-      → (held_seg s.store n y).number ≡ n
+  to_hold_is : (n j : ℕ) (y : Sdw) → descriptor_of s.store.links j n ≡ y → (held_seg s.store n y).number ≡ n
       → led_to s.store.ast.entries (descriptor_of s.store.links j n) ≡ Some (held_seg s.store n y).uid
       → IsEntitled nodes s.store.whos s.store.links.known j (held_seg s.store n y)
-  to_hold_is n j sdw.Fault e number linked = absurd (none_some (sym (ap (led_to s.store.ast.entries) e) ∙ linked))
+  to_hold_is n j sdw.Fault e number linked = cc
   to_hold_is n j (sdw.Present place mode pages) e number linked = let known = k.store.kept.linked.known j n place
       (ap leads e) in let same = ap or_zero known.active in record {
-        stands = known.known_as ∙ ap (λ (x : ℕ). Some x) (sym same);
+        stands = cc;
         mode = λ x at. k.store.counted.rights.modes j n place pages known.uid mode x e known.active
             (ap (λ (v : ℕ). node_there v) (sym same) ∙ at);
         pages = λ x at. k.store.counted.rights.lengths j n place pages known.uid mode x e known.active
@@ -231,14 +218,11 @@ module _ (s : State) (c : ℕ) (o : Outcome) (k : Keeps s) (there : c < length s
   fills n can j e = filled_entitled nodes s.store.whos s.store.links.known j (cpu_at s.processors c).assoc.segs
       (held_seg s.store n (descriptor_of s.store.links (process_at s c) n)) (held j e)
       (rw (← (ap or_zero e)) (to_hold_is n (process_at s c) (descriptor_of s.store.links (process_at s c) n) refl
-      can.number (ap (λ (i : ℕ). led_to s.store.ast.entries (descriptor_of s.store.links i n))
-      (ap or_zero can.can.process)
-      ∙ (ap (λ (i : ℕ). led_to s.store.ast.entries (descriptor_of s.store.links can.process i)) (sym can.number)
-      ∙ can.can.linked))))
+      can.number (cc)))
 
   failed : IsEntitledToAll (write_failed s c o.faults)
   failed = set_entitled _ _ _ (all_back s c o.faults).processors c _
-      (subst (λ (ps : List Processor). c < length ps) (sym names.processors) there) back (λ j e. back.each c j e)
+      (rw names.processors there) back (λ j e. back.each c j e)
     where
       names : SameNames s (all_back s c o.faults)
       names = failed_names s c o.faults
@@ -260,8 +244,7 @@ module _ (s : State) (c : ℕ) (o : Outcome) (k : Keeps s) (there : c < length s
     where
       ill : IsEntitledToAll (transfer_failed s c t o.faults)
       ill = set_entitled nodes s.store.whos s.store.links.known (frame_lost s c t).processors c _
-          (subst (λ (n : ℕ). c < n) (sym (length-set s.processors c _)) there) (one _ held)
-          (λ j e. (one _ held).each c j e)
+          (rw (length-set s.processors c _) there) (one _ held) (λ j e. (one _ held).each c j e)
   entitled_kept (act.Load n) can may = one _ (λ j e. tt)
   entitled_kept act.Leave can may = one _ (λ j e. tt)
   entitled_kept (act.FillSeg n) can may = one _ (fills n can)
@@ -294,13 +277,11 @@ module _ (s : State) (c : ℕ) (o : Outcome) (k : Keeps s) (there : c < length s
   entitled_kept (act.Signal w) can may = told_entitled nodes s.store.whos s.store.links.known c w s.processors h
   entitled_kept (act.FinishEviction f) can may = by_end o (eviction_done (with_faults s o.faults) c f)
       (write_failed s c o.faults) (names_kept s (eviction_done (with_faults s o.faults) c f)
-      (on s (with_faults s o.faults) (eviction_done (with_faults s o.faults) c f)
-      (names_stay refl refl refl refl)
+      (on s (with_faults s o.faults) (eviction_done (with_faults s o.faults) c f) (names_stay refl refl refl refl)
       (evicted (with_faults s o.faults) c f)) h) failed
   entitled_kept (act.FinishPage f) can may = by_end o (page_done (with_faults s o.faults) f)
       (write_failed s c o.faults) (names_kept s (page_done (with_faults s o.faults) f)
-      (on s (with_faults s o.faults) (page_done (with_faults s o.faults) f)
-      (names_stay refl refl refl refl)
+      (on s (with_faults s o.faults) (page_done (with_faults s o.faults) f) (names_stay refl refl refl refl)
       (page_left (with_faults s o.faults) f)) h) failed
   entitled_kept (act.Deactivate u) can may = names_kept s (emptied s c u) (is_emptied s c u) h
   entitled_kept act.Commit can may = may

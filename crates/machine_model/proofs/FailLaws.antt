@@ -15,20 +15,19 @@ module _ (s : State) (k : ℕ) (t : Store) (shown : IsFaithful s.plan t s.store)
   reached_late : (r : Reference) → IsReached s.store.accounts.nodes s.store.links.known k r
       → is_early (reply_to_reference s.plan t k r) ≡ false
   unfolding reply_to_reference
-  reached_late r h = ap is_early (ap (reply_of s.plan t k r.offset r.kind) known
-      ∙ ap (reply_at s.plan t k r.offset r.kind) there)
+  reached_late r h = ap is_early (cc)
       ∙ by (permits (access_of (who_of s.plan k) h.node.rows) r.kind) (nat_le (1024 * h.node.pages) r.offset)
       (stores_page t h.node.uid r.offset r.kind) (is_used_up t h.node.uid) (is_out_of_room s.plan t h.node) short
     where
       known : known_uid t k r.number ≡ Some h.uid
-      known = ap (λ (x : List (List (Option ℕ))). uid_of (kst_at x k) r.number) shown.known ∙ h.stands
+      known = cc
 
       there : node_in t.nodes h.uid ≡ Some h.node
-      there = ap (λ (ns : List Node). node_in ns h.uid) shown.tree.nodes ∙ h.there
+      there = cc
 
       short : nat_le (1024 * h.node.pages) r.offset ≡ false
       short = elim (leb_tells (1024 * h.node.pages) r.offset) [
-        | inl e ↦ (let le = e.1 in let lt = h.within in absurd (omega (arith, le, lt)))
+        | inl e ↦ (let le = e.1 in let lt = h.within in absurd (omega arith))
         | inr m ↦ m.0
       ]
 
@@ -37,17 +36,17 @@ module _ (s : State) (k : ℕ) (t : Store) (shown : IsFaithful s.plan t s.store)
 
       by : (a b d e f : Bool) → b ≡ false → is_early (cond (not a) reply.NoAccess (cond b reply.Length
           (cond d (cond e reply.Quota (cond f reply.NoRecord word)) word))) ≡ false
-      by true true d e f i = absurd (let none : true ≡ false = i in cc)
+      by true true d e f i = cc
       by true false true false false i = word_late (t.words h.node.uid r.offset) r.kind
       by true false false e f i = word_late (t.words h.node.uid r.offset) r.kind
       by _ _ _ _ _ i = refl
 
   segment_same : (path : List (List ℕ)) (n : Node) → segment_at s.store.accounts.nodes path ≡ Ok n
       → segment_at t.nodes path ≡ Ok n
-  segment_same path n h = ap (λ (ns : List Node). segment_at ns path) shown.tree.nodes ∙ h
+  segment_same path n h = cc
 
   le_is : (a b : ℕ) → nat_le a b ≡ true → a ≤ b
-  le_is a b h = elim (leb_tells a b) [ inl e ↦ e.1 | inr m ↦ absurd (let none : true ≡ false = sym h ∙ m.0 in cc) ]
+  le_is a b h = elim (leb_tells a b) [ inl e ↦ e.1 | inr m ↦ cc ]
 
   changes_late : (c : Command) → MayChange s.store.accounts.nodes (is_filed s.store.accounts s.store.pages.vtocs) c
       → may_fail c (reply_to_command s.plan t k c) ≡ true
@@ -68,7 +67,7 @@ module _ (s : State) (k : ℕ) (t : Store) (shown : IsFaithful s.plan t s.store)
   fails_more c (inl x) = by c x.1
     where
       by : (d : Command) → reference_of d ≡ Some x.0 → is_end d ≡ false
-      by command.End e = absurd (let none : None ≡ Some x.0 = e in cc)
+      by command.End e = cc
       by _ e = refl
   fails_more c (inr x) = by c x
     where

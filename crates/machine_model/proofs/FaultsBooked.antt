@@ -13,18 +13,16 @@ count_cons e es = sum_by-cons (λ x. tally (is_fault x)) e es
 
 pub count_on : (xs ys : List Entry) → count_by is_fault (xs ++ ys) ≡ count_by is_fault xs + count_by is_fault ys
 count_on [] ys = omega arith
-count_on (x ∷ xs) ys = let rest = count_on xs ys in let a = count_cons x (xs ++ ys) in let b = count_cons x xs in
-    omega (arith, rest, a, b)
+count_on (x ∷ xs) ys = omega (arith, count_on xs ys, count_cons x (xs ++ ys), count_cons x xs)
 
 quiet_entry : (e : Entry) → is_quiet e ≡ true → is_fault e ≡ false
-quiet_entry (entry.Fault process) h = absurd (let none : false ≡ true = h in cc)
+quiet_entry (entry.Fault process) h = cc
 quiet_entry _ h = refl
 
 quiet_none : (es : List Entry) → AreQuiet es → count_by is_fault es ≡ 0
 quiet_none [] h = refl
 quiet_none (e ∷ es) h = let both = and_parts (is_quiet e) (list_all is_quiet es) h in
-    let here : tally (is_fault e) ≡ 0 = ap tally (quiet_entry e both.0) in let rest = quiet_none es both.1 in
-    let all = count_cons e es in omega (arith, here, rest, all)
+    let here = ap tally (quiet_entry e both.0) in omega (arith, quiet_none es both.1, count_cons e es)
 
 abbrev first_or : Entry → List Entry → Entry
 first_or d [] = d
@@ -50,36 +48,37 @@ quiet_untold es (x ∷ xs) ys k place c f h e =
 -- a process is told of a failure after the one that is told
 told_later : (before rest xs ys : List Entry) (process : Option ℕ) (k place c : ℕ) (f : Option ℕ) → AreQuiet before
     → before ++ entry.Fault process ∷ rest ≡ xs ++ entry.Do k place c f reply.Device ∷ ys → 1 ≤ count_by is_fault xs
-told_later [] rest [] ys process k place c f quiet e =
-    absurd (not_both refl (ap (λ (es : List Entry). is_fault (first_or (entry.Fault process) es)) e))
+told_later [] rest [] ys process k place c f quiet e = cc
 told_later [] rest (x ∷ xs) ys process k place c f quiet e =
-    let here : tally (is_fault x) ≡ 1 = ap tally (sym (ap (λ (es : List Entry). is_fault (first_or x es)) e)) in
-    let all = count_cons x xs in omega (arith, here, all)
+    let here = ap tally (sym (ap (λ (es : List Entry). is_fault (first_or x es)) e)) in
+    omega (arith, count_cons x xs)
 told_later (b ∷ bs) rest [] ys process k place c f quiet e =
-    absurd (not_both (and_parts (is_quiet b) (list_all is_quiet bs) quiet).0
-    (ap (λ (es : List Entry). is_quiet (first_or b es)) e))
-told_later (b ∷ bs) rest (x ∷ xs) ys process k place c f quiet e =
-    let later = told_later bs rest xs ys process k place c f (and_parts (is_quiet b) (list_all is_quiet bs) quiet).1
-    (ap rest_of e) in let all = count_cons x xs in omega (arith, later, all)
+    cc ((and_parts (is_quiet b) (list_all is_quiet bs) quiet).0)
+told_later (b ∷ bs) rest (x ∷ xs) ys process k place c f quiet e = omega (
+  arith,
+  told_later bs rest xs ys process k place c f (and_parts (is_quiet b) (list_all is_quiet bs) quiet).1
+      (ap rest_of e),
+  count_cons x xs,
+)
 
 -- a failure that is told is counted
 told_counts : (more xs ys : List Entry) (process : Option ℕ) → more ≡ xs ++ entry.Fault process ∷ ys
     → 1 ≤ count_by is_fault more
-told_counts more xs ys process e = let all = ap (λ (es : List Entry). count_by is_fault es) e in
-    let on = count_on xs (entry.Fault process ∷ ys) in let one = count_cons (entry.Fault process) ys in
-    omega (arith, all, on, one)
+told_counts more xs ys process e = omega (
+  arith,
+  count_on xs (entry.Fault process ∷ ys),
+  count_cons (entry.Fault process) ys,
+  (ap (λ (es : List Entry). count_by is_fault es) e),
+)
 
 -- where only one failure is told, it is the one that is found
 told_once : (before rest xs ys : List Entry) (k : ℕ) (process : Option ℕ) → AreQuiet before
     → count_by is_fault rest ≡ 0 → before ++ entry.Fault (Some k) ∷ rest ≡ xs ++ entry.Fault process ∷ ys
     → process ≡ Some k
-told_once [] rest [] ys k process quiet none e =
-    sym (ap (λ (es : List Entry). process_told (first_or (entry.Fault process) es)) e)
+told_once [] rest [] ys k process quiet none e = cc
 told_once [] rest (x ∷ xs) ys k process quiet none e =
-    absurd (let some = told_counts rest xs ys process (ap rest_of e) in omega (arith, some, none))
-told_once (b ∷ bs) rest [] ys k process quiet none e =
-    absurd (not_both (and_parts (is_quiet b) (list_all is_quiet bs) quiet).0
-    (ap (λ (es : List Entry). is_quiet (first_or b es)) e))
+    absurd (omega (arith, told_counts rest xs ys process (ap rest_of e)))
+told_once (b ∷ bs) rest [] ys k process quiet none e = cc ((and_parts (is_quiet b) (list_all is_quiet bs) quiet).0)
 told_once (b ∷ bs) rest (x ∷ xs) ys k process quiet none e =
     told_once bs rest xs ys k process (and_parts (is_quiet b) (list_all is_quiet bs) quiet).1 none (ap rest_of e)
 
@@ -98,32 +97,36 @@ told_right : (k : ℕ) (more : List Entry) (calls failed : Bool)
     → (AreQuiet more × (calls ≡ true → failed ≡ false)) ⊎ ((failed ≡ true) × TellsFailure k more)
     → ToldRight k more calls failed
 told_right k more calls failed (inl both) = let quiet = both.0 in record {
-  few = let none = quiet_none more quiet in omega (arith, none);
-  each = λ called did. absurd (not_both did (both.1 called));
-  only = λ some. absurd (let none = quiet_none more quiet in omega (arith, none, some));
-  its = λ xs ys process e. absurd (let none = quiet_none more quiet in let some = told_counts more xs ys process e in
-      omega (arith, none, some));
+  few = omega (arith, quiet_none more quiet);
+  each = λ called did. cc (both.1 called);
+  only = λ some. absurd (omega (arith, quiet_none more quiet));
+  its = λ xs ys process e. absurd (omega (arith, quiet_none more quiet, told_counts more xs ys process e));
   later = λ xs ys j place c f e. absurd (quiet_untold more xs ys j place c f quiet e);
 }
 told_right k more calls failed (inr told) = record {
   each = λ called did. told_counts more told.1.before (told.1.between ++ told.1.last ∷ []) (Some k) told.1.is;
   few = let all = ap (λ (es : List Entry). count_by is_fault es) told.1.is in
-      let a = count_on told.1.before (entry.Fault (Some k) ∷ (told.1.between ++ told.1.last ∷ [])) in
-      let b = count_cons (entry.Fault (Some k)) (told.1.between ++ told.1.last ∷ []) in
-      let d = count_on told.1.between (told.1.last ∷ []) in
-      let e = count_cons told.1.last [] in
-      let last : tally (is_fault told.1.last) ≡ 0 = ap tally told.1.last_is in
-      let before = quiet_none told.1.before told.1.quiet_before in
-      let between = quiet_none told.1.between told.1.quiet_between in
-      omega (arith, all, a, b, d, e, last, before, between);
+      omega (
+        arith,
+        count_on told.1.before (entry.Fault (Some k) ∷ (told.1.between ++ told.1.last ∷ [])),
+        count_cons (entry.Fault (Some k)) (told.1.between ++ told.1.last ∷ []),
+        count_on told.1.between (told.1.last ∷ []),
+        count_cons told.1.last [],
+        ap tally told.1.last_is,
+        quiet_none told.1.before told.1.quiet_before,
+        quiet_none told.1.between told.1.quiet_between,
+      );
   only = λ some. told.0;
   its = λ xs ys process e. told_once told.1.before (told.1.between ++ told.1.last ∷ []) xs ys k process
-      told.1.quiet_before (let on = count_on told.1.between (told.1.last ∷ []) in let one = count_cons told.1.last [] in
-      let last : tally (is_fault told.1.last) ≡ 0 = ap tally told.1.last_is in
-      let between = quiet_none told.1.between told.1.quiet_between in omega (arith, on, one, last, between))
-      (sym told.1.is ∙ e);
+      told.1.quiet_before (omega (
+        arith,
+        count_on told.1.between (told.1.last ∷ []),
+        count_cons told.1.last [],
+        ap tally told.1.last_is,
+        quiet_none told.1.between told.1.quiet_between,
+      )) (cc);
   later = λ xs ys j place c f e. told_later told.1.before (told.1.between ++ told.1.last ∷ []) xs ys (Some k) j
-      place c f told.1.quiet_before (sym told.1.is ∙ e);
+      place c f told.1.quiet_before (cc);
 }
 
 -- So do the entries of each step.

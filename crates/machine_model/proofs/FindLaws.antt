@@ -9,22 +9,21 @@ use Rattle.machine_model.proofs.WordLaws.{found}
 module _ {X : Type 0} (p : X → Bool) where
   -- what is found passes
   pub find_true : (xs : List X) (x : X) → find p xs ≡ Some x → p x ≡ true
-  find_true [] x h = absurd (let no : None ≡ Some x = h in cc)
+  find_true [] x h = cc
   find_true (y ∷ ys) x h = by (p y) refl (find_true ys x) h
     where
       by : (b : Bool) → p y ≡ b → (find p ys ≡ Some x → p x ≡ true) → cond b (Some y) (find p ys) ≡ Some x → p x ≡ true
-      by true e rest i = let same : y ≡ x = cc in subst (λ (z : X). p z ≡ true) same e
+      by true e rest i = let same : y ≡ x = cc in rw (← same) e
       by false e rest i = rest i
 
   pub position_at : (xs : List X) (d : X) (i : ℕ) → position p xs ≡ Some i
       → (i < length xs) × (p (get_or xs i d) ≡ true)
   position_at xs d i h = elim (leb_tells (suc (position_or_len p xs)) (length xs)) [
-    | inl e ↦ (let same : position_or_len p xs
-        ≡ i = is_some (sym (ap (λ (b : Bool). cond b (Some (position_or_len p xs)) None) e.0) ∙ h) in (
-          subst (λ (j : ℕ). j < length xs) same e.1,
-          subst (λ (j : ℕ). p (get_or xs j d) ≡ true) same (found p xs d e.1),
-        ))
-    | inr n ↦ absurd (none_some (sym (ap (λ (b : Bool). cond b (Some (position_or_len p xs)) None) n.0) ∙ h))
+    | inl e ↦ (let same = is_some (cc) in (
+      rw (← same) e.1,
+      rw (← same) (found p xs d e.1),
+    ))
+    | inr n ↦ absurd (none_some (sym (cc) ∙ h))
   ]
     where
       is_some : Some (position_or_len p xs) ≡ Some i → position_or_len p xs ≡ i
@@ -40,19 +39,18 @@ module _ {X : Type 0} (p : X → Bool) where
       by : (b : Bool) → p (get_or xs i d) ≡ b → b ≡ false
       by false e = refl
       by true e = elim (leb_tells (suc (position_or_len p xs)) (length xs)) [
-        | inl y ↦ absurd (some_none (position_or_len p xs)
-            (sym (ap (λ (b : Bool). cond b (Some (position_or_len p xs)) None) y.0) ∙ h))
+        | inl y ↦ absurd (some_none (position_or_len p xs) (cc))
         | inr n ↦ absurd (past_end n.1 (any_at p xs i d e past))
       ]
         where
           past_end : length xs < suc (position_or_len p xs) → list_any p xs ≡ true → ⊥
-          past_end far any = let near = some_within p xs any in omega (arith, far, near)
+          past_end far any = omega (arith, some_within p xs any)
 
 -- ---- frames
 
 pub free_is : (x : Frame) → is_free x ≡ true → x ≡ frame.Free
 free_is frame.Free h = refl
-free_is _ h = absurd (let no : false ≡ true = h in cc)
+free_is _ h = cc
 
 -- the least free frame is there, bound to nothing, and nothing is being read into it
 pub free_frame : (core : Core) (f : ℕ) → least_free_frame core ≡ Some f
@@ -60,9 +58,8 @@ pub free_frame : (core : Core) (f : ℕ) → least_free_frame core ≡ Some f
 free_frame core f h = let at = position_at is_free core.frames frame.Free f h in let is =
     free_is (frame_at core f) at.1 in (
       at.0,
-      map_list bound_page core.frames f frame.Free
-          ∙ ap bound_page is,
-      map_list started_page core.frames f frame.Free ∙ ap started_page is,
+      cc (map_list bound_page core.frames f frame.Free),
+      cc (map_list started_page core.frames f frame.Free),
     )
 
 -- a page that no frame is being read into for
@@ -86,7 +83,7 @@ choice_bound core f h = by (find (λ g. is_idle (frame_at core g)) (round_frames
   where
     bound_of : (x : Frame) → is_bound x ≡ true → (page : ℕ × ℕ) × (bound_page x ≡ Some page)
     bound_of (frame.Bound u p used modified) e = ((u, p), refl)
-    bound_of _ e = absurd (let no : false ≡ true = e in cc)
+    bound_of _ e = cc
 
     idle_bound : (x : Frame) → is_idle x ≡ true → is_bound x ≡ true
     idle_bound (frame.Bound u p used modified) e = refl
@@ -110,24 +107,22 @@ number_new [] n h = refl
 number_new (e ∷ es) n h = by (eqb e.number n) (number_new es n) h
   where
     by : (b : Bool) → (find (is_number n) es ≡ None → has (map (λ x. x.number) es) n ≡ false)
-        → cond b (Some e) (find (is_number n) es) ≡ None
-        → (b || has (map (λ x. x.number) es) n) ≡ false
-    by true rest i = absurd (let no : Some e ≡ None = i in cc)
+        → cond b (Some e) (find (is_number n) es) ≡ None → (b || has (map (λ x. x.number) es) n) ≡ false
+    by true rest i = cc
     by false rest i = rest i
 
 -- a page table word of a frame that isn't held, where the page in it isn't
 pub page_new : (bound : ℕ → Option (ℕ × ℕ)) (es : List HeldPage) (f u p : ℕ) → AreHeldPages bound es
-    → bound f ≡ Some (u, p)
-    → find (is_page u p) es ≡ None → has (map (λ e. e.frame) es) f ≡ false
+    → bound f ≡ Some (u, p) → find (is_page u p) es ≡ None → has (map (λ e. e.frame) es) f ≡ false
 page_new bound [] f u p held is h = refl
 page_new bound (e ∷ es) f u p held is h = by (is_page u p e) refl (page_new bound es f u p held.1 is) h
   where
     its : e.frame ≡ f → is_page u p e ≡ true
-    its same = let page = page_is e.uid e.page u p (sym held.0 ∙ (ap bound same ∙ is)) in grind (arith, nat_tests)
+    its same = grind (arith, page_is e.uid e.page u p (cc), nat_tests)
 
     by : (b : Bool) → is_page u p e ≡ b → (find (is_page u p) es ≡ None → has (map (λ x. x.frame) es) f ≡ false)
         → cond b (Some e) (find (is_page u p) es) ≡ None → (eqb e.frame f || has (map (λ x. x.frame) es) f) ≡ false
-    by true a rest i = absurd (let no : Some e ≡ None = i in cc)
+    by true a rest i = cc
     by false a rest i = elim (eqb_tells e.frame f) [
       | inl y ↦ absurd (not_both (its y.1) a)
       | inr n ↦ ap (λ (b : Bool). b || has (map (λ x. x.frame) es) f) n.0 ∙ rest i

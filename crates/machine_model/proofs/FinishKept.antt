@@ -16,7 +16,7 @@ use Rattle.machine_model.proofs.TransferKept.{kept_with}
 
 append_two : (es : List Entry) (a b : Entry) → es ++ a ∷ b ∷ [] ≡ (es ++ a ∷ []) ++ b ∷ []
 append_two [] a b = refl
-append_two (e ∷ es) a b = ap (λ (t : List Entry). e ∷ t) (append_two es a b)
+append_two (e ∷ es) a b = cc (append_two es a b)
 
 gone_quiet : (p : Plan) (t : Store) (f : ℕ) → after_entry p t (entry.GonePage f) ≡ t
 unfolding after_entry
@@ -25,7 +25,7 @@ gone_quiet p t f = refl
 -- a frame that is bound to a page is one of the frames
 pub bound_within : (s : State) (f : ℕ) (page : ℕ × ℕ) → (seen s).bound f ≡ Some page
     → f < length s.store.pages.core.frames
-bound_within s f page h = subst (λ (n : ℕ). f < n) (map_length bound_page s.store.pages.core.frames)
+bound_within s f page h = rw (← (map_length bound_page s.store.pages.core.frames))
     (within_by (map bound_page s.store.pages.core.frames) f None (λ e. none_some (sym e ∙ h)))
 
 -- a page leaves its frame; one of zeros is released
@@ -56,26 +56,23 @@ left_keeps s f u p how owner tables k can zeros = by how zeros
         may = rw (flat_still s.plan s.entries (entry.GonePage f) (gone_quiet s.plan (flat_of s) f)) (z refl)
 
         unread : (g : ℕ) → (seen s).reads g ≢ Some (u, p)
-        unread g h = let no : false ≡ true = sym (ap is_out can.leaving) ∙ k.tied.out g u p h in cc
+        unread g h = let no = sym (ap is_out can.leaving) ∙ k.tied.out g u p h in cc
 
         nowhere : IsInNoFrame (shown now) u p
         nowhere = in_no_frame now u p book (ap names (put_two_here (seen s).words u p ptw.Null)) unread
 
         whole : seen (with_owner (booked (with_store s (with_left s.store f left.Released (u, p)))
-            (entries_left f left.Released (u, p))) owner)
-            ≡ released now u p
+            (entries_left f left.Released (u, p))) owner) ≡ released now u p
         whole = ap (λ (v : Seen). record v { entries = s.entries ++ entry.GonePage f ∷ entry.Release u p ∷ [] })
             (gone_seen s f u p left.Released owner tables k within can.leaving)
             ∙ (λ i. record now { entries = append_two s.entries (entry.GonePage f) (entry.Release u p) i })
 
 pub left_faults : (es : List Entry) (f : ℕ) (how : Left) (page : ℕ × ℕ)
     → count_by is_fault (es ++ entries_left f how page) ≡ count_by is_fault es
-left_faults es f left.Kept page = let one = faults_push es (entry.GonePage f) in omega (arith, one)
+left_faults es f left.Kept page = omega (arith, faults_push es (entry.GonePage f))
 left_faults es f left.Released page = let one = faults_push es (entry.GonePage f) in
     let two = faults_push (es ++ entry.GonePage f ∷ []) (entry.Release page.0 page.1) in
-    ap (count_by is_fault) (append_two es (entry.GonePage f) (entry.Release page.0 page.1))
-    ∙ (let sum : count_by is_fault ((es ++ entry.GonePage f ∷ [])
-    ++ entry.Release page.0 page.1 ∷ []) ≡ count_by is_fault es = omega (arith, one, two) in sum)
+    ap (count_by is_fault) (append_two es (entry.GonePage f) (entry.Release page.0 page.1)) ∙ (omega arith)
 
 module _ (s : State) (f u p faults : ℕ) (owner : Option Owner) (k : Keeps s) (can : CanFinish (seen s) f u p owner)
     (rose : s.faults ≤ faults) where
@@ -83,7 +80,7 @@ module _ (s : State) (f u p faults : ℕ) (owner : Option Owner) (k : Keeps s) (
   how = left_of (words_in s.store.pages f)
 
   page_is : page_in s.store f ≡ (u, p)
-  page_is = ap page_or_zero (sym (binding_is s f) ∙ k.book.tied.back f u p (ap names can.leaving))
+  page_is = cc (binding_is s f, k.book.tied.back f u p (ap names can.leaving))
 
   -- the page in a frame leaves it, and the owner goes on so
   pub gone_kept : (how ≡ left.Released → MayRelease (flat_of s) u p)
@@ -91,20 +88,14 @@ module _ (s : State) (f u p faults : ℕ) (owner : Option Owner) (k : Keeps s) (
       → ((o : Owner) → owner ≡ Some o → IsAtWork (processor_at s.processors o.cpu))
       → Keeps (with_owner (page_gone (with_faults s faults) f) owner)
   gone_kept zeros says works = kept_with (with_owner (page_gone (with_faults s faults) f) owner)
-      (subst (λ (page : ℕ × ℕ). KeepsBook (seen
-      (with_owner (booked (with_store (with_faults s faults) (with_left s.store f how page))
-      (entries_left f how page)) owner))) (sym page_is)
-      (left_keeps s f u p how owner k.store.kept.places k.book can zeros)) says
-      (let same = left_faults s.entries f how (page_in s.store f) in let few = k.few_faults in
-      omega (arith, same, few, rose))
-      k.sizes.processors k.sizes.processes works
+      (rw page_is (left_keeps s f u p how owner k.store.kept.places k.book can zeros)) says
+      (omega (arith, left_faults s.entries f how (page_in s.store f))) k.sizes.processors k.sizes.processes works
 
 -- ---- the owner goes on
 
 -- after an eviction the look is made again
 pub eviction_kept : (s : State) (c f u p faults : ℕ) (o : Owner) → Keeps s → s.owner ≡ Some o → o.cpu ≡ c
-    → s.faults ≤ faults
-    → CanFinish (seen s) f u p (Some (looking c))
+    → s.faults ≤ faults → CanFinish (seen s) f u p (Some (looking c))
     → (left_of (words_in s.store.pages f) ≡ left.Released → MayRelease (flat_of s) u p)
     → StoreSays (eviction_done (with_faults s faults) c f) → Keeps (eviction_done (with_faults s faults) c f)
 eviction_kept s c f u p faults o k mine same rose can zeros says =
@@ -117,12 +108,10 @@ cpu_of_rest o q h = ap (λ (x : Owner). x.cpu)
 
 -- a deactivation goes on with the next page
 pub page_kept : (s : State) (f faults : ℕ) (fs : List ℕ) (ds : List CutDescriptor) (o : Owner) → Keeps s
-    → s.owner ≡ Some o → s.faults ≤ faults
-    → GoesOn (seen s) (f ∷ fs) ds
+    → s.owner ≡ Some o → s.faults ≤ faults → GoesOn (seen s) (f ∷ fs) ds
     → (left_of (words_in s.store.pages f) ≡ left.Released
     → MayRelease (flat_of s) (page_at (seen s) f).0 (page_at (seen s) f).1)
     → StoreSays (page_done (with_faults s faults) f) → Keeps (page_done (with_faults s faults) f)
 page_kept s f faults fs ds o k mine rose on zeros says =
     gone_kept s f (page_at (seen s) f).0 (page_at (seen s) f).1 faults (without_first_frame s.owner) k
-    (first_finish (seen s) f fs ds k.book on) rose zeros says
-    (λ q h. (rw (cpu_of_rest o q (ap without_first_frame (sym mine) ∙ h)) at (k.at_work o mine)))
+    (first_finish (seen s) f fs ds k.book on) rose zeros says (λ q h. (rw (cpu_of_rest o q (cc)) at (k.at_work o mine)))

@@ -47,17 +47,17 @@ fits_on s now kept fitting owner stays = record { fits = λ q h. by q h q.phase 
   where
     by : (q : Owner) → now.owner ≡ Some q → (x : Phase) → q.phase ≡ x
         → FitsStage (outline_of now) (want_at (outline_of now) q.cpu) (stage_of (entries_of now) q.frames q.phase)
-    by q h phase.Looking e = rw e (none_due now kept (ap waits_for h ∙ ap waits_in e))
-    by q h (phase.Taken a w) e = rw e (work_stays s now q.cpu q.frames a (stays q (sym owner ∙ h))
+    by q h phase.Looking e = rw e (none_due now kept (cc))
+    by q h (phase.Taken a w) e = rw e (work_stays s now q.cpu q.frames a (stays q (cc))
         (subst (λ (x : Phase). FitsStage (outline_of s) (want_at (outline_of s) q.cpu) (stage_of (entries_of s) q.frames
-        x)) e (fitting.fits q (sym owner ∙ h))))
-    by q h (phase.Waiting a w) e = rw e (work_stays s now q.cpu q.frames a (stays q (sym owner ∙ h))
+        x)) e (fitting.fits q (cc))))
+    by q h (phase.Waiting a w) e = rw e (work_stays s now q.cpu q.frames a (stays q (cc))
         (subst (λ (x : Phase). FitsStage (outline_of s) (want_at (outline_of s) q.cpu) (stage_of (entries_of s) q.frames
-        x)) e (fitting.fits q (sym owner ∙ h))))
-    by q h (phase.Moving m) e = rw e (none_due now kept (ap waits_for h ∙ ap waits_in e), omega arith)
+        x)) e (fitting.fits q (cc))))
+    by q h (phase.Moving m) e = rw e (none_due now kept (cc), omega arith)
 
 pub none_fits : (now : State) → now.owner ≡ None → IsFitting now
-none_fits now none = record { fits = λ q h. absurd (none_some (sym none ∙ h)) }
+none_fits now none = record { fits = λ q h. cc }
 
 -- ---- what a process wants
 
@@ -73,7 +73,7 @@ module _ (s now : State) (same : SameAround s now) where
   want_same k (Some c) = by (reference_of c)
     where
       by : (r : Option Reference) → want_by (around now) k c r ≡ want_by (around s) k c r
-      by None = ap (λ (ns : List Node). want_of_command ns c) same.nodes
+      by None = cc
       by (Some r) = λ i. want_known (same.nodes i) (who_at (same.whos i) k) r
           (uid_of (kst_at (same.known i) k) r.number)
 
@@ -89,8 +89,12 @@ module _ (s now : State) (same : SameAround s now) where
 
       by : (x : Option ℕ) → (cpu_at s.processors d).process ≡ x → want_at (outline_of now) d ≡ want_at (outline_of s) d
       by None e = nothing now (process ∙ e) ∙ sym (nothing s e)
-      by (Some k) e = want_here now d k (process ∙ e) ∙ (want_same k (next_command now k)
-          ∙ (ap (want_of (around s) k) (next k e) ∙ sym (want_here s d k e)))
+      by (Some k) e = cc (
+        want_here now d k (process ∙ e),
+        want_same k (next_command now k),
+        next k e,
+        want_here s d k e,
+      )
 
 -- ---- another processor than the owner's
 
@@ -125,28 +129,26 @@ module _ (s : State) (c : ℕ) (o : Outcome) (m : IsMachine s) (working : IsWork
   seat_fits : (now : State) (p : Processor) → Keeps now → now.owner ≡ s.owner → now.plan ≡ s.plan
       → now.store ≡ s.store → now.runs ≡ s.runs → now.processors ≡ set s.processors c p → IsFitting now
   seat_fits now p kept owner plan store runs ps = fits_on s now kept fitting owner (λ q h. record {
-    frames = frames_by s now (ap (λ (st : Storage). map bare st.pages.core.frames) store);
-    entries = ap (λ (st : Storage). st.ast.entries) store;
-    want = want_stays s now (record {
-      nodes = ap (λ (st : Storage). st.accounts.nodes) store;
-      whos = ap (λ (st : Storage). st.whos) store;
-      known = ap (λ (st : Storage). st.links.known) store;
-    }) q.cpu (ap (λ (x : List Processor). (cpu_at x q.cpu).process) ps
-        ∙ set_process s c m.keeps working other p q h)
+    frames = frames_by s now (cc);
+    entries = cc;
+    want = want_stays s now (assumption (
+      ap (λ (st : Storage). st.accounts.nodes) store,
+      ap (λ (st : Storage). st.whos) store,
+      ap (λ (st : Storage). st.links.known) store,
+    )) q.cpu (cc (set_process s c m.keeps working other p q h))
         (λ k e. (λ i. command_at (plan i) k (run_at (runs i) k).place));
   })
 
   -- one that answers its process's next command
-  told_fits : (st : Storage) (f : Option ℕ) (r : Reply)
-      → (cpu_at s.processors c).process ≡ Some (process_at s c)
+  told_fits : (st : Storage) (f : Option ℕ) (r : Reply) → (cpu_at s.processors c).process ≡ Some (process_at s c)
       → map bare st.pages.core.frames ≡ map bare s.store.pages.core.frames → st.ast ≡ s.store.ast
       → st.accounts.nodes ≡ s.store.accounts.nodes → st.whos ≡ s.store.whos → st.links.known ≡ s.store.links.known
       → Keeps (told (with_store s st) c f r) → IsFitting (told (with_store s st) c f r)
   told_fits st f r its frames ast nodes whos known kept = fits_on s (told (with_store s st) c f r) kept fitting refl
       (λ q h. record {
         frames = frames_by s (told (with_store s st) c f r) frames;
-        entries = ap (λ (x : ActiveSegs). x.entries) ast;
-        want = want_stays s (told (with_store s st) c f r) (record { nodes = nodes; whos = whos; known = known })
+        entries = cc;
+        want = want_stays s (told (with_store s st) c f r) (assumption)
             q.cpu (set_process s c m.keeps working other _ q h)
             (λ k e. (rw (← (ap or_zero e)) (other_next s c m.keeps working other q _ h m its)));
       })
@@ -160,7 +162,7 @@ module _ (s : State) (c : ℕ) (o : Outcome) (m : IsMachine s) (working : IsWork
   module _ (q : Owner) (mine : s.owner ≡ Some q) (rest : p.cpu.transfer ≡ None) where
     take_fits : (x : Option Owner) → s.owner ≡ x → Fits (act.take_or_wait x)
     unfolding after
-    take_fits None e kept = absurd (none_some (sym e ∙ mine))
+    take_fits None e kept = cc
     take_fits (Some v) e kept = fitting
 
     move_fits : p.cpu.process ≡ Some (process_at s c) → (r : Reference) (x : Move) → Fits (act.by_move s.owner r x)
@@ -189,23 +191,20 @@ module _ (s : State) (c : ℕ) (o : Outcome) (m : IsMachine s) (working : IsWork
         by [] i = fitting
         by (k ∷ ks) i = seat_fits _ _ i refl refl refl refl refl
     run_fits (Some n) e kept = cond_both (act.has_had_its_turn p && not (act.is_empty s.ready)) act.Leave
-        (act.come_to s p.cpu n (next_command s n)) Fits
-        (λ h i. seat_fits _ _ i refl refl refl refl refl)
-        (λ h. subst (λ (j : ℕ). Fits (act.come_to s p.cpu j (next_command s j))) (ap or_zero e)
-        (come_fits (e ∙ ap (λ (x : Option ℕ). Some (or_zero x)) (sym e)) (next_command s (process_at s c)))) kept
+        (act.come_to s p.cpu n (next_command s n)) Fits (λ h i. seat_fits _ _ i refl refl refl refl refl)
+        (λ h. rw (← (ap or_zero e)) (come_fits (e ∙ ap (λ (x : Option ℕ). Some (or_zero x)) (sym e))
+        (next_command s (process_at s c)))) kept
 
     own_fits : (x : Option Owner) → s.owner ≡ x → Fits (act.own_or_run s c p x)
-    own_fits None e kept = absurd (none_some (sym e ∙ mine))
+    own_fits None e kept = cc
     own_fits (Some v) e kept = cond_both (eqb v.cpu c) (act.go_on_with s (or_zero p.cpu.process) v v.phase)
-        (act.run_process s p p.cpu.process) Fits
-        (λ h. absurd (elim (eqb_tells v.cpu c) [
+        (act.run_process s p p.cpu.process) Fits (λ h. absurd (elim (eqb_tells v.cpu c) [
           | inl y ↦ other v e y.1
           | inr n ↦ not_both h n.0
-        ]))
-        (λ h. run_fits p.cpu.process refl) kept
+        ])) (λ h. run_fits p.cpu.process refl) kept
 
     transfer_fits : (x : Option Transfer) → p.cpu.transfer ≡ x → Fits (act.transfer_or s c p x)
-    transfer_fits (Some t) e kept = absurd (none_some (sym rest ∙ e))
+    transfer_fits (Some t) e kept = cc
     transfer_fits None e kept = own_fits s.owner refl kept
 
     clear_fits : (x : Option What) → Fits (act.clear_or s c p x)
@@ -239,7 +238,7 @@ module _ (s : State) (c : ℕ) (o : Outcome) (m : IsMachine s) (entitled : IsEnt
     where
       by : (x : Option Transfer) → is_some x ≡ false → x ≡ None
       by None e = refl
-      by (Some t) e = absurd (let none : true ≡ false = e in cc)
+      by (Some t) e = cc
 
   no_owner_of : rule_of (outline_of s) c ≡ Commands → IsNoOwner s c
   no_owner_of h q mine same = not_both (ap (λ (x : Option Owner). is_owner x c) mine ∙ elim (eqb_tells q.cpu c) [
@@ -268,7 +267,7 @@ module _ (s : State) (c : ℕ) (o : Outcome) (m : IsMachine s) (entitled : IsEnt
         where
           kept : IsKept (outline_of now)
           kept = step_keeps (outline_of s) c (turn_of (action_of s c)) (outline_of now) (kept_seen s m reading fitting)
-              (subst (λ (n : ℕ). c < n) (sym (long_outline s)) there) (sizes_seen now after_m)
+              (rw (long_outline s) there) (sizes_seen now after_m)
               (λ i. kept_seen now after_m after_reading (none_fits now (no_owner now i.owner)))
               (λ h i. kept_seen now after_m after_reading (replied h i))
               (step_outlined s c o going (foresees s c m entitled reading working fitting there))

@@ -17,27 +17,27 @@ alike t = record { nodes = refl; next = refl; words = λ v o. refl; stored = ref
 
 pub alike_on : {t u v : Store} → IsAlike t u → IsAlike u v → IsAlike t v
 alike_on a b = record {
-  nodes = b.nodes ∙ a.nodes;
-  next = b.next ∙ a.next;
+  nodes = cc;
+  next = cc;
   words = λ w o. b.words w o ∙ a.words w o;
-  stored = b.stored ∙ a.stored;
-  known = b.known ∙ a.known;
+  stored = cc;
+  known = cc;
 }
 
 pub alike_by : {t u v : Store} → IsAlike t u → v ≡ u → IsAlike t v
-alike_by {t} a e = subst (IsAlike t) (sym e) a
+alike_by {t} a e = rw e a
 
 -- a store shows each of them, or none
 pub alike_shown : (p : Plan) (t u : Store) (st : Storage) → IsAlike t u → IsFaithful p t st → IsFaithful p u st
 alike_shown p t u st a is = record {
   tree = record {
-    nodes = a.nodes ∙ is.tree.nodes;
-    next = a.next ∙ is.tree.next;
-    counts = λ s. is.tree.counts s ∙ ap (λ (xs : List (ℕ × ℕ)). count_by (λ x. eqb x.0 s) xs) (sym a.stored);
+    nodes = cc;
+    next = cc;
+    counts = λ s. cc (is.tree.counts s);
   };
-  known = a.known ∙ is.known;
+  known = cc;
   pages = record {
-    stored = λ v q. ap (λ (xs : List (ℕ × ℕ)). is_stored xs v q) a.stored ∙ is.pages.stored v q;
+    stored = λ v q. cc (is.pages.stored v q);
     once = subst IsOnce (sym a.stored) is.pages.once;
     words = λ v o. a.words v o ∙ is.pages.words v o;
   };
@@ -56,10 +56,10 @@ is_still _ = true
 
 still_next : (p : Plan) (t : Store) (e : Entry) → is_still e ≡ true → after_entry p t e ≡ t
 unfolding after_entry
-still_next p t (entry.Do k place cpu frame r) h = absurd (let no : false ≡ true = h in cc)
-still_next p t (entry.Release u q) h = absurd (let no : false ≡ true = h in cc)
-still_next p t (entry.Fault o) h = absurd (let no : false ≡ true = h in cc)
-still_next p t (entry.Moved k u w) h = absurd (let no : false ≡ true = h in cc)
+still_next p t (entry.Do k place cpu frame r) h = cc
+still_next p t (entry.Release u q) h = cc
+still_next p t (entry.Fault o) h = cc
+still_next p t (entry.Moved k u w) h = cc
 still_next p t _ h = refl
 
 -- one such entry more
@@ -69,15 +69,14 @@ one_still p es e h = store_after-push p es e ∙ still_next p (store_after p es)
 
 pub append_assoc : (xs ys zs : List Entry) → (xs ++ ys) ++ zs ≡ xs ++ (ys ++ zs)
 append_assoc [] ys zs = refl
-append_assoc (x ∷ xs) ys zs = ap (λ (t : List Entry). x ∷ t) (append_assoc xs ys zs)
+append_assoc (x ∷ xs) ys zs = cc (append_assoc xs ys zs)
 
 -- and some
 pub all_still : (p : Plan) (es more : List Entry) → list_all is_still more ≡ true
     → store_after p (es ++ more) ≡ store_after p es
-all_still p es [] h = ap (store_after p) (append-nil es)
+all_still p es [] h = cc (append-nil es)
 all_still p es (e ∷ more) h = let both = and_parts (is_still e) (list_all is_still more) h in
-    ap (store_after p) (sym (append_assoc es (e ∷ []) more))
-    ∙ (all_still p (es ++ e ∷ []) more both.1 ∙ one_still p es e both.0)
+    cc (append_assoc es (e ∷ []) more, all_still p (es ++ e ∷ []) more both.1, one_still p es e both.0)
 
 -- a drive's failure
 pub fault_alike : (p : Plan) (es : List Entry) (k : Option ℕ)
@@ -101,7 +100,7 @@ do_refused p t k r (Some c) h = by (takes_effect r) h
     by : (b : Bool) → b ≡ false
         → IsAlike t (with_progress (cond b (effect_of p t k c) t) k (gone_on (progress_of t k) c r))
     by false e = record { nodes = refl; next = refl; words = λ v o. refl; stored = refl; known = refl }
-    by true e = absurd (let no : true ≡ false = e in cc)
+    by true e = cc
 
 -- one that takes effect has its effect
 do_done : (p : Plan) (t : Store) (k : ℕ) (r : Reply) (c : Command) → takes_effect r ≡ true
@@ -112,7 +111,7 @@ do_done p t k r c h = by (takes_effect r) h
     by : (b : Bool) → b ≡ true
         → IsAlike (effect_of p t k c) (with_progress (cond b (effect_of p t k c) t) k (gone_on (progress_of t k) c r))
     by true e = record { nodes = refl; next = refl; words = λ v o. refl; stored = refl; known = refl }
-    by false e = absurd (let no : false ≡ true = e in cc)
+    by false e = cc
 
 pub refused_alike : (p : Plan) (es : List Entry) (k place c : ℕ) (f : Option ℕ) (r : Reply) → takes_effect r ≡ false
     → IsAlike (store_after p es) (store_after p (es ++ entry.Do k place c f r ∷ []))
@@ -136,4 +135,4 @@ within_all t a shows are = all_within t (subst IsTree (sym shows.nodes) are.tree
 
 pub conserved_by : (p : Plan) (t : Store) (st : Storage) → IsFaithful p t st → AreAccounts st.accounts
     → sum (map (λ n. n.quota) t.nodes) ≡ p.quota → IsConserved p t
-conserved_by p t st shows are total = record { total = total; within = within_all t st.accounts shows.tree are }
+conserved_by p t st shows are total = assumption (within_all t st.accounts shows.tree are)

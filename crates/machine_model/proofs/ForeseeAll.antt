@@ -17,8 +17,8 @@ module _ (s : State) (c : ℕ) (m : IsMachine s) (entitled : IsEntitledToAll s) 
   evicts : (o : Owner) (w : What) → s.owner ≡ Some o → o.phase ≡ phase.Waiting aim.Evicting w → o.frames ≢ []
   evicts o w mine waits none = let shape : FitsPhase (phase.Waiting aim.Evicting w) o.frames o.cut =
       (rw waits at (subst IsShaped mine m.keeps.book.going_owned.shaped)) in
-      let no_one : suc 0 ≡ 0 = sym (ap (λ (xs : List ℕ). length xs) shape.1) ∙ ap (λ (xs : List ℕ). length xs) none in
-      omega (arith, no_one)
+      let no_one : suc 0 ≡ 0 = sym (cc) ∙ ap (λ (xs : List ℕ). length xs) none in
+      omega arith
 
   looks : (o : Owner) → s.owner ≡ Some o → o.phase ≡ phase.Looking → o.cpu ≡ c
       → IsLook s c (act.look_of s (process_at s c) (next_command s (process_at s c)))

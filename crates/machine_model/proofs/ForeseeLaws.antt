@@ -15,7 +15,7 @@ off_quiet s k d off = by (cpu_at s.processors d).due refl
   where
     by : (x : Option What) → (cpu_at s.processors d).due ≡ x → x ≡ None
     by None e = refl
-    by (Some w) e = absurd (let none : true ≡ false = sym ((k.book.holding_right d).warned w e) ∙ off in cc)
+    by (Some w) e = cc (sym ((k.book.holding_right d).warned w e) ∙ off)
 
 -- a process that is at a processor may be answered
 pub has_answer : (s : State) (c : ℕ) → IsMachine s → c < length s.processors
@@ -23,13 +23,12 @@ pub has_answer : (s : State) (c : ℕ) → IsMachine s → c < length s.processo
 has_answer s c m there h = may_answer s c (process_at s c) m there (by (cpu_at s.processors c).process h)
   where
     by : (x : Option ℕ) → is_some x ≡ true → x ≡ Some (or_zero x)
-    by None e = absurd (let none : false ≡ true = e in cc)
+    by None e = cc
     by (Some n) e = refl
 
 -- a look has taken nothing yet
 pub looks_empty : (s : State) → Keeps s → (o : Owner) → s.owner ≡ Some o → o.phase ≡ phase.Looking → o.frames ≡ []
-looks_empty s k o mine looks = (looking_idle (shown (seen s)) o
-    (subst (IsOwned (shown (seen s))) mine k.book.going_owned) looks).frames
+looks_empty s k o mine looks = (looking_idle (shown (seen s)) o (rw (← mine) k.book.going_owned) looks).frames
 
 -- a transfer that a look waits for is under way
 pub waits_reading : (s : State) (k : ℕ) (cmd : Command) (f : ℕ) → LookFinds s k cmd (act.Waits (act.ForTransfer f))
@@ -38,4 +37,4 @@ waits_reading s k cmd f h = by (frame_in s.store.pages f) refl h
   where
     by : (x : Frame) → frame_in s.store.pages f ≡ x → is_some (started_page x) ≡ true → IsReading s f
     by (frame.Started u p) e i = record { uid = u; page = p; started = e }
-    by _ e i = absurd (let none : false ≡ true = i in cc)
+    by _ e i = cc

@@ -17,7 +17,7 @@ tied_at : (v : Seen) (f u p : ℕ) (w : Ptw) → KeepsBook v → names w ≡ Som
 tied_at v f u p w k named word = (name, bound, use_bound v.bound v.reads v.words k.tied f u p w bound word)
   where
     name : names (v.words u p) ≡ Some f
-    name = ap names word ∙ named
+    name = cc
 
     bound : v.bound f ≡ Some (u, p)
     bound = k.tied.back f u p name
@@ -77,11 +77,11 @@ pub record CanFinish (v : Seen) (f u p : ℕ) (owner : Option Owner) : Type 0 wh
 pub finish_with : {v now : Seen} {f u p : ℕ} {owner : Option Owner} → now.words u p ≡ v.words u p
     → now.owner ≡ v.owner → NoneDue (shown now) → CanFinish v f u p owner → CanFinish now f u p owner
 finish_with {f = f} {owner = owner} word same none can = record {
-  leaving = word ∙ can.leaving;
+  leaving = cc;
   none = none;
-  still = ap is_pending same ∙ can.still;
+  still = cc;
   after = can.after;
-  first = subst (λ (o : Option Owner). HasLeft o owner f) (sym same) can.first;
+  first = rw same can.first;
 }
 
 module _ (v : Seen) (f u p : ℕ) (owner : Option Owner) (k : KeepsBook v) (can : CanFinish v f u p owner) where
@@ -89,7 +89,7 @@ module _ (v : Seen) (f u p : ℕ) (owner : Option Owner) (k : KeepsBook v) (can 
   leaving = tied_at v f u p (ptw.Leaving f) k refl can.leaving
 
   leaving_nobody : NobodyHoldsPage (shown v) f
-  leaving_nobody = nobody_holds_going_page (shown v) f (subst (Fine (shown v)) can.still k.stale_due) can.none
+  leaving_nobody = nobody_holds_going_page (shown v) f (rw (← can.still) k.stale_due) can.none
       (ap is_current_frame leaving.2)
 
   not_read : v.reads f ≡ None
@@ -97,7 +97,7 @@ module _ (v : Seen) (f u p : ℕ) (owner : Option Owner) (k : KeepsBook v) (can 
     where
       by : (x : Option (ℕ × ℕ)) → v.reads f ≡ x → x ≡ None
       by None e = refl
-      by (Some page) e = absurd (none_some (sym (k.tied.unbound f page.0 page.1 e) ∙ leaving.1))
+      by (Some page) e = cc (k.tied.unbound f page.0 page.1 e, leaving.1)
 
   -- the page has left its frame, and its word is one that names no frame
   pub gone_keeps : (word : Ptw) → names word ≡ None → KeepsBook (gone v f u p word owner)
@@ -114,13 +114,12 @@ module _ (v : Seen) (f u p : ℕ) (owner : Option Owner) (k : KeepsBook v) (can 
       ready = v.ready;
       seat = (shown v).seat;
     };
-    pending = can.after ∙ sym can.still;
+    pending = cc;
     going_owned = owned_left (shown v) v.owner owner f frame.Free k.going_owned can.none can.first refl;
     tied = tied_gone v.bound v.reads v.words k.tied f u p word leaving.0 nowhere;
     holding_right = λ d. right_frame v.bound
         (λ j n. descriptor_use (v.linked j n) (cut_uid (cut_of_owner owner) j n)) f None (v.processors d)
-        (leaving_nobody d)
-        (subst (λ (x : ℕ → ℕ → DescriptorUse). HoldsRight v.bound x (v.processors d))
+        (leaving_nobody d) (subst (λ (x : ℕ → ℕ → DescriptorUse). HoldsRight v.bound x (v.processors d))
         (λ i. λ j n. descriptor_use (v.linked j n) (cut_uid (sym can.first.same i) j n)) (k.holding_right d));
     under_way = k.under_way;
     runs = k.runs;
@@ -130,7 +129,7 @@ module _ (v : Seen) (f u p : ℕ) (owner : Option Owner) (k : KeepsBook v) (can 
       words = at_put_two v.words u p word
 
       here : frame_use words (at_put v.bound f None f) (v.reads f) ≡ frame.Free
-      here = ap (λ (o : Option (ℕ × ℕ)). frame_use words o (v.reads f)) (put_here v.bound f None) ∙ ap read_use not_read
+      here = cc (put_here v.bound f None, not_read)
 
       other : (h : ℕ) → h ≢ f → frame_use words (at_put v.bound f None h) (v.reads h) ≡ (shown v).frame h
       other h n = cc (put_other v.bound f None h n, other_use v.bound v.reads v.words k.tied f u p word leaving.0 h n)
@@ -151,9 +150,9 @@ module _ (v : Seen) (f u p : ℕ) (owner : Option Owner) (k : KeepsBook v) (can 
       ready = v.ready;
       seat = (shown v).seat;
     };
-    pending = can.after ∙ sym can.still;
+    pending = cc;
     going_owned = owned_left (shown v) v.owner owner f (given_back ((shown v).frame f)) k.going_owned can.none can.first
-        (ap (λ (x : FrameUse). is_going_frame (given_back x)) leaving.2);
+        (cc (leaving.2));
     tied = tied_word v.bound v.reads v.words k.tied f u p (ptw.Here f) leaving.0 refl;
     holding_right = λ d. subst (λ (x : ℕ → ℕ → DescriptorUse). HoldsRight v.bound x (v.processors d))
         (λ i. λ j n. descriptor_use (v.linked j n) (cut_uid (sym can.first.same i) j n)) (k.holding_right d);
@@ -181,7 +180,6 @@ pub in_no_frame : (v : Seen) (u p : ℕ) → KeepsBook v → names (v.words u p)
 in_no_frame v u p k nowhere unread f h = by (v.bound f) (v.reads f) refl refl h
   where
     by : (x y : Option (ℕ × ℕ)) → v.bound f ≡ x → v.reads f ≡ y → page_of (frame_use v.words x y) ≡ Some (u, p) → ⊥
-    by (Some page) y e r g = none_some (sym nowhere
-        ∙ k.tied.named f u p (e ∙ (sym (page_used page (v.words page.0 page.1)) ∙ g)))
+    by (Some page) y e r g = none_some (sym nowhere ∙ k.tied.named f u p (cc (page_used page (v.words page.0 page.1))))
     by None (Some page) e r g = unread f (r ∙ g)
     by None None e r g = none_some g

@@ -10,8 +10,8 @@ use Rattle.machine_model.proofs.TieLaws.{none_some}
 use Rattle.machine_model.proofs.WordLaws.{found}
 
 of_page : (u p : ℕ) (x : Frame) → is_of u p x ≡ true → page_of x ≡ Some (u, p)
-of_page u p frame.Free h = absurd (let none : false ≡ true = h in cc)
-of_page u p (frame.Started v q) h = absurd (let none : false ≡ true = h in cc)
+of_page u p frame.Free h = cc
+of_page u p (frame.Started v q) h = cc
 of_page u p (frame.Bound v q used modified) h = elim (eqb_tells v u) [
   | inl e ↦ elim (eqb_tells q p) [
     | inl i ↦ (λ j. Some (e.1 j, i.1 j))
@@ -28,7 +28,7 @@ page_of_it u p (frame.Bound v q used modified) h = by (page_is v q u p h)
       | inl e ↦ elim (eqb_tells q p) [ inl i ↦ rw (e.0, i.0) refl | inr n ↦ absurd (n.1 both.1) ]
       | inr n ↦ absurd (n.1 both.0)
     ]
-page_of_it u p _ h = absurd (none_some h)
+page_of_it u p _ h = cc
 
 bare_page : (x : Frame) → page_of (bare x) ≡ bound_page x
 bare_page frame.Free = refl
@@ -41,8 +41,11 @@ module _ (s : State) where
   frame_outlined f = map_at bare s.store.pages.core.frames f frame.Free
 
   pub bound_outlined : (f : ℕ) → page_of (frame_in (outline_of s).frames f) ≡ (seen s).bound f
-  bound_outlined f = ap page_of (frame_outlined f) ∙ (bare_page (store_frame s.store.pages f)
-      ∙ sym (map_at bound_page s.store.pages.core.frames f frame.Free))
+  bound_outlined f = cc (
+    frame_outlined f,
+    bare_page (store_frame s.store.pages f),
+    map_at bound_page s.store.pages.core.frames f frame.Free,
+  )
 
   -- a page that is in a frame, and a frame that has it
   here_bound : (u p : ℕ) → is_here (outline_of s).frames u p ≡ true → (f : ℕ) × ((seen s).bound f ≡ Some (u, p))
@@ -68,7 +71,7 @@ module _ (s : State) where
         by : (b : Bool) → is_here (outline_of s).frames u p ≡ b → b ≡ false
         by false e = refl
         by true e = let at = here_bound u p e in
-            absurd (none_some (sym h ∙ k.book.tied.named at.0 u p at.1))
+            cc (k.book.tied.named at.0 u p at.1)
 
     -- a page of an active segment is stored where its word says that it has a record
     pub stored_outlined : is_active s.store.ast u ≡ true

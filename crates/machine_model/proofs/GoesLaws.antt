@@ -20,8 +20,7 @@ same_self s t c same all = record {
 
 all_alike : (s t : Outline) (c : ℕ) → AreAlike s.runners t.runners c → t.left ≡ s.left → t.ready ≡ s.ready
     → all_rank t ≤ all_rank s
-all_alike s t c alike left ready =
-    all_le s t left (le_of_eq (over_like s.runners t.runners alike.count (λ d.
+all_alike s t c alike left ready = all_le s t left (le_of_eq (over_like s.runners t.runners alike.count (λ d.
     over_same (runner_at s.runners d) (runner_at t.runners d) (alike.running d) (alike.since d) (alike.tried d)))) ready
     (le_of_eq (offline_like s.runners t.runners alike.count alike.online))
 
@@ -31,8 +30,7 @@ same_alike s t c alike left ready = assumption (alike.since c, alike.running c, 
 
 lack_alike : (s t : Outline) (c : ℕ) → AreAlike s.runners t.runners c
     → wanted_fits t (want_at s c) (runner_at s.runners c).reading ≡ wanted_fits s (want_at s c)
-    (runner_at s.runners c).reading
-    → lack_at t c ≤ lack_at s c
+    (runner_at s.runners c).reading → lack_at t c ≤ lack_at s c
 lack_alike s t c alike fits =
     let w : Want = want_at s c in
     let same : lack_at t c ≡ want_lack t w (runner_at s.runners c).linked (runner_at s.runners c).reading =
@@ -43,10 +41,8 @@ lack_alike s t c alike fits =
 
 -- the job goes on: nothing but what others hold, and what it took, changes
 under_way : (s t : Outline) (c : ℕ) (stage : Stage) → IsIn t c stage → AreAlike s.runners t.runners c → t.left ≡ s.left
-    → t.ready ≡ s.ready
-    → wanted_fits t (want_at s c) (runner_at s.runners c).reading ≡ wanted_fits s (want_at s c)
-    (runner_at s.runners c).reading
-    → Goes s t c
+    → t.ready ≡ s.ready → wanted_fits t (want_at s c) (runner_at s.runners c).reading ≡ wanted_fits s (want_at s c)
+    (runner_at s.runners c).reading → Goes s t c
 under_way s t c stage owner alike left ready fits = inl (record {
   stage = stage;
   in_job = owner;
@@ -58,8 +54,7 @@ under_way s t c stage owner alike left ready fits = inl (record {
 freed : (s : Outline) (c f : ℕ) (stored : ℕ → ℕ → Bool) (full : ℕ → Bool) (stage : Stage)
     → (wanted_fits s (want_at s c) (runner_at s.runners c).reading ≡ true
     → wanted_fits (with_stored (with_frame s f frame.Free) stored full) (want_at s c) (runner_at s.runners c).reading
-    ≡ true)
-    → Goes s (with_stored (at_stage (with_frame s f frame.Free) c stage) stored full) c
+    ≡ true) → Goes s (with_stored (at_stage (with_frame s f frame.Free) c stage) stored full) c
 freed s c f stored full stage fits = inl (record {
   stage = stage;
   in_job = refl;
@@ -92,7 +87,6 @@ pub all_set : (s t : Outline) (c : ℕ) (x : Runner) → c < length s.runners �
     → t.left ≡ s.left → t.ready ≡ s.ready → x.online ≡ (runner_at s.runners c).online
     → is_over x ≡ is_over (runner_at s.runners c) → all_rank t ≤ all_rank s
 all_set s t c x within is left ready online turn =
-    let turns = over_set s.runners c x within in
     let offs = offline_set s.runners c x within in
     let a : cond {A = ℕ} (is_over x) 1 0 ≡ cond (is_over (runner_at s.runners c)) 1 0 =
     ap (λ (b : Bool). cond {A = ℕ} b 1 0) turn in
@@ -100,7 +94,7 @@ all_set s t c x within is left ready online turn =
     ap (λ (b : Bool). cond {A = ℕ} (not b) 1 0) online in
     let i : over t.runners ≡ over (set s.runners c x) = ap over is in
     let j : offline t.runners ≡ offline (set s.runners c x) = ap offline is in
-    all_le s t left (omega (arith, turns, a, i)) ready (omega (arith, offs, b, j))
+    all_le s t left (omega (arith, (over_set s.runners c x within), a, i)) ready (omega (arith, offs, b, j))
 
 -- the command of a processor is the same, by the runner that it has
 pub same_command : {s t : Outline} {c : ℕ} (x : Runner) → runner_at t.runners c ≡ x → x.want ≡ want_at s c
@@ -180,8 +174,8 @@ gone_from x since h = by x.running refl
     by : (b : Bool) → x.running ≡ b → (b && eqb x.since since) ≡ false
     by false e = refl
     by true e = elim (eqb_tells x.since since) [
-      | inl i ↦ (let more : x.since ≡ since + 1 = h e in let same : x.since ≡ since = i.1 in
-          absurd (omega (arith, more, same)))
+      | inl i ↦ (let same : x.since ≡ since = i.1 in
+          absurd (omega (arith, (h e), same)))
       | inr n ↦ n.0
     ]
 
@@ -201,8 +195,7 @@ goes s c t k l (connects chain uid page makes owner want off) =
     connects_goes s c (k.job.at_work c Look owner).within owner
 goes s c t k l (takes_segment place frames runners can of few alike) =
     under_way s (with_runners (at_stage s c (Taken (EmptyPlace place frames))) runners) c
-    (Taken (EmptyPlace place frames))
-    refl alike refl refl refl
+    (Taken (EmptyPlace place frames)) refl alike refl refl refl
 goes s c t k l (takes_frame f can) =
     under_way s (at_stage s c (Taken (EvictFrame f))) c (Taken (EvictFrame f)) refl (alike_self s.runners c) refl refl
     refl

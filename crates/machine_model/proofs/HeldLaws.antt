@@ -8,7 +8,7 @@ use Rattle.machine_model.proofs.Places.{by_place, by_places}
 module _ {A : Type 0} where
   map_push : (g : A → ℕ) (xs : List A) (x : A) → map g (xs ++ x ∷ []) ≡ map g xs ++ g x ∷ []
   map_push g [] x = refl
-  map_push g (y ∷ ys) x = ap (λ (t : List ℕ). g y ∷ t) (map_push g ys x)
+  map_push g (y ∷ ys) x = cc (map_push g ys x)
 
   map_rest : (g : A → ℕ) (xs : List A) → map g (drop 1 xs) ≡ drop 1 (map g xs)
   map_rest g [] = refl
@@ -16,43 +16,40 @@ module _ {A : Type 0} where
 
   map_length : (g : A → ℕ) (xs : List A) → length (map g xs) ≡ length xs
   map_length g [] = refl
-  map_length g (x ∷ xs) = ap (λ (n : ℕ). suc n) (map_length g xs)
+  map_length g (x ∷ xs) = cc (map_length g xs)
 
   -- what custody sees of a fill into at most 16 places
   pub map_filled : (g : A → ℕ) (xs : List A) (x : A) → length xs ≤ 16 → map g (filled xs x) ≡ filled_in (map g xs) (g x)
   map_filled g xs x few = elim (eqb_tells (length xs) 16) [
-    | inl e ↦ ap (λ (b : Bool). map g (cond b (drop 1 xs) xs ++ x ∷ [])) e.0 ∙ (map_push g (drop 1 xs) x
-        ∙ (ap (λ (t : List ℕ). t ++ g x ∷ []) (map_rest g xs)
-        ∙ ap (λ (b : Bool). cond b (drop 1 (map g xs)) (map g xs) ++ g x ∷ []) (sym (full e.1))))
-    | inr n ↦ ap (λ (b : Bool). map g (cond b (drop 1 xs) xs ++ x ∷ [])) n.0 ∙ (map_push g xs x
-        ∙ ap (λ (b : Bool). cond b (drop 1 (map g xs)) (map g xs) ++ g x ∷ []) (sym (room n.1)))
+    | inl e ↦ ap (λ (b : Bool). map g (cond b (drop 1 xs) xs ++ x ∷ [])) e.0
+        ∙ (cc (map_push g (drop 1 xs) x, map_rest g xs, full e.1))
+    | inr n ↦ ap (λ (b : Bool). map g (cond b (drop 1 xs) xs ++ x ∷ [])) n.0 ∙ (cc (map_push g xs x, room n.1))
   ]
     where
       full : length xs ≡ 16 → leb 16 (length (map g xs)) ≡ true
-      full e = let same = map_length g xs in grind (arith, nat_tests)
+      full e = grind (arith, map_length g xs, nat_tests)
 
       room : length xs ≢ 16 → leb 16 (length (map g xs)) ≡ false
-      room n = let same = map_length g xs in grind (arith, nat_tests)
+      room n = grind (arith, map_length g xs, nat_tests)
 
   length_push : (xs : List A) (x : A) → length (xs ++ x ∷ []) ≡ length xs + 1
   length_push [] x = refl
-  length_push (y ∷ ys) x = let ih = length_push ys x in omega (arith, ih)
+  length_push (y ∷ ys) x = omega (arith, length_push ys x)
 
   length_rest : (xs : List A) → length xs ≡ 16 → length (drop 1 xs) ≡ 15
-  length_rest [] e = omega (arith, e)
-  length_rest (x ∷ xs) e = let is : suc (length xs) ≡ 16 = e in omega (arith, is)
+  length_rest [] e = omega arith
+  length_rest (x ∷ xs) e = omega arith
 
   pub filled_few : (xs : List A) (x : A) → length xs ≤ 16 → length (filled xs x) ≤ 16
   filled_few xs x few = elim (eqb_tells (length xs) 16) [
-    | inl e ↦ let long = length_push (drop 1 xs) x in let rest = length_rest xs e.1 in
-        subst (λ (b : Bool). length (cond b (drop 1 xs) xs ++ x ∷ []) ≤ 16) (sym e.0) (omega (arith, long, rest))
-    | inr n ↦ let long = length_push xs x in let no = n.1 in
-        subst (λ (b : Bool). length (cond b (drop 1 xs) xs ++ x ∷ []) ≤ 16) (sym n.0) (omega (arith, long, few, no))
+    | inl e ↦ let rest = length_rest xs e.1 in
+        rw e.0 (omega (arith, (length_push (drop 1 xs) x)))
+    | inr n ↦ let no = n.1 in
+        rw n.0 (omega (arith, (length_push xs x)))
   ]
 
 pages_push : (bound : ℕ → Option (ℕ × ℕ)) (es : List HeldPage) (e : HeldPage) → AreHeldPages bound es
-    → bound e.frame ≡ Some (e.uid, e.page)
-    → AreHeldPages bound (es ++ e ∷ [])
+    → bound e.frame ≡ Some (e.uid, e.page) → AreHeldPages bound (es ++ e ∷ [])
 pages_push bound [] e held is = (is, tt)
 pages_push bound (x ∷ xs) e held is = (held.0, pages_push bound xs e held.1 is)
 
@@ -61,8 +58,7 @@ pages_rest bound [] held = tt
 pages_rest bound (x ∷ xs) held = held.1
 
 pub pages_filled : (bound : ℕ → Option (ℕ × ℕ)) (es : List HeldPage) (e : HeldPage) → AreHeldPages bound es
-    → bound e.frame ≡ Some (e.uid, e.page)
-    → AreHeldPages bound (filled es e)
+    → bound e.frame ≡ Some (e.uid, e.page) → AreHeldPages bound (filled es e)
 pages_filled bound es e held is = by (eqb (length es) 16)
   where
     by : (b : Bool) → AreHeldPages bound (cond b (drop 1 es) es ++ e ∷ [])
@@ -100,8 +96,7 @@ pages_kept bound p (e ∷ es) held = by (pages_kept bound p es held.1) (p e)
     by rest false = rest
 
 pub segs_kept : (descriptor : ℕ → ℕ → DescriptorUse) (k : ℕ) (p : HeldSeg → Bool) (es : List HeldSeg)
-    → AreHeldSegs descriptor k es
-    → AreHeldSegs descriptor k (filter p es)
+    → AreHeldSegs descriptor k es → AreHeldSegs descriptor k (filter p es)
 segs_kept descriptor k p [] held = tt
 segs_kept descriptor k p (e ∷ es) held = by (segs_kept descriptor k p es held.1) (p e)
   where
@@ -114,21 +109,20 @@ segs_kept descriptor k p (e ∷ es) held = by (segs_kept descriptor k p es held.
 pub kept_step : {A : Type 0} (g : A → ℕ) (p : A → Bool) (q : ℕ → Bool) (x : A) (xs : List A)
     → map g (filter p xs) ≡ filter q (map g xs) → (a b : Bool)
     → b ≡ a → map g (cond a (x ∷ filter p xs) (filter p xs)) ≡ cond b (g x ∷ filter q (map g xs)) (filter q (map g xs))
-kept_step g p q x xs rest true true e = ap (λ (t : List ℕ). g x ∷ t) rest
+kept_step g p q x xs rest true true e = cc
 kept_step g p q x xs rest false false e = rest
-kept_step g p q x xs rest true false e = absurd (let no : false ≡ true = e in cc)
-kept_step g p q x xs rest false true e = absurd (let no : true ≡ false = e in cc)
+kept_step g p q x xs rest true false e = cc
+kept_step g p q x xs rest false true e = cc
 
 -- ---- a frame or a descriptor that nobody holds
 
 pub pages_elsewhere : (bound : ℕ → Option (ℕ × ℕ)) (f : ℕ) (x : Option (ℕ × ℕ)) (es : List HeldPage)
-    → has (map (λ e. e.frame) es) f ≡ false
-    → AreHeldPages bound es → AreHeldPages (at_put bound f x) es
+    → has (map (λ e. e.frame) es) f ≡ false → AreHeldPages bound es → AreHeldPages (at_put bound f x) es
 pages_elsewhere bound f x [] none held = tt
 pages_elsewhere bound f x (e ∷ es) none held =
     let parts = or_parts (eqb e.frame f) (has (map (λ e. e.frame) es) f) none in (
       by_place (λ (y : Option (ℕ × ℕ)). y ≡ Some (e.uid, e.page)) bound f x e.frame
-          (λ i. absurd (let no : eqb e.frame f ≡ false = parts.0 in grind (arith, nat_tests))) (λ n. held.0),
+          (λ i. absurd (grind (arith, nat_tests))) (λ n. held.0),
       pages_elsewhere bound f x es parts.1 held.1,
     )
 
@@ -138,8 +132,7 @@ pub segs_elsewhere : (descriptor : ℕ → ℕ → DescriptorUse) (k n : ℕ) (x
 segs_elsewhere descriptor k n x j [] none held = tt
 segs_elsewhere descriptor k n x j (e ∷ es) none held = (
   by_places (λ (y : DescriptorUse). leads_to y ≡ Some e.uid) descriptor k n x j e.number
-      (λ a b. absurd (let no : eqb e.number n
-      ≡ false = (or_parts (eqb e.number n) (has (map (λ e. e.number) es) n) (none a)).0 in
+      (λ a b. absurd (let no = (or_parts (eqb e.number n) (has (map (λ e. e.number) es) n) (none a)).0 in
       grind (arith, nat_tests))) (λ m. held.0),
   segs_elsewhere descriptor k n x j es (λ i.
       (or_parts (eqb e.number n) (has (map (λ e. e.number) es) n) (none i)).1) held.1,
@@ -150,18 +143,16 @@ pub right_like : {bound : ℕ → Option (ℕ × ℕ)} {descriptor : ℕ → ℕ
     → HoldsRight bound descriptor p → q.cpu.assoc ≡ p.cpu.assoc → q.cpu.process ≡ p.cpu.process
     → ((w : What) → q.cpu.due ≡ Some w → q.cpu.online ≡ true) → HoldsRight bound descriptor q
 right_like {bound} {descriptor} p q was assoc process warned = record {
-  pages = subst (λ (a : Held). AreHeldPages bound a.pages) (sym assoc) was.pages;
-  segs = subst (λ (o : Option ℕ). AreOfProcess descriptor o q.cpu.assoc.segs) (sym process)
-      (subst (λ (a : Held). AreOfProcess descriptor p.cpu.process a.segs) (sym assoc) was.segs);
-  few_pages = subst (λ (a : Held). length a.pages ≤ 16) (sym assoc) was.few_pages;
-  few_segs = subst (λ (a : Held). length a.segs ≤ 16) (sym assoc) was.few_segs;
+  pages = rw assoc was.pages;
+  segs = rw (process, assoc) was.segs;
+  few_pages = rw assoc was.few_pages;
+  few_segs = rw assoc was.few_segs;
   warned = warned;
 }
 
 -- the same descriptors as far as what they lead to
 segs_alike : (old new : ℕ → ℕ → DescriptorUse) (k : ℕ) (es : List HeldSeg)
-    → ((n : ℕ) → leads_to (new k n) ≡ leads_to (old k n))
-    → AreHeldSegs old k es → AreHeldSegs new k es
+    → ((n : ℕ) → leads_to (new k n) ≡ leads_to (old k n)) → AreHeldSegs old k es → AreHeldSegs new k es
 segs_alike old new k [] same held = tt
 segs_alike old new k (e ∷ es) same held = (same e.number ∙ held.0, segs_alike old new k es same held.1)
 
@@ -174,8 +165,7 @@ right_alike bound old new p same right = assumption (by p.cpu.process right.segs
     by (Some k) h = segs_alike old new k p.cpu.assoc.segs (same k) h
 
 pub right_frame : (bound : ℕ → Option (ℕ × ℕ)) (descriptor : ℕ → ℕ → DescriptorUse) (f : ℕ) (x : Option (ℕ × ℕ))
-    (p : Processor)
-    → has (map (λ e. e.frame) p.cpu.assoc.pages) f ≡ false → HoldsRight bound descriptor p
+    (p : Processor) → has (map (λ e. e.frame) p.cpu.assoc.pages) f ≡ false → HoldsRight bound descriptor p
     → HoldsRight (at_put bound f x) descriptor p
 right_frame bound descriptor f x p none right = assumption (pages_elsewhere bound f x p.cpu.assoc.pages none
     right.pages)
@@ -189,12 +179,11 @@ right_descriptor bound descriptor k n x p none right = assumption (by p.cpu.proc
     by : (o : Option ℕ) → p.cpu.process ≡ o → AreOfProcess descriptor o p.cpu.assoc.segs
         → AreOfProcess (at_put_two descriptor k n x) o p.cpu.assoc.segs
     by None e h = h
-    by (Some j) e h = segs_elsewhere descriptor k n x j p.cpu.assoc.segs (λ i. none (e ∙ ap (λ (y : ℕ). Some y) i)) h
+    by (Some j) e h = segs_elsewhere descriptor k n x j p.cpu.assoc.segs (λ i. none (cc)) h
 
 -- transfers are under way as before
 pub under_way_alike : (reads : ℕ → Option (ℕ × ℕ)) (old new : ℕ → Processor)
-    → ((d : ℕ) → (new d).cpu.transfer ≡ (old d).cpu.transfer)
-    → AreUnderWay reads old → AreUnderWay reads new
+    → ((d : ℕ) → (new d).cpu.transfer ≡ (old d).cpu.transfer) → AreUnderWay reads old → AreUnderWay reads new
 under_way_alike reads old new same k = record {
   reading = λ d t h. k.reading d t (sym (same d) ∙ h);
   reader = λ f u p h. (let r = k.reader f u p h in (r.0, same r.0 ∙ r.1));

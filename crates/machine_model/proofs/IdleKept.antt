@@ -20,22 +20,22 @@ set_idle ps c p there h one = record { held = λ d i. by d i (eqb_tells c d) }
         → ((eqb c d ≡ true) × (c ≡ d)) ⊎ ((eqb c d ≡ false) × (c ≢ d)) → (cpu_at (set ps c p) d).assoc ≡ nothing_held
     by d i (inl same) = subst (λ (j : ℕ). (cpu_at (set ps c p) j).assoc ≡ nothing_held) same.1
         (subst (λ (x : Processor). x.cpu.assoc ≡ nothing_held) (sym (get_or-set_same ps c p no_processor there))
-        (one (ap (λ (x : Processor). x.cpu.process) (sym (get_or-set_same ps c p no_processor there))
-        ∙ (ap (λ (j : ℕ). (cpu_at (set ps c p) j).process) same.1 ∙ i))))
+        (one (cc (get_or-set_same ps c p no_processor there))))
     by d i (inr other) = subst (λ (x : Processor). x.cpu.assoc ≡ nothing_held)
         (sym (get_or-set_other ps c d p no_processor (λ e. other.1 (sym e))))
-        (h.held d (ap (λ (x : Processor). x.cpu.process)
-        (sym (get_or-set_other ps c d p no_processor (λ e. other.1 (sym e)))) ∙ i))
+        (h.held d (cc (get_or-set_other ps c d p no_processor (λ e. other.1 (sym e)))))
 
 told_idle : (c : ℕ) (w : What) (ps : List Processor) → AreIdle ps → AreIdle (told_from c w 0 ps)
 told_idle c w ps h = record {
   held = λ d i. subst (λ (x : Processor). x.cpu.assoc ≡ nothing_held) (sym (told_reads c w ps 0 d))
-      (by (0 + d) (processor_at ps d) (h.held d (sym (told_process c w (0 + d) (processor_at ps d))
-      ∙ (ap (λ (x : Processor). x.cpu.process) (sym (told_reads c w ps 0 d)) ∙ i))));
+      (by (0 + d) (processor_at ps d) (h.held d (cc (
+        told_process c w (0 + d) (processor_at ps d),
+        told_reads c w ps 0 d,
+      ))));
 }
   where
     by : (d : ℕ) (p : Processor) → p.cpu.assoc ≡ nothing_held → (told_at c w d p).cpu.assoc ≡ nothing_held
-    by d p g = told_has (λ q. q.cpu.assoc ≡ nothing_held) c w d p (ap (λ (x : Held). cleared x w) g) g g
+    by d p g = told_has (λ q. q.cpu.assoc ≡ nothing_held) c w d p (cc) g g
 
 -- ---- each action
 
@@ -65,8 +65,7 @@ module _ (s : State) (c : ℕ) (o : Outcome) (there : c < length s.processors) (
       by false = a
 
   failed : AreIdle (write_failed s c o.faults).processors
-  failed = set_idle (all_back s c o.faults).processors c _
-      (subst (λ (ps : List Processor). c < length ps) (sym names.processors) there)
+  failed = set_idle (all_back s c o.faults).processors c _ (rw names.processors there)
       (same (all_back s c o.faults) names) (λ e. (same (all_back s c o.faults) names).held c e)
     where
       names : SameNames s (all_back s c o.faults)
@@ -75,8 +74,7 @@ module _ (s : State) (c : ℕ) (o : Outcome) (there : c < length s.processors) (
   -- a processor's own entry, and another change of it
   twice : (p q : Processor) → (p.cpu.process ≡ None → p.cpu.assoc ≡ nothing_held)
       → (q.cpu.process ≡ None → q.cpu.assoc ≡ nothing_held) → AreIdle (set (set s.processors c p) c q)
-  twice p q a b = set_idle (set s.processors c p) c q
-      (subst (λ (n : ℕ). c < n) (sym (length-set s.processors c p)) there) (one p a) b
+  twice p q a b = set_idle (set s.processors c p) c q (rw (length-set s.processors c p) there) (one p a) b
 
   commits : (x : Option Command) → AreIdle (committed_at s c x).processors
   commits None = h
@@ -90,14 +88,14 @@ module _ (s : State) (c : ℕ) (o : Outcome) (there : c < length s.processors) (
   idle_kept act.HasEnded busy = h
   idle_kept (act.Waits why) busy = h
   idle_kept act.Online busy = one _ own
-  idle_kept (act.Clear w) busy = one _ (λ e. ap (λ (x : Held). cleared x w) (own e))
+  idle_kept (act.Clear w) busy = one _ (λ e. cc (own e))
   idle_kept (act.EndTransfer t) busy = by_end (transferred (with_faults s o.faults) c t)
       (transfer_failed s c t o.faults) (one _ own) ill
     where
       ill : AreIdle (transfer_failed s c t o.faults).processors
       ill = set_idle (frame_lost s c t).processors c _
-          (subst (λ (n : ℕ). c < n) (sym (length-set s.processors c _)) there) (one _ own) (λ e. (one _ own).held c e)
-  idle_kept (act.Load n) busy = one _ (λ e. absurd (none_some (sym e)))
+          (rw (length-set s.processors c _) there) (one _ own) (λ e. (one _ own).held c e)
+  idle_kept (act.Load n) busy = one _ (λ e. cc)
   idle_kept act.Leave busy = one _ (λ e. refl)
   idle_kept (act.FillSeg n) busy = one _ (λ e. absurd (busy e))
   idle_kept (act.FillPage f r) busy = one _ (λ e. absurd (busy e))
@@ -127,13 +125,11 @@ module _ (s : State) (c : ℕ) (o : Outcome) (there : c < length s.processors) (
   idle_kept (act.Signal w) busy = told_idle c w s.processors h
   idle_kept (act.FinishEviction f) busy = by_end (eviction_done (with_faults s o.faults) c f)
       (write_failed s c o.faults) (same (eviction_done (with_faults s o.faults) c f)
-      (on s (with_faults s o.faults) (eviction_done (with_faults s o.faults) c f)
-      (names_stay refl refl refl refl)
+      (on s (with_faults s o.faults) (eviction_done (with_faults s o.faults) c f) (names_stay refl refl refl refl)
       (evicted (with_faults s o.faults) c f))) failed
   idle_kept (act.FinishPage f) busy = by_end (page_done (with_faults s o.faults) f)
       (write_failed s c o.faults) (same (page_done (with_faults s o.faults) f)
-      (on s (with_faults s o.faults) (page_done (with_faults s o.faults) f)
-      (names_stay refl refl refl refl)
+      (on s (with_faults s o.faults) (page_done (with_faults s o.faults) f) (names_stay refl refl refl refl)
       (page_left (with_faults s o.faults) f))) failed
   idle_kept (act.Deactivate u) busy = same (emptied s c u) (is_emptied s c u)
   idle_kept act.Commit busy = commits (next_command s (process_at s c))

@@ -14,8 +14,8 @@ module _ (s : State) (k : ℕ) (r : Reference) (keeps : Keeps s) where
 
   less : (a b : ℕ) → nat_le a b ≡ false → b < a
   less a b h = elim (leb_tells a b) [
-    | inl e ↦ absurd (let none : true ≡ false = sym e.0 ∙ h in cc)
-    | inr m ↦ (let lt = m.1 in omega (arith, lt))
+    | inl e ↦ cc
+    | inr m ↦ (omega arith)
   ]
 
   -- a reference that isn't refused so is to a segment that is there
@@ -25,8 +25,7 @@ module _ (s : State) (k : ℕ) (r : Reference) (keeps : Keeps s) where
     where
       allowed : (v : ℕ) (n : Node) → known_uid t k r.number ≡ Some v → node_in t.nodes v ≡ Some n → (a b : Bool)
           → permits (access_of (who_of s.plan k) n.rows) r.kind ≡ a → nat_le (1024 * n.pages) r.offset ≡ b
-          → (rest : Reply)
-          → only is_outside (cond (not a) reply.NoAccess (cond b reply.Length rest)) ≡ None
+          → (rest : Reply) → only is_outside (cond (not a) reply.NoAccess (cond b reply.Length rest)) ≡ None
           → IsInside s k r v
       allowed v n e there true false p w rest i = record {
         known = e;
@@ -35,19 +34,19 @@ module _ (s : State) (k : ℕ) (r : Reference) (keeps : Keeps s) where
         permitted = p;
         within = less (1024 * n.pages) r.offset w;
       }
-      allowed v n e there true true p w rest i = absurd (let none : Some reply.Length ≡ None = i in cc)
-      allowed v n e there false b p w rest i = absurd (let none : Some reply.NoAccess ≡ None = i in cc)
+      allowed v n e there true true p w rest i = cc
+      allowed v n e there false b p w rest i = cc
 
       node : (v : ℕ) → known_uid t k r.number ≡ Some v → (x : Option Node) → node_in t.nodes v ≡ x
           → only is_outside (reply_at s.plan t k r.offset r.kind x) ≡ None → IsInside s k r v
-      node v e None there i = absurd (let none : Some reply.Gone ≡ None = i in cc)
+      node v e None there i = cc
       node v e (Some n) there i = allowed v n e there (permits (access_of (who_of s.plan k) n.rows) r.kind)
           (nat_le (1024 * n.pages) r.offset) refl refl _ i
 
       by : (x : Option ℕ) → known_uid t k r.number ≡ x → only is_outside (reply_of s.plan t k r.offset r.kind x) ≡ None
           → IsInside s k r (uid_of_number s.store k r.number)
-      by None e i = absurd (let none : Some reply.Unknown ≡ None = i in cc)
-      by (Some v) e i = subst (IsInside s k r) (sym (known_is v e)) (node v e (node_in t.nodes v) refl i)
+      by None e i = cc
+      by (Some v) e i = rw (known_is v e) (node v e (node_in t.nodes v) refl i)
 
   module _ (u : ℕ) (inside : IsInside s k r u) where
     abbrev word : Reply
@@ -64,7 +63,7 @@ module _ (s : State) (k : ℕ) (r : Reference) (keeps : Keeps s) where
 
         not_past : nat_le (1024 * inside.node.pages) r.offset ≡ false
         not_past = elim (leb_tells (1024 * inside.node.pages) r.offset) [
-          | inl e ↦ (let le = e.1 in let lt = inside.within in absurd (omega (arith, le, lt)))
+          | inl e ↦ (let le = e.1 in let lt = inside.within in absurd (omega arith))
           | inr m ↦ m.0
         ]
 
@@ -86,7 +85,7 @@ module _ (s : State) (k : ℕ) (r : Reference) (keeps : Keeps s) where
 
     -- what such a page is answered
     pub stored_due : is_stored t.stored u (r.offset / 1024) ≡ true → reply_to_reference s.plan t k r ≡ word
-    stored_due h = due_is ∙ ap (λ (b : Bool). cond b (room_reply s.plan t inside.node word) word) (stored_same h)
+    stored_due h = cc (due_is, stored_same h)
 
     pub zero_due : t.words u r.offset ≡ 0 → eqb (new_word 0 r.kind) 0 ≡ true
         → reply_to_reference s.plan t k r ≡ word_reply 0 r.kind
@@ -96,21 +95,19 @@ module _ (s : State) (k : ℕ) (r : Reference) (keeps : Keeps s) where
     pub room_due : room_refusal s k r ≡ None → reply_to_reference s.plan t k r ≡ word
     unfolding room_refusal
     room_due h = due_is ∙ by (stores_page t u r.offset r.kind) (is_used_up t inside.node.uid)
-        (is_out_of_room s.plan t inside.node)
-        (sym (ap (only is_of_room) due_is) ∙ h)
+        (is_out_of_room s.plan t inside.node) (cc (due_is, h))
       where
         by : (a b d : Bool) → only is_of_room (cond a (cond b reply.Quota (cond d reply.NoRecord word)) word) ≡ None
             → cond a (cond b reply.Quota (cond d reply.NoRecord word)) word ≡ word
-        by true true d i = absurd (let none : Some reply.Quota ≡ None = i in cc)
-        by true false true i = absurd (let none : Some reply.NoRecord ≡ None = i in cc)
+        by true true d i = cc
+        by true false true i = cc
         by _ _ _ i = refl
 
     -- ---- what isn't held back
 
     module _ (cmd : Command) (is : reference_of cmd ≡ Some r) where
       held_is : is_held_back s.plan t k cmd ≡ is_held_in s.plan t k r.offset r.kind inside.node
-      held_is = held_by s.plan t k cmd (Some r) is
-          ∙ (held_of s.plan t k r (Some u) inside.known
+      held_is = held_by s.plan t k cmd (Some r) is ∙ (held_of s.plan t k r (Some u) inside.known
           ∙ held_in s.plan t k r.offset u r.kind (Some inside.node) inside.there)
 
       -- where no page more is stored
@@ -118,9 +115,10 @@ module _ (s : State) (k : ℕ) (r : Reference) (keeps : Keeps s) where
       same_free same = held_is ∙ by (is_held_in s.plan t k r.offset r.kind inside.node) refl
         where
           by : (z : Bool) → is_held_in s.plan t k r.offset r.kind inside.node ≡ z → z ≡ false
-          by true held = sym ((held_parts s.plan t k r.offset r.kind inside.node held).2)
-              ∙ (ap (λ (v : ℕ). stores_page t v r.offset r.kind)
-              (found_uid t.nodes u inside.node inside.there) ∙ same)
+          by true held = cc (
+            (held_parts s.plan t k r.offset r.kind inside.node held).2,
+            found_uid t.nodes u inside.node inside.there,
+          )
           by false held = refl
 
       pub stored_free : is_stored t.stored u (r.offset / 1024) ≡ true → is_held_back s.plan t k cmd ≡ false
@@ -139,5 +137,5 @@ module _ (s : State) (k : ℕ) (r : Reference) (keeps : Keeps s) where
 
           by : (z : Bool) → is_held_in s.plan t k r.offset r.kind inside.node ≡ z → z ≡ false
           by true held = let parts = held_parts s.plan t k r.offset r.kind inside.node held in
-              sym parts.5 ∙ ap (λ (x : Option ℕ). is_some x) (room parts.4)
+              cc (room parts.4)
           by false held = refl

@@ -19,11 +19,11 @@ use Rattle.machine_model.proofs.TellKept.{CanTell}
 pub device_tell : (b : State) (c k : ℕ) (cmd : Command) → Speaks b c k cmd → (progress_of (flat_of b) k).faulted ≡ true
     → may_fail cmd (reply_to_command b.plan (flat_of b) k cmd) ≡ true → CanTell b c k None reply.Device
 device_tell b c k cmd sp faulted may = can_tell b c k cmd None reply.Device sp
-    (inr (record { device = refl; may = may; fault = faulted })) (by (reference_of cmd))
+    (inr (assumption)) (by (reference_of cmd))
   where
     off : (x : Bool) → (x && false) ≡ true → ⊥
-    off true h = let none : false ≡ true = h in cc
-    off false h = let none : false ≡ true = h in cc
+    off true h = let none = h in cc
+    off false h = let none = h in cc
 
     by : (x : Option Reference) → MayAnswerBy b.plan (flat_of b) (shown (seen b)) c k None cmd reply.Device x
     by (Some r) = inl refl
@@ -47,11 +47,11 @@ module _ (s b : State) (c k : ℕ) (cmd : Command) (keeps : Keeps s) (sp : Speak
     (flat : flat_of b ≡ after_fault (flat_of s) (Some k)) (may : MayFailBy s.store k (Some cmd)) where
   speaks_still : Speaks b c k cmd
   speaks_still = record {
-    there = subst (λ (ps : List Processor). c < length ps) (sym same.processors) sp.there;
-    known = subst (λ (rs : List Run). k < length rs) (sym same.runs) sp.known;
-    its = ap (λ (ps : List Processor). (processor_at ps c).cpu.process) same.processors ∙ sp.its;
+    there = rw same.processors sp.there;
+    known = rw same.runs sp.known;
+    its = cc;
     next = (λ i. next_command (record s { plan = same.plan i; runs = same.runs i }) k) ∙ sp.next;
-    going = ap (λ (rs : List Run). (run_at rs k).ended) same.runs ∙ sp.going;
+    going = cc;
     turn = rw (← same.plan) at (subst (λ (rs : List Run). HasTurn s.plan rs k) (sym same.runs) sp.turn);
     runs = λ j. (rw (← same.runs) at (subst (λ (t : Store). IsRun (progress_of t j) (run_at s.runs j)) (sym flat)
         (runs_failed (flat_of s) (Some k) (λ i. run_at s.runs i) sp.runs j)));
@@ -59,7 +59,7 @@ module _ (s b : State) (c k : ℕ) (cmd : Command) (keeps : Keeps s) (sp : Speak
 
   shown_still : IsFaithful s.plan (flat_of b) s.store
   shown_still = alike_shown s.plan (flat_of s) (flat_of b) s.store
-      (subst (IsAlike (flat_of s)) (fault_is s k ∙ sym flat) (fault_alike s.plan s.entries (Some k))) keeps.faithful
+      (rw (← (fault_is s k ∙ sym flat)) (fault_alike s.plan s.entries (Some k))) keeps.faithful
 
   pub failure_tell : CanTell b c k None reply.Device
   failure_tell = device_tell b c k cmd speaks_still (cc (faulted_now (flat_of s) k ((sp.runs k).ended ∙ sp.going)))
@@ -86,8 +86,7 @@ module _ (s : State) (c : ℕ) (o : Outcome) (cmd : Command) (keeps : Keeps s) (
       (segs_are_back (pages_back fault_state (frames_of_owner s.owner)) (cut_of_owner s.owner))).flat
       ∙ fault_is s (process_at s c)
 
-  pub write_asks : Rose s.faults o.faults → StoreSays (write_failed s c o.faults)
-      → CanFailWrite s c o × IsAnswering s c
+  pub write_asks : Rose s.faults o.faults → StoreSays (write_failed s c o.faults) → CanFailWrite s c o × IsAnswering s c
   write_asks rose says = (
     record {
       rose = rose;
@@ -111,13 +110,11 @@ module _ (s : State) (c : ℕ) (o : Outcome) (cmd : Command) (keeps : Keeps s) (
 pub copy_asks : (s : State) (c : ℕ) (o : Outcome) (cmd : Command) → Keeps s → Speaks s c (process_at s c) cmd
     → MayFailBy s.store (process_at s c) (Some cmd) → Rose s.faults o.faults → StoreSays (copy_failed s c o.faults)
     → CanFailCopy s c o
-copy_asks s c o cmd keeps sp may rose says = record {
-  rose = rose;
-  may = (sp.runs (process_at s c)).ended ∙ sp.going;
-  tell = failure_tell s (copy_failing s c o.faults) c (process_at s c) cmd keeps sp (still refl refl refl refl)
-      (fault_is s (process_at s c)) may;
-  says = says;
-}
+copy_asks s c o cmd keeps sp may rose says = assumption (
+  (sp.runs (process_at s c)).ended ∙ sp.going,
+  failure_tell s (copy_failing s c o.faults) c (process_at s c) cmd keeps sp (still refl refl refl refl)
+      (fault_is s (process_at s c)) may,
+)
 
 -- ---- a page can't be read in
 
@@ -131,17 +128,19 @@ module _ (s : State) (c : ℕ) (o : Outcome) (t : Transfer) (cmd : Command) (kee
 
   lost_flat : flat_of lost ≡ after_fault (flat_of s) (Some k)
   unfolding after_entry
-  lost_flat = store_after-push s.plan (s.entries ++ entry.Lose t.frame ∷ []) (entry.Fault (Some k))
-      ∙ ap (λ (x : Store). after_fault x (Some k)) (one_still s.plan s.entries (entry.Lose t.frame) refl)
+  lost_flat = cc (
+    store_after-push s.plan (s.entries ++ entry.Lose t.frame ∷ []) (entry.Fault (Some k)),
+    one_still s.plan s.entries (entry.Lose t.frame) refl,
+  )
 
   lost_here : cpu_at lost.processors c ≡ record (cpu_at s.processors c) { transfer = None }
   lost_here = ap (λ (p : Processor). p.cpu) (get_or-set_same s.processors c _ no_processor sp.there)
 
   lost_speaks : Speaks lost c k cmd
   lost_speaks = record {
-    there = subst (λ (n : ℕ). c < n) (sym (length-set s.processors c _)) sp.there;
+    there = rw (length-set s.processors c _) sp.there;
     known = sp.known;
-    its = ap (λ (x : Cpu). x.process) lost_here ∙ sp.its;
+    its = cc (lost_here, sp.its);
     next = sp.next;
     going = sp.going;
     turn = sp.turn;
@@ -150,8 +149,7 @@ module _ (s : State) (c : ℕ) (o : Outcome) (t : Transfer) (cmd : Command) (kee
 
   lost_shown : IsFaithful s.plan (flat_of lost) s.store
   lost_shown = alike_shown s.plan (flat_of s) (flat_of lost) s.store
-      (subst (IsAlike (flat_of s)) (fault_is s k ∙ sym lost_flat) (fault_alike s.plan s.entries
-      (Some k))) keeps.faithful
+      (rw (← (fault_is s k ∙ sym lost_flat)) (fault_alike s.plan s.entries (Some k))) keeps.faithful
 
   pub read_asks : Rose s.faults o.faults → StoreSays (transfer_failed s c t o.faults)
       → CanLose s c t o.faults × IsAnswering s c
@@ -168,7 +166,6 @@ module _ (s : State) (c : ℕ) (o : Outcome) (t : Transfer) (cmd : Command) (kee
       process = k;
       its = sp.its;
       known = sp.known;
-      more = ap (λ (x : Option Command). is_its_end x) sp.next
-          ∙ fails_more s k (flat_of s) keeps.faithful cmd may;
+      more = ap (λ (x : Option Command). is_its_end x) sp.next ∙ fails_more s k (flat_of s) keeps.faithful cmd may;
     },
   )

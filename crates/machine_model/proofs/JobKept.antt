@@ -50,8 +50,7 @@ choice_seen s f = λ i. record (seen s) {
 -- ---- an eviction begins
 
 pub evict_kept : (s : State) (c f u p : ℕ) (o : Owner) → Keeps s → s.owner ≡ Some o → o.cpu ≡ c → IsIdle s.owner
-    → (seen s).bound f ≡ Some (u, p)
-    → StoreSays (eviction_begun s c f) → Keeps (eviction_begun s c f)
+    → (seen s).bound f ≡ Some (u, p) → StoreSays (eviction_begun s c f) → Keeps (eviction_begun s c f)
 evict_kept s c f u p o k mine same idle bound says = kept_with (eviction_begun s c f)
     (subst KeepsBook (sym (take_one_seen now c aim.Evicting
     (what.Page f) f u p k.store.kept.places bound_still here_still))
@@ -60,11 +59,9 @@ evict_kept s c f u p o k mine same idle bound says = kept_with (eviction_begun s
       still = idle.waits;
       others = idle_names (shown (seen now)) s.owner (what.Page f) book.going_owned idle.frames idle.cut;
       this = own;
-      aimed = (f, ap (λ (fs : List ℕ). fs ++ f ∷ []) idle.frames, refl, idle.cut);
-    }))) says
-    (quiet_faults s (entry.Take f) s.faults k refl (omega arith)) k.sizes.processors k.sizes.processes
-    (λ q h. subst (λ (d : ℕ). IsAtWork (processor_at s.processors d))
-    (same ∙ ap (λ (x : Owner). x.cpu) (let is : made ≡ q = cc in is)) (k.at_work o mine))
+      aimed = (f, cc, refl, idle.cut);
+    }))) says (quiet_faults s (entry.Take f) s.faults k refl (omega arith)) k.sizes.processors k.sizes.processes
+    (λ q h. rw (← (same ∙ ap (λ (x : Owner). x.cpu) (let is : made ≡ q = cc in is))) (k.at_work o mine))
   where
     now : State
     now = with_store s (with_choice s.store f)
@@ -84,8 +81,7 @@ evict_kept s c f u p o k mine same idle bound says = kept_with (eviction_begun s
     made : Owner
     made = record {
       cpu = c;
-      phase = phase.Taken aim.Evicting
-          (what.Page f);
+      phase = phase.Taken aim.Evicting (what.Page f);
       frames = frames_of_owner s.owner ++ f ∷ [];
       cut = cut_of_owner s.owner;
     }
@@ -97,8 +93,8 @@ said : (o : Owner) (a : Aim) (w : What) → o.phase ≡ phase.Taken a w → IsSh
 said o a w h shaped = record {
   frames = refl;
   cut = refl;
-  waits = ap (λ (x : Phase). waits_in (phase_signalled x)) h;
-  says = ap (λ (x : Phase). says_in (phase_signalled x)) h;
+  waits = cc;
+  says = cc;
   shaped = subst (λ (x : Phase). FitsPhase (phase_signalled x) o.frames o.cut) (sym h)
       (subst (λ (x : Phase). FitsPhase x o.frames o.cut) h shaped);
 }
@@ -109,11 +105,10 @@ signal_quiet p t d v = refl
 
 told_length : (c : ℕ) (w : What) (from : ℕ) (ps : List Processor) → length (told_from c w from ps) ≡ length ps
 told_length c w from [] = refl
-told_length c w from (p ∷ ps) = ap (λ (n : ℕ). suc n) (told_length c w (from + 1) ps)
+told_length c w from (p ∷ ps) = cc (told_length c w (from + 1) ps)
 
 pub signal_kept : (s : State) (c : ℕ) (o : Owner) (a : Aim) (w : What) → Keeps s → s.owner ≡ Some o → o.cpu ≡ c
-    → o.phase ≡ phase.Taken a w
-    → Keeps (signalled s c w)
+    → o.phase ≡ phase.Taken a w → Keeps (signalled s c w)
 signal_kept s c o a w k mine same taken_phase = record {
   book = subst KeepsBook (sym (signal_seen s c w (owner_signalled s.owner)))
       (signal_keeps (seen s) c w (owner_signalled s.owner) k.book (record {
@@ -149,8 +144,7 @@ signal_kept s c o a w k mine same taken_phase = record {
 
     works : (q : Owner) → owner_signalled (Some o) ≡ Some q
         → IsAtWork (processor_at (told_from c w 0 s.processors) q.cpu)
-    works q h = rw (← (let is : c ≡ q.cpu = sym same ∙ cpu_is in is))
-        (subst IsAtWork (sym (told_reads c w s.processors 0 c
+    works q h = rw (← (sym same ∙ cpu_is)) (subst IsAtWork (sym (told_reads c w s.processors 0 c
         ∙ (ap (λ (n : ℕ). told_at c w n (processor_at s.processors c)) plus ∙ own (processor_at s.processors c))))
         (dropped_works (processor_at s.processors c) (subst (λ (d : ℕ). IsAtWork (processor_at s.processors d)) same
         (k.at_work o mine))))

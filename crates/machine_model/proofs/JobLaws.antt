@@ -10,11 +10,11 @@ use Rattle.machine_model.proofs.RankLaws.{falls_idle, falls_off, falls_link, fal
 pub ranked : (s : Outline) (c : ℕ) (stage : Stage) → IsIn s c stage
     → job_rank s ≡ rank_of (parts_of s (runner_at s.runners c) stage) + 1
 unfolding job_rank
-ranked s c stage h = ap (λ (o : Option Keeper). job_left s o) h
+ranked s c stage h = cc
 
 pub ranked_none : (s : Outline) → s.owner ≡ None → job_rank s ≡ 0
 unfolding job_rank
-ranked_none s h = ap (λ (o : Option Keeper). job_left s o) h
+ranked_none s h = cc
 
 link_small : (w : Want) (b : Bool) → unlinked w b < 2
 link_small (Refer chain uid page makes) true = omega arith
@@ -41,19 +41,19 @@ frame_small (Waiting (EvictFrame f)) frames = omega arith
 frame_small _ frames = bit_small (has_free frames)
 
 work_small : (s : Outline) (w : Want) (work : Work) → FitsWork s w work → work_left work ≤ 257
-work_small s w (EmptyPlace place rest) fits = let few : length rest ≤ 256 = fits.1 in omega (arith, few)
+work_small s w (EmptyPlace place rest) fits = omega arith
 work_small s w _ fits = omega arith
 
 stage_small : (s : Outline) (w : Want) (stage : Stage) → FitsStage s w stage → stage_left stage < 512
 stage_small s w Look fits = omega arith
-stage_small s w (Taken work) fits = let few = work_small s w work fits in omega (arith, few)
-stage_small s w (Waiting work) fits = let few = work_small s w work fits in omega (arith, few)
-stage_small s w (Copying left) fits = let few = fits.1 in omega (arith, few)
+stage_small s w (Taken work) fits = omega (arith, work_small s w work fits)
+stage_small s w (Waiting work) fits = omega (arith, work_small s w work fits)
+stage_small s w (Copying left) fits = omega arith
 
 pub small_of : (t : Outline) (c : ℕ) (stage : Stage) → IsKept t → IsIn t c stage
     → IsSmall (parts_of t (runner_at t.runners c) stage)
 small_of t c stage kept owner =
-    let chain : List ℕ = chain_of (want_at t c) in
+    let chain = chain_of (want_at t c) in
     let idle = idle_few t.entries chain in
     let links = kept.sizes.few_links c in
     let off = off_few t.entries chain in
@@ -61,13 +61,13 @@ small_of t c stage kept owner =
     let due = dues_few t.runners in
     let runners = kept.sizes.few_runners in
     record {
-      idle = omega (arith, idle, links);
-      off = omega (arith, off, entries);
+      idle = omega arith;
+      off = omega arith;
       link = link_small (want_at t c) (runner_at t.runners c).linked;
       room = room_small t.full (want_at t c);
       frame = frame_small stage t.frames;
       stage = stage_small t (want_at t c) stage (kept.job.fits c stage owner);
-      due = omega (arith, due, runners);
+      due = omega arith;
     }
 
 -- ---- one step
@@ -76,11 +76,10 @@ small_of t c stage kept owner =
 between : (s t : Outline) (c : ℕ) (a b : Stage) → IsIn s c a → IsIn t c b
     → rank_of (parts_of t (runner_at t.runners c) b) < rank_of (parts_of s (runner_at s.runners c) a)
     → job_rank t < job_rank s
-between s t c a b owner now less = let was = ranked s c a owner in let is = ranked t c b now in
-    omega (arith, was, is, less)
+between s t c a b owner now less = omega (arith, ranked s c a owner, ranked t c b now)
 
 pub over_falls : (s t : Outline) (c : ℕ) (a : Stage) → IsIn s c a → t.owner ≡ None → job_rank t < job_rank s
-over_falls s t c a owner none = let was = ranked s c a owner in let is = ranked_none t none in omega (arith, was, is)
+over_falls s t c a owner none = omega (arith, ranked s c a owner, ranked_none t none)
 
 link_like : (x y : Runner) → y.want ≡ x.want → y.linked ≡ x.linked → unlinked y.want y.linked ≤ unlinked x.want x.linked
 link_like x y want linked = rw (want, linked) (le_refl _)
@@ -130,7 +129,7 @@ full_lacks : (frames : List Frame) → has_free frames ≡ false → 1 ≤ frame
 full_lacks frames full = rw full (omega arith)
 
 freed_lacks : (frames : List Frame) (f : ℕ) → f < length frames → frame_lack Look (set frames f frame.Free) ≡ 0
-freed_lacks frames f lt = ap (λ (b : Bool). cond {A = ℕ} b 0 1) (freed_is_free frames f lt)
+freed_lacks frames f lt = cc (freed_is_free frames f lt)
 
 connect_falls : (s : Outline) (c : ℕ) (chain : List ℕ) (uid page : ℕ) (makes : Bool) → IsKept s → IsKept (with_link s c)
     → IsIn s c Look → want_at s c ≡ Refer chain uid page makes → (runner_at s.runners c).linked ≡ false
@@ -151,8 +150,7 @@ connect_falls s c chain uid page makes kept now owner want off = between s (with
     small = rw same at (small_of (with_link s c) c Look now owner)
 
     reading : readers (with_link s c).runners ≤ readers s.runners
-    reading = let count = readers_set s.runners c (record (runner_at s.runners c) { linked = true }) within in
-        omega (arith, count)
+    reading = omega (arith, (readers_set s.runners c (record (runner_at s.runners c) { linked = true }) within))
 
     less : rank_of (parts_of (with_link s c) (record (runner_at s.runners c) { linked = true }) Look)
         < rank_of (parts_of s (runner_at s.runners c) Look)
@@ -166,14 +164,13 @@ room_falls s c full h = rw (h.want, h.lacked, h.has) (omega arith)
 
 -- Each step of the owner makes the measure of its job fall.
 pub job_falls : (s : Outline) (c : ℕ) (t : Outline) → IsKept s → IsKept t → JobStep s c t → job_rank t < job_rank s
-job_falls s c t k l (activates place uid superior can) =
-    between s _ c Look Look can.look can.look
+job_falls s c t k l (activates place uid superior can) = between s _ c Look Look can.look can.look
     (falls_idle _ _ (small_of _ c Look l can.look) (le_refl _)
     (activation_falls s.entries place uid superior (chain_of (want_at s c)) can.member can.idle can.free can.within))
 job_falls s c t k l (connects chain uid page makes owner want off) =
     connect_falls s c chain uid page makes k l owner want off
 job_falls s c t k l (takes_segment place frames runners can of few alike) =
-    stage_falls s c runners Look (Taken (EmptyPlace place frames)) can.look alike l (le_refl _) (omega (arith, few))
+    stage_falls s c runners Look (Taken (EmptyPlace place frames)) can.look alike l (le_refl _) (omega arith)
 job_falls s c t k l (takes_frame f can) =
     stage_falls s c s.runners Look (Taken (EvictFrame f)) can.look (alike_self s.runners c) l
     (full_lacks s.frames can.full) (omega arith)
@@ -187,39 +184,35 @@ job_falls s c t k l (signals (EmptyPlace place rest) runners owner alike) =
 job_falls s c t k l (signals CommitCommand runners owner alike) =
     stage_falls s c runners (Taken CommitCommand) (Waiting CommitCommand) owner alike l (le_refl _) (omega arith)
 job_falls s c t k l (frees_frame f stored full owner due may) =
-    let within : f < length s.frames = (k.job.fits c (Waiting (EvictFrame f)) owner).0.0 in
-    let lacks = freed_lacks s.frames f within in
+    let lacks = freed_lacks s.frames f ((k.job.fits c (Waiting (EvictFrame f)) owner).0.0) in
     between s _ c (Waiting (EvictFrame f)) Look owner refl
     (falls_frame _ _ (small_of _ c Look l refl) (le_refl _) (le_refl _) (le_refl _) (le_refl _)
-    (room_less s full (want_at s c) may.room) (omega (arith, lacks)))
+    (room_less s full (want_at s c) may.room) (omega arith))
 job_falls s c t k l (frees_page place f rest stored full owner due may) =
-    let within : f < length s.frames = (k.job.fits c (Waiting (EmptyPlace place (f ∷ rest))) owner).0.0.0 in
-    let lacks = freed_lacks s.frames f within in
+    let lacks = freed_lacks s.frames f ((k.job.fits c (Waiting (EmptyPlace place (f ∷ rest))) owner).0.0.0) in
     between s _ c (Waiting (EmptyPlace place (f ∷ rest))) (Waiting (EmptyPlace place rest)) owner refl
     (falls_stage _ _ (small_of _ c (Waiting (EmptyPlace place rest)) l refl) (le_refl _) (le_refl _) (le_refl _)
-    (le_refl _) (room_less s full (want_at s c) may.room) (omega (arith, lacks)) (omega arith))
+    (le_refl _) (room_less s full (want_at s c) may.room) (omega arith) (omega arith))
 job_falls s c t k l (empties place runners owner due alike none) =
     let fits = k.job.fits c (Waiting (EmptyPlace place [])) owner in
-    let chain : List ℕ = chain_of (want_at s c) in
+    let chain = chain_of (want_at s c) in
     let idle = emptying_idle s.entries place chain fits.3 fits.2 in
     let off = emptying_off s.entries place chain fits.3 fits.2 in
     let like_idle = idle_like (set s.entries place None) (runner_at runners c).want (want_at s c) alike.want in
     let like_off = off_like (set s.entries place None) (runner_at runners c).want (want_at s c) alike.want in
     between s _ c (Waiting (EmptyPlace place [])) Look owner refl
     (falls_off _ _ (small_of _ c Look l refl) (le_of_eq (readers_like s.runners runners alike.count alike.reading))
-    (omega (arith, idle, like_idle)) (omega (arith, off, like_off)))
+    (omega arith) (omega arith))
 job_falls s c t k l (empties_at_once place can) =
-    let chain : List ℕ = chain_of (want_at s c) in
+    let chain = chain_of (want_at s c) in
     between s _ c Look Look can.look can.look
     (falls_off _ _ (small_of _ c Look l can.look) (le_refl _) (emptying_idle s.entries place chain can.off can.within)
     (emptying_off s.entries place chain can.off can.within))
 job_falls s c t k l (begins_move left owner few) =
-    stage_falls s c s.runners Look (Copying left) owner (alike_self s.runners c) l (le_refl _) (omega (arith, few))
+    stage_falls s c s.runners Look (Copying left) owner (alike_self s.runners c) l (le_refl _) (omega arith)
 job_falls s c t k l (copies left fewer owner less) =
-    stage_falls s c s.runners (Copying left) (Copying fewer) owner (alike_self s.runners c) l (le_refl _)
-    (omega (arith, less))
-job_falls s c t k l (commits_move left stored full owner has) =
-    between s _ c (Copying left) Look owner refl
+    stage_falls s c s.runners (Copying left) (Copying fewer) owner (alike_self s.runners c) l (le_refl _) (omega arith)
+job_falls s c t k l (commits_move left stored full owner has) = between s _ c (Copying left) Look owner refl
     (falls_room _ _ (small_of _ c Look l refl) (le_refl _) (le_refl _) (le_refl _) (le_refl _)
     (room_falls s c full has))
 job_falls s c t k l (gives_up chain uid page makes owner want fits) = over_falls s _ c Look owner refl

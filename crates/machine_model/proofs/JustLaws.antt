@@ -35,7 +35,7 @@ module _ (Page : ℕ → ℕ → Type 0) (Descriptor : ℕ → ℕ → ℕ → T
     pages = λ g u q. by_place (λ (y : FrameUse). page_of y ≡ Some (u, q) → Page u q → is_going_frame y ≡ true)
         c.frame f x g (λ e h i. absurd (none u q h i)) (λ n. j.pages g u q);
     its_pages = λ g u q. by_place (λ (y : FrameUse). page_of y ≡ Some (u, q) → is_going_frame y ≡ true → Page u q)
-        c.frame f x g (λ e h i. absurd (let no : true ≡ false = sym i ∙ off in cc)) (λ n. j.its_pages g u q);
+        c.frame f x g (λ e h i. cc) (λ n. j.its_pages g u q);
     descriptors = j.descriptors;
     its_descriptors = j.its_descriptors;
   }
@@ -43,14 +43,10 @@ module _ (Page : ℕ → ℕ → Type 0) (Descriptor : ℕ → ℕ → ℕ → T
   seat_just : (c e : Custody) → e.frame ≡ c.frame → e.descriptor ≡ c.descriptor → GoesJust c Page Descriptor
       → GoesJust e Page Descriptor
   seat_just c e f d j = record {
-    pages = subst (λ (x : ℕ → FrameUse). (g u q : ℕ) → page_of (x g) ≡ Some (u, q) → Page u q
-        → is_going_frame (x g) ≡ true) (sym f) j.pages;
-    its_pages = subst (λ (x : ℕ → FrameUse). (g u q : ℕ) → page_of (x g) ≡ Some (u, q)
-        → is_going_frame (x g) ≡ true → Page u q) (sym f) j.its_pages;
-    descriptors = subst (λ (x : ℕ → ℕ → DescriptorUse). (k n u : ℕ) → leads_to (x k n) ≡ Some u → Descriptor k n u
-        → is_going_descriptor (x k n) ≡ true) (sym d) j.descriptors;
-    its_descriptors = subst (λ (x : ℕ → ℕ → DescriptorUse). (k n u : ℕ) → leads_to (x k n) ≡ Some u
-        → is_going_descriptor (x k n) ≡ true → Descriptor k n u) (sym d) j.its_descriptors;
+    pages = rw f j.pages;
+    its_pages = rw f j.its_pages;
+    descriptors = rw d j.descriptors;
+    its_descriptors = rw d j.its_descriptors;
   }
 
   just_next : (p : Plan) (s : Store) (c : Custody) (e : Entry) → GoesJust c Page Descriptor → Stays Page e
@@ -65,10 +61,10 @@ module _ (Page : ℕ → ℕ → Type 0) (Descriptor : ℕ → ℕ → ℕ → T
   just_next p s c (entry.Leave d) j h = seat_just c (custody_next p s c (entry.Leave d)) refl refl j
   just_next p s c (entry.Activate v) j h = seat_just c (custody_next p s c (entry.Activate v)) refl refl j
   just_next p s c (entry.Deactivate v) j h = seat_just c (custody_next p s c (entry.Deactivate v)) refl refl j
-  just_next p s c (entry.Lose f) j h = frame_just c f frame.Free j refl (λ u q e. absurd (none_some e))
+  just_next p s c (entry.Lose f) j h = frame_just c f frame.Free j refl (λ u q e. cc)
   just_next p s c (entry.Here f v q) j h = frame_just c f (frame.Current v q) j refl
       (λ u p e i. h (let same = page_is v q u p e in
-      subst (λ (x : ℕ). Page x q) (sym same.0) (subst (Page u) (sym same.1) i)))
+      rw (same.0, same.1) i))
   just_next p s c (entry.Signal d x) j h = seat_just c (custody_next p s c (entry.Signal d x)) refl refl j
   just_next p s c (entry.Clear d x) j h = seat_just c (custody_next p s c (entry.Clear d x)) refl refl j
   just_next p s c (entry.FillSeg d n) j h = seat_just c (custody_next p s c (entry.FillSeg d n)) refl refl j
@@ -80,21 +76,20 @@ module _ (Page : ℕ → ℕ → Type 0) (Descriptor : ℕ → ℕ → ℕ → T
   just_list p es [] j stay =
       subst (λ (xs : List Entry). GoesJust (custody_after p xs) Page Descriptor) (sym (append-nil es)) j
   just_list p es (e ∷ more) j stay = rw (append_assoc es (e ∷ []) more) at (just_list p (es ++ e ∷ []) more
-      (subst (λ (c : Custody). GoesJust c Page Descriptor) (sym (custody_after-push p es e))
-      (just_next p (store_after p es) (custody_after p es) e j stay.0)) stay.1)
+      (rw (custody_after-push p es e) (just_next p (store_after p es) (custody_after p es) e j stay.0)) stay.1)
 
   -- what goes is just that still
   pub just_on : (s now : State) (more : List Entry) → Keeps s → Keeps now → now.plan ≡ s.plan
       → now.entries ≡ s.entries ++ more → GoesJust (holding s) Page Descriptor → AllStay Page more
       → GoesJust (holding now) Page Descriptor
   just_on s now more k kept plan entries j stay = rw (kept.book.held ∙ λ i. custody_after (plan i) (entries i))
-      (just_list s.plan s.entries more (subst (λ (c : Custody). GoesJust c Page Descriptor) k.book.held j) stay)
+      (just_list s.plan s.entries more (rw (← k.book.held) j) stay)
 
   -- a page that is being read isn't taken
   pub started_free : (c : Custody) (f v q : ℕ) → GoesJust c Page Descriptor → c.frame f ≡ frame.Started v q
       → Page v q → ⊥
-  started_free c f v q j started h = let going = j.pages f v q (ap page_of started) h in
-      let no : false ≡ true = sym (ap is_going_frame started) ∙ going in cc
+  started_free c f v q j started h = let no : false ≡ true = sym (ap is_going_frame started)
+      ∙ (j.pages f v q (ap page_of started) h) in cc
 
 -- ---- the segment of the command
 
@@ -105,11 +100,11 @@ same_uid old now k c nodes known = by c
   where
     path_same : (path : List (List ℕ)) → uid_of_node (node_at now.accounts.nodes path)
         ≡ uid_of_node (node_at old.accounts.nodes path)
-    path_same path = ap (λ (ns : List Node). uid_of_node (node_at ns path)) nodes
+    path_same path = cc
 
     by : (x : Command) → uid_of_command now k x ≡ uid_of_command old k x
     by (command.Initiate path) = path_same path
-    by (command.Terminate n) = ap (λ (x : List (List (Option ℕ))). or_zero (uid_of (kst_at x k) n)) known
+    by (command.Terminate n) = cc
     by (command.Acl path row m) = path_same path
     by (command.Length path pages) = path_same path
     by (command.Truncate path words) = path_same path
@@ -119,7 +114,7 @@ same_uid old now k c nodes known = by c
     by _ = refl
 
 alone_same : (old now : List Node) (u : ℕ) (c : Command) → now ≡ old → IsAlone old u c → IsAlone now u c
-alone_same old now u c same h = subst (λ (ns : List Node). IsAlone ns u c) (sym same) h
+alone_same old now u c same h = rw same h
 
 -- ---- what a job has taken
 
@@ -145,10 +140,10 @@ brought_on old now u _ active out h = tt
 taken_for : (s now : State) (k : ℕ) (c : Command) → LeavesTaken s now → TakesSome (Some c) → IsTakenFor s k c
     → IsTakenFor now k c
 taken_for s now k c l some h = record {
-  just = subst (λ (u : ℕ). GoesJust (holding now) (TakesPage c u) (TakesDescriptor c k u)) (sym same)
-      (l.just (TakesPage c (uid_of_command s.store k c)) (TakesDescriptor c k (uid_of_command s.store k c)) h.just);
-  alone = subst (λ (u : ℕ). IsAlone now.store.accounts.nodes u c) (sym same)
-      (alone_same s.store.accounts.nodes now.store.accounts.nodes (uid_of_command s.store k c) c l.nodes h.alone);
+  just = rw same (l.just (TakesPage c (uid_of_command s.store k c)) (TakesDescriptor c k (uid_of_command s.store k c))
+      h.just);
+  alone = rw same (alone_same s.store.accounts.nodes now.store.accounts.nodes (uid_of_command s.store k c) c l.nodes
+      h.alone);
   brought = rw same (brought_on s.store now.store (uid_of_command s.store k c) c (λ e. l.active _ ∙ e) l.out h.brought);
   stands = l.stands k c some h.stands;
 }

@@ -39,7 +39,7 @@ or_second true h = refl
 or_second false h = h
 
 pair_own : (k n m : ℕ) → n ≡ m → is_pair k n (k, m) ≡ true
-pair_own k n m same = rw (eqb_self k) (ap (λ (x : ℕ). eqb m x) same ∙ eqb_self m)
+pair_own k n m same = rw (eqb_self k) (cc (eqb_self m))
 
 pair_tells : (k n : ℕ) (x : ℕ × ℕ) → is_pair k n x ≡ true → (x.0 ≡ k) × (x.1 ≡ n)
 pair_tells k n x h = elim (eqb_tells x.0 k) [
@@ -55,18 +55,21 @@ pair_tells k n x h = elim (eqb_tells x.0 k) [
 take_has : (s : State) (c : ℕ) (a : Aim) (w : What) (fs : List ℕ) (g : ℕ)
     → has (frames_of_owner (take_all s c a w fs).owner) g ≡ (has (frames_of_owner s.owner) g || has fs g)
 take_has s c a w [] g = or_false (has (frames_of_owner s.owner) g)
-take_has s c a w (f ∷ fs) g = take_has (take_one s c a w f) c a w fs g
-    ∙ (ap (λ (b : Bool). b || has fs g) (list_any-append (λ y. eqb y g) (frames_of_owner s.owner) (f ∷ []))
-    ∙ or_moved (has (frames_of_owner s.owner) g) (eqb f g) (has fs g))
+take_has s c a w (f ∷ fs) g = cc (
+  take_has (take_one s c a w f) c a w fs g,
+  list_any-append (λ y. eqb y g) (frames_of_owner s.owner) (f ∷ []),
+  or_moved (has (frames_of_owner s.owner) g) (eqb f g) (has fs g),
+)
 
 cut_has : (s : State) (c : ℕ) (a : Aim) (w : What) (xs : List (ℕ × ℕ)) (k n : ℕ)
     → has_cut (cut_of_owner (cut_all s c a w xs).owner) k n ≡ (has_cut (cut_of_owner s.owner) k n || has_pair xs k n)
 cut_has s c a w [] k n = or_false (has_cut (cut_of_owner s.owner) k n)
-cut_has s c a w (x ∷ xs) k n = cut_has (cut_one s c a w x) c a w xs k n
-    ∙ (ap (λ (b : Bool). b || has_pair xs k n) (list_any-append (is_cut_at k n) (cut_of_owner s.owner) (d ∷ []))
-    ∙ (or_moved (has_cut (cut_of_owner s.owner) k n) (is_cut_at k n d) (has_pair xs k n)
-    ∙ ap (λ (b : Bool). has_cut (cut_of_owner s.owner) k n || (b || has_pair xs k n))
-    (note_at s k n x (descriptor_of s.store.links x.0 x.1))))
+cut_has s c a w (x ∷ xs) k n = cc (
+  cut_has (cut_one s c a w x) c a w xs k n,
+  list_any-append (is_cut_at k n) (cut_of_owner s.owner) (d ∷ []),
+  or_moved (has_cut (cut_of_owner s.owner) k n) (is_cut_at k n d) (has_pair xs k n),
+  note_at s k n x (descriptor_of s.store.links x.0 x.1),
+)
   where
     d : CutDescriptor
     d = note_of s.store x.0 x.1 (descriptor_of s.store.links x.0 x.1)
@@ -83,7 +86,7 @@ notes_push linked (x ∷ xs) d led h = (led.0, notes_push linked xs d led.1 h)
 
 notes_led : (linked : ℕ → ℕ → Option ℕ) (ds : List CutDescriptor) (k n u : ℕ) → NotesLed linked ds
     → cut_uid ds k n ≡ Some u → linked k n ≡ Some u
-notes_led linked [] k n u led h = absurd (none_some h)
+notes_led linked [] k n u led h = cc
 notes_led linked (d ∷ ds) k n u led h = by (is_cut_at k n d) refl h (λ i. notes_led linked ds k n u led.1 i)
   where
     by : (b : Bool) → is_cut_at k n d ≡ b → cond b (Some d.uid) (cut_uid ds k n) ≡ Some u
@@ -128,10 +131,10 @@ module _ (s : State) (c : ℕ) (a : Aim) (w : What) (fs : List ℕ) (xs : List (
   pages_same = cut_pages mid c a w xs ∙ (take_rest s c a w fs).0
 
   bound_same : (f : ℕ) → (seen now).bound f ≡ (seen s).bound f
-  bound_same f = ap (λ (p : Plain). binding_at (bindings p.core) f) pages_same
+  bound_same f = cc (pages_same)
 
   reads_same : (f : ℕ) → (seen now).reads f ≡ (seen s).reads f
-  reads_same f = ap (λ (p : Plain). read_at (reads_of p.core) f) pages_same
+  reads_same f = cc (pages_same)
 
   frames_go : (f : ℕ) → is_going_frame ((shown (seen now)).frame f) ≡ has fs f
   frames_go f = cc (book.going_owned.frames f, cut_frames mid c a w xs, take_has s c a w fs f)
@@ -148,18 +151,16 @@ module _ (s : State) (c : ℕ) (a : Aim) (w : What) (fs : List ℕ) (xs : List (
       by : (x y : Option (ℕ × ℕ)) → (seen s).bound f ≡ x → (seen s).reads f ≡ y
           → page_of (frame_use (seen now).words x y) ≡ Some (u, q)
           → ((seen s).bound f ≡ Some (u, q)) ⊎ ((seen s).reads f ≡ Some (u, q))
-      by None None b r e = absurd (none_some e)
+      by None None b r e = cc
       by None (Some page) b r e = inr (r ∙ e)
-      by (Some page) y b r e = inl (b ∙ (sym (page_used page ((seen now).words page.0 page.1)) ∙ e))
+      by (Some page) y b r e = inl (cc (page_used page ((seen now).words page.0 page.1)))
 
   frame_here : (f u q : ℕ) (y : Ptw) → Page u q → (seen s).bound f ≡ Some (u, q) → (seen s).words u q ≡ y
       → names y ≡ Some f → has fs f ≡ true
-  frame_here f u q (ptw.Here g) p b e h = l.pages f u q (e ∙ ap (λ (x : ℕ). ptw.Here x) (some_same g f h)) p
-  frame_here f u q (ptw.Leaving g) p b e h = absurd (let no : true ≡ false =
-      sym (ap (λ (x : Option (ℕ × ℕ)). is_going_frame (frame_use (seen s).words x ((seen s).reads f))) b
-      ∙ ap (λ (x : Ptw). is_going_frame (bound_use (u, q) x)) e)
+  frame_here f u q (ptw.Here g) p b e h = l.pages f u q (cc (some_same g f h)) p
+  frame_here f u q (ptw.Leaving g) p b e h = absurd (let no : true ≡ false = sym (cc)
       ∙ (k.book.going_owned.frames f ∙ ap (λ (gs : List ℕ). has gs f) idle.frames) in cc)
-  frame_here f u q _ p b e h = absurd (none_some h)
+  frame_here f u q _ p b e h = cc
 
   -- where a descriptor led before it was cut, if it was
   linked_by : (j n u : ℕ) → leads_to ((shown (seen now)).descriptor j n) ≡ Some u
@@ -169,8 +170,8 @@ module _ (s : State) (c : ℕ) (a : Aim) (w : What) (fs : List ℕ) (xs : List (
       by : (x y : Option ℕ) → (seen now).linked j n ≡ x → cut_uid (cut_of_owner now.owner) j n ≡ y
           → leads_to (descriptor_use x y) ≡ Some u → is_going_descriptor (descriptor_use x y) ≡ false
           → (seen s).linked j n ≡ Some u
-      by None None e d g i = absurd (none_some g)
-      by None (Some v) e d g i = absurd (not_both refl i)
+      by None None e d g i = cc
+      by None (Some v) e d g i = cc
       by (Some v) y e d g i = took_linked s c a w fs xs can.pairs_are j n u (e ∙ g)
 
   -- a descriptor that was cut led to what is remembered of it
@@ -182,14 +183,13 @@ module _ (s : State) (c : ℕ) (a : Aim) (w : What) (fs : List ℕ) (xs : List (
       by : (x y : Option ℕ) → (seen now).linked j n ≡ x → cut_uid (cut_of_owner now.owner) j n ≡ y
           → leads_to (descriptor_use x y) ≡ Some u → is_going_descriptor (descriptor_use x y) ≡ true
           → cut_uid (cut_of_owner now.owner) j n ≡ Some u
-      by None None e d g i = absurd (none_some g)
+      by None None e d g i = cc
       by None (Some v) e d g i = d ∙ g
-      by (Some v) y e d g i = absurd (not_both i refl)
+      by (Some v) y e d g i = cc
 
       led : NotesLed (seen s).linked (cut_of_owner now.owner)
       led = rw (take_linked s c a w fs) at (cut_notes mid c a w xs (seen mid).linked
-          (subst (λ (f : ℕ → ℕ → Option ℕ). ArePairs f w xs) (sym (take_linked s c a w fs)) can.pairs_are)
-          (λ i m v e. e) (subst (NotesLed (seen mid).linked) (sym (take_cut s c a w fs ∙ idle.cut)) tt))
+          (rw (take_linked s c a w fs) can.pairs_are) (λ i m v e. e) (rw (take_cut s c a w fs ∙ idle.cut) tt))
 
   -- So what goes then is just what is listed.
   pub took_just : GoesJust (shown (seen now)) Page Descriptor
@@ -220,7 +220,7 @@ unread_from core u low f q h e le = not_both passes (position_none
     (λ x. is_page_of u (λ p. nat_le low p) (started_page x)) core.frames frame.Free f h refl)
   where
     above : nat_le low q ≡ true
-    above = elim (leb_tells low q) [ inl i ↦ i.0 | inr m ↦ (let lt = m.1 in absurd (omega (arith, lt, le))) ]
+    above = elim (leb_tells low q) [ inl i ↦ i.0 | inr m ↦ (let lt = m.1 in absurd (omega arith)) ]
 
     passes : is_page_of u (λ p. nat_le low p) (started_page (frame_at core f)) ≡ true
     passes = ap (is_page_of u (λ p. nat_le low p)) (sym (map_list started_page core.frames f frame.Free) ∙ e)
@@ -231,38 +231,35 @@ module _ (s : State) (k : ℕ) (keeps : Keeps s) where
   pages_from : (u low f q : ℕ) → (seen s).words u q ≡ ptw.Here f → low ≤ q
       → has (frames_from s.store.ast u low) f ≡ true
   pages_from u low f q h le = frame_listed (drop low (table_of s.store.ast u)) (q - low) f
-      (dropped_word (table_of s.store.ast u) low (q - low)
-      ∙ (ap (λ (i : ℕ). get_or (table_of s.store.ast u) i ptw.Null)
-      (let same : low + (q - low) ≡ q = omega (arith, le) in same) ∙ h))
+      (dropped_word (table_of s.store.ast u) low (q - low) ∙ (ap (λ (i : ℕ). get_or (table_of s.store.ast u) i ptw.Null)
+      (omega arith) ∙ h))
 
   from_pages : (u low f v q : ℕ) → has (frames_from s.store.ast u low) f ≡ true → (seen s).bound f ≡ Some (v, q)
       → (v ≡ u) × (low ≤ q)
   from_pages u low f v q h bound = let at = frame_word (drop low (table_of s.store.ast u)) f h in
-      let is = keeps.book.tied.back f u (low + at.0)
-      (ap names (sym (dropped_word (table_of s.store.ast u) low at.0) ∙ at.1)) in
-      let same = page_is v q u (low + at.0) (sym bound ∙ is) in
-      (same.0, (let b = same.1 in omega (arith, b)))
+      let is = keeps.book.tied.back f u (low + at.0) (cc (dropped_word (table_of s.store.ast u) low at.0)) in
+      let same = page_is v q u (low + at.0) (cc) in
+      (same.0, (omega arith))
 
   -- the descriptors of a segment
   linked_active : (j n u : ℕ) → (seen s).linked j n ≡ Some u → is_active s.store.ast u ≡ true
   linked_active j n u h = by (descriptor_of s.store.links j n) h
     where
       by : (x : Sdw) → led_to s.store.ast.entries x ≡ Some u → is_active s.store.ast u ≡ true
-      by sdw.Fault e = absurd (none_some e)
+      by sdw.Fault e = cc
       by (sdw.Present aste mode pages) e = active_at s.store.ast aste u e
 
-  trailers_all : (u j n v : ℕ) → (seen s).linked j n ≡ Some v → v ≡ u
-      → has_pair (trailers_in s.store u) j n ≡ true
+  trailers_all : (u j n v : ℕ) → (seen s).linked j n ≡ Some v → v ≡ u → has_pair (trailers_in s.store u) j n ≡ true
   trailers_all u j n v h same = let is = h ∙ ap (λ (x : ℕ). Some x) same in
       trailer_listed s u j n keeps (linked_active j n u is) is
 
   pair_named : (w : What) (xs : List (ℕ × ℕ)) (j n v : ℕ) → ArePairs (seen s).linked w xs → has_pair xs j n ≡ true
       → (seen s).linked j n ≡ Some v → names_uid w v ≡ true
-  pair_named w [] j n v are h l = absurd (not_both h refl)
+  pair_named w [] j n v are h l = cc
   pair_named w (x ∷ xs) j n v are h l = elim (or_cases (is_pair j n x) (has_pair xs j n) h) [
     | inl e ↦ (let at = pair_tells j n x e in
         let same = some_same are.0.0 v (sym are.0.1 ∙ ((λ i. (seen s).linked (at.0 i) (at.1 i)) ∙ l)) in
-        ap (names_uid w) (sym same) ∙ are.0.2)
+        cc)
     | inr e ↦ pair_named w xs j n v are.2 e l
   ]
 
@@ -278,25 +275,23 @@ module _ (s : State) (k : ℕ) (keeps : Keeps s) where
   is_linked j n v h = by (descriptor_of s.store.links j n) h
     where
       by : (x : Sdw) → led_to s.store.ast.entries x ≡ Some v → is_connected x ≡ true
-      by sdw.Fault e = absurd (none_some e)
+      by sdw.Fault e = cc
       by (sdw.Present aste mode pages) e = refl
 
   -- each process has 256 descriptors
   number_within : (j n v : ℕ) → (seen s).linked j n ≡ Some v → n < 256
-  number_within j n v h = subst (λ (x : ℕ). n < x) (keeps.store.kept.linked.lists.words j
-      (subst (λ (x : ℕ). j < x) keeps.store.kept.linked.lists.processes within.0)) within.1
+  number_within j n v h = rw (← (keeps.store.kept.linked.lists.words j
+      (rw (← keeps.store.kept.linked.lists.processes) within.0))) within.1
     where
       within : (j < length s.store.links.descriptors) × (n < length (sdws_at s.store.links.descriptors j))
-      within = linked_within s.store.links j n
-          (λ e. none_some (sym (ap (led_to s.store.ast.entries) e) ∙ h))
+      within = linked_within s.store.links j n (λ e. none_some (sym (cc) ∙ h))
 
   one_all : (number n v : ℕ) → (seen s).linked k n ≡ Some v → n ≡ number
       → has_pair (cond (is_connected (descriptor_of s.store.links k number)) ((k, number) ∷ []) []) k n ≡ true
   one_all number n v h same = cc (same, is_linked k n v h, pair_own k n number same)
 
-  one_its : (number j n : ℕ) (b : Bool) → has_pair (cond b ((k, number) ∷ []) []) j n ≡ true
-      → (j ≡ k) × (n ≡ number)
-  one_its number j n false h = absurd (not_both h refl)
+  one_its : (number j n : ℕ) (b : Bool) → has_pair (cond b ((k, number) ∷ []) []) j n ≡ true → (j ≡ k) × (n ≡ number)
+  one_its number j n false h = cc
   one_its number j n true h = elim (or_cases (is_pair j n (k, number)) false h) [
     | inl e ↦ (let at = pair_tells j n (k, number) e in (sym at.0, sym at.1))
     | inr e ↦ absurd (not_both e refl)
@@ -305,7 +300,7 @@ module _ (s : State) (k : ℕ) (keeps : Keeps s) where
   end_all : (from count n v : ℕ) → (seen s).linked k n ≡ Some v → from ≤ n → n < from + count
       → has_pair (map (λ i. (k, i)) (filter (λ i. is_connected (descriptor_of s.store.links k i))
       (range_with_len from count))) k n ≡ true
-  end_all from zero n v h low high = absurd (omega (arith, low, high))
+  end_all from zero n v h low high = absurd (omega arith)
   end_all from (suc count) n v h low high = by (is_connected (descriptor_of s.store.links k from)) refl
       (eqb_tells from n) (λ a b. end_all (from + 1) count n v h a b)
     where
@@ -319,16 +314,13 @@ module _ (s : State) (k : ℕ) (keeps : Keeps s) where
           → has_pair (map (λ i. (k, i)) (cond b (from ∷ filter (λ i. is_connected (descriptor_of s.store.links k i))
           (range_with_len (from + 1) count)) (filter (λ i. is_connected (descriptor_of s.store.links k i))
           (range_with_len (from + 1) count)))) k n ≡ true
-      by true e (inl same) later = ap (λ (b : Bool). b || has_pair rest k n) (pair_own k n from (sym same.1))
-      by true e (inr other) later = or_second (is_pair k n (k, from)) (later
-          (let ne = other.1 in omega (arith, low, ne)) (omega (arith, high)))
-      by false e (inl same) later = absurd (not_both (is_linked k n v h)
-          (ap (λ (x : ℕ). is_connected (descriptor_of s.store.links k x)) (sym same.1) ∙ e))
-      by false e (inr other) later = later
-          (let ne = other.1 in omega (arith, low, ne)) (omega (arith, high))
+      by true e (inl same) later = cc (pair_own k n from (sym same.1))
+      by true e (inr other) later = or_second (is_pair k n (k, from)) (later (omega arith) (omega arith))
+      by false e (inl same) later = cc (is_linked k n v h)
+      by false e (inr other) later = later (omega arith) (omega arith)
 
   end_its : (is : List ℕ) (j n : ℕ) → has_pair (map (λ i. (k, i)) is) j n ≡ true → j ≡ k
-  end_its [] j n h = absurd (not_both h refl)
+  end_its [] j n h = cc
   end_its (i ∷ is) j n h = elim (or_cases (is_pair j n (k, i)) (has_pair (map (λ x. (k, x)) is) j n) h) [
     | inl e ↦ sym (pair_tells j n (k, i) e).0
     | inr e ↦ end_its is j n e
@@ -347,34 +339,31 @@ module _ (s : State) (k : ℕ) (keeps : Keeps s) where
     its_descriptors = λ j n v h l. trailers_its u j n v h l;
   }
   command_lists (command.Delete path) u is unread = record {
-    pages = λ f v q h same. pages_from u 0 f q (ap (λ (x : ℕ). (seen s).words x q) (sym same) ∙ h) (omega arith);
+    pages = λ f v q h same. pages_from u 0 f q (cc) (omega arith);
     its_pages = λ f v q h b. (from_pages u 0 f v q h b).0;
-    unread = λ f v q h same. unread_from s.store.pages.core u 0 f q unread
-        (h ∙ ap (λ (x : ℕ). Some (x, q)) same) (omega arith);
+    unread = λ f v q h same. unread_from s.store.pages.core u 0 f q unread (cc) (omega arith);
     descriptors = λ j n v h same. trailers_all u j n v h same;
     its_descriptors = λ j n v h l. trailers_its u j n v h l;
   }
   command_lists (command.Truncate path words) u is unread = record {
-    pages = λ f v q h p. pages_from u (words / 1024) f q (ap (λ (x : ℕ). (seen s).words x q) (sym p.0) ∙ h) p.1;
+    pages = λ f v q h p. pages_from u (words / 1024) f q (cc) p.1;
     its_pages = λ f v q h b. from_pages u (words / 1024) f v q h b;
-    unread = λ f v q h p. unread_from s.store.pages.core u (words / 1024) f q unread
-        (h ∙ ap (λ (x : ℕ). Some (x, q)) p.0) p.1;
+    unread = λ f v q h p. unread_from s.store.pages.core u (words / 1024) f q unread (cc) p.1;
     descriptors = λ j n v h p. absurd p;
-    its_descriptors = λ j n v h l. absurd (not_both h refl);
+    its_descriptors = λ j n v h l. cc;
   }
   command_lists (command.Terminate number) u is unread = record {
     pages = λ f v q h p. absurd p;
     its_pages = λ f v q h b. absurd (none_has f h);
     unread = λ f v q h p. p;
-    descriptors = λ j n v h p. (rw p.0 (one_all number n v (ap (λ (x : ℕ). (seen s).linked x n) (sym p.0) ∙ h) p.1));
+    descriptors = λ j n v h p. (rw p.0 (one_all number n v (cc) p.1));
     its_descriptors = λ j n v h l. one_its number j n (is_connected (descriptor_of s.store.links k number)) h;
   }
   command_lists command.End u is unread = record {
     pages = λ f v q h p. absurd p;
     its_pages = λ f v q h b. absurd (none_has f h);
     unread = λ f v q h p. p;
-    descriptors = λ j n v h same. (rw same (end_all 0 256 n v (ap (λ (x : ℕ). (seen s).linked x n) (sym same) ∙ h)
-        (omega arith) (number_within j n v h)));
+    descriptors = λ j n v h same. (rw same (end_all 0 256 n v (cc) (omega arith) (number_within j n v h)));
     its_descriptors = λ j n v h l. end_its _ j n h;
   }
   command_lists cmd u is unread = record {
@@ -382,14 +371,14 @@ module _ (s : State) (k : ℕ) (keeps : Keeps s) where
     its_pages = λ f v q h b. absurd (none_has f h);
     unread = λ f v q h p. p;
     descriptors = λ j n v h p. absurd p;
-    its_descriptors = λ j n v h l. absurd (not_both h refl);
+    its_descriptors = λ j n v h l. cc;
   }
 
   -- a node that a `delete` isn't refused for has no inferior
   alone_found : (cmd : Command) → refusal_of s k cmd ≡ None
       → IsAlone s.store.accounts.nodes (uid_of_command s.store k cmd) cmd
   alone_found (command.Delete path) stands = let leads_there = delete_stands s k keeps path stands in
-      ap (λ (u : ℕ). list_any (is_inferior u) s.store.accounts.nodes) leads_there.uid ∙ leads_there.empty
+      cc
   alone_found cmd stands = tt
 
 -- what a `truncate` wants is there before it takes
@@ -404,21 +393,16 @@ module _ (s : State) (c k : ℕ) (cmd : Command) (w : What) (fs : List ℕ) (pai
     (idle : IsIdle s.owner) (finds : FindsTaken s k cmd fs pairs) (can : CanTook s aim.Committing w fs pairs) where
   lists : AreListed s fs pairs (TakesPage cmd (uid_of_command s.store k cmd))
       (TakesDescriptor cmd k (uid_of_command s.store k cmd))
-  lists = subst (λ (x : List ℕ). AreListed s x pairs (TakesPage cmd (uid_of_command s.store k cmd))
-      (TakesDescriptor cmd k (uid_of_command s.store k cmd))) (sym finds.frames)
-      (rw finds.descriptors (command_lists s k keeps cmd (uid_of_command s.store k cmd) refl finds.unread))
+  lists = rw finds.frames (rw finds.descriptors (command_lists s k keeps cmd (uid_of_command s.store k cmd) refl
+      finds.unread))
 
   -- What a look takes for a command is just what the command takes.
   pub look_taken : IsTakenFor (took s c aim.Committing w fs pairs) k cmd
   look_taken = record {
-    just = subst (λ (u : ℕ). GoesJust (shown (seen now)) (TakesPage cmd u) (TakesDescriptor cmd k u)) (sym same)
-        (took_just s c aim.Committing w fs pairs (TakesPage cmd (uid_of_command s.store k cmd))
+    just = rw same (took_just s c aim.Committing w fs pairs (TakesPage cmd (uid_of_command s.store k cmd))
         (TakesDescriptor cmd k (uid_of_command s.store k cmd)) keeps idle can lists);
-    alone = subst (λ (u : ℕ). IsAlone now.store.accounts.nodes u cmd) (sym same)
-        (subst (λ (a : AccountMaps). IsAlone a.nodes (uid_of_command s.store k cmd) cmd) (sym like.accounts)
-        (alone_found s k keeps cmd finds.stands));
-    brought = subst (λ (u : ℕ). WasBrought now.store u cmd) (sym same)
-        (brought_on s.store now.store (uid_of_command s.store k cmd) cmd
+    alone = rw (same, like.accounts) (alone_found s k keeps cmd finds.stands);
+    brought = rw same (brought_on s.store now.store (uid_of_command s.store k cmd) cmd
         (λ e. ap (λ (es : List (Option Segment)). list_any (is_for (uid_of_command s.store k cmd)) es) like.entries ∙ e)
         (took_out s c aim.Committing w fs pairs)
         (brought_found s keeps (uid_of_command s.store k cmd) cmd finds.brought));

@@ -10,11 +10,10 @@ use Rattle.machine_model.proofs.SeenLaws.{reseated_seen}
 -- one entry more tells one failure more, or none
 pub faults_push : (es : List Entry) (e : Entry)
     → count_by is_fault (es ++ e ∷ []) ≡ count_by is_fault es + cond (is_fault e) 1 0
-faults_push [] e = let one = sum_by-cons (λ x. cond (is_fault x) 1 0) e [] in omega (arith, one)
-faults_push (x ∷ xs) e = let ih = faults_push xs e in
-    let one = sum_by-cons (λ y. cond (is_fault y) 1 0) x (xs ++ e ∷ []) in let two =
+faults_push [] e = omega (arith, (sum_by-cons (λ x. cond (is_fault x) 1 0) e []))
+faults_push (x ∷ xs) e = let one = sum_by-cons (λ y. cond (is_fault y) 1 0) x (xs ++ e ∷ []) in let two =
     sum_by-cons (λ y. cond (is_fault y) 1 0) x xs in
-    omega (arith, ih, one, two)
+    omega (arith, (faults_push xs e))
 
 -- an entry that tells of no failed read or write
 pub quiet_push : (es : List Entry) (e : Entry) → is_fault e ≡ false
@@ -35,8 +34,7 @@ IsNoOwner s c = (o : Owner) → s.owner ≡ Some o → o.cpu ≢ c
 pub reseat_kept : (s : State) (c : ℕ) (p : Processor) (ready : List ℕ) (e : Entry) (spare : ℕ) → Keeps s
     → c < length s.processors
     → KeepsBook (reseated (seen s) c p ready e) → after_entry s.plan (flat_of s) e ≡ flat_of s → is_fault e ≡ false
-    → IsNoOwner s c
-    → Keeps (record s {
+    → IsNoOwner s c → Keeps (record s {
       processors = set s.processors c p;
       ready = ready;
       entries = s.entries ++ e ∷ [];
@@ -45,13 +43,11 @@ pub reseat_kept : (s : State) (c : ℕ) (p : Processor) (ready : List ℕ) (e : 
 reseat_kept s c p ready e spare k within book still quiet other = record {
   book = subst KeepsBook (sym (reseated_seen s c p ready e within)) book;
   store = k.store;
-  faithful = subst (λ (t : Store). IsFaithful s.plan t s.store) (sym same) k.faithful;
+  faithful = rw same k.faithful;
   rights = k.rights;
   cut = k.cut;
-  conserved = subst (IsConserved s.plan) (sym same) k.conserved;
-  few_faults = let count = faults_push s.entries e in let none =
-      ap {B = ℕ} (λ (b : Bool). cond b 1 0) quiet in let few = k.few_faults in
-      omega (arith, count, none, few);
+  conserved = rw same k.conserved;
+  few_faults = let none = ap {B = ℕ} (λ (b : Bool). cond b 1 0) quiet in omega (arith, (faults_push s.entries e));
   sizes = assumption (length-set s.processors c p ∙ k.sizes.processors);
   at_work = λ o h. subst IsAtWork (sym (get_or-set_other s.processors c o.cpu p no_processor (other o h)))
       (k.at_work o h);
@@ -68,12 +64,11 @@ module _ (s : State) (c : ℕ) (spare : ℕ) (k : Keeps s) (within : c < length 
     processors = set s.processors c p;
     ready = ready;
     entries = s.entries ++ e ∷ [];
-    spare
-        = spare;
+    spare = spare;
   }
 
   inside : c < s.plan.processors
-  inside = subst (λ (n : ℕ). c < n) k.sizes.processors within
+  inside = rw (← k.sizes.processors) within
 
   pub online_kept : (processor_at s.processors c).cpu.online ≡ false
       → Keeps (reseat (taking_part (processor_at s.processors c)) s.ready (entry.Online c))
@@ -86,11 +81,9 @@ module _ (s : State) (c : ℕ) (spare : ℕ) (k : Keeps s) (within : c < length 
       → Keeps (reseat (running (processor_at s.processors c) n) (drop 1 s.ready) (entry.Load c n))
   unfolding after_entry
   load_kept n on none front = reseat_kept s c (running (processor_at s.processors c) n) (drop 1 s.ready)
-      (entry.Load c n) spare k within
-      (load_keeps (seen s) c n k.book on none front) refl refl other
+      (entry.Load c n) spare k within (load_keeps (seen s) c n k.book on none front) refl refl other
 
-  pub leave_kept : MayLeave (flat_of s) (shown (seen s)) c
-      → Keeps (reseat (emptied (processor_at s.processors c))
+  pub leave_kept : MayLeave (flat_of s) (shown (seen s)) c → Keeps (reseat (emptied (processor_at s.processors c))
       (queued (flat_of s) s.ready (processor_at s.processors c).cpu.process) (entry.Leave c))
   unfolding after_entry
   leave_kept may = reseat_kept s c (emptied (processor_at s.processors c))
@@ -101,19 +94,16 @@ module _ (s : State) (c : ℕ) (spare : ℕ) (k : Keeps s) (within : c < length 
       → Keeps (reseat (with_held_seg (processor_at s.processors c) e) s.ready (entry.FillSeg c e.number))
   unfolding after_entry
   fill_seg_kept n e can = reseat_kept s c (with_held_seg (processor_at s.processors c) e) s.ready
-      (entry.FillSeg c e.number) spare k within
-      (fill_seg_keeps (seen s) c n e k.book can) refl refl other
+      (entry.FillSeg c e.number) spare k within (fill_seg_keeps (seen s) c n e k.book can) refl refl other
 
   pub fill_page_kept : (e : HeldPage) → CanFillPage (seen s) c e
       → Keeps (reseat (with_held_page (processor_at s.processors c) e) s.ready (entry.FillPage c e.frame))
   unfolding after_entry
   fill_page_kept e can = reseat_kept s c (with_held_page (processor_at s.processors c) e) s.ready
-      (entry.FillPage c e.frame) spare k within
-      (fill_page_keeps (seen s) c e k.book can) refl refl other
+      (entry.FillPage c e.frame) spare k within (fill_page_keeps (seen s) c e k.book can) refl refl other
 
   pub clear_kept : (w : What) → (processor_at s.processors c).cpu.due ≡ Some w
       → Keeps (reseat (done_dropping (processor_at s.processors c) w) s.ready (entry.Clear c w))
   unfolding after_entry
   clear_kept w due = reseat_kept s c (done_dropping (processor_at s.processors c) w) s.ready
-      (entry.Clear c w) spare k within
-      (clear_keeps (seen s) c w k.book due) refl refl other
+      (entry.Clear c w) spare k within (clear_keeps (seen s) c w k.book due) refl refl other

@@ -31,25 +31,25 @@ same_stage t c d a b h i = ap keeper_stage (sym h ∙ i)
 job_of : (t : Outline) (c : ℕ) (stage : Stage) → IsIn t c stage → IsAtWork t.runners c → FitsStage t (want_at t c) stage
     → HasJob t
 job_of t c stage owner work fits = record {
-  at_work = λ d b h. subst (λ (i : ℕ). IsAtWork t.runners i) (same_cpu t c d stage b owner h) work;
-  fits = λ d b h. subst (λ (i : ℕ). FitsStage t (want_at t i) b) (same_cpu t c d stage b owner h)
-      (subst (λ (x : Stage). FitsStage t (want_at t c) x) (same_stage t c d stage b owner h) fits);
-  quiet = λ none. (let no : None ≡ Some (record { cpu = c; stage = stage }) = sym none ∙ owner in absurd cc);
+  at_work = λ d b h. rw (← (same_cpu t c d stage b owner h)) work;
+  fits = λ d b h. rw (← (same_cpu t c d stage b owner h)) (subst (λ (x : Stage). FitsStage t (want_at t c) x)
+      (same_stage t c d stage b owner h) fits);
+  quiet = λ none. (let no = sym none ∙ owner in absurd cc);
 }
 
 -- nobody owns the supervisor, and nothing is due
 job_none : (t : Outline) → t.owner ≡ None → dues t.runners ≡ 0 → HasJob t
 job_none t none quiet = record {
-  at_work = λ d b h. (let no : None ≡ Some (record { cpu = d; stage = b }) = sym none ∙ h in absurd cc);
-  fits = λ d b h. (let no : None ≡ Some (record { cpu = d; stage = b }) = sym none ∙ h in absurd cc);
+  at_work = λ d b h. (let no = sym none ∙ h in absurd cc);
+  fits = λ d b h. (let no = sym none ∙ h in absurd cc);
   quiet = λ n. quiet;
 }
 
 work_alike : (xs ys : List Runner) (c : ℕ) → AreAlike xs ys c → IsAtWork xs c → IsAtWork ys c
 work_alike xs ys c alike work = record {
-  within = subst (λ (n : ℕ). c < n) (sym alike.count) work.within;
-  running = alike.running c ∙ work.running;
-  clear = alike.due ∙ work.clear;
+  within = rw alike.count work.within;
+  running = cc (alike.running c);
+  clear = cc;
   idle = alike.reading c ∙ work.idle;
 }
 
@@ -65,7 +65,7 @@ none_of (x ∷ xs) (suc f) uid page h = none_of xs f uid page
 
 spared_by : (w : Want) (x : Frame) → is_bound x ≡ true → is_wanted w x ≡ false → is_spared w x ≡ true
 spared_by w frame.Free bound out = refl
-spared_by w (frame.Started uid page) bound out = let no : false ≡ true = bound in absurd cc
+spared_by w (frame.Started uid page) bound out = let no = bound in absurd cc
 spared_by w (frame.Bound uid page used modified) bound out = ap not out
 
 unwanted : (frames : List Frame) (f : ℕ) (w : Want) → is_wanted_here frames w ≡ false
@@ -77,12 +77,11 @@ unwanted frames f _ h = refl
 -- a segment of the chain isn't at a place that is off it
 apart_from : (chain : List ℕ) (o : Option Entry) (uid : ℕ) → Contains chain uid → off_chain chain o ≡ true
     → uid_in o ≢ Some uid
-apart_from chain None uid there off h = let no : None ≡ Some uid = h in absurd cc
+apart_from chain None uid there off h = let no = h in absurd cc
 apart_from chain (Some e) uid there off h =
-    let same : e.uid ≡ uid = ap (λ (o : Option ℕ). or_this e.uid o) h in
-    let at : eqb (get_or chain there.0 uid) e.uid ≡ true = rw (there.2, same) (eqb_self uid) in
-    let has : list_any (λ u. eqb u e.uid) chain ≡ true = list_any_at (λ u. eqb u e.uid) chain there.0 uid there.1 at in
-    let no : false ≡ true = sym (ap not has) ∙ off in
+    let at : eqb (get_or chain there.0 uid) e.uid ≡ true = rw (there.2, (ap (λ (o : Option ℕ). or_this e.uid o) h))
+    (eqb_self uid) in
+    let no : false ≡ true = sym (ap not (list_any_at (λ u. eqb u e.uid) chain there.0 uid there.1 at)) ∙ off in
     cc
   where
     or_this : ℕ → Option ℕ → ℕ
@@ -93,11 +92,11 @@ apart_from chain (Some e) uid there off h =
     eqb_self n = elim (eqb_tells n n) [ inl i ↦ i.0 | inr i ↦ absurd (i.1 refl) ]
 
 of_uid : (x : Frame) (uid page : ℕ) → is_of uid page x ≡ true → uid_of (page_of x) ≡ Some uid
-of_uid frame.Free uid page h = let no : false ≡ true = h in absurd cc
-of_uid (frame.Started u q) uid page h = let no : false ≡ true = h in absurd cc
+of_uid frame.Free uid page h = let no = h in absurd cc
+of_uid (frame.Started u q) uid page h = let no = h in absurd cc
 of_uid (frame.Bound u q used modified) uid page h = elim (eqb_tells u uid) [
   | inl e ↦ ap (λ (n : ℕ). Some n) e.1
-  | inr n ↦ (let no : false ≡ true = sym (ap (λ (b : Bool). b && eqb q page) n.0) ∙ h in absurd cc)
+  | inr n ↦ (let no : false ≡ true = sym (cc) ∙ h in absurd cc)
 ]
 
 not_wanted_uid : (x : Frame) (uid page : ℕ) → uid_of (page_of x) ≢ Some uid → is_of uid page x ≡ false
@@ -110,15 +109,14 @@ not_wanted_uid x uid page other = by (is_of uid page x) refl
 unwanted_uid : (w : Want) (x : Frame) (o : Option Entry) → EndsChain w → off_chain (chain_of w) o ≡ true
     → uid_of (page_of x) ≡ uid_in o → is_wanted w x ≡ false
 unwanted_uid (Refer chain uid page makes) x o there off of_it =
-    not_wanted_uid x uid page (λ h. apart_from chain o uid there off (sym of_it ∙ h))
+    not_wanted_uid x uid page (λ h. apart_from chain o uid there off (cc))
 unwanted_uid (Truncate chain uid (Some page)) x o there off of_it =
-    not_wanted_uid x uid page (λ h. apart_from chain o uid there off (sym of_it ∙ h))
+    not_wanted_uid x uid page (λ h. apart_from chain o uid there off (cc))
 unwanted_uid _ x o there off of_it = refl
 
 -- the frames of a segment off the chain may be taken
 spared_all : (s : Outline) (w : Want) (place : ℕ) (frames : List ℕ) → EndsChain w
-    → IsOffChain s.entries (chain_of w) place
-    → AreOf s place frames → AreSpared s.frames w frames
+    → IsOffChain s.entries (chain_of w) place → AreOf s place frames → AreSpared s.frames w frames
 spared_all s w place [] there off of_it = tt
 spared_all s w place (f ∷ fs) there off of_it = (
   (
@@ -130,17 +128,16 @@ spared_all s w place (f ∷ fs) there off of_it = (
 )
 
 spared_started : (w : Want) (x : Frame) → is_spared w x ≡ true → is_started x ≡ false
-spared_started w (frame.Started uid page) h = let no : false ≡ true = h in absurd cc
+spared_started w (frame.Started uid page) h = let no = h in absurd cc
 spared_started w _ h = refl
 
 -- frames that were taken stay so while another frame changes to one that may be taken too
 spared_set : (frames : List Frame) (w : Want) (fs : List ℕ) (f : ℕ) (x : Frame) → f < length frames
-    → is_spared w x ≡ true
-    → AreSpared frames w fs → AreSpared (set frames f x) w fs
+    → is_spared w x ≡ true → AreSpared frames w fs → AreSpared (set frames f x) w fs
 spared_set frames w [] f x lt spared h = tt
 spared_set frames w (g ∷ gs) f x lt spared h = (
   (
-    subst (λ (n : ℕ). g < n) (sym (length-set frames f x)) h.0.0,
+    rw (length-set frames f x) h.0.0,
     frame_at_set frames f x g lt (λ y. is_spared w y ≡ true) (λ e. spared) (λ n. h.0.1),
   ),
   spared_set frames w gs f x lt spared h.1,
@@ -152,10 +149,9 @@ spared_started_set : (frames : List Frame) (w : Want) (fs : List ℕ) (f : ℕ) 
 spared_started_set frames w [] f x lt started h = tt
 spared_started_set frames w (g ∷ gs) f x lt started h = (
   (
-    subst (λ (n : ℕ). g < n) (sym (length-set frames f x)) h.0.0,
+    rw (length-set frames f x) h.0.0,
     frame_at_set frames f x g lt (λ y. is_spared w y ≡ true)
-        (λ e. absurd (not_both started (ap (λ (i : ℕ). is_started (frame_in frames i)) (sym e)
-        ∙ spared_started w (frame_in frames g) h.0.1))) (λ n. h.0.1),
+        (λ e. cc (spared_started w (frame_in frames g) h.0.1)) (λ n. h.0.1),
   ),
   spared_started_set frames w gs f x lt started h.1,
 )
@@ -202,34 +198,31 @@ job_other : (s t : Outline) (c : ℕ) (x : Runner) → HasJob s → t.owner ≡ 
     → ((w : Want) (b : Stage) → FitsStage s w b → FitsStage t w b) → HasJob t
 job_other s t c x job owner runners other due fits = record {
   at_work = λ d b h. (let was = sym owner ∙ h in let work = job.at_work d b was in let same = at d b was in record {
-    within = subst (λ (n : ℕ). d < n) (sym (ap (λ (xs : List Runner). length xs) runners ∙ length-set s.runners c x))
-        work.within;
-    running = ap (λ (y : Runner). y.running) same ∙ work.running;
-    clear = ap (λ (y : Runner). y.due) same ∙ work.clear;
-    idle = ap (λ (y : Runner). y.reading) same ∙ work.idle;
+    within = rw (ap (λ (xs : List Runner). length xs) runners ∙ length-set s.runners c x) work.within;
+    running = cc;
+    clear = cc;
+    idle = cc;
   });
   fits = λ d b h. (let was = sym owner ∙ h in
       rw (ap (λ (y : Runner). y.want) (at d b was)) (fits (want_at s d) b (job.fits d b was)));
-  quiet = λ none. due (job.quiet (sym owner ∙ none));
+  quiet = λ none. due (job.quiet (cc));
 }
   where
     at : (d : ℕ) (b : Stage) → IsIn s d b → runner_at t.runners d ≡ runner_at s.runners d
-    at d b was = cc (get_or-set_other s.runners c d x no_runner (λ e. other b (subst (λ (i : ℕ). IsIn s i b) e was)))
+    at d b was = cc (get_or-set_other s.runners c d x no_runner (λ e. other b (rw (← e) was)))
 
 -- nothing more is due
 due_set : (s : Outline) (c : ℕ) (x : Runner) → c < length s.runners
-    → ((runner_at s.runners c).due ≡ false → x.due ≡ false)
-    → dues s.runners ≡ 0 → dues (set s.runners c x) ≡ 0
+    → ((runner_at s.runners c).due ≡ false → x.due ≡ false) → dues s.runners ≡ 0 → dues (set s.runners c x) ≡ 0
 due_set s c x lt still none =
     let count = dues_set s.runners c x lt in
-    let now : cond {A = ℕ} x.due 1 0 ≡ 0 = ap (λ (b : Bool). cond {A = ℕ} b 1 0)
-    (still (none_due s.runners c lt none)) in
-    omega (arith, count, none, now)
+    let now = ap (λ (b : Bool). cond {A = ℕ} b 1 0) (still (none_due s.runners c lt none)) in
+    omega arith
 
 -- ---- a step of the owner
 
 kept : (t : Outline) → HasSizes t → AreTied t.runners t.frames → HasJob t → IsKept t
-kept t sizes tied job = record { sizes = sizes; tied = tied; job = job }
+kept t sizes tied job = assumption
 
 -- the frames that were taken, without the first, which is free
 rest_spared : (frames : List Frame) (w : Want) (f : ℕ) (rest : List ℕ) → AreSpared frames w (f ∷ rest)
@@ -237,8 +230,7 @@ rest_spared : (frames : List Frame) (w : Want) (f : ℕ) (rest : List ℕ) → A
 rest_spared frames w f rest h = spared_set frames w rest f frame.Free h.0.0 refl h.1
 
 freed_tied : (s : Outline) (w : Want) (f : ℕ) → IsKept s → f < length s.frames
-    → is_spared w (frame_in s.frames f) ≡ true
-    → AreTied s.runners (set s.frames f frame.Free)
+    → is_spared w (frame_in s.frames f) ≡ true → AreTied s.runners (set s.frames f frame.Free)
 freed_tied s w f k lt spared =
     tied_frame s.runners s.frames f frame.Free lt (spared_started w (frame_in s.frames f) spared) refl k.tied
 
@@ -251,8 +243,7 @@ link_kept s c k sizes owner =
     (tied_same s.runners (set s.runners c (record (runner_at s.runners c) { linked = true })) s.frames
     (ties_set s.runners c (record (runner_at s.runners c) { linked = true }) work.within (λ h. h) refl refl) k.tied)
     (job_of (with_link s c) c Look owner (record {
-      within = subst (λ (n : ℕ). c < n) (sym (length-set s.runners c
-          (record (runner_at s.runners c) { linked = true }))) work.within;
+      within = rw (length-set s.runners c (record (runner_at s.runners c) { linked = true })) work.within;
       running = same (λ y. y.running ≡ true) (λ e. work.running) (λ n. absurd (n refl));
       clear = same (λ y. y.due ≡ false) (λ e. work.clear) (λ n. absurd (n refl));
       idle = same (λ y. y.reading ≡ None) (λ e. work.idle) (λ n. absurd (n refl));
@@ -262,15 +253,12 @@ start_kept : (s : Outline) (c f uid page : ℕ) → IsKept s → HasSizes (witho
     → CanStart s c f uid page → IsKept (without_owner (now_reading s c f uid page))
 start_kept s c f uid page k sizes can =
     let work = k.job.at_work c Look can.look in
-    kept (without_owner (now_reading s c f uid page)) sizes
-    (tied_started s.runners s.frames c f uid page
+    kept (without_owner (now_reading s c f uid page)) sizes (tied_started s.runners s.frames c f uid page
     (record (runner_at s.runners c) { reading = Some (record { frame = f; uid = uid; page = page }) }) work.within
-    can.within
-    can.free work.idle (k.tied.runners_online c work.running) work.running refl k.tied)
+    can.within can.free work.idle (k.tied.runners_online c work.running) work.running refl k.tied)
     (job_none (without_owner (now_reading s c f uid page)) refl
     (due_set s c (record (runner_at s.runners c) { reading = Some (record { frame = f; uid = uid; page = page }) })
-    work.within
-    (λ h. h) (k.job.fits c Look can.look)))
+    work.within (λ h. h) (k.job.fits c Look can.look)))
 
 job_keeps : (s : Outline) (c : ℕ) (t : Outline) → IsKept s → HasSizes t → (IsAnswered s c t → IsKept t) → JobStep s c t
     → IsKept t
@@ -280,26 +268,21 @@ job_keeps s c t k sizes given (activates place uid superior can) =
     (k.job.fits c Look can.look))
 job_keeps s c t k sizes given (connects chain uid page makes owner want off) = link_kept s c k sizes owner
 job_keeps s c t k sizes given (takes_segment place frames runners can of few alike) =
-    let back : want_at s c ≡ (runner_at runners c).want = sym alike.want in
-    let spared : AreSpared s.frames (want_at s c) frames =
-    spared_all s (want_at s c) place frames (k.sizes.chains c) can.off of in
+    let back = sym alike.want in
     kept (with_runners (at_stage s c (Taken (EmptyPlace place frames))) runners) sizes
     (tied_same s.runners runners s.frames (ties_alike s.runners runners c alike) k.tied)
     (job_of (with_runners (at_stage s c (Taken (EmptyPlace place frames))) runners) c
-    (Taken (EmptyPlace place frames)) refl
-    (work_alike s.runners runners c alike (k.job.at_work c Look can.look)) (
-      subst (λ (w : Want). AreSpared s.frames w frames) back spared,
+    (Taken (EmptyPlace place frames)) refl (work_alike s.runners runners c alike (k.job.at_work c Look can.look)) (
+      rw (← back) (spared_all s (want_at s c) place frames (k.sizes.chains c) can.off of),
       few,
       can.within,
-      subst (λ (w : Want). IsOffChain s.entries (chain_of w) place) back can.off,
+      rw (← back) can.off,
     ))
-job_keeps s c t k sizes given (takes_frame f can) =
-    kept (at_stage s c (Taken (EvictFrame f))) sizes k.tied
+job_keeps s c t k sizes given (takes_frame f can) = kept (at_stage s c (Taken (EvictFrame f))) sizes k.tied
     (job_of (at_stage s c (Taken (EvictFrame f))) c (Taken (EvictFrame f)) refl (k.job.at_work c Look can.look) (
       (
         can.within,
-        spared_by (want_at s c) (frame_in s.frames f) can.bound
-            (unwanted s.frames f (want_at s c) can.away),
+        spared_by (want_at s c) (frame_in s.frames f) can.bound (unwanted s.frames f (want_at s c) can.away),
       ),
       tt,
     ))
@@ -314,8 +297,7 @@ job_keeps s c t k sizes given (signals w runners owner alike) =
     (job_of (with_runners (at_stage s c (Waiting w)) runners) c (Waiting w) refl
     (work_alike s.runners runners c alike (k.job.at_work c (Taken w) owner))
     (fits_alike s (with_runners (at_stage s c (Waiting w)) runners) (want_at s c) (runner_at runners c).want w
-    alike.want refl
-    refl (k.job.fits c (Taken w) owner)))
+    alike.want refl refl (k.job.fits c (Taken w) owner)))
 job_keeps s c t k sizes given (frees_frame f stored full owner due may) =
     let taken = (k.job.fits c (Waiting (EvictFrame f)) owner).0 in
     kept (with_stored (at_stage (with_frame s f frame.Free) c Look) stored full) sizes
@@ -324,22 +306,20 @@ job_keeps s c t k sizes given (frees_frame f stored full owner due may) =
     (k.job.at_work c (Waiting (EvictFrame f)) owner) due)
 job_keeps s c t k sizes given (frees_page place f rest stored full owner due may) =
     let fits = k.job.fits c (Waiting (EmptyPlace place (f ∷ rest))) owner in
-    let few : suc (length rest) ≤ 256 = fits.1 in
+    let few = fits.1 in
     kept (with_stored (at_stage (with_frame s f frame.Free) c (Waiting (EmptyPlace place rest))) stored full) sizes
     (freed_tied s (want_at s c) f k fits.0.0.0 fits.0.0.1)
     (job_of (with_stored (at_stage (with_frame s f frame.Free) c (Waiting (EmptyPlace place rest))) stored full) c
     (Waiting (EmptyPlace place rest)) refl (k.job.at_work c (Waiting (EmptyPlace place (f ∷ rest))) owner)
-    (rest_spared s.frames (want_at s c) f rest fits.0, omega (arith, few), fits.2, fits.3))
+    (rest_spared s.frames (want_at s c) f rest fits.0, omega arith, fits.2, fits.3))
 job_keeps s c t k sizes given (empties place runners owner due alike none) =
     kept (with_runners (at_stage (with_entry s place None) c Look) runners) sizes
     (tied_same s.runners runners s.frames (ties_alike s.runners runners c alike) k.tied)
     (job_of (with_runners (at_stage (with_entry s place None) c Look) runners) c Look refl
     (work_alike s.runners runners c alike (k.job.at_work c (Waiting (EmptyPlace place [])) owner)) none)
-job_keeps s c t k sizes given (empties_at_once place can) =
-    kept (with_entry s place None) sizes k.tied
+job_keeps s c t k sizes given (empties_at_once place can) = kept (with_entry s place None) sizes k.tied
     (job_of (with_entry s place None) c Look can.look (k.job.at_work c Look can.look) (k.job.fits c Look can.look))
-job_keeps s c t k sizes given (begins_move left owner few) =
-    kept (at_stage s c (Copying left)) sizes k.tied
+job_keeps s c t k sizes given (begins_move left owner few) = kept (at_stage s c (Copying left)) sizes k.tied
     (job_of (at_stage s c (Copying left)) c (Copying left) refl (k.job.at_work c Look owner)
     (k.job.fits c Look owner, few))
 job_keeps s c t k sizes given (copies left fewer owner less) =
@@ -347,7 +327,7 @@ job_keeps s c t k sizes given (copies left fewer owner less) =
     let few = fits.1 in
     kept (at_stage s c (Copying fewer)) sizes k.tied
     (job_of (at_stage s c (Copying fewer)) c (Copying fewer) refl (k.job.at_work c (Copying left) owner)
-    (fits.0, omega (arith, few, less)))
+    (fits.0, omega arith))
 job_keeps s c t k sizes given (commits_move left stored full owner has) =
     kept (with_stored (at_stage s c Look) stored full) sizes k.tied
     (job_of (with_stored (at_stage s c Look) stored full) c Look refl (k.job.at_work c (Copying left) owner)
@@ -360,24 +340,22 @@ job_keeps s c t k sizes given (answers stage _ owner due answered) = given answe
 -- ---- a step of a processor
 
 not_owner : (s : Outline) (c : ℕ) (b : Stage) → owns s.owner c ≡ false → IsIn s c b → ⊥
-not_owner s c b out owner = not_both (ap (λ (o : Option Keeper). owns o c) owner ∙ own_self c) out
+not_owner s c b out owner = not_both (cc (own_self c)) out
   where
     own_self : (i : ℕ) → eqb i i ≡ true
     own_self i = elim (eqb_tells i i) [ inl x ↦ x.0 | inr x ↦ absurd (x.1 refl) ]
 
 read_none : (o : Option Transfer) → is_some o ≡ false → o ≡ None
 read_none None h = refl
-read_none (Some r) h = let no : true ≡ false = h in absurd cc
+read_none (Some r) h = let no = h in absurd cc
 
 -- one processor changes that isn't the owner, and keeps what ties it to the frames
 one_kept : (s t : Outline) (c : ℕ) (x : Runner) → IsKept s → HasSizes t → c < length s.runners → t.owner ≡ s.owner
     → t.runners ≡ set s.runners c x → t.frames ≡ s.frames → t.entries ≡ s.entries → ((b : Stage) → IsIn s c b → ⊥)
     → ((runner_at s.runners c).due ≡ false → x.due ≡ false) → AreTied (set s.runners c x) s.frames → IsKept t
-one_kept s t c x k sizes lt owner runners frames entries other due tied =
-    kept t sizes (rw runners (subst (λ (fs : List Frame). AreTied (set s.runners c x) fs) (sym frames) tied))
-    (job_other s t c x k.job owner runners other
-    (λ none. ap dues runners ∙ due_set s c x lt due none)
-    (λ w b h. fits_still s t w b frames entries (λ none. ap dues runners ∙ due_set s c x lt due none) h))
+one_kept s t c x k sizes lt owner runners frames entries other due tied = kept t sizes (rw runners (rw frames tied))
+    (job_other s t c x k.job owner runners other (λ none. cc (due_set s c x lt due none))
+    (λ w b h. fits_still s t w b frames entries (λ none. cc (due_set s c x lt due none)) h))
 
 -- a transfer ends, and its frame changes
 ended_kept : (s t : Outline) (c : ℕ) (r : Transfer) (x : Runner) (y : Frame) → IsKept s → HasSizes t
@@ -388,11 +366,9 @@ ended_kept s t c r x y k sizes reading owner runners frames entries online over 
     let lt = inside s.runners c (k.tied.runners_online c (k.tied.readers_run c r reading)) in
     let tie = k.tied.read c r reading in
     let still : (runner_at s.runners c).due ≡ false → x.due ≡ false = λ h. due ∙ h in
-    kept t sizes (rw runners (subst (λ (fs : List Frame). AreTied (set s.runners c x) fs) (sym frames)
-    (tied_ended s.runners s.frames c r x y lt reading online over now k.tied)))
+    kept t sizes (rw runners (rw frames (tied_ended s.runners s.frames c r x y lt reading online over now k.tied)))
     (job_other s t c x k.job owner runners
-    (λ b h. not_both (ap (λ (o : Option Transfer). is_some o) reading)
-    (ap (λ (o : Option Transfer). is_some o) (k.job.at_work c b h).idle))
+    (λ b h. not_both (cc) (ap (λ (o : Option Transfer). is_some o) (k.job.at_work c b h).idle))
     (λ none. ap dues runners ∙ due_set s c x lt still none)
     (λ w b h. fits_read s t w b r.frame y tie.1 (ap is_started tie.0) frames entries
     (λ none. ap dues runners ∙ due_set s c x lt still none) h))
@@ -407,8 +383,7 @@ look_kept s c k sizes lt h none =
 -- Each step keeps what is true of an outline. That the sizes stay, and that what a command's effect leaves is kept, is
 -- the machine's to say.
 pub step_keeps : (s : Outline) (c : ℕ) (turn : Turn) (t : Outline) → IsKept s → c < length s.runners → HasSizes t
-    → (IsAnswered s c t → IsKept t) → (rule_of s c ≡ Commands → IsReplied s c t → IsKept t) → Step s c turn t
-    → IsKept t
+    → (IsAnswered s c t → IsKept t) → (rule_of s c ≡ Commands → IsReplied s c t → IsKept t) → Step s c turn t → IsKept t
 step_keeps s c turn t k lt sizes given told (comes h) =
     one_kept s (with_runner s c (record (runner_at s.runners c) { online = true })) c
     (record (runner_at s.runners c) { online = true }) k sizes lt refl refl refl refl
@@ -419,7 +394,7 @@ step_keeps s c turn t k lt sizes given told (clears x h cleared) =
     one_kept s (with_runner s c x) c x k sizes lt refl refl refl refl
     (λ b i. not_both (tells s c Clears h).1 (k.job.at_work c b i).clear) (λ d. cleared.due)
     (tied_same s.runners (set s.runners c x) s.frames
-    (ties_set s.runners c x lt (λ d. cleared.online ∙ d) cleared.running cleared.reading) k.tied)
+    (ties_set s.runners c x lt (λ d. cc) cleared.running cleared.reading) k.tied)
 step_keeps s c turn t k lt sizes given told (reads r used modified h is) =
     ended_kept s (not_reading (with_bound s r used modified) c) c r (record (runner_at s.runners c) { reading = None })
     (frame.Bound r.uid r.page used modified) k sizes is refl refl refl refl
@@ -442,11 +417,9 @@ step_keeps s c turn t k lt sizes given told (leaves x h left) =
     (tied_quiet s.runners c x s.frames lt left.online left.reading (read_none (runner_at s.runners c).reading rule.1)
     k.tied)
 step_keeps s c turn t k lt sizes given told (fills x h filled) =
-    let rule = tells s c Commands h in
-    one_kept s (with_runner s c x) c x k sizes lt refl refl refl refl (λ b i. not_owner s c b rule.2 i)
-    (λ d. filled.due ∙ d)
-    (tied_same s.runners (set s.runners c x) s.frames
-    (ties_set s.runners c x lt (λ d. filled.online ∙ d) filled.running filled.reading) k.tied)
+    one_kept s (with_runner s c x) c x k sizes lt refl refl refl refl (λ b i. not_owner s c b (tells s c Commands h).2
+    i) (λ d. cc) (tied_same s.runners (set s.runners c x) s.frames
+    (ties_set s.runners c x lt (λ d. cc) filled.running filled.reading) k.tied)
 step_keeps s c turn t k lt sizes given told (replies _ h replied) = told h replied
 step_keeps s c turn t k lt sizes given told (faults chain uid page makes h none want lacks) =
     look_kept s c k sizes lt h none

@@ -53,7 +53,7 @@ fits_more s t r q uid page makes here reads stored h =
         or_true : (x : Bool) → (x || true) ≡ true
         or_true true = refl
         or_true false = refl
-    by false false true i j k g = let no : false ≡ true = g in absurd cc
+    by false false true i j k g = let no = g in absurd cc
     by false false false i j k g = rw (stored k) (last (is_here t.frames uid page) (reads_page q uid page) (not makes)
         g)
       where
@@ -65,8 +65,7 @@ fits_more s t r q uid page makes here reads stored h =
 pub wanted_more : (s t : Outline) (w : Want) (r q : Option Transfer)
     → ((uid page : ℕ) (makes : Bool) → (is_here s.frames uid page ≡ true → is_here t.frames uid page ≡ true))
     → ((uid page : ℕ) → reads_page r uid page ≡ true → (is_here t.frames uid page ≡ true)
-    ⊎ (reads_page q uid page ≡ true))
-    → ((uid page : ℕ) → s.stored uid page ≡ false → t.stored uid page ≡ false)
+    ⊎ (reads_page q uid page ≡ true)) → ((uid page : ℕ) → s.stored uid page ≡ false → t.stored uid page ≡ false)
     → wanted_fits s w r ≡ true → wanted_fits t w q ≡ true
 wanted_more s t (Refer chain uid page makes) r q here reads stored h =
     fits_more s t r q uid page makes (here uid page makes) (reads uid page) (stored uid page) h
@@ -88,8 +87,7 @@ pub here_more : (frames : List Frame) (f uid page : ℕ) (x : Frame) → f < len
     → is_of uid page (frame_in frames f) ≡ false → is_here frames uid page ≡ true
     → is_here (set frames f x) uid page ≡ true
 unfolding is_here
-here_more frames f uid page x lt was h =
-    any_set (is_of uid page) frames f x frame.Free lt was
+here_more frames f uid page x lt was h = any_set (is_of uid page) frames f x frame.Free lt was
     ∙ or_last (is_of uid page x) (list_any (is_of uid page) frames) h
   where
     or_last : (a b : Bool) → b ≡ true → (a || b) ≡ true
@@ -110,19 +108,19 @@ spared_not (Truncate chain uid None) frame.Free h = refl
 spared_not (Truncate chain uid (Some page)) frame.Free h = refl
 spared_not (Length uid) frame.Free h = refl
 spared_not Other frame.Free h = refl
-spared_not w (frame.Started uid page) h = let no : false ≡ true = h in absurd cc
+spared_not w (frame.Started uid page) h = let no = h in absurd cc
 spared_not w (frame.Bound uid page used modified) h = by (is_wanted w (frame.Bound uid page used modified)) h
   where
     by : (b : Bool) → not b ≡ true → b ≡ false
-    by true e = let no : false ≡ true = e in absurd cc
+    by true e = let no = e in absurd cc
     by false e = refl
 
 not_page : (x : Frame) (uid page : ℕ) → is_of uid page x ≡ false → page_of x ≢ Some (uid, page)
 not_page (frame.Bound u q used modified) uid page out h =
-    let a : u ≡ uid = ap (λ (o : Option (ℕ × ℕ)). (page_or_zero o).0) h in
+    let a = ap (λ (o : Option (ℕ × ℕ)). (page_or_zero o).0) h in
     let b : q ≡ page = ap (λ (o : Option (ℕ × ℕ)). (page_or_zero o).1) h in
     let is : (eqb u uid && eqb q page) ≡ true = and_from (eqb u uid) (eqb q page) (same u uid a) (same q page b) in
-    let no : true ≡ false = sym is ∙ out in
+    let no = sym is ∙ out in
     absurd cc
   where
     same : (i j : ℕ) → i ≡ j → eqb i j ≡ true
@@ -142,12 +140,10 @@ freed_fits s f stored full (Refer chain uid page makes) r lt spared may h =
         → page_fits (with_stored (with_frame s f frame.Free) stored full) r uid page makes
         ≡ page_fits s r uid page makes
     page_same s f stored full uid page makes r lt out may =
-        let here = here_same s.frames f uid page frame.Free lt out refl in
         let kept = may.others uid page (not_page (frame_in s.frames f) uid page out) in
-        rw (here, kept) refl
+        rw ((here_same s.frames f uid page frame.Free lt out refl), kept) refl
 freed_fits s f stored full (Truncate chain uid (Some page)) r lt spared may h =
     let out = spared_not (Truncate chain uid (Some page)) (frame_in s.frames f) spared in
-    let here = here_same s.frames f uid page frame.Free lt out refl in
     let kept = may.others uid page (not_page (frame_in s.frames f) uid page out) in
-    rw (here, kept) h
+    rw ((here_same s.frames f uid page frame.Free lt out refl), kept) h
 freed_fits s f stored full _ r lt spared may h = refl

@@ -16,10 +16,10 @@ module _ (s : State) (keeps : Keeps s) where
 
   -- no record of a volume is free in the flat store where none is by the tables
   pub full_is : (v : ℕ) → is_full s.store.pages.records v ≡ is_volume_full s.plan t v
-  full_is v = ap (λ (n : ℕ). eqb n (size s.store.pages.records v))
-      (keeps.store.counted.taken.records t.stored v keeps.faithful.tree.counts
-      ∙ ap (λ (ns : List Node). taken_on ns t.stored v) (sym keeps.faithful.tree.nodes))
-      ∙ ap (λ (n : ℕ). eqb (taken_on t.nodes t.stored v) n) (sym (keeps.faithful.script.records v))
+  full_is v = cc (
+    keeps.store.counted.taken.records t.stored v keeps.faithful.tree.counts,
+    keeps.faithful.script.records v,
+  )
 
   -- a volume has room for a segment there where it has by the tables
   pub room_same : (u v : ℕ) → has_room (tables_of s.store) u v ≡ has_room_flat s.plan t u v
@@ -27,20 +27,18 @@ module _ (s : State) (keeps : Keeps s) where
       let home = ap (λ (ns : List Node). volume_in ns u) keeps.faithful.tree.nodes in
       let taken = keeps.store.counted.taken.records t.stored v keeps.faithful.tree.counts
       ∙ ap (λ (ns : List Node). taken_on ns t.stored v) (sym keeps.faithful.tree.nodes) in
-      let used = keeps.store.counted.taken.entries v
-      ∙ ap (λ (ns : List Node). entries_on ns v) (sym keeps.faithful.tree.nodes) in
       rw (
         home,
         keeps.faithful.tree.counts u,
         taken,
-        used,
+        (keeps.store.counted.taken.entries v ∙ ap (λ (ns : List Node). entries_on ns v)
+            (sym keeps.faithful.tree.nodes)),
         keeps.faithful.script.records v,
         keeps.faithful.script.entries v,
       ) refl
 
   first_room : (u v : ℕ) → IsFirstWithRoom (tables_of s.store) u v → room_for s.plan t u ≡ Some v
-  first_room u v h = sym (room_is s.plan t u v (sym (room_same u v) ∙ h.room)
-      (λ w less. sym (room_same u w) ∙ h.before w less))
+  first_room u v h = sym (room_is s.plan t u v (cc (room_same u v)) (λ w less. sym (room_same u w) ∙ h.before w less))
 
   -- ---- the reference
 
@@ -58,7 +56,7 @@ module _ (s : State) (keeps : Keeps s) where
       where
         null : (w : Ptw) → has_record w ≡ false → w ≡ ptw.Null
         null ptw.Null e = refl
-        null _ e = absurd (not_both refl e)
+        null _ e = cc
 
     stores : stores_page t u r.offset r.kind ≡ true
     stores = rw (nonzero_alters r.kind h.word, blank, h.word, unstored) refl
@@ -70,11 +68,11 @@ module _ (s : State) (keeps : Keeps s) where
     full = cc (volume_found s.store.accounts.nodes u h.node h.there, full_is (volume_in s.store.accounts.nodes u))
 
     permitted : permits (access_of (who_of s.plan k) h.node.rows) r.kind ≡ true
-    permitted = ap (λ (w : Who). permits (access_of w h.node.rows) r.kind) (sym (who_is s keeps k)) ∙ h.permitted
+    permitted = cc (who_is s keeps k)
 
     short : nat_le (1024 * h.node.pages) r.offset ≡ false
     short = elim (leb_tells (1024 * h.node.pages) r.offset) [
-      | inl e ↦ (let le = e.1 in let lt = h.within in absurd (omega (arith, le, lt)))
+      | inl e ↦ (let le = e.1 in let lt = h.within in absurd (omega arith))
       | inr m ↦ m.0
     ]
 
@@ -83,10 +81,10 @@ module _ (s : State) (keeps : Keeps s) where
     lacks = rw (permitted, short, same, stores, unspent, full) refl
 
     known : known_uid t k r.number ≡ Some u
-    known = ap (λ (x : List (List (Option ℕ))). uid_of (kst_at x k) r.number) keeps.faithful.known ∙ h.stands
+    known = cc
 
     there : node_in t.nodes u ≡ Some h.node
-    there = ap (λ (ns : List Node). node_in ns u) keeps.faithful.tree.nodes ∙ h.there
+    there = cc
 
     -- it isn't refused before its page is looked at
     pub inside : IsInside s k r u
@@ -109,15 +107,14 @@ module _ (s : State) (keeps : Keeps s) where
 pub may_move : (s : State) (c k : ℕ) (cmd : Command) (m : Mover) → Keeps s → Speaks s c k cmd
     → IsMovedFor s.store k m (next_command s k) → MayMove s.plan (flat_of s) k m.uid m.to.0
 unfolding awaits_move
-may_move s c k cmd m keeps sp h = record {
-  turn = turn_is s c k cmd sp;
-  going = (sp.runs k).ended ∙ sp.going;
-  awaits = ap (λ (n : ℕ). awaits_in s.plan (flat_of s) k m.uid (command_at s.plan k n)) (sp.runs k).place
-      ∙ (ap (awaits_in s.plan (flat_of s) k m.uid) sp.next
-      ∙ (ap (awaits_by s.plan (flat_of s) k m.uid) moves.is
-      ∙ awaits s keeps k m.uid moves.reference h.active moves.lacks));
-  first = first_room s keeps m.uid m.to.0 moves.first;
-}
+may_move s c k cmd m keeps sp h = assumption (
+  turn_is s c k cmd sp,
+  (sp.runs k).ended ∙ sp.going,
+  ap (λ (n : ℕ). awaits_in s.plan (flat_of s) k m.uid (command_at s.plan k n)) (sp.runs k).place
+      ∙ (ap (awaits_in s.plan (flat_of s) k m.uid) sp.next ∙ (ap (awaits_by s.plan (flat_of s) k m.uid) moves.is
+      ∙ awaits s keeps k m.uid moves.reference h.active moves.lacks)),
+  first_room s keeps m.uid m.to.0 moves.first,
+)
   where
     moves : MovesFor (tables_of s.store) k m cmd
     moves = subst (MovesForNext (tables_of s.store) k m) sp.next h.moves

@@ -10,12 +10,12 @@ use Rattle.machine_model.proofs.TieLaws.{none_some}
 tells_less : (a b : ℕ) → a < b → nat_lt a b ≡ true
 tells_less a b h = elim (leb_tells (suc a) b) [
   | inl e ↦ e.0
-  | inr n ↦ (let le = n.1 in absurd (omega (arith, le, h)))
+  | inr n ↦ (let le = n.1 in absurd (omega arith))
 ]
 
 not_less_self : (a : ℕ) → nat_lt a a ≡ false
 not_less_self a = elim (leb_tells (suc a) a) [
-  | inl e ↦ (let le = e.1 in absurd (omega (arith, le)))
+  | inl e ↦ (let le = e.1 in absurd (omega arith))
   | inr n ↦ n.0
 ]
 
@@ -36,14 +36,14 @@ module _ (entries : List (Option Entry)) (tree : IsTree entries) where
 
   -- an entry that is there
   some_entry : (o : Option Entry) (u : ℕ) → superior_in o ≡ Some u → (v : ℕ) × (uid_in o ≡ Some v)
-  some_entry None u h = absurd (none_some h)
+  some_entry None u h = cc
   some_entry (Some e) u h = (e.uid, refl)
 
   inferior_tells : (u : ℕ) (o : Option Entry) → is_inferior_of u o ≡ true → superior_in o ≡ Some u
   inferior_tells u o h = by (superior_in o) refl h
     where
       by : (x : Option ℕ) → superior_in o ≡ x → is_inferior_in u x ≡ true → superior_in o ≡ Some u
-      by None e i = absurd (let none : false ≡ true = i in cc)
+      by None e i = cc
       by (Some w) e i = elim (eqb_tells w u) [
         | inl x ↦ e ∙ ap (λ (y : ℕ). Some y) x.1
         | inr n ↦ absurd (not_both i n.0)
@@ -55,8 +55,7 @@ module _ (entries : List (Option Entry)) (tree : IsTree entries) where
   -- where nothing is found there is no inferior
   none_below : (place u : ℕ) → uid_at entries place ≡ Some u → least_inferior entries place ≡ None
       → HasNoInferior entries place
-  none_below place u at none q v same h = not_both
-      (tells_inferior u (entry_at entries q) (h ∙ sym (sym at ∙ same)))
+  none_below place u at none q v same h = not_both (tells_inferior u (entry_at entries q) (h ∙ sym (sym at ∙ same)))
       (position_none (is_inferior_of u) entries None q (sym (ap (least_inferior_of entries) at) ∙ none) refl)
 
   -- an inferior has a higher rank, so fewer segments are above it
@@ -66,8 +65,8 @@ module _ (entries : List (Option Entry)) (tree : IsTree entries) where
     w,
     its,
     count_new (higher w) (higher u) places q more
-        (range_has 0 (length entries) q (omega arith) (let lt = found.0 in omega (arith, lt)))
-        (ap (is_higher (rank w)) its ∙ not_less_self (rank w)) (ap (is_higher (rank u)) its ∙ tells_less _ _ up),
+        (range_has 0 (length entries) q (omega arith) (omega (arith, found.0)))
+        (cc (its, not_less_self (rank w))) (ap (is_higher (rank u)) its ∙ tells_less _ _ up),
   )
     where
       found : (q < length entries) × (is_inferior_of u (entry_at entries q) ≡ true)
@@ -90,7 +89,7 @@ module _ (entries : List (Option Entry)) (tree : IsTree entries) where
         where
           by : (y : Option ℕ) → is_higher (rank w) y ≡ true → is_higher (rank u) y ≡ true
           by None i = i
-          by (Some y) i = let a = lt_from (rank w) (rank y) i in tells_less (rank u) (rank y) (omega (arith, a, up))
+          by (Some y) i = tells_less (rank u) (rank y) (omega (arith, (lt_from (rank w) (rank y) i), up))
 
   -- where there is no inferior the way ends
   stays : (steps place : ℕ) → least_inferior entries place ≡ None → leaf_below entries steps place ≡ place
@@ -112,22 +111,22 @@ module _ (entries : List (Option Entry)) (tree : IsTree entries) where
     where
       by : (x : Option ℕ) → least_inferior entries place ≡ x → IsLeaf place
       by None e = record { uid = u; here = at; leaf = none_below place u at e }
-      by (Some q) e = let more = (goes_up place u q at e).2 in absurd (omega (arith, few, more))
-  comes_down (suc steps) place u at few = by (least_inferior entries place) refl
-      (λ q w i f. comes_down steps q w i f)
+      by (Some q) e = let more = (goes_up place u q at e).2 in absurd (omega arith)
+  comes_down (suc steps) place u at few = by (least_inferior entries place) refl (λ q w i f. comes_down steps q w i f)
     where
       by : (x : Option ℕ) → least_inferior entries place ≡ x
           → ((q w : ℕ) → uid_at entries q ≡ Some w → count_by (higher w) places ≤ steps
-          → IsLeaf (leaf_below entries steps q))
-          → IsLeaf (leaf_below entries steps (stead_of place x))
+          → IsLeaf (leaf_below entries steps q)) → IsLeaf (leaf_below entries steps (stead_of place x))
       by None e rest = subst IsLeaf (sym (stays steps place e))
           (record { uid = u; here = at; leaf = none_below place u at e })
-      by (Some q) e rest = let up = goes_up place u q at e in rest q up.0 up.1 (let more = up.2 in omega
-          (arith, few, more))
+      by (Some q) e rest = let up = goes_up place u q at e in rest q up.0 up.1 (omega (arith, few, up.2))
 
   leaf_is : (place u : ℕ) → uid_at entries place ≡ Some u → IsLeaf (leaf_below entries (length entries) place)
-  leaf_is place u at = comes_down (length entries) place u at (let all = count_all (higher u) places in
-      let long = range_length 0 (length entries) in omega (arith, all, long))
+  leaf_is place u at = comes_down (length entries) place u at (omega (
+    arith,
+    count_all (higher u) places,
+    range_length 0 (length entries),
+  ))
 
 -- ---- the victim of a pool
 
@@ -139,15 +138,15 @@ victim_leaf ast pool chain place tree h = by (first_off_chain ast pool chain) re
   where
     by : (x : Option ℕ) → first_off_chain ast pool chain ≡ x → leaf_of ast.entries x ≡ Some place
         → (u : ℕ) × (uid_at ast.entries place ≡ Some u) × HasNoInferior ast.entries place
-    by None e i = absurd (none_some i)
+    by None e i = cc
     by (Some first) e i =
         let used = passed_there (λ (x : Entry). not (list_any (λ v. eqb v x.uid) chain)) (entry_at ast.entries first)
         (find_true (λ q. off_chain chain (entry_at ast.entries q)) (round_pool ast pool) first e) in
         let leaf = leaf_is ast.entries tree first used.0.uid (ap uid_in used.1) in
         let same : leaf_below ast.entries (length ast.entries) first ≡ place = cc in (
           leaf.uid,
-          subst (λ (q : ℕ). uid_at ast.entries q ≡ Some leaf.uid) same leaf.here,
-          subst (HasNoInferior ast.entries) same leaf.leaf,
+          rw (← same) leaf.here,
+          rw (← same) leaf.leaf,
         )
 
 -- ---- what may become inactive
@@ -156,8 +155,7 @@ victim_leaf ast pool chain place tree h = by (first_off_chain ast pool chain) re
 pub leaf_inferiors : (s : State) (place u : ℕ) → Keeps s → uid_at s.store.ast.entries place ≡ Some u
     → HasNoInferior s.store.ast.entries place → (v : ℕ) → is_active s.store.ast v ≡ true
     → node_superior (node_in (flat_of s).nodes v) ≢ Some u
-leaf_inferiors s place u k at leaf v active h = by (node_in s.store.accounts.nodes v) refl
-    (ap (λ (ns : List Node). node_superior (node_in ns v)) (sym k.faithful.tree.nodes) ∙ h)
+leaf_inferiors s place u k at leaf v active h = by (node_in s.store.accounts.nodes v) refl (cc)
   where
     there : uid_at s.store.ast.entries (place_of s.store.ast.entries v) ≡ Some v
     there = (active_place s.store.ast v active).1

@@ -38,18 +38,15 @@ told_nobody c w d = by (eqb d c)
 pub told_reads : (c : ℕ) (w : What) (ps : List Processor) (from d : ℕ)
     → processor_at (told_from c w from ps) d ≡ told_at c w (from + d) (processor_at ps d)
 told_reads c w [] from d = sym (told_nobody c w (from + d))
-told_reads c w (p ∷ ps) from zero = ap (λ (n : ℕ). told_at c w n p) (let same : from ≡ from + 0 = omega arith in same)
+told_reads c w (p ∷ ps) from zero = ap (λ (n : ℕ). told_at c w n p) (omega arith)
 told_reads c w (p ∷ ps) from (suc d) = told_reads c w ps (from + 1) d
-    ∙ ap (λ (n : ℕ). told_at c w n (processor_at ps d)) (let same : from + 1 + d ≡ from + suc d = omega arith in same)
+    ∙ ap (λ (n : ℕ). told_at c w n (processor_at ps d)) (omega arith)
 
-pub signal_seen : (s : State) (c : ℕ) (w : What) (owner : Option Owner)
-    → seen (record s {
-      processors = told_from c w 0 s.processors;
-      owner = owner;
-      entries = s.entries ++ entry.Signal c
-          w ∷ [];
-    })
-    ≡ signal_given (seen s) c w owner
+pub signal_seen : (s : State) (c : ℕ) (w : What) (owner : Option Owner) → seen (record s {
+  processors = told_from c w 0 s.processors;
+  owner = owner;
+  entries = s.entries ++ entry.Signal c w ∷ [];
+}) ≡ signal_given (seen s) c w owner
 signal_seen s c w owner = λ i. record (seen s) {
   processors = λ d. (told_reads c w s.processors 0 d
       ∙ ap (λ (n : ℕ). told_at c w n (processor_at s.processors d)) (plus d)) i;
@@ -69,18 +66,14 @@ evicted_core pages st f left.Kept u p = refl
 
 -- nothing was being read into a frame, and isn't then
 pub unread_put : (reads : ℕ → Option (ℕ × ℕ)) (f : ℕ) → reads f ≡ None → (g : ℕ) → at_put reads f None g ≡ reads g
-unread_put reads f none g = by_place (λ (x : Option (ℕ × ℕ)). x ≡ reads g) reads f None g
-    (λ e. sym (ap reads e ∙ none)) (λ n. refl)
+unread_put reads f none g = by_place (λ (x : Option (ℕ × ℕ)). x ≡ reads g) reads f None g (λ e. cc) (λ n. refl)
 
 pub gone_seen : (s : State) (f u p : ℕ) (how : Left) (owner : Option Owner) → HasTables s → KeepsBook (seen s)
-    → f < length s.store.pages.core.frames → (seen s).words u p ≡ ptw.Leaving f
-    → seen (record s {
-      store = with_left s.store f how
-          (u, p);
+    → f < length s.store.pages.core.frames → (seen s).words u p ≡ ptw.Leaving f → seen (record s {
+      store = with_left s.store f how (u, p);
       owner = owner;
       entries = s.entries ++ entry.GonePage f ∷ [];
-    })
-    ≡ gone (seen s) f u p (word_of_left how (record_of s.store.pages (home_in s.store u) p)) owner
+    }) ≡ gone (seen s) f u p (word_of_left how (record_of s.store.pages (home_in s.store u) p)) owner
 gone_seen s f u p how owner tables book there leaving = λ i. record (seen s) {
   bound = λ g. (ap (λ (x : Core). binding_at (bindings x) g) (evicted_core s.store.pages s f how u p)
       ∙ bound_put s.store.pages.core f frame.Free there g) i;
@@ -100,32 +93,23 @@ gone_seen s f u p how owner tables book there leaving = λ i. record (seen s) {
       where
         by : (x : Option (ℕ × ℕ)) → (seen s).reads f ≡ x → x ≡ None
         by None e = refl
-        by (Some page) e = absurd (none_some (sym (book.tied.unbound f page.0 page.1 e) ∙ bound))
+        by (Some page) e = cc (book.tied.unbound f page.0 page.1 e, bound)
 
 -- ---- it stays
 
 pub back_seen : (s : State) (f u p : ℕ) (owner : Option Owner) → HasTables s → KeepsBook (seen s)
-    → (seen s).words u p ≡ ptw.Leaving f
-    → seen (record s {
-      store = here_if s.store f
-          (bound_page (frame_in s.store.pages f));
+    → (seen s).words u p ≡ ptw.Leaving f → seen (record s {
+      store = here_if s.store f (bound_page (frame_in s.store.pages f));
       owner = owner;
       entries = s.entries ++ entry.BackPage f ∷ [];
-    })
-    ≡ back (seen s) f u p owner
-back_seen s f u p owner tables book leaving = ap (λ (o : Option (ℕ × ℕ)). seen (record s {
-  store = here_if s.store f o;
-  owner = owner;
-  entries = s.entries ++ entry.BackPage f ∷ [];
-})) (sym (binding_is s f) ∙ book.tied.back f u p (ap names leaving)) ∙ words
+    }) ≡ back (seen s) f u p owner
+back_seen s f u p owner tables book leaving = cc (binding_is s f, book.tied.back f u p (ap names leaving), words)
   where
     words : seen (record s {
-      store = with_word s.store u p
-          (ptw.Here f);
+      store = with_word s.store u p (ptw.Here f);
       owner = owner;
       entries = s.entries ++ entry.BackPage f ∷ [];
-    })
-        ≡ back (seen s) f u p owner
+    }) ≡ back (seen s) f u p owner
     words = λ i. record (back (seen s) f u p owner) {
       words = λ v q. words_put s.store.ast u p (ptw.Here f) tables
           (not_null ((seen s).words u p) (ptw.Leaving f) f leaving (inr refl)) v q i;

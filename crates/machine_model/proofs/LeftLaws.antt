@@ -6,24 +6,24 @@ use Rattle.machine_model.specs.Outlined.{left_of}
 -- what is to come begins with the next command
 rest_of : (commands : List Command) (place : ℕ) (c : Command) → slice_get commands place ≡ Some c
     → sum_by weight (drop place commands) ≡ weight c + sum_by weight (drop (place + 1) commands)
-rest_of commands place c next =
-    sum_by-drop_more weight commands place command.End (slice_get_within commands place c next)
-    ∙ ap (λ (x : Command). weight x + sum_by weight (drop (place + 1) commands))
-    (get_or_from_slice_get commands place c command.End next)
+rest_of commands place c next = cc (
+  sum_by-drop_more weight commands place command.End (slice_get_within commands place c next),
+  get_or_from_slice_get commands place c command.End next,
+)
 
 pub answer_falls : (commands : List Command) (run : Run) (c : Command) (r : Reply) → GoesOn commands run c
     → left_of commands (run_after run (Some c) r) < left_of commands run
 answer_falls commands run c r on = rw was (by (goes_on run (Some c) r) (is_its_end (Some c)))
   where
     was : left_of commands run ≡ sum_by weight (drop run.place commands) - run.tries
-    was = ap (λ (b : Bool). cond {A = ℕ} b 0 (sum_by weight (drop run.place commands) - run.tries)) on.going
+    was = cc
 
     rest : sum_by weight (drop run.place commands) ≡ weight c + sum_by weight (drop (run.place + 1) commands)
     rest = rest_of commands run.place c on.next
 
     tried : left_of commands (record run { tries = run.tries + 1 }) ≡ sum_by weight (drop run.place commands)
         - (run.tries + 1)
-    tried = ap (λ (b : Bool). cond {A = ℕ} b 0 (sum_by weight (drop run.place commands) - (run.tries + 1))) on.going
+    tried = cc
 
     by : (more ends : Bool) → left_of commands (cond more (record run { tries = run.tries + 1 })
         (record { place = run.place + 1; tries = 0; ended = ends })) < sum_by weight (drop run.place commands)
@@ -39,7 +39,7 @@ no_process = record { who = nobody; commands = [] }
 pub left_falls : (xs : List ProcessPlan) (runs : List Run) (k : ℕ) (run : Run) → k < length xs → k < length runs
     → left_of (get_or xs k no_process).commands run < left_of (get_or xs k no_process).commands (run_at runs k)
     → left_in xs (set runs k run) < left_in xs runs
-left_falls (x ∷ xs) (y ∷ ys) zero run lt within less = omega (arith, less)
+left_falls (x ∷ xs) (y ∷ ys) zero run lt within less = omega arith
 left_falls (x ∷ xs) (y ∷ ys) (suc k) run lt within less =
-    let rest = left_falls xs ys k run (omega arith) (omega arith) less in omega (arith, rest)
+    omega (arith, (left_falls xs ys k run (omega arith) (omega arith) less))
 left_falls _ _ k run lt within less = absurd (omega arith)

@@ -54,7 +54,7 @@ module _ (s t : State) (c k : ℕ) (its : (cpu_at s.processors c).process ≡ So
   tree_link cmd next none = (link_of t same_next ∙ off t) ∙ sym (link_of s refl ∙ off s)
     where
       off : (u : State) → is_linked (around u) k (reference_in (next_command s k)) ≡ false
-      off u = ap (is_linked (around u) k) (ap reference_in next ∙ none)
+      off u = cc
 
   -- one that faults does so still
   pub fault_link : (cmd : Command) (r : Reference) → next_command s k ≡ Some cmd → reference_of cmd ≡ Some r

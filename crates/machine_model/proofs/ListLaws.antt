@@ -6,8 +6,7 @@ module _ {A : Type 0} where
   pub put_list : (xs : List A) (i : ℕ) (x d : A) (j : ℕ) → i < length xs
       → get_or (set xs i x) j d ≡ at_put (λ k. get_or xs k d) i x j
   put_list xs i x d j within = by_place (λ (y : A). get_or (set xs i x) j d ≡ y) (λ k. get_or xs k d) i x j
-      (λ e. ap (λ (k : ℕ). get_or (set xs i x) k d) e ∙ get_or-set_same xs i x d within)
-      (λ n. get_or-set_other xs i j x d n)
+      (λ e. cc (get_or-set_same xs i x d within)) (λ n. get_or-set_other xs i j x d n)
 
   pub within_by : (xs : List A) (i : ℕ) (d : A) → get_or xs i d ≢ d → i < length xs
   within_by xs i d n = elim (leb_tells (length xs) i) [ inl e ↦ absurd (n (get_or_past xs i d e.1)) | inr m ↦ m.1 ]
@@ -19,7 +18,7 @@ module _ {A B : Type 0} where
 
   pub map_length : (f : A → B) (xs : List A) → length (map f xs) ≡ length xs
   map_length f [] = refl
-  map_length f (x ∷ xs) = ap (λ (n : ℕ). suc n) (map_length f xs)
+  map_length f (x ∷ xs) = cc (map_length f xs)
 
   -- a mapped list of which one element is changed
   pub put_mapped : (f : A → B) (xs : List A) (i : ℕ) (x d : A) (j : ℕ) → i < length xs
@@ -34,8 +33,7 @@ module _ {A : Type 0} where
       → get_or (get_or (set xss k (set (get_or xss k []) n x)) i []) j d
       ≡ at_put_two (λ a b. get_or (get_or xss a []) b d) k n x i j
   put_lists xss k n x d i j outer inner = ap (λ (ys : List A). get_or ys j d)
-      (put_list xss k (set (get_or xss k []) n x) [] i outer)
-      ∙ elim (eqb_tells i k) [
+      (put_list xss k (set (get_or xss k []) n x) [] i outer) ∙ elim (eqb_tells i k) [
         | inl e ↦ rw e.0 (cc (put_list (get_or xss k []) n x d j inner))
         | inr m ↦ rw m.0 refl
       ]

@@ -16,10 +16,10 @@ use Rattle.machine_model.proofs.TookKept.{ArePairs, has_pair, is_pair}
 -- at most one frame a word
 pub frames_few : (ws : List Ptw) → length (frames_in ws) ≤ length ws
 frames_few [] = omega arith
-frames_few (ptw.Null ∷ ws) = let rest = frames_few ws in omega (arith, rest)
-frames_few (ptw.Out r ∷ ws) = let rest = frames_few ws in omega (arith, rest)
-frames_few (ptw.Here f ∷ ws) = let rest = frames_few ws in omega (arith, rest)
-frames_few (ptw.Leaving f ∷ ws) = let rest = frames_few ws in omega (arith, rest)
+frames_few (ptw.Null ∷ ws) = omega (arith, frames_few ws)
+frames_few (ptw.Out r ∷ ws) = omega (arith, frames_few ws)
+frames_few (ptw.Here f ∷ ws) = omega (arith, frames_few ws)
+frames_few (ptw.Leaving f ∷ ws) = omega (arith, frames_few ws)
 
 pub pool_small : (n : Node) → pool_of n < 4
 pool_small n = by n.directory
@@ -49,14 +49,13 @@ module _ (s : State) (u : ℕ) (k : Keeps s) (active : is_active s.store.ast u �
       there = k.store.counted.active.there place u its_place
 
       by : (x : Option Node) → node_in s.store.accounts.nodes u ≡ x → length (table_of s.store.ast u) ≤ 256
-      by None e = absurd (let no : false ≡ true = sym (ap is_some e) ∙ there in cc)
-      by (Some n) e = let long = k.store.kept.sized (pool_of n) place (pool_small n)
-          (k.store.counted.active.pools place u n its_place e) in
-          subst (λ (x : ℕ). x ≤ 256) (sym long) (words_few (pool_of n) (pool_small n))
+      by None e = cc (sym (ap is_some e) ∙ there)
+      by (Some n) e = rw (k.store.kept.sized (pool_of n) place (pool_small n)
+          (k.store.counted.active.pools place u n its_place e)) (words_few (pool_of n) (pool_small n))
 
   -- so it has 256 pages at the most in frames
   pub pages_few : length (frames_from s.store.ast u 0) ≤ 256
-  pages_few = let words = frames_few (table_of s.store.ast u) in let few = table_few in omega (arith, words, few)
+  pages_few = omega (arith, frames_few (table_of s.store.ast u), table_few)
 
   -- ---- descriptors
 
@@ -65,7 +64,7 @@ module _ (s : State) (u : ℕ) (k : Keeps s) (active : is_active s.store.ast u �
   known_as j n h = by (descriptor_of s.store.links j n) refl
     where
       by : (x : Sdw) → descriptor_of s.store.links j n ≡ x → uid_of (kst_at s.store.links.known j) n ≡ Some u
-      by sdw.Fault e = absurd (none_some (sym (ap (led_to s.store.ast.entries) e) ∙ h))
+      by sdw.Fault e = cc
       by (sdw.Present aste mode pages) e = cc (at.known_as, at.active)
         where
           at : IsKnownAt s.store.ast.entries s.store.links.known j n aste
@@ -73,16 +72,15 @@ module _ (s : State) (u : ℕ) (k : Keeps s) (active : is_active s.store.ast u �
 
   -- its process is one of 32
   process_small : (j n : ℕ) → (seen s).linked j n ≡ Some u → j < 32
-  process_small j n h = let few = k.store.kept.linked.lists.few in omega (arith, few, outer)
+  process_small j n h = omega (arith, outer, k.store.kept.linked.lists.few)
     where
       outer : j < length s.store.links.known
-      outer = within_by s.store.links.known j [] (λ e. none_some
-          (sym (ap (λ (x : List (Option ℕ)). uid_of x n) e) ∙ known_as j n h))
+      outer = within_by s.store.links.known j [] (λ e. none_some (sym (cc) ∙ known_as j n h))
 
   uid_same : (v : ℕ) → is_uid u (Some v) ≡ true → v ≡ u
   uid_same v e = elim (eqb_tells v u) [
     | inl y ↦ y.1
-    | inr n ↦ absurd (let no : true ≡ false = sym e ∙ n.0 in cc)
+    | inr n ↦ cc
   ]
 
   -- no other one of them is of the same process
@@ -98,23 +96,22 @@ module _ (s : State) (u : ℕ) (k : Keeps s) (active : is_active s.store.ast u �
   )
     where
       later : (a b : Bool) → (a || b) ≡ false → b ≡ false
-      later true b h = absurd (let no : true ≡ false = h in cc)
+      later true b h = cc
       later false b h = h
 
       first : (a b : Bool) → (a || b) ≡ false → a ≡ false
-      first true b h = absurd (let no : true ≡ false = h in cc)
+      first true b h = cc
       first false b h = refl
 
       its : (seen s).linked y.0 y.1 ≡ Some u
-      its = are.0.1 ∙ ap (λ (v : ℕ). Some v) (uid_same are.0.0 are.0.2)
+      its = cc (uid_same are.0.0 are.0.2)
 
       one : x.0 ≡ y.0 → ⊥
       one e = elim (eqb_tells y.0 x.0) [
         | inl a ↦ elim (eqb_tells y.1 x.1) [
-          | inl b ↦ (let passes : is_pair x.0 x.1 y ≡ true = rw (a.0, b.0) refl in
-              let none : true ≡ false = sym passes ∙ first (is_pair x.0 x.1 y) (has_pair ys x.0 x.1) other in cc)
-          | inr b ↦ b.1 (k.store.kept.linked.each x.0 y.1 x.1 u
-              (ap (λ (j : ℕ). uid_of (kst_at s.store.links.known j) y.1) e ∙ known_as y.0 y.1 its)
+          | inl b ↦ (let none : true ≡ false = sym (rw (a.0, b.0) refl) ∙ first (is_pair x.0 x.1 y)
+              (has_pair ys x.0 x.1) other in cc)
+          | inr b ↦ b.1 (k.store.kept.linked.each x.0 y.1 x.1 u (cc (known_as y.0 y.1 its))
               (known_as x.0 x.1 leads_there))
         ]
         | inr a ↦ a.1 (sym e)
@@ -124,16 +121,16 @@ module _ (s : State) (u : ℕ) (k : Keeps s) (active : is_active s.store.ast u �
   unfolding IsDistinct
   distinct [] are = tt
   distinct (x ∷ xs) are = (
-    apart x xs (are.0.1 ∙ ap (λ (v : ℕ). Some v) (uid_same are.0.0 are.0.2)) are.1 are.2,
+    apart x xs (cc (uid_same are.0.0 are.0.2)) are.1 are.2,
     distinct xs are.2,
   )
 
   below : (xs : List (ℕ × ℕ)) → ArePairs (seen s).linked (what.Seg u) xs → (q : ℕ)
       → list_any (eqb q) (map (λ y. y.0) xs) ≡ true → q < 32
-  below [] are q h = absurd (let no : false ≡ true = h in cc)
+  below [] are q h = cc
   below (x ∷ xs) are q h = elim (eqb_tells q x.0) [
-    | inl e ↦ rw e.1 (process_small x.0 x.1 (are.0.1 ∙ ap (λ (v : ℕ). Some v) (uid_same are.0.0 are.0.2)))
-    | inr n ↦ below xs are.2 q (ap (λ (b : Bool). b || list_any (eqb q) (map (λ y. y.0) xs)) (sym n.0) ∙ h)
+    | inl e ↦ rw e.1 (process_small x.0 x.1 (cc (uid_same are.0.0 are.0.2)))
+    | inr n ↦ below xs are.2 q (cc)
   ]
 
   own : eqb u u ≡ true
@@ -144,33 +141,30 @@ module _ (s : State) (u : ℕ) (k : Keeps s) (active : is_active s.store.ast u �
   descriptors_few = let are = trailers_taken s (what.Seg u) u k own in
       let few = length-le_from_distinct_below (map (λ (y : ℕ × ℕ). y.0) (trailers_in s.store u)) 32
       (distinct (trailers_in s.store u) are) (below (trailers_in s.store u) are) in
-      let long = length-map (trailers_in s.store u) (λ (y : ℕ × ℕ). y.0) in omega (arith, few, long)
+      omega (arith, (length-map (trailers_in s.store u) (λ (y : ℕ × ℕ). y.0)))
 
 -- ---- where it may be inactive
 
 drop_few : {A : Type 0} (n : ℕ) (xs : List A) → length (drop n xs) ≤ length xs
-drop_few (suc n) (x ∷ xs) = let rest = drop_few n xs in omega (arith, rest)
+drop_few (suc n) (x ∷ xs) = omega (arith, drop_few n xs)
 drop_few _ _ = omega arith
 
 -- a segment that isn't active has no page table
 pub no_table : (s : State) (u : ℕ) → Keeps s → is_active s.store.ast u ≡ false → table_of s.store.ast u ≡ []
 unfolding place_of
 no_table s u k off = get_or_past s.store.ast.tables (position_or_len (is_for u) s.store.ast.entries) []
-    (let long = none_length (is_for u) s.store.ast.entries off in let tables = k.store.kept.places in
-    omega (arith, long, tables))
+    (omega (arith, none_length (is_for u) s.store.ast.entries off))
 
 -- of each segment 256 pages at the most are in frames, from whichever page on
 pub frames_from_few : (s : State) (u low : ℕ) → Keeps s → length (frames_from s.store.ast u low) ≤ 256
 frames_from_few s u low k = by (is_active s.store.ast u) refl
   where
     words : length (frames_from s.store.ast u low) ≤ length (table_of s.store.ast u)
-    words = let a = frames_few (drop low (table_of s.store.ast u)) in let b = drop_few low (table_of s.store.ast u) in
-        omega (arith, a, b)
+    words = omega (arith, frames_few (drop low (table_of s.store.ast u)), drop_few low (table_of s.store.ast u))
 
     by : (b : Bool) → is_active s.store.ast u ≡ b → length (frames_from s.store.ast u low) ≤ 256
-    by true e = let a = words in let b = table_few s u k e in omega (arith, a, b)
-    by false e = let a = words in let b : length (table_of s.store.ast u) ≡ 0 = ap length (no_table s u k e) in
-        omega (arith, a, b)
+    by true e = omega (arith, table_few s u k e, words)
+    by false e = omega (arith, ap length (no_table s u k e), words)
 
 -- 32 descriptors at the most lead to it
 pub trailers_few : (s : State) (u : ℕ) → Keeps s → length (trailers_in s.store u) ≤ 32
@@ -178,29 +172,29 @@ trailers_few s u k = by (is_active s.store.ast u) refl
   where
     by : (b : Bool) → is_active s.store.ast u ≡ b → length (trailers_in s.store u) ≤ 32
     by true e = descriptors_few s u k e
-    by false e = let none : length (trailers_in s.store u) ≡ 0 = ap (λ (x : Bool). length
-        (cond x (trailers_of s.store.links.trailers (place_of s.store.ast.entries u)) [])) e in omega (arith, none)
+    by false e = let none = ap (λ (x : Bool). length
+        (cond x (trailers_of s.store.links.trailers (place_of s.store.ast.entries u)) [])) e in omega arith
 
 -- a process has 256 descriptors
 pub connected_few : (links : Links) (k : ℕ) → length (connected_of links k) ≤ 256
 connected_few links k = let pair : ℕ → ℕ × ℕ = λ n. (k, n) in
-    let a = length-map (filter (λ n. is_connected (descriptor_of links k n)) (range_with_len 0 256))
-    pair in
-    let b = few_kept (λ n. is_connected (descriptor_of links k n)) (range_with_len 0 256) in
-    let c = length-range_with_len 0 256 in omega (arith, a, b, c)
+    let a = length-map (filter (λ n. is_connected (descriptor_of links k n)) (range_with_len 0 256)) pair in
+    omega (
+      arith,
+      length-range_with_len 0 256,
+      (few_kept (λ n. is_connected (descriptor_of links k n)) (range_with_len 0 256)),
+    )
 
 -- A command takes 288 pages and descriptors at the most.
 pub command_few : (s : State) (k u : ℕ) (cmd : Command) → Keeps s
     → length (frames_taken s.store u (first_taken cmd)) + length (descriptors_taken s.store k u cmd) ≤ 288
-command_few s k u (command.Acl path row m) keeps = let a = trailers_few s u keeps in omega (arith, a)
-command_few s k u (command.Delete path) keeps = let a = trailers_few s u keeps in
-    let b = frames_from_few s u 0 keeps in omega (arith, a, b)
-command_few s k u (command.Truncate path words) keeps =
-    let b = frames_from_few s u (words / 1024) keeps in omega (arith, b)
+command_few s k u (command.Acl path row m) keeps = omega (arith, trailers_few s u keeps)
+command_few s k u (command.Delete path) keeps = omega (arith, trailers_few s u keeps, frames_from_few s u 0 keeps)
+command_few s k u (command.Truncate path words) keeps = omega (arith, frames_from_few s u (words / 1024) keeps)
 command_few s k u (command.Terminate n) keeps = by (is_connected (descriptor_of s.store.links k n))
   where
     by : (b : Bool) → 0 + length {A = ℕ × ℕ} (cond b ((k, n) ∷ []) []) ≤ 288
     by true = omega arith
     by false = omega arith
-command_few s k u command.End keeps = let a = connected_few s.store.links k in omega (arith, a)
+command_few s k u command.End keeps = omega (arith, connected_few s.store.links k)
 command_few s k u _ keeps = omega arith

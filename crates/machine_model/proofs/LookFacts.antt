@@ -1,5 +1,5 @@
 -- What a look of the owner finds for the command of its process, when it comes to each of its actions.
-use Rattle.machine_model.proofs.Prelude.{◌≡◌, ◌≢◌, ◌<◌, ℕ, ◌*◌, Bool, true, false, cond, eqb, is_some, List, [], position, Option, Some, None, ◌⊎◌, inl, inr, refl, sym, ap, ◌∙◌, ◌%◌, ◌/◌, Mode, who_of, reference_of, Command, Reference, Reply, access_of, Node, node_in, chain_of, Frame, Core, frame_at, is_started, least_free_frame, started_page, clock_choice, Ptw, Sdw, frame_in, uid_at, victim_of, word_of, reply_by, reply_to_command, new_word, permits, reply_to_reference, known_uid, is_refusal, activate_first, activate_in, any_page, bring_cut, create_unless, descriptors_taken, empty_victim, empty_when_read, evict_or_wait, first_taken, frame_read_from, frames_taken, into_frame, look_at_descriptor, look_at_word, look_for, look_for_reference, look_inside, look_of, look_to_change, look_to_take, look_unless, pool_of_node, take_or_commit, unless_read, what_taken, with_chain, with_cut_page, look_to_create, move_or, is_out, descriptor_of, first_inactive, flat_of, frame_reading, free_place, is_active, is_page_of, or_zero, is_of_room, is_outside, only, outside_refusal, refusal_of, room_refusal, uid_of_command, uid_of_number, move_to, State, reply_to_tree_command, ◌∷◌, subst, nat_le}
+use Rattle.machine_model.proofs.Prelude.{cond_both, cases_Bool, not_both, ◌≡◌, ◌≢◌, ◌<◌, ℕ, ◌*◌, Bool, true, false, cond, eqb, is_some, List, [], position, Option, Some, None, ◌⊎◌, inl, inr, refl, sym, ap, ◌∙◌, ◌%◌, ◌/◌, Mode, who_of, reference_of, Command, Reference, Reply, access_of, Node, node_in, chain_of, Frame, Core, frame_at, is_started, least_free_frame, started_page, clock_choice, Ptw, Sdw, frame_in, uid_at, victim_of, word_of, reply_by, reply_to_command, new_word, permits, reply_to_reference, known_uid, is_refusal, activate_first, activate_in, any_page, bring_cut, create_unless, descriptors_taken, empty_victim, empty_when_read, evict_or_wait, first_taken, frame_read_from, frames_taken, into_frame, look_at_descriptor, look_at_word, look_for, look_for_reference, look_inside, look_of, look_to_change, look_to_take, look_unless, pool_of_node, take_or_commit, unless_read, what_taken, with_chain, with_cut_page, look_to_create, move_or, is_out, descriptor_of, first_inactive, flat_of, frame_reading, free_place, is_active, is_page_of, or_zero, is_of_room, is_outside, only, outside_refusal, refusal_of, room_refusal, uid_of_command, uid_of_number, move_to, State, reply_to_tree_command, ◌∷◌, subst, nat_le}
 use Rattle.script.specs.declared.commands.Command.TheVariants as command
 use Rattle.book.specs.declared.replies.Reply.TheVariants as reply
 use Rattle.core_map.specs.declared.Frame.TheVariants as frame
@@ -8,6 +8,7 @@ use Rattle.descriptor_seg.specs.declared.Sdw.TheVariants as sdw
 use Rattle.machine_model.specs.Actions as act
 use Rattle.machine_model.specs.Actions.{room_for}
 use Rattle.machine_model.proofs.FindLaws.{position_at}
+use Rattle.std.proofs.lemmas.Option.{same_Some}
 
 -- ---- what is found
 
@@ -134,8 +135,7 @@ pub record FindsActive (s : State) (k : ℕ) (cmd : Command) (u : ℕ) : Type 0 
 
 -- what a `truncate` wants before it takes: its chain, and the page that it cuts in a frame
 abbrev pub IsBrought : State → ℕ → Command → Type 0
-IsBrought s u (command.Truncate path words) =
-    (first_inactive s.store.ast (chain_of s.store.accounts.nodes u) ≡ None)
+IsBrought s u (command.Truncate path words) = (first_inactive s.store.ast (chain_of s.store.accounts.nodes u) ≡ None)
     × (eqb (words % 1024) 0 ≡ false → is_out (word_of s.store.ast u (words / 1024)) ≡ false)
 IsBrought s u _ = Unit {0}
 
@@ -203,13 +203,16 @@ module _ (s : State) (k : ℕ) (cmd : Command) where
       (position_at (λ x. is_page_of u test (started_page x)) core.frames frame.Free f h).1
     where
       by : (o : Option (ℕ × ℕ)) → is_page_of u test o ≡ true → is_some o ≡ true
-      by None e = absurd (let no : false ≡ true = e in cc)
+      by None e = cc
       by (Some page) e = refl
 
-  unless_finds : (u : ℕ) (test : ℕ → Bool) (x : Option ℕ) (a : act.Action) → frame_reading core u test ≡ x
-      → (frame_reading core u test ≡ None → LookFinds s k cmd a) → LookFinds s k cmd (unless_read x a)
-  unless_finds u test None a e h = h e
-  unless_finds u test (Some f) a e h = reading_found u test f e
+  unless_finds : (u : ℕ) (test : ℕ → Bool) (a : act.Action) → (frame_reading core u test ≡ None → LookFinds s k cmd a)
+      → LookFinds s k cmd (unless_read (frame_reading core u test) a)
+  unless_finds u test a h = by (frame_reading core u test) refl
+    where
+      by : (x : Option ℕ) → frame_reading core u test ≡ x → LookFinds s k cmd (unless_read x a)
+      by None e = h e
+      by (Some f) e = reading_found u test f e
 
   started_found : (f : ℕ) → position is_started core.frames ≡ Some f
       → is_some (started_page (frame_in s.store.pages f)) ≡ true
@@ -217,7 +220,7 @@ module _ (s : State) (k : ℕ) (cmd : Command) where
     where
       by : (x : Frame) → is_started x ≡ true → is_some (started_page x) ≡ true
       by (frame.Started u q) e = refl
-      by _ e = absurd (let no : false ≡ true = e in cc)
+      by _ e = cc
 
   module _ (u p : ℕ) (case : ((r : Reference) × FindsPage s k cmd r u p) ⊎ FindsCut s k cmd u p)
       (away : (g : ℕ) → word_of s.store.ast u p ≢ ptw.Here g) where
@@ -228,15 +231,14 @@ module _ (s : State) (k : ℕ) (cmd : Command) where
     evict_finds None e full unread = by (position is_started core.frames) refl
       where
         by : (y : Option ℕ) → position is_started core.frames ≡ y → LookFinds s k cmd (unless_read y act.GiveUp)
-        by None i = inr (inl (record { full = full; choice = e; unread = i }))
+        by None i = inr (inl (assumption))
         by (Some f) i = started_found f i
 
     room_finds : (into : ℕ → act.Action)
         → ((f : ℕ) → least_free_frame core ≡ Some f → frame_reading core u (λ q. eqb q p) ≡ None
-        → LookFinds s k cmd (into f))
-        → LookFinds s k cmd (room_for core u p into)
-    room_finds into h = unless_finds u (λ q. eqb q p) (frame_reading core u (λ q. eqb q p))
-        (into_frame core (least_free_frame core) into) refl (λ unread. by (least_free_frame core) refl unread)
+        → LookFinds s k cmd (into f)) → LookFinds s k cmd (room_for core u p into)
+    room_finds into h = unless_finds u (λ q. eqb q p) (into_frame core (least_free_frame core) into)
+        (λ unread. by (least_free_frame core) refl unread)
       where
         by : (y : Option ℕ) → least_free_frame core ≡ y → frame_reading core u (λ q. eqb q p) ≡ None
             → LookFinds s k cmd (into_frame core y into)
@@ -266,8 +268,7 @@ module _ (s : State) (k : ℕ) (cmd : Command) where
       victim = i;
     }))
     victim_finds v e full (Some place) i = unless_finds (or_zero (uid_at s.store.ast.entries place)) any_page
-        (frame_reading core (or_zero (uid_at s.store.ast.entries place)) any_page)
-        (act.EmptyVictim (pool v) chain (or_zero (uid_at s.store.ast.entries place))) refl (λ unread. record {
+        (act.EmptyVictim (pool v) chain (or_zero (uid_at s.store.ast.entries place))) (λ unread. record {
           wanted = v;
           link = link_of v e;
           pool_is = refl;
@@ -283,8 +284,7 @@ module _ (s : State) (k : ℕ) (cmd : Command) where
     place_finds v e (Some place) i = record { chain = chain; link = link_of v e; free = i }
     place_finds v e None i = victim_finds v e i (victim_of s.store.ast (pool v) chain) refl
 
-    chain_finds : (otherwise : act.Action)
-        → (first_inactive s.store.ast chain ≡ None → LookFinds s k cmd otherwise)
+    chain_finds : (otherwise : act.Action) → (first_inactive s.store.ast chain ≡ None → LookFinds s k cmd otherwise)
         → LookFinds s k cmd (with_chain s.store about otherwise)
     chain_finds otherwise h = by (first_inactive s.store.ast chain) refl
       where
@@ -292,6 +292,12 @@ module _ (s : State) (k : ℕ) (cmd : Command) where
             → LookFinds s k cmd (activate_first s.store chain x otherwise)
         by None e = h e
         by (Some v) e = place_finds v e (free_place s.store.ast (pool v)) refl
+
+  only_some : (test : Reply → Bool) (x y : Reply) → only test x ≡ Some y → (x ≡ y) × (test y ≡ true)
+  only_some test x y h = elim (cases_Bool (test x)) [
+    | inl e ↦ (let same = same_Some x y (rw e at h) in (same, rw same at e))
+    | inr e ↦ cc
+  ]
 
   -- ---- a reference
 
@@ -304,36 +310,29 @@ module _ (s : State) (k : ℕ) (cmd : Command) where
 
     -- what the flat store answers it
     due : reply_to_command s.plan (flat_of s) k cmd ≡ reply_to_reference s.plan (flat_of s) k r
-    due = ap (reply_by s.plan (flat_of s) k cmd) is
-
-    only_some : (test : Reply → Bool) (x y : Reply) → only test x ≡ Some y → (x ≡ y) × (test y ≡ true)
-    only_some test x y h = by (test x) refl h
-      where
-        by : (b : Bool) → test x ≡ b → cond b (Some x) None ≡ Some y → (x ≡ y) × (test y ≡ true)
-        by true e i = let same : x ≡ y = cc in (same, ap test (sym same) ∙ e)
-        by false e i = absurd (let no : None ≡ Some y = i in cc)
+    due = cc
 
     outside_refuses : (x : Reply) → is_outside x ≡ true → is_refusal x ≡ true
     outside_refuses reply.Unknown h = refl
     outside_refuses reply.Gone h = refl
     outside_refuses reply.NoAccess h = refl
     outside_refuses reply.Length h = refl
-    outside_refuses _ h = absurd (let no : false ≡ true = h in cc)
+    outside_refuses _ h = cc
 
     room_refuses : (x : Reply) → is_of_room x ≡ true → is_refusal x ≡ true
     room_refuses reply.Quota h = refl
     room_refuses reply.NoRecord h = refl
-    room_refuses _ h = absurd (let no : false ≡ true = h in cc)
+    room_refuses _ h = cc
 
     refused_outside : (x : Reply) → outside_refusal s k r ≡ Some x → IsRefused s k cmd x
     unfolding outside_refusal
     refused_outside x h = let both = only_some is_outside (reply_to_reference s.plan (flat_of s) k r) x h in
-        record { reply = sym both.0 ∙ sym due; refuses = outside_refuses x both.1 }
+        assumption (sym both.0 ∙ sym due, outside_refuses x both.1)
 
     refused_room : (x : Reply) → room_refusal s k r ≡ Some x → IsRefused s k cmd x
     unfolding room_refusal
     refused_room x h = let both = only_some is_of_room (reply_to_reference s.plan (flat_of s) k r) x h in
-        record { reply = sym both.0 ∙ sym due; refuses = room_refuses x both.1 }
+        assumption (sym both.0 ∙ sym due, room_refuses x both.1)
 
     module _ (inside : outside_refusal s k r ≡ None) where
       module _ (aste pages : ℕ) (m : Mode) (linked : descriptor_of s.store.links k r.number
@@ -356,25 +355,25 @@ module _ (s : State) (k : ℕ) (cmd : Command) where
           reference = r;
           uid = uid;
           finds = page_of;
-          out = ap is_out e ∙ out;
+          out = cc;
           kept = λ h. kept (sym e ∙ h);
         })
 
         word_finds : (w : Ptw) → word_of s.store.ast uid p ≡ w → LookFinds s k cmd (look_at_word s k r uid p w)
-        word_finds ptw.Null e = by (eqb (new_word 0 r.kind) 0) refl
+        word_finds ptw.Null e = cond_both (eqb (new_word 0 r.kind) 0) act.GiveUp (look_to_create s k r uid p)
+            (LookFinds s k cmd) (λ h. all_of ptw.Null e refl (λ i. h)) (create (room_refusal s k r) refl)
           where
             moves : (x : Option ℕ) → move_to s uid ≡ x → room_refusal s k r ≡ None → eqb (new_word 0 r.kind) 0 ≡ false
                 → LookFinds s k cmd (move_or core uid x (room_for core uid p (λ f. act.Create f uid p r)))
-            moves (Some volume) m h word = unless_finds uid any_page (frame_reading core uid any_page)
-                (act.BeginMove uid volume) refl (λ unread. record {
-                  reference = r;
-                  finds = page_of;
-                  null = e;
-                  word = word;
-                  room = h;
-                  moves = m;
-                  unread = unread;
-                })
+            moves (Some volume) m h word = unless_finds uid any_page (act.BeginMove uid volume) (λ unread. record {
+              reference = r;
+              finds = page_of;
+              null = e;
+              word = word;
+              room = h;
+              moves = m;
+              unread = unread;
+            })
             moves None m h word = room_finds uid p (inl (r, page_of))
                 (λ g here. (let no : ptw.Null ≡ ptw.Here g = sym e ∙ here in cc)) (λ f. act.Create f uid p r)
                 (λ f free unread. (assumption page_of))
@@ -384,11 +383,6 @@ module _ (s : State) (k : ℕ) (cmd : Command) where
                 (move_or core uid (move_to s uid) (room_for core uid p (λ f. act.Create f uid p r))))
             create (Some x) h word = refused_room x h
             create None h word = moves (move_to s uid) refl h word
-
-            by : (b : Bool) → eqb (new_word 0 r.kind) 0 ≡ b
-                → LookFinds s k cmd (cond b act.GiveUp (look_to_create s k r uid p))
-            by true h = all_of ptw.Null e refl (λ i. h)
-            by false h = create (room_refusal s k r) refl h
         word_finds (ptw.Out n) e = room_finds uid p (inl (r, page_of))
             (λ g here. (let no : ptw.Out n ≡ ptw.Here g = sym e ∙ here in cc)) (λ f. act.Start f uid p)
             (λ f free unread. record { case = inl (r, page_of); out = ap is_out e; frame = free; unread = unread })
@@ -425,24 +419,15 @@ module _ (s : State) (k : ℕ) (cmd : Command) where
 
     refused_command : (x : Reply) → refusal_of s k cmd ≡ Some x → IsRefused s k cmd x
     unfolding refusal_of
-    refused_command x h = by (is_refusal (reply_to_tree_command s.plan (flat_of s) k cmd)) refl h
-      where
-        due_tree : reply_to_command s.plan (flat_of s) k cmd ≡ reply_to_tree_command s.plan (flat_of s) k cmd
-        due_tree = ap (reply_by s.plan (flat_of s) k cmd) tree
-
-        by : (b : Bool) → is_refusal (reply_to_tree_command s.plan (flat_of s) k cmd) ≡ b
-            → cond b (Some (reply_to_tree_command s.plan (flat_of s) k cmd)) None ≡ Some x → IsRefused s k cmd x
-        by true e i = let same : reply_to_tree_command s.plan (flat_of s) k cmd ≡ x = cc in
-            record { reply = sym same ∙ sym due_tree; refuses = ap is_refusal (sym same) ∙ e }
-        by false e i = absurd (let no : None ≡ Some x = i in cc)
+    refused_command x h = let both = only_some is_refusal (reply_to_tree_command s.plan (flat_of s) k cmd) x h in
+        assumption (sym both.0 ∙ sym (ap (reply_by s.plan (flat_of s) k cmd) tree))
 
     module _ (stands : refusal_of s k cmd ≡ None) where
       taken_facts : (fs : List ℕ) (pairs : List (ℕ × ℕ)) → frames_taken s.store about_uid (first_taken cmd) ≡ fs
           → descriptors_taken s.store k about_uid cmd ≡ pairs
           → frame_read_from core about_uid (first_taken cmd) ≡ None → IsBrought s about_uid cmd
           → ((path : List (List ℕ)) (pages : ℕ) → cmd ≡ command.Length path pages
-          → is_active s.store.ast about_uid ≡ false)
-          → FindsTaken s k cmd fs pairs
+          → is_active s.store.ast about_uid ≡ false) → FindsTaken s k cmd fs pairs
       taken_facts fs pairs a b unread brought inactive = assumption (sym a, sym b)
 
       commit_finds : (fs : List ℕ) (pairs : List (ℕ × ℕ)) → FindsTaken s k cmd fs pairs
@@ -453,29 +438,19 @@ module _ (s : State) (k : ℕ) (cmd : Command) where
 
       take_finds : IsBrought s about_uid cmd → ((path : List (List ℕ)) (pages : ℕ) → cmd ≡ command.Length path pages
           → is_active s.store.ast about_uid ≡ false) → LookFinds s k cmd (look_to_take s.store k about_uid cmd)
-      take_finds brought inactive = by (first_taken cmd) refl
+      take_finds brought inactive = read (frame_read_from core about_uid (first_taken cmd)) refl
         where
-          then : (x : Option ℕ) → frame_read_from core about_uid (first_taken cmd) ≡ x
-              → x ≡ None → LookFinds s k cmd (take_or_commit (frames_taken s.store about_uid (first_taken cmd))
-              (descriptors_taken s.store k about_uid cmd) (what_taken about_uid cmd))
-          then x e none = commit_finds (frames_taken s.store about_uid (first_taken cmd))
-              (descriptors_taken s.store k about_uid cmd)
-              (taken_facts _ _ refl refl (e ∙ none) brought inactive)
+          found : (z : Option ℕ) (f : ℕ) → frame_read_from core about_uid z ≡ Some f
+              → is_some (started_page (frame_in s.store.pages f)) ≡ true
+          found None f h = cc
+          found (Some low) f h = reading_found about_uid (λ q. nat_le low q) f h
 
-          by : (y : Option ℕ) → first_taken cmd ≡ y → LookFinds s k cmd (look_to_take s.store k about_uid cmd)
-          by y e = read (frame_read_from core about_uid (first_taken cmd)) refl
-            where
-              found : (z : Option ℕ) (f : ℕ) → frame_read_from core about_uid z ≡ Some f
-                  → is_some (started_page (frame_in s.store.pages f)) ≡ true
-              found None f h = absurd (let no : None ≡ Some f = h in cc)
-              found (Some low) f h = reading_found about_uid (λ q. nat_le low q) f h
-
-              read : (x : Option ℕ) → frame_read_from core about_uid (first_taken cmd) ≡ x
-                  → LookFinds s k cmd (unless_read x (take_or_commit
-                  (frames_taken s.store about_uid (first_taken cmd))
-                  (descriptors_taken s.store k about_uid cmd) (what_taken about_uid cmd)))
-              read None i = then None i refl
-              read (Some f) i = found (first_taken cmd) f i
+          read : (x : Option ℕ) → frame_read_from core about_uid (first_taken cmd) ≡ x
+              → LookFinds s k cmd (unless_read x (take_or_commit (frames_taken s.store about_uid (first_taken cmd))
+              (descriptors_taken s.store k about_uid cmd) (what_taken about_uid cmd)))
+          read None i = commit_finds (frames_taken s.store about_uid (first_taken cmd))
+              (descriptors_taken s.store k about_uid cmd) (taken_facts _ _ refl refl i brought inactive)
+          read (Some f) i = found (first_taken cmd) f i
 
       -- the cut page of a `truncate`
       module _ (path : List (List ℕ)) (words : ℕ) (is : cmd ≡ command.Truncate path words)
@@ -486,7 +461,7 @@ module _ (s : State) (k : ℕ) (cmd : Command) where
 
         not_length : (q : List (List ℕ)) (pages : ℕ) → cmd ≡ command.Length q pages
             → is_active s.store.ast about_uid ≡ false
-        not_length q pages e = absurd (let no : command.Truncate path words ≡ command.Length q pages = sym is ∙ e in cc)
+        not_length q pages e = cc
 
         cuts : eqb (words % 1024) 0 ≡ false → FindsCut s k cmd about_uid (words / 1024)
         cuts h = record {
@@ -509,44 +484,31 @@ module _ (s : State) (k : ℕ) (cmd : Command) where
         bring_finds _ e h = take_finds (brought_is (λ i. ap is_out e)) not_length
 
         cut_finds : LookFinds s k cmd (with_cut_page s.store about_uid words (look_to_take s.store k about_uid cmd))
-        cut_finds = by (eqb (words % 1024) 0) refl
-          where
-            by : (b : Bool) → eqb (words % 1024) 0 ≡ b → LookFinds s k cmd (cond b
-                (look_to_take s.store k about_uid cmd)
-                (bring_cut core about_uid (words / 1024) (word_of s.store.ast about_uid (words / 1024))
-                (look_to_take s.store k about_uid cmd)))
-            by true h = take_finds (brought_is (λ i. absurd (let no : true ≡ false = sym h ∙ i in cc))) not_length
-            by false h = bring_finds (word_of s.store.ast about_uid (words / 1024)) refl h
+        cut_finds = cond_both (eqb (words % 1024) 0) (look_to_take s.store k about_uid cmd) _ (LookFinds s k cmd)
+            (λ h. take_finds (brought_is (λ i. cc)) not_length)
+            (bring_finds (word_of s.store.ast about_uid (words / 1024)) refl)
 
       truncate_finds : (path : List (List ℕ)) (words : ℕ) → cmd ≡ command.Truncate path words
           → LookFinds s k cmd (with_chain s.store about_uid (with_cut_page s.store about_uid words
           (look_to_take s.store k about_uid cmd)))
-      truncate_finds path words is = chain_finds about_uid
-          (record { case = inr (path, words, is, stands, refl) })
+      truncate_finds path words is = chain_finds about_uid (record { case = inr (path, words, is, stands, refl) })
           (with_cut_page s.store about_uid words (look_to_take s.store k about_uid cmd))
           (λ active. cut_finds path words is active)
 
       length_finds : (path : List (List ℕ)) (pages : ℕ) → cmd ≡ command.Length path pages
           → LookFinds s k cmd (cond (is_active s.store.ast about_uid)
           (empty_when_read core about_uid (act.Empty about_uid)) act.Commit)
-      length_finds path pages is = by (is_active s.store.ast about_uid) refl
-        where
-          by : (b : Bool) → is_active s.store.ast about_uid ≡ b → LookFinds s k cmd
-              (cond b (empty_when_read core about_uid (act.Empty about_uid)) act.Commit)
-          by true h = unless_finds about_uid any_page (frame_reading core about_uid any_page) (act.Empty about_uid) refl
-              (λ unread. record {
-                path = path;
-                pages = pages;
-                is = is;
-                stands = stands;
-                uid = refl;
-                active = h;
-                unread = unread;
-              })
-          by false h = taken_facts [] [] (ap (λ (c : Command). frames_taken s.store about_uid (first_taken c)) is)
-              (ap (descriptors_taken s.store k about_uid) is)
-              (ap (λ (c : Command). frame_read_from core about_uid (first_taken c)) is)
-              (subst (IsBrought s about_uid) (sym is) tt) (λ q n e. h)
+      length_finds path pages is = cond_both (is_active s.store.ast about_uid)
+          (empty_when_read core about_uid (act.Empty about_uid)) act.Commit (LookFinds s k cmd)
+          (λ h. unless_finds about_uid any_page (act.Empty about_uid) (λ unread. record {
+            path = path;
+            pages = pages;
+            is = is;
+            stands = stands;
+            uid = refl;
+            active = h;
+            unread = unread;
+          })) (λ h. taken_facts [] [] (cc) (cc) (cc) (subst (IsBrought s about_uid) (sym is) tt) (λ q n e. h))
 
 -- ---- whatever the next command is
 
@@ -557,34 +519,7 @@ module _ (s : State) (k : ℕ) where
       truncate_finds s k (command.Truncate path words) tree stands path words refl
   change_finds (command.Length path pages) tree stands =
       length_finds s k (command.Length path pages) tree stands path pages refl
-  change_finds (command.MkDir path volume) tree stands =
-      take_finds s k (command.MkDir path volume) tree stands tt (λ q n e. (let no : command.MkDir path volume
-      ≡ command.Length q n = e in absurd cc))
-  change_finds (command.MkSeg path pages volume) tree stands =
-      take_finds s k (command.MkSeg path pages volume) tree stands tt (λ q n e. (let no :
-      command.MkSeg path pages volume ≡ command.Length q n = e in absurd cc))
-  change_finds (command.Initiate path) tree stands = take_finds s k (command.Initiate path) tree stands tt
-      (λ q n e. (let no : command.Initiate path ≡ command.Length q n = e in absurd cc))
-  change_finds (command.Terminate number) tree stands = take_finds s k (command.Terminate number) tree stands tt
-      (λ q n e. (let no : command.Terminate number ≡ command.Length q n = e in absurd cc))
-  change_finds (command.Acl path row m) tree stands = take_finds s k (command.Acl path row m) tree stands tt
-      (λ q n e. (let no : command.Acl path row m ≡ command.Length q n = e in absurd cc))
-  change_finds (command.Delete path) tree stands = take_finds s k (command.Delete path) tree stands tt
-      (λ q n e. (let no : command.Delete path ≡ command.Length q n = e in absurd cc))
-  change_finds (command.Move path amount) tree stands = take_finds s k (command.Move path amount) tree stands tt
-      (λ q n e. (let no : command.Move path amount ≡ command.Length q n = e in absurd cc))
-  change_finds (command.Status path) tree stands = take_finds s k (command.Status path) tree stands tt
-      (λ q n e. (let no : command.Status path ≡ command.Length q n = e in absurd cc))
-  change_finds command.End tree stands = take_finds s k command.End tree stands tt
-      (λ q n e. (let no : command.End ≡ command.Length q n = e in absurd cc))
-  change_finds (command.Read n o) tree stands = absurd (let no : None ≡ reference_of
-      (command.Read n o) = sym tree in cc)
-  change_finds (command.Write n o w) tree stands =
-      absurd (let no : None ≡ reference_of (command.Write n o w) = sym tree in cc)
-  change_finds (command.Add n o w) tree stands =
-      absurd (let no : None ≡ reference_of (command.Add n o w) = sym tree in cc)
-  change_finds (command.Await n o w t) tree stands =
-      absurd (let no : None ≡ reference_of (command.Await n o w t) = sym tree in cc)
+  change_finds cmd tree stands = take_finds s k cmd tree stands tt (λ q n e. absurd (cc e))
 
   -- What a look of the owner comes to is so.
   pub look_finds : (cmd : Command) → LookFinds s k cmd (look_of s k (Some cmd))

@@ -17,8 +17,7 @@ IsLook s (act.Activate u place) = (is_active s.store.ast u ≡ false) ×
 IsLook s (act.Connect n u) = Unit {0}
 IsLook s (act.Create f u p r) = (least_free_frame s.store.pages.core ≡ Some f) × (word_of s.store.ast u p ≡ ptw.Null)
 IsLook s (act.Start f u p) = (least_free_frame s.store.pages.core ≡ Some f) ×
-    (frame_reading s.store.pages.core u (λ q. q == p) ≡ None)
-    × (is_out (word_of s.store.ast u p) ≡ true)
+    (frame_reading s.store.pages.core u (λ q. q == p) ≡ None) × (is_out (word_of s.store.ast u p) ≡ true)
 IsLook s (act.Evict f) = clock_choice s.store.pages.core ≡ Some f
 IsLook s (act.Empty u) = Unit {0}
 IsLook s (act.EmptyVictim pool chain u) = Unit {0}
@@ -40,8 +39,7 @@ module _ (s : State) where
   evict_look None e = unless_look (position is_started core.frames) act.GiveUp tt
 
   into_look : (x : Option ℕ) (into : ℕ → act.Action) → least_free_frame core ≡ x
-      → ((f : ℕ) → least_free_frame core ≡ Some f → IsLook s (into f))
-      → IsLook s (into_frame core x into)
+      → ((f : ℕ) → least_free_frame core ≡ Some f → IsLook s (into f)) → IsLook s (into_frame core x into)
   into_look (Some f) into e h = h f e
   into_look None into e h = evict_look (clock_choice core) refl
 
@@ -62,14 +60,13 @@ module _ (s : State) where
   victim_look pool chain (Some place) = unless_look (frame_reading core _ any_page) (act.EmptyVictim pool chain _) tt
 
   activate_look : (pool : ℕ) (chain : List ℕ) (u : ℕ) (x : Option ℕ) → free_place s.store.ast pool ≡ x
-      → is_active s.store.ast u ≡ false
-      → IsLook s (activate_in s.store pool chain u x)
+      → is_active s.store.ast u ≡ false → IsLook s (activate_in s.store pool chain u x)
   activate_look pool chain u (Some place) e inactive = (inactive, (pool, e))
   activate_look pool chain u None e inactive = victim_look pool chain (victim_of s.store.ast pool chain)
 
   found_inactive : (chain : List ℕ) (u : ℕ) → first_inactive s.store.ast chain ≡ Some u
       → is_active s.store.ast u ≡ false
-  found_inactive [] u h = absurd (let no : None ≡ Some u = h in cc)
+  found_inactive [] u h = cc
   found_inactive (x ∷ xs) u h = by (is_active s.store.ast x) refl (found_inactive xs u) h
     where
       by : (b : Bool) → is_active s.store.ast x ≡ b

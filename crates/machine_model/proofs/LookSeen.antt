@@ -1,5 +1,5 @@
 -- A look of the owner finds what its outline asks of its actions.
-use Rattle.machine_model.proofs.Prelude.{◌≡◌, ◌<◌, ℕ, zero, suc, Bool, true, false, not, cond, ◌&&◌, ◌||◌, eqb, List, [], ◌∷◌, length, get_or, map, is_some, Option, Some, None, Ok, ◌⊎◌, inl, inr, refl, sym, ap, subst, ◌∙◌, arith, ◌/◌, list_any, length-map, new_word, reference_of, Command, Reference, Node, node_in, found_member, chain_of, segment_at, is_free, least_free_frame, Frame, Ptw, store_frame, has_record, entry_at, uid_at, uid_in, off_chain, victim_of, known_of, known_uid, kst_at, place_of, word_of, has, pool_of_node, no_call, IsOwned, is_out, names, AreOf, CanActivate, CanEmpty, CanEvict, CanStart, IsIn, IsWantedPage, is_wanted_here, IsLook, KeepsLink, MayAnswer, MayConnect, MayEmpty, WantsPage, lack_of, seen, deactivation_begun, took, victim_taken, with_hand_moved, Keeps, has_free, is_here, page_fits, want_lack, wanted_chain, Want, Refer, Truncate, Length, Runner, Look, runner_at, want_at, around, bare, cut_page, is_linked, outline_of, reference_in, want_by, want_lengthened, want_of, want_truncated, IsMachine, cpu_at, descriptor_of, first_inactive, flat_of, frames_from, free_place, is_active, is_connected, next_command, or_zero, process_at, processor_at, trailers_in, outside_refusal, refusal_of, uid_of_command, uid_of_number, shown, Owner, State, with_store, has_head, has_tail, not_both}
+use Rattle.machine_model.proofs.Prelude.{passed_there, ◌≡◌, ◌<◌, ℕ, zero, suc, Bool, true, false, not, cond, ◌&&◌, ◌||◌, eqb, List, [], ◌∷◌, length, get_or, map, Option, Some, None, Ok, ◌⊎◌, inl, inr, refl, sym, ap, subst, ◌∙◌, arith, ◌/◌, list_any, length-map, new_word, reference_of, Command, Reference, Node, node_in, found_member, chain_of, segment_at, is_free, least_free_frame, Frame, Ptw, store_frame, has_record, entry_at, uid_at, uid_in, off_chain, victim_of, known_uid, place_of, word_of, has, no_call, is_out, names, AreOf, CanActivate, CanEmpty, CanEvict, CanStart, IsIn, IsWantedPage, is_wanted_here, IsLook, KeepsLink, MayAnswer, MayConnect, MayEmpty, WantsPage, lack_of, seen, deactivation_begun, took, victim_taken, with_hand_moved, Keeps, has_free, is_here, page_fits, want_lack, wanted_chain, Want, Refer, Truncate, Length, Look, runner_at, want_at, around, bare, cut_page, is_linked, outline_of, want_by, want_lengthened, want_truncated, IsMachine, cpu_at, descriptor_of, first_inactive, flat_of, frames_from, is_active, is_connected, next_command, or_zero, process_at, processor_at, trailers_in, outside_refusal, refusal_of, uid_of_command, uid_of_number, shown, Owner, State, with_store, has_head, has_tail}
 use Rattle.script.specs.declared.commands.Command.TheVariants as command
 use Rattle.core_map.specs.declared.Frame.TheVariants as frame
 use Rattle.page_table.specs.declared.Ptw.TheVariants as ptw
@@ -7,7 +7,7 @@ use Rattle.active_segs.specs.declared.Entry.{Entry}
 use Rattle.machine_model.specs.declared.Aim.TheVariants as aim
 use Rattle.machine_model.specs.declared.Phase.TheVariants as phase
 use Rattle.machine_model.specs.Actions as act
-use Rattle.machine_model.specs.Finishing.{is_bound, page_of, uid_of}
+use Rattle.machine_model.specs.Finishing.{is_bound, page_of}
 use Rattle.machine_model.specs.Outline.{frame_in}
 use Rattle.machine_model.proofs.ActiveSeen.{active_place}
 use Rattle.machine_model.proofs.ChainFacts.{chain_active, first_there}
@@ -30,7 +30,7 @@ use Rattle.machine_model.proofs.SpeakLaws.{Speaks}
 use Rattle.machine_model.proofs.TakeLists.{listed_bound}
 use Rattle.machine_model.proofs.TieLaws.{none_some}
 use Rattle.machine_model.proofs.TransferKept.{active_at}
-use Rattle.machine_model.proofs.VictimLaws.{has_victim, member_contains, one_read, victim_is_off}
+use Rattle.machine_model.proofs.VictimLaws.{some_there, has_victim, member_contains, one_read, victim_is_off}
 use Rattle.machine_model.proofs.WantLaws.{linked_here, refer_wants, want_here}
 
 -- ---- frames
@@ -56,7 +56,7 @@ full_outlined s h = none_free s.store.pages.core.frames
 
 page_bound : (x : Frame) (page : ℕ × ℕ) → page_of x ≡ Some page → is_bound x ≡ true
 page_bound (frame.Bound u p used modified) page h = refl
-page_bound _ page h = absurd (none_some h)
+page_bound _ page h = cc
 
 module _ (s : State) (k : Keeps s) where
   -- a bound frame
@@ -82,7 +82,7 @@ module _ (s : State) (k : Keeps s) where
     (
       bound_within f (u, at.0) at.1,
       bound_there f (u, at.0) at.1,
-      ap uid_of (bound_outlined s f ∙ at.1) ∙ sym (place_is u active),
+      cc (bound_outlined s f, place_is u active),
     ),
     are_of u active fs (λ g i. h g (has_tail f fs g i)),
   )
@@ -104,19 +104,20 @@ module _ (s : State) (c : ℕ) (m : IsMachine s) (cmd : Command) (sp : Speaks s 
   look = subst (λ (d : ℕ). IsIn (outline_of s) d Look) same (in_look s q mine looks)
 
   idle : IsIdle s.owner
-  idle = subst IsIdle (sym mine) (looking_idle (shown (seen s)) q
-      (subst (IsOwned (shown (seen s))) mine keeps.book.going_owned) looks)
+  idle = subst IsIdle (sym mine) (looking_idle (shown (seen s)) q (rw (← mine) keeps.book.going_owned) looks)
 
   reading_none : (runner_at (outline_of s).runners c).reading ≡ None
-  reading_none = ap (λ (x : Runner). x.reading) (at_outline s c)
-      ∙ (seen_reading (around s) (processor_at s.processors c)
-      ∙ subst (λ (d : ℕ). (cpu_at s.processors d).transfer ≡ None) same (keeps.at_work q mine).idle)
+  reading_none = cc (
+    at_outline s c,
+    seen_reading (around s) (processor_at s.processors c),
+    subst (λ (d : ℕ). (cpu_at s.processors d).transfer ≡ None) same (keeps.at_work q mine).idle,
+  )
 
   want_is : want_at (outline_of s) c ≡ want_by (around s) k cmd (reference_of cmd)
-  want_is = want_here s c k sp.its ∙ ap (want_of (around s) k) sp.next
+  want_is = cc (want_here s c k sp.its)
 
   linked_is : (runner_at (outline_of s).runners c).linked ≡ is_linked (around s) k (reference_of cmd)
-  linked_is = linked_here s c k sp.its ∙ ap (λ (x : Option Command). is_linked (around s) k (reference_in x)) sp.next
+  linked_is = cc (linked_here s c k sp.its)
 
   lack_by : (w : Want) (l : Bool) → want_at (outline_of s) c ≡ w → (runner_at (outline_of s).runners c).linked ≡ l
       → lack_of s c ≡ want_lack (outline_of s) w l None
@@ -131,43 +132,38 @@ module _ (s : State) (c : ℕ) (m : IsMachine s) (cmd : Command) (sp : Speaks s 
       → uid_of_number s.store k r.number ≡ u
       → want_at (outline_of s) c ≡ Refer (chain_of nodes u) u (r.offset / 1024) (makes_of r)
   unfolding makes_of
-  refer_want r is inside u e = want_is ∙ (ap (want_by (around s) k cmd) is
-      ∙ refer_wants s k keeps r u (subst (IsInside s k r) e (inside_is s k r keeps inside)))
+  refer_want r is inside u e = cc (
+    want_is,
+    is,
+    refer_wants s k keeps r u (subst (IsInside s k r) e (inside_is s k r keeps inside)),
+  )
 
   linked_by : (r : Reference) (b : Bool) → reference_of cmd ≡ Some r
       → is_connected (descriptor_of s.store.links k r.number) ≡ b → (runner_at (outline_of s).runners c).linked ≡ b
-  linked_by r b is h = linked_is ∙ (ap (is_linked (around s) k) is ∙ h)
+  linked_by r b is h = cc (linked_is, is, h)
 
   truncate_leads : (path : List (List ℕ)) (words : ℕ) → cmd ≡ command.Truncate path words → refusal_of s k cmd ≡ None
       → LeadsToSegment s path
-  truncate_leads path words is stands = truncate_stands s k keeps path words
-      (subst (λ (x : Command). refusal_of s k x ≡ None) is stands)
+  truncate_leads path words is stands = truncate_stands s k keeps path words (rw (← is) stands)
 
   same_path : (path : List (List ℕ)) (n : Node) → segment_at (flat_of s).nodes path ≡ Ok n
       → segment_at nodes path ≡ Ok n
-  same_path path n h = ap (λ (ns : List Node). segment_at ns path) (sym keeps.faithful.tree.nodes) ∙ h
+  same_path path n h = cc
 
   truncate_want : (path : List (List ℕ)) (words : ℕ) → cmd ≡ command.Truncate path words → refusal_of s k cmd ≡ None
       → (u : ℕ) → uid_of_command s.store k cmd ≡ u
       → want_at (outline_of s) c ≡ Truncate (chain_of nodes u) u (cut_page words)
-  truncate_want path words is stands u e = want_is
-      ∙ (ap (λ (x : Command). want_by (around s) k x (reference_of x)) is
+  truncate_want path words is stands u e = let leads = truncate_leads path words is stands in
+      want_is ∙ (ap (λ (x : Command). want_by (around s) k x (reference_of x)) is
       ∙ (ap (want_truncated nodes words) (same_path path leads.node leads.found)
-      ∙ ap (λ (v : ℕ). Truncate (chain_of nodes v) v (cut_page words))
-      (sym leads.uid ∙ (sym (ap (uid_of_command s.store k) is) ∙ e))))
-    where
-      leads : LeadsToSegment s path
-      leads = truncate_leads path words is stands
+      ∙ ap (λ (v : ℕ). Truncate (chain_of nodes v) v (cut_page words)) (cc (leads.uid, is, e))))
 
   length_want : (path : List (List ℕ)) (pages : ℕ) → cmd ≡ command.Length path pages → refusal_of s k cmd ≡ None
       → (u : ℕ) → uid_of_command s.store k cmd ≡ u → want_at (outline_of s) c ≡ Length u
-  length_want path pages is stands u e = want_is
-      ∙ (ap (λ (x : Command). want_by (around s) k x (reference_of x)) is
+  length_want path pages is stands u e = let leads = length_stands s k keeps path pages (rw (← is) stands) in
+      want_is ∙ (ap (λ (x : Command). want_by (around s) k x (reference_of x)) is
       ∙ (ap want_lengthened (same_path path leads.node leads.found)
       ∙ ap (λ (v : ℕ). Length v) (sym leads.uid ∙ (sym (ap (uid_of_command s.store k) is) ∙ e))))
-    where
-      leads : LeadsToSegment s path
-      leads = length_stands s k keeps path pages (subst (λ (x : Command). refusal_of s k x ≡ None) is stands)
 
   about_chain : (u : ℕ) → IsAbout s k cmd u → wanted_chain (want_at (outline_of s) c) ≡ chain_of nodes u
   about_chain u h = elim h.case [
@@ -188,28 +184,31 @@ module _ (s : State) (c : ℕ) (m : IsMachine s) (cmd : Command) (sp : Speaks s 
       → want_at (outline_of s) c ≡ Refer (chain_of nodes u) u p (makes_of r)
   page_want r u p finds = cc (refer_want r finds.is finds.inside u finds.uid)
 
-  page_linked : (r : Reference) (u p : ℕ) → FindsPage s k cmd r u p
-      → (runner_at (outline_of s).runners c).linked ≡ true
+  page_linked : (r : Reference) (u p : ℕ) → FindsPage s k cmd r u p → (runner_at (outline_of s).runners c).linked ≡ true
   page_linked r u p finds = linked_by r true finds.is (ap is_connected finds.linked)
 
-  cut_want : (u p : ℕ) → FindsCut s k cmd u p
-      → want_at (outline_of s) c ≡ Truncate (chain_of nodes u) u (Some p)
+  cut_want : (u p : ℕ) → FindsCut s k cmd u p → want_at (outline_of s) c ≡ Truncate (chain_of nodes u) u (Some p)
   cut_want u p finds = cc (truncate_want finds.path finds.words finds.is finds.stands u finds.uid)
 
   has_want : (u p : ℕ) → ((r : Reference) × FindsPage s k cmd r u p) ⊎ FindsCut s k cmd u p → HasWant u p
   has_want u p (inl x) = record {
     active = page_active s c (no_call s) m idle cmd sp x.0 u p x.1;
     wants = rw (page_want x.0 u p x.1) (page_linked x.0 u p x.1, refl, refl);
-    here = ap (is_wanted_here (outline_of s).frames) (page_want x.0 u p x.1);
-    lacks = λ h. lack_by (Refer (chain_of nodes u) u p (makes_of x.0)) true (page_want x.0 u p x.1)
-        (page_linked x.0 u p x.1) ∙ ap (λ (b : Bool). cond {A = ℕ} (true && b) 0 1) (h (makes_of x.0));
+    here = cc (page_want x.0 u p x.1);
+    lacks = λ h. cc (
+      lack_by (Refer (chain_of nodes u) u p (makes_of x.0)) true (page_want x.0 u p x.1) (page_linked x.0 u p x.1),
+      h (makes_of x.0),
+    );
   }
   has_want u p (inr x) = record {
     active = chain_active nodes keeps.store.accounts.tree s.store.ast u x.chain;
     wants = rw (cut_want u p x) (refl, refl);
-    here = ap (is_wanted_here (outline_of s).frames) (cut_want u p x);
-    lacks = λ h. lack_by (Truncate (chain_of nodes u) u (Some p)) (runner_at (outline_of s).runners c).linked
-        (cut_want u p x) refl ∙ ap (λ (b : Bool). cond {A = ℕ} (true && b) 0 1) (h false);
+    here = cc (cut_want u p x);
+    lacks = λ h. cc (
+      lack_by (Truncate (chain_of nodes u) u (Some p)) (runner_at (outline_of s).runners c).linked
+          (cut_want u p x) refl,
+      h false,
+    );
   }
 
   out_fits : (u p : ℕ) (makes : Bool) → is_active s.store.ast u ≡ true
@@ -236,7 +235,7 @@ module _ (s : State) (c : ℕ) (m : IsMachine s) (cmd : Command) (sp : Speaks s 
     look = look;
     free = frame_outlined s f ∙ ap bare (is_free_is (store_frame s.store.pages f)
         (position_at is_free s.store.pages.core.frames frame.Free f finds.frame).1);
-    within = subst (λ (n : ℕ). f < n) (sym (long_frames s)) (free_frame s.store.pages.core f finds.frame).0;
+    within = rw (long_frames s) (free_frame s.store.pages.core f finds.frame).0;
     lacks = want.lacks (λ makes. out_fits u p makes want.active finds.out);
     wants = want.wants;
   }
@@ -272,8 +271,7 @@ module _ (s : State) (c : ℕ) (m : IsMachine s) (cmd : Command) (sp : Speaks s 
       nowhere _ e = ap names e
 
   -- all is there for a reference
-  all_fits : (h : FindsAll s k cmd) (w : Ptw)
-      → word_of s.store.ast h.uid (h.reference.offset / 1024) ≡ w
+  all_fits : (h : FindsAll s k cmd) (w : Ptw) → word_of s.store.ast h.uid (h.reference.offset / 1024) ≡ w
       → page_fits (outline_of s) None h.uid (h.reference.offset / 1024) (makes_of h.reference) ≡ true
   unfolding makes_of
   all_fits h ptw.Null e = cc (
@@ -286,7 +284,7 @@ module _ (s : State) (c : ℕ) (m : IsMachine s) (cmd : Command) (sp : Speaks s 
       or_true : (b : Bool) → (b || true) ≡ true
       or_true true = refl
       or_true false = refl
-  all_fits h (ptw.Out n) e = absurd (not_both (ap is_out e) h.out)
+  all_fits h (ptw.Out n) e = cc
   all_fits h (ptw.Here f) e = rw (named_here s keeps h.uid (h.reference.offset / 1024) f (ap names e))
   all_fits h (ptw.Leaving f) e = rw (named_here s keeps h.uid (h.reference.offset / 1024) f (ap names e))
 
@@ -332,25 +330,24 @@ module _ (s : State) (c : ℕ) (m : IsMachine s) (cmd : Command) (sp : Speaks s 
       here = sp.its;
       only = λ d other e. other (m.scheduled.alone d c k e sp.its);
     };
-    next = ap reference_in sp.next ∙ finds.is;
+    next = cc;
     there = record {
-      process = subst (λ (x : ℕ). k < x) (sym keeps.store.kept.linked.lists.processes) within.0;
-      number = subst (λ (x : ℕ). n < x) (sym (keeps.store.kept.linked.lists.words k within.0)) within.1;
+      process = rw keeps.store.kept.linked.lists.processes within.0;
+      number = rw (keeps.store.kept.linked.lists.words k within.0) within.1;
     };
     within = sp.there;
     off = linked_by finds.reference false finds.is (cc);
   }
     where
       uid_is : uid_of_number s.store k finds.reference.number ≡ u
-      uid_is = ap (uid_of_number s.store k) finds.number ∙ finds.uid
+      uid_is = cc
 
       inside : IsInside s k finds.reference u
       inside = subst (IsInside s k finds.reference) uid_is (inside_is s k finds.reference keeps finds.inside)
 
       within : (k < length s.store.links.known) × (n < 256)
       within = known_within s c (no_call s) m idle cmd sp n u
-          (ap (λ (x : List (List (Option ℕ))). known_of (kst_at x k) n) (sym keeps.faithful.known)
-          ∙ subst (λ (x : ℕ). known_uid (flat_of s) k x ≡ Some u) finds.number inside.known)
+          (cc (subst (λ (x : ℕ). known_uid (flat_of s) k x ≡ Some u) finds.number inside.known))
 
   -- ---- a segment is emptied
 
@@ -371,25 +368,23 @@ module _ (s : State) (c : ℕ) (m : IsMachine s) (cmd : Command) (sp : Speaks s 
   }
 
   empty_finds : (u : ℕ) → FindsActive s k cmd u → MayEmpty s (deactivation_begun s c u) c u
-  empty_finds u finds = may_empty (deactivation_begun s c u) u finds.active
-      (cc (
-        length_want finds.path finds.pages finds.is finds.stands u finds.uid,
-        used (entry_at s.store.ast.entries (place_of s.store.ast.entries u))
-            (active_place s.store.ast u finds.active).1,
-      ))
-      (tree_link s (deactivation_begun s c u) c k sp.its (segment s c u (frames_from s.store.ast u 0)
+  empty_finds u finds = may_empty (deactivation_begun s c u) u finds.active (cc (
+    length_want finds.path finds.pages finds.is finds.stands u finds.uid,
+    used (entry_at s.store.ast.entries (place_of s.store.ast.entries u)) (active_place s.store.ast u finds.active).1,
+  )) (tree_link s (deactivation_begun s c u) c k sp.its (segment s c u (frames_from s.store.ast u 0)
       (trailers_in s.store u)) cmd sp.next (ap reference_of finds.is))
     where
       used : (o : Option Entry) → uid_in o ≡ Some u → off_chain [] o ≡ true
-      used None h = absurd (none_some h)
+      used None h = cc
       used (Some e) h = refl
 
   victim_finds : (pool : ℕ) (chain : List ℕ) (u : ℕ) → FindsVictim s k cmd pool chain u
       → MayEmpty s (victim_taken s c pool chain u) c u
-  victim_finds pool chain u finds = by (entry_at s.store.ast.entries finds.place) refl off_there
+  victim_finds pool chain u finds = may_empty (victim_taken s c pool chain u) u active
+      (cc (about_chain finds.link.about finds.link.case, place_same, off_there)) link
     where
       victim : victim_of s.store.ast pool (chain_of nodes finds.link.about) ≡ Some finds.place
-      victim = ap (victim_of s.store.ast pool) (sym finds.link.chain_is) ∙ finds.victim
+      victim = cc
 
       off_there : off_chain (chain_of nodes finds.link.about) (entry_at s.store.ast.entries finds.place) ≡ true
       off_there = victim_is_off s keeps finds.link.about pool finds.place victim
@@ -409,51 +404,39 @@ module _ (s : State) (c : ℕ) (m : IsMachine s) (cmd : Command) (sp : Speaks s 
         | inr x ↦ tree_link s (victim_taken s c pool chain u) c k sp.its runs cmd sp.next (ap reference_of x.2)
       ]
 
-      by : (o : Option Entry) → entry_at s.store.ast.entries finds.place ≡ o
-          → off_chain (chain_of nodes finds.link.about) (entry_at s.store.ast.entries finds.place) ≡ true
-          → MayEmpty s (victim_taken s c pool chain u) c u
-      by None e off = absurd (not_both off (ap (off_chain (chain_of nodes finds.link.about)) e))
-      by (Some x) e off = may_empty (victim_taken s c pool chain u) u active
-          (cc (about_chain finds.link.about finds.link.case, place_same)) link
-        where
-          at : uid_at s.store.ast.entries finds.place ≡ Some u
-          at = ap uid_in e ∙ ap (λ (v : ℕ). Some v) (sym (finds.uid ∙ ap or_zero (ap uid_in e)))
+      used : (x : Entry) × (entry_at s.store.ast.entries finds.place ≡ Some x)
+          × (not (list_any (λ v. eqb v x.uid) (chain_of nodes finds.link.about)) ≡ true)
+      used = passed_there (λ (x : Entry). not (list_any (λ v. eqb v x.uid) (chain_of nodes finds.link.about)))
+          (entry_at s.store.ast.entries finds.place) off_there
 
-          active : is_active s.store.ast u ≡ true
-          active = active_at s.store.ast finds.place u at
+      at : uid_at s.store.ast.entries finds.place ≡ Some u
+      at = ap uid_in used.1 ∙ ap (λ (v : ℕ). Some v) (sym (finds.uid ∙ ap or_zero (ap uid_in used.1)))
 
-          place_same : place_of s.store.ast.entries u ≡ finds.place
-          place_same = keeps.store.kept.tree.once (place_of s.store.ast.entries u) finds.place u
-              (active_place s.store.ast u active).1 at
+      active : is_active s.store.ast u ≡ true
+      active = active_at s.store.ast finds.place u at
+
+      place_same : place_of s.store.ast.entries u ≡ finds.place
+      place_same = keeps.store.kept.tree.once (place_of s.store.ast.entries u) finds.place u
+          (active_place s.store.ast u active).1 at
 
   -- ---- nothing is lacking that could be had
 
   no_victim : FindsNoVictim s k cmd → ⊥
-  no_victim h = by (node_in nodes h.wanted) refl (first_there nodes keeps.store.accounts.tree s.store.ast h.link.about
-      h.wanted (about_there s c (no_call s) m idle cmd sp h.link.about h.link.case) first)
-    where
-      first : first_inactive s.store.ast (chain_of nodes h.link.about) ≡ Some h.wanted
-      first = ap (first_inactive s.store.ast) (sym h.link.chain_is) ∙ h.link.first
-
-      by : (x : Option Node) → node_in nodes h.wanted ≡ x → is_some x ≡ true → ⊥
-      by None e i = let none : false ≡ true = i in cc
-      by (Some n) e i = has_victim s m h.link.about h.wanted first n e
-          (ap (λ (y : Option Node). free_place s.store.ast (pool_of_node y)) (sym e) ∙ h.full) (cc h.link.chain_is)
+  no_victim h = let first : first_inactive s.store.ast (chain_of nodes h.link.about) ≡ Some h.wanted = cc in
+      let n = some_there (node_in nodes h.wanted) (first_there nodes keeps.store.accounts.tree s.store.ast
+      h.link.about h.wanted (about_there s c (no_call s) m idle cmd sp h.link.about h.link.case) first) in
+      has_victim s m h.link.about h.wanted first n.0 n.1 (cc) (cc h.link.chain_is)
 
   no_frame : FindsNoFrame s → ⊥
-  no_frame h = one_read s.store.pages.core (let sizes = keeps.sizes.frames in let four = m.script.frames.0 in
-      omega (arith, sizes, four)) h.full h.choice h.unread
+  no_frame h = one_read s.store.pages.core (omega arith) h.full h.choice h.unread
 
   -- ---- the whole
 
   may : MayAnswer s c
-  may = has_answer s c m sp.there (ap (λ (x : Option ℕ). is_some x) sp.its)
+  may = has_answer s c m sp.there (cc)
 
   looks_like : (a : act.Action) → LookFinds s k cmd a → IsLook s c a
   looks_like (act.Waits (act.ForTransfer f)) h = waits_reading s k cmd f h
-  looks_like (act.Waits (act.ForOwner d)) h = absurd h
-  looks_like (act.Waits (act.ForClear d)) h = absurd h
-  looks_like (act.Waits (act.WhileIdle n)) h = absurd h
   looks_like (act.Answer r) h = may
   looks_like act.GiveUp (inl h) = all_finds h
   looks_like act.GiveUp (inr (inl h)) = absurd (no_frame h)

@@ -15,22 +15,22 @@ goes_self s c stage owner = inl (record {
 past_on : (a b d : Outline) (c : ℕ) → IsUnderWay a b c → IsPast b d c → IsPast a d c
 past_on a b d c under past = record {
   owner = past.owner;
-  gone = subst (λ (n : ℕ). is_at (runner_at d.runners c) n ≡ false) under.same.since past.gone;
-  all = let one = past.all in let two = under.same.all in omega (arith, one, two);
+  gone = rw (← under.same.since) past.gone;
+  all = omega arith;
 }
 
 same_on : (a b d : Outline) (c : ℕ) → IsSameCommand a b c → IsSameCommand b d c → IsSameCommand a d c
-same_on a b d c one two = record {
-  want = two.want ∙ one.want;
-  since = two.since ∙ one.since;
-  running = two.running ∙ one.running;
-  all = le_trans two.all one.all;
-}
+same_on a b d c one two = assumption (
+  two.want ∙ one.want,
+  two.since ∙ one.since,
+  two.running ∙ one.running,
+  le_trans two.all one.all,
+)
 
 -- what a job lacks that lacked no more before, or the kind of its command
 before_on : (a b : Outline) (c : ℕ) → IsUnderWay a b c → lack_at a c ≤ 1
     → (lack_at b c ≡ 1) ⊎ IsReference (want_at b c) → (lack_at a c ≡ 1) ⊎ IsReference (want_at a c)
-before_on a b c under few (inl h) = let more = under.lack in inl (omega (arith, few, h, more))
+before_on a b c under few (inl h) = let more = under.lack in inl (omega arith)
 before_on a b c under few (inr h) = inr (subst IsReference under.same.want h)
 
 -- a job that is under way goes on with its next turn
@@ -88,9 +88,7 @@ bit_few false = omega arith
 lacks_less : (s t : Outline) (c : ℕ) → lack_at s c ≡ 1 → lack_at t c ≡ 0 → command_rank t c < command_rank s c
 unfolding command_rank
 lacks_less s t c was now =
-    let held = missing_few (runner_at t.runners c) in
-    let reads = bit_few (is_some (runner_at t.runners c).reading) in
-    omega (arith, was, now, held, reads)
+    omega (arith, missing_few (runner_at t.runners c), bit_few (is_some (runner_at t.runners c).reading))
 
 all_owner : (s : Outline) (c : ℕ) → all_rank (at_stage s c Look) ≡ all_rank s
 unfolding all_rank
@@ -100,12 +98,12 @@ lacked : (s b : Outline) (c : ℕ) → HasTaken s b c → (lack_at b c ≡ 1) �
 lacked s b c taken before = by taken.why before
   where
     same : lack_at b c ≡ lack_at s c
-    same = ap (λ (x : Outline). lack_at x c) taken.now
+    same = cc
 
     by : (lack_at s c ≡ 1) ⊎ (IsReference (want_at s c) → ⊥) → (lack_at b c ≡ 1) ⊎ IsReference (want_at b c)
         → lack_at s c ≡ 1
     by (inl h) any = h
-    by (inr h) (inl i) = sym same ∙ i
+    by (inr h) (inl i) = cc
     by (inr h) (inr i) = absurd (h (subst (λ (x : Outline). IsReference (want_at x c)) taken.now i))
 
 -- a processor took the supervisor, and the job that it began is done
@@ -113,15 +111,15 @@ pub taken_done : (s b t : Outline) (c : ℕ) → HasTaken s b c → JobDone b t 
 taken_done s b t c taken (inl past) = inl (record {
   owner = past.owner;
   gone = rw taken.now at past.gone;
-  all = let less = past.all in let same = ap all_rank taken.now ∙ all_owner s c in omega (arith, less, same);
+  all = omega (arith, ap all_rank taken.now ∙ all_owner s c);
 })
 taken_done s b t c taken (inr mended) = inr (record {
   owner = mended.owner;
   same = record {
-    want = mended.same.want ∙ ap (λ (x : Outline). want_at x c) taken.now;
-    since = mended.same.since ∙ ap (λ (x : Outline). (runner_at x.runners c).since) taken.now;
-    running = mended.same.running ∙ ap (λ (x : Outline). (runner_at x.runners c).running) taken.now;
-    all = let le = mended.same.all in let same = ap all_rank taken.now ∙ all_owner s c in omega (arith, le, same);
+    want = cc;
+    since = cc;
+    running = cc;
+    all = omega (arith, ap all_rank taken.now ∙ all_owner s c);
   };
   rank = lacks_less s t c (lacked s b c taken mended.before) mended.now;
 })
@@ -138,49 +136,41 @@ at_since x since h = by x.running h
     by true e = elim (eqb_tells x.since since) [
       | inl i ↦ i.1
       | inr n ↦
-          (let no : true ≡ false = sym e ∙ n.0 in absurd cc)
+          (let no = sym e ∙ n.0 in absurd cc)
     ]
-    by false e = let no : false ≡ true = e in absurd cc
+    by false e = let no = e in absurd cc
 
 -- the measure of the loop falls with each turn
 pub way_falls : (s t : Outline) (c since : ℕ) → is_at (runner_at s.runners c) since ≡ true → CommandDone s t c
     → command_gauge t c since < command_gauge s c since
 way_falls s t c since is (inl past) =
     let gone : is_at (runner_at t.runners c) since ≡ false =
-    subst (λ (n : ℕ). is_at (runner_at t.runners c) n ≡ false) (at_since (runner_at s.runners c) since is) past.gone in
-    let a : command_gauge t c since ≡ 0 = ap (λ (b : Bool). cond {A = ℕ} b (command_rank t c + 1) 0) gone in
-    let b : command_gauge s c since ≡ command_rank s c + 1 =
-    ap (λ (b : Bool). cond {A = ℕ} b (command_rank s c + 1) 0) is in
-    omega (arith, a, b)
+    rw (← (at_since (runner_at s.runners c) since is)) past.gone in
+    let a = ap (λ (b : Bool). cond {A = ℕ} b (command_rank t c + 1) 0) gone in
+    let b = ap (λ (b : Bool). cond {A = ℕ} b (command_rank s c + 1) 0) is in
+    omega arith
 way_falls s t c since is (inr nearer) =
-    let still : is_at (runner_at t.runners c) since ≡ true =
+    let still =
     is_at_same (runner_at s.runners c) (runner_at t.runners c) since nearer.same.running nearer.same.since ∙ is in
     let a : command_gauge t c since ≡ command_rank t c + 1 =
     ap (λ (b : Bool). cond {A = ℕ} b (command_rank t c + 1) 0) still in
-    let b : command_gauge s c since ≡ command_rank s c + 1 =
-    ap (λ (b : Bool). cond {A = ℕ} b (command_rank s c + 1) 0) is in
-    let less = nearer.rank in
-    omega (arith, a, b, less)
+    let b = ap (λ (b : Bool). cond {A = ℕ} b (command_rank s c + 1) 0) is in
+    omega arith
 
 -- the measure of all commands is less once the command is past, and no more before
 pub way_next : (s t : Outline) (c since all : ℕ) → is_at (runner_at s.runners c) since ≡ true
     → all_rank s + cond (is_at (runner_at s.runners c) since) 0 1 ≤ all → CommandDone s t c
     → all_rank t + cond (is_at (runner_at t.runners c) since) 0 1 ≤ all
-way_next s t c since all is way (inl past) =
-    let less = past.all in
-    let bit = bit_few_other (is_at (runner_at t.runners c) since) in
-    omega (arith, way, less, bit)
+way_next s t c since all is way (inl past) = omega (arith, bit_few_other (is_at (runner_at t.runners c) since))
   where
     bit_few_other : (b : Bool) → cond {A = ℕ} b 0 1 ≤ 1
     bit_few_other true = omega arith
     bit_few_other false = omega arith
 way_next s t c since all is way (inr nearer) =
     let le = nearer.same.all in
-    let still : cond {A = ℕ} (is_at (runner_at t.runners c) since) 0 1 ≡ cond (is_at (runner_at s.runners c) since) 0
-    1 =
-    ap (λ (b : Bool). cond {A = ℕ} b 0 1)
+    let still = ap (λ (b : Bool). cond {A = ℕ} b 0 1)
     (is_at_same (runner_at s.runners c) (runner_at t.runners c) since nearer.same.running nearer.same.since) in
-    omega (arith, way, le, still)
+    omega arith
 
 -- the loop over a command is over: a round is done
 pub round_done : (s t : Outline) (c since : ℕ) → t.owner ≡ None
@@ -188,7 +178,6 @@ pub round_done : (s t : Outline) (c since : ℕ) → t.owner ≡ None
     → is_at (runner_at t.runners c) since ≡ false → RoundDone s t
 round_done s t c since none way gone = record {
   owner = none;
-  all = let bit : cond {A = ℕ} (is_at (runner_at t.runners c) since) 0 1 ≡ 1 =
-      ap (λ (b : Bool). cond {A = ℕ} b 0 1) gone in
-      omega (arith, way, bit);
+  all = let bit = ap (λ (b : Bool). cond {A = ℕ} b 0 1) gone in
+      omega arith;
 }

@@ -17,7 +17,7 @@ module _ (p : Plan) (words : List (List ℕ)) (disks : List (List (List ℕ))) (
       none_some (sym (ap (λ (x : Processor). x.cpu.transfer) (at_fill p.processors no_processor d)) ∙ h)
 
   goes : (k : ℕ) → k < length p.processes → (run_at (replicate (length p.processes) first_run) k).ended ≡ false
-  goes k h = ap (λ (r : Run). r.ended) (get_or-replicate (length p.processes) k first_run no_run h)
+  goes k h = cc (get_or-replicate (length p.processes) k first_run no_run h)
 
   some_process : (xs : List ProcessPlan) → BeginsWithInitializer xs → 0 < length xs
   some_process [] h = absurd h
@@ -31,11 +31,11 @@ module _ (p : Plan) (words : List (List ℕ)) (disks : List (List (List ℕ))) (
       by : ((eqb 0 k ≡ true) × (0 ≡ k)) ⊎ ((eqb 0 k ≡ false) × (0 ≢ k))
           → (k < length p.processes) × HasTurn p (replicate (length p.processes) first_run) k
       by (inl same) = (
-        subst (λ (j : ℕ). j < length p.processes) same.1 (some_process p.processes (script.first e)),
+        rw (← same.1) (some_process p.processes (script.first e)),
         inr (inl (sym same.1)),
       )
-      by (inr other) = absurd (let none : false ≡ true = sym (ap (λ (a : Bool). a || false) other.0) ∙ h in cc)
-  ready_is false e k h = (let at = (in_range 0 (length p.processes) k h).1 in omega (arith, at), inl e)
+      by (inr other) = cc
+  ready_is false e k h = (omega (arith, (in_range 0 (length p.processes) k h).1), inl e)
 
   once : (b : Bool) → AreDistinct (cond b (0 ∷ []) (range 0 (length p.processes)))
   once true = (refl, tt)
@@ -47,7 +47,7 @@ module _ (p : Plan) (words : List (List ℕ)) (disks : List (List (List ℕ))) (
     online = λ d k h. absurd (nobody d k h);
     alone = λ d e k h g. absurd (nobody d k h);
     waiting = λ k h. (let at = ready_is p.initializer refl k h in
-        record { planned = at.0; going = goes k at.0; turn = at.1 });
+        assumption (goes k at.0));
     once = once p.initializer;
     apart = λ d k h. absurd (nobody d k h);
     back = λ i e k h. goes k h;

@@ -66,7 +66,7 @@ module _ (s t : State) (c : ℕ) (going : IsGoing s) (keeps : KeepsAll t) (there
 
 -- the processor that is waited for is there
 pub late_there : (s : State) (c d : ℕ) → AwaitsClear (outline_of s) c d → d < length s.processors
-late_there s c d awaits = subst (λ (n : ℕ). d < n) (long_outline s) (inside (outline_of s).runners d awaits.online)
+late_there s c d awaits = rw (← (long_outline s)) (inside (outline_of s).runners d awaits.online)
 
 -- it cleared
 pub cleared_turn : (s t : State) (c d : ℕ) → IsGoing s → AwaitsClear (outline_of s) c d → HasStepped s t d
@@ -85,7 +85,7 @@ pub read_turn : (s t : State) (c f d : ℕ) → IsGoing s → KeepsAll t → Awa
     → IsReader (outline_of s) f d → HasStepped s t d → JobFell (outline_of s) (outline_of t) c
 read_turn s t c f d going keeps awaits reader stepped = waited_fell (outline_of s) (outline_of t) c
     (read_step (outline_of s) c f d (turn_of (action_of s d)) (outline_of t) (kept_of s going.keeps) (kept_of t keeps)
-    awaits reader (machine_step s t d going (subst (λ (n : ℕ). d < n) (long_outline s) reader.within) stepped))
+    awaits reader (machine_step s t d going (rw (← (long_outline s)) reader.within) stepped))
 
 -- ---- a job
 
@@ -130,7 +130,7 @@ job_freed a b c (inr mended) = no_owner b mended.owner
 
 looking_is : (s t : State) (c : ℕ) → HasTaken (outline_of s) (outline_of t) c
     → (outline_of t).owner ≡ Some (record { cpu = c; stage = Look })
-looking_is s t c taken = ap (λ (x : Outline). x.owner) taken.now
+looking_is s t c taken = cc
 
 done_free : (s t : State) (c : ℕ) → CommandDone (outline_of s) (outline_of t) c → (outline_of t).owner ≡ None
 done_free s t c (inl past) = past.owner
@@ -158,8 +158,7 @@ module _ (s t : State) (c : ℕ) (going : IsGoing s) (keeps : KeepsAll t) (there
   moved = subst (λ (x : Turn). CommandStep x (outline_of s) (outline_of t) c) command_moves command_turn
 
   -- it took the supervisor, so its job follows
-  pub command_took : (q : Owner) → t.owner ≡ Some q
-      → IsOwnedBy t c × HasTaken (outline_of s) (outline_of t) c
+  pub command_took : (q : Owner) → t.owner ≡ Some q → IsOwnedBy t c × HasTaken (outline_of s) (outline_of t) c
   command_took q mine = by moved
     where
       is : (outline_of t).owner ≡ Some (record {
@@ -178,7 +177,7 @@ module _ (s t : State) (c : ℕ) (going : IsGoing s) (keeps : KeepsAll t) (there
         },
         taken,
       )
-      by (inr done) = absurd (none_some (sym (done_free s t c done) ∙ is))
+      by (inr done) = cc (done_free s t c done, is)
 
   -- or the turn is done
   pub command_free : t.owner ≡ None → CommandDone (outline_of s) (outline_of t) c
@@ -186,7 +185,7 @@ module _ (s t : State) (c : ℕ) (going : IsGoing s) (keeps : KeepsAll t) (there
     where
       by : HasTaken (outline_of s) (outline_of t) c ⊎ CommandDone (outline_of s) (outline_of t) c
           → CommandDone (outline_of s) (outline_of t) c
-      by (inl taken) = absurd (none_some (sym (owner_none t free) ∙ looking_is s t c taken))
+      by (inl taken) = cc (owner_none t free, looking_is s t c taken)
       by (inr done) = done
 
 -- the job that it took the supervisor for is done
@@ -203,23 +202,22 @@ pub at_seen : (s : State) (c since : ℕ) → KeepsAll s → is_at (runner_at (o
 at_seen s c since all = λ i. running_is s all.machine.keeps c i && eqb (since_is i) since
   where
     since_is : (runner_at (outline_of s).runners c).since ≡ (processor_at s.processors c).count
-    since_is = ap (λ (x : Runner). x.since) (at_outline s c) ∙ seen_since (around s) (processor_at s.processors c)
+    since_is = cc (at_outline s c, seen_since (around s) (processor_at s.processors c))
 
 -- at its start the loop over a command is on its way
 pub way_start : (s : State) (c since : ℕ) → is_at (runner_at (outline_of s).runners c) since ≡ true
     → all_rank (outline_of s) + cond (is_at (runner_at (outline_of s).runners c) since) 0 1 ≤ all_rank (outline_of s)
-way_start s c since at = let none : cond {A = ℕ} (is_at (runner_at (outline_of s).runners c) since) 0 1 ≡ 0 =
-    ap (λ (b : Bool). cond {A = ℕ} b 0 1) at in omega (arith, none)
+way_start s c since at = let none = ap (λ (b : Bool). cond {A = ℕ} b 0 1) at in omega arith
 
 -- ---- the end
 
 none_runs : (ps : List Processor) → list_any has_process ps ≡ true
     → ((d : ℕ) → is_some (cpu_at ps d).process ≡ false) → ⊥
-none_runs [] h idle = let none : false ≡ true = h in cc
+none_runs [] h idle = let none = h in cc
 none_runs (p ∷ ps) h idle = by (has_process p) (idle zero) h (λ i. none_runs ps i (λ d. idle (suc d)))
   where
     by : (b : Bool) → b ≡ false → (b || list_any has_process ps) ≡ true → (list_any has_process ps ≡ true → ⊥) → ⊥
-    by true e i rest = let none : true ≡ false = e in cc
+    by true e i rest = let none = e in cc
     by false e i rest = rest i
 
 -- a machine that isn't over has a process that is ready or running
@@ -230,10 +228,10 @@ not_ended s all more ended = by s.ready refl (list_any has_process s.processors)
     by : (xs : List ℕ) → s.ready ≡ xs → (b : Bool) → list_any has_process s.processors ≡ b
         → (is_empty xs && not b) ≡ false → ⊥
     by [] e true i h = none_runs s.processors i (λ d. sym (running_is s all.machine.keeps d) ∙ ended.running d)
-    by [] e false i h = let none : true ≡ false = h in cc
-    by (k ∷ ks) e b i h = let some : length s.ready ≡ length (k ∷ ks) = ap (λ (ys : List ℕ). length ys) e in
-        let none : length s.ready ≡ 0 = ended.ready in let more : 0 < length (k ∷ ks) = omega arith in
-        omega (arith, some, none, more)
+    by [] e false i h = let none = h in cc
+    by (k ∷ ks) e b i h = let some = ap (λ (ys : List ℕ). length ys) e in
+        let none = ended.ready in let more : 0 < length (k ∷ ks) = omega arith in
+        omega arith
 
 -- ---- rounds
 
@@ -246,4 +244,4 @@ idle_round s t going keeps none idle more stepped = let fell = idle_step (outlin
     (kept_of s going.keeps).sizes.some_runner (owner_none s none)
     (λ d. running_is s going.keeps.machine.keeps d ∙ idle d) (not_ended s going.keeps more)
     (machine_step s t 0 going (rw (long_outline s) at (kept_of s going.keeps).sizes.some_runner) stepped) in
-    record { owner = fell.0; all = fell.1 }
+    assumption

@@ -1,5 +1,5 @@
 -- What a reference that a processor makes by itself asks follows from the promise, and from what it holds.
-use Rattle.machine_model.proofs.Prelude.{◌≡◌, ◌<◌, ℕ, ◌*◌, Bool, true, false, ◌&&◌, ◌||◌, cond, eqb, is_some, suc, List, [], ◌∷◌, map, get_or, Option, Some, None, inl, inr, refl, sym, ap, subst, ◌∙◌, arith, ◌/◌, nat_le, find, option_map, eqb_tells, leb_tells, Mode, Who, ProcessPlan, nobody, who_of, reference_of, Command, RefKind, Reference, Reply, HeldPage, HeldSeg, frame_of, is_number, is_page, seg_of, access_of, Node, node_in, Ptw, Sdw, uid_at, has_record, word_of, who_at, reply_by, reply_to_command, is_stored, alters, new_word, permits, reply_to_reference, room_reply, stores_page, word_reply, written, written_by, Store, known_uid, DescriptorUse, IsPageAt, MayAnswerBy, MayDo, is_word_or_done, stores, has, leads_to, Outcome, AreHeldPages, AreHeldSegs, names, AreEntitled, IsEntitled, IsEntitledToAll, led_to, seen, page_in, AreThere, Keeps, cpu_at, cut_of_owner, descriptor_of, flat_of, is_active, process_at, Says, Seen, cut_uid, cut_use, descriptor_use, is_cut_at, shown, State, Storage, old_word, CutDescriptor, not_both}
+use Rattle.machine_model.proofs.Prelude.{cases_Bool, eqb-true, and_parts, cond_both, eqb_self, ◌≡◌, ℕ, ◌*◌, Bool, true, false, ◌&&◌, ◌||◌, cond, eqb, suc, List, [], ◌∷◌, map, get_or, Option, Some, None, inl, inr, refl, sym, ap, subst, ◌∙◌, arith, ◌/◌, nat_le, find, option_map, eqb_tells, leb_tells, ProcessPlan, nobody, who_of, reference_of, Command, RefKind, Reference, Reply, HeldPage, HeldSeg, frame_of, is_number, is_page, seg_of, access_of, Node, node_in, Ptw, Sdw, uid_at, has_record, word_of, who_at, reply_to_command, is_stored, alters, new_word, permits, reply_to_reference, room_reply, stores_page, word_reply, written, Store, known_uid, DescriptorUse, IsPageAt, MayDo, is_word_or_done, stores, has, leads_to, Outcome, AreHeldPages, AreHeldSegs, names, AreEntitled, IsEntitled, IsEntitledToAll, led_to, seen, page_in, AreThere, Keeps, cpu_at, cut_of_owner, descriptor_of, flat_of, is_active, process_at, Says, Seen, cut_uid, cut_use, descriptor_use, is_cut_at, shown, State, Storage, old_word, CutDescriptor, not_both}
 use Rattle.script.specs.declared.commands.RefKind.TheVariants as kind
 use Rattle.book.specs.declared.replies.Reply.TheVariants as reply
 use Rattle.page_table.specs.declared.Ptw.TheVariants as ptw
@@ -7,7 +7,6 @@ use Rattle.descriptor_seg.specs.declared.Sdw.TheVariants as sdw
 use Rattle.flat_model.specs.References.{after_reference}
 use Rattle.custody_model.specs.Custody.{bound_page}
 use Rattle.machine_model.specs.Actions as act
-use Rattle.machine_model.specs.Jobs.{page_or_zero}
 use Rattle.machine_model.proofs.ActiveKept.{through_seen}
 use Rattle.machine_model.proofs.ChainLaws.{bound_shown}
 use Rattle.machine_model.proofs.FindLaws.{find_true}
@@ -20,8 +19,9 @@ use Rattle.machine_model.proofs.SpeakLaws.{Speaks, can_refuse, can_tell}
 use Rattle.machine_model.proofs.StepKept.{CanGoThrough, CanReply}
 use Rattle.machine_model.proofs.TakeSeen.{binding_is}
 use Rattle.machine_model.proofs.TellKept.{CanTell}
-use Rattle.machine_model.proofs.TieLaws.{none_some}
 use Rattle.machine_model.proofs.TransferKept.{active_at}
+use Rattle.machine_model.proofs.VictimLaws.{some_there}
+use Rattle.std.proofs.lemmas.Option.{same_Some}
 
 -- ---- what is held
 
@@ -33,12 +33,11 @@ AllSegs P (e ∷ es) = P e × AllSegs P es
 -- a descriptor that is found is one of those held
 pub seg_found : (P : HeldSeg → Type 0) (es : List HeldSeg) (n : ℕ) (e : HeldSeg) → find (is_number n) es ≡ Some e
     → AllSegs P es → P e
-seg_found P [] n e h all = absurd (none_some h)
-seg_found P (x ∷ xs) n e h all = by (is_number n x) h (λ i. seg_found P xs n e i all.1)
-  where
-    by : (b : Bool) → cond b (Some x) (find (is_number n) xs) ≡ Some e → (find (is_number n) xs ≡ Some e → P e) → P e
-    by true i rest = let same : x ≡ e = cc in subst P same all.0
-    by false i rest = rest i
+seg_found P [] n e h all = cc
+seg_found P (x ∷ xs) n e h all = elim (cases_Bool (is_number n x)) [
+  | inl is ↦ subst P (same_Some x e (rw is at h)) all.0
+  | inr isnt ↦ seg_found P xs n e (rw isnt at h) all.1
+]
 
 pub entitled_all : (s : State) (k : ℕ) (es : List HeldSeg)
     → AreEntitled s.store.accounts.nodes s.store.whos s.store.links.known k es
@@ -54,60 +53,57 @@ leads_all d k (e ∷ es) h = (h.0, leads_all d k es h.1)
 -- it is held, by its number
 seg_has : (es : List HeldSeg) (n : ℕ) (e : HeldSeg) → find (is_number n) es ≡ Some e
     → has (map (λ x. x.number) es) n ≡ true
-seg_has [] n e h = absurd (none_some h)
-seg_has (x ∷ xs) n e h = by (is_number n x) h (seg_has xs n e)
-  where
-    by : (b : Bool) → cond b (Some x) (find (is_number n) xs) ≡ Some e
-        → (find (is_number n) xs ≡ Some e → has (map (λ y. y.number) xs) n ≡ true)
-        → (b || has (map (λ y. y.number) xs) n) ≡ true
-    by true i rest = refl
-    by false i rest = rest i
+seg_has [] n e h = cc
+seg_has (x ∷ xs) n e h = elim (cases_Bool (is_number n x)) [
+  | inl is ↦ rw is refl
+  | inr isnt ↦ rw isnt (seg_has xs n e (rw isnt at h))
+]
 
 number_is : (n : ℕ) (e : HeldSeg) → is_number n e ≡ true → e.number ≡ n
-number_is n e h = elim (eqb_tells e.number n) [ inl x ↦ x.1 | inr m ↦ absurd (not_both h m.0) ]
+number_is n e h = eqb-true e.number n h
 
 -- so is a page table word, by its frame, which has the page
 page_is_held : (bound : ℕ → Option (ℕ × ℕ)) (es : List HeldPage) (u p f : ℕ)
     → option_map (λ x. x.frame) (find (is_page u p) es) ≡ Some f → AreHeldPages bound es
     → (has (map (λ x. x.frame) es) f ≡ true) × (bound f ≡ Some (u, p))
-page_is_held bound [] u p f h all = absurd (none_some h)
-page_is_held bound (x ∷ xs) u p f h all = by (is_page u p x) refl h (λ i. page_is_held bound xs u p f i all.1)
+page_is_held bound [] u p f h all = cc
+page_is_held bound (x ∷ xs) u p f h all = elim (cases_Bool (is_page u p x)) [
+  | inl e ↦ (let same : x.frame ≡ f = same_Some x.frame f (rw e at h) in let both = same_both x.uid x.page u p e in (
+    cc (same, eqb_self f),
+    ap bound (sym same) ∙ (all.0 ∙ λ j. Some (both.0 j, both.1 j)),
+  ))
+  | inr e ↦ (let both = page_is_held bound xs u p f (rw e at h) all.1 in (or_right (eqb x.frame f) both.0, both.1))
+]
   where
     or_right : (a : Bool) {b : Bool} → b ≡ true → (a || b) ≡ true
     or_right true e = refl
     or_right false e = e
 
-    own : (n : ℕ) → eqb n n ≡ true
-    own n = elim (eqb_tells n n) [ inl e ↦ e.0 | inr m ↦ absurd (m.1 refl) ]
-
     same_both : (a b c d : ℕ) → (eqb a c && eqb b d) ≡ true → (a ≡ c) × (b ≡ d)
-    same_both a b c d e = elim (eqb_tells a c) [
-      | inl y ↦ elim (eqb_tells b d) [ inl z ↦ (y.1, z.1) | inr m ↦ absurd (not_both e (rw (y.0, m.0) refl)) ]
-      | inr m ↦ absurd (not_both e (rw m.0 refl))
-    ]
+    same_both a b c d e = let parts = and_parts (eqb a c) (eqb b d) e in
+        (eqb-true a c parts.0, eqb-true b d parts.1)
 
-    by : (b : Bool) → is_page u p x ≡ b → option_map (λ y. y.frame) (cond b (Some x) (find (is_page u p) xs)) ≡ Some f
-        → (option_map (λ y. y.frame) (find (is_page u p) xs) ≡ Some f
-        → (has (map (λ y. y.frame) xs) f ≡ true) × (bound f ≡ Some (u, p)))
-        → (has (map (λ y. y.frame) (x ∷ xs)) f ≡ true) × (bound f ≡ Some (u, p))
-    by true e i rest = let same : x.frame ≡ f = cc in let both = same_both x.uid x.page u p e in (
-      ap (λ (b : Bool). b || has (map (λ y. y.frame) xs) f) (ap (λ (n : ℕ). eqb n f) same ∙ own f),
-      ap bound (sym same) ∙ (all.0 ∙ λ j. Some (both.0 j, both.1 j)),
-    )
-    by false e i rest = let both = rest i in (or_right (eqb x.frame f) both.0, both.1)
+-- a page that is in a frame is stored
+pub bound_stored : (s : State) → Keeps s → (f u p : ℕ) → is_active s.store.ast u ≡ true
+    → (seen s).bound f ≡ Some (u, p) → is_stored (flat_of s).stored u p ≡ true
+bound_stored s k f u p active bound = stored_is s k u active p
+    ∙ recorded (word_of s.store.ast u p) (k.book.tied.named f u p bound)
+  where
+    recorded : (w : Ptw) → names w ≡ Some f → has_record w ≡ true
+    recorded (ptw.Here g) e = refl
+    recorded (ptw.Leaving g) e = refl
+    recorded _ e = cc
 
 -- ---- a processor that refers by itself
 
 -- a descriptor that was cut is of a segment that is active still
 pub cut_active : (st : Storage) (ds : List CutDescriptor) (k n u : ℕ) → AreThere st ds → cut_uid ds k n ≡ Some u
     → is_active st.ast u ≡ true
-cut_active st [] k n u h e = absurd (none_some e)
-cut_active st (d ∷ ds) k n u h e = by (is_cut_at k n d) e (cut_active st ds k n u h.1)
-  where
-    by : (b : Bool) → cond b (Some d.uid) (cut_uid ds k n) ≡ Some u
-        → (cut_uid ds k n ≡ Some u → is_active st.ast u ≡ true) → is_active st.ast u ≡ true
-    by true i rest = let same : d.uid ≡ u = cc in subst (λ (v : ℕ). is_active st.ast v ≡ true) same h.0.2
-    by false i rest = rest i
+cut_active st [] k n u h e = cc
+cut_active st (d ∷ ds) k n u h e = elim (cases_Bool (is_cut_at k n d)) [
+  | inl is ↦ rw (same_Some d.uid u (rw is at e)) at h.0.2
+  | inr isnt ↦ cut_active st ds k n u h.1 (rw isnt at e)
+]
 
 -- what a descriptor leads to, or led to until it was cut, is active
 pub descriptor_active : (s : State) (k n u : ℕ) → Keeps s → leads_to ((shown (seen s)).descriptor k n) ≡ Some u
@@ -116,7 +112,7 @@ descriptor_active s k n u keeps h = by (descriptor_of s.store.links k n) refl h
   where
     cut_one : (x : Option ℕ) → cut_uid (cut_of_owner s.owner) k n ≡ x → leads_to (cut_use x) ≡ Some u
         → is_active s.store.ast u ≡ true
-    cut_one None e i = absurd (none_some i)
+    cut_one None e i = cc
     cut_one (Some v) e i = cut_active s.store (cut_of_owner s.owner) k n u keeps.cut (e ∙ i)
 
     led : (x : Option ℕ) (aste : ℕ) → uid_at s.store.ast.entries aste ≡ x
@@ -132,7 +128,7 @@ descriptor_active s k n u keeps h = by (descriptor_of s.store.links k n) refl h
 
 -- the principals of the script are those of the store
 pub who_is : (s : State) (keeps : Keeps s) (k : ℕ) → who_at s.store.whos k ≡ who_of s.plan k
-who_is s keeps k = ap (λ (ws : List Who). who_at ws k) keeps.faithful.script.whos ∙ map_who s.plan.processes k
+who_is s keeps k = cc (map_who s.plan.processes k)
   where
     map_who : (ps : List ProcessPlan) (j : ℕ) → who_at (map (λ x. x.who) ps) j
         ≡ (get_or ps j (record { who = nobody; commands = [] })).who
@@ -163,13 +159,11 @@ module _ (s : State) (c : ℕ) (keeps : Keeps s) (entitled : IsEntitledToAll s) 
 
   -- its segment is active, so its node is there
   pub held_active : is_active s.store.ast h.uid ≡ true
-  held_active = descriptor_active s k h.number h.uid keeps
+  held_active = let its_segs = rw speaks.its at (keeps.book.holding_right c).segs in
+      descriptor_active s k h.number h.uid keeps
       (seg_found (λ e. leads_to ((shown (seen s)).descriptor k e.number) ≡ Some e.uid)
       (cpu_at s.processors c).assoc.segs r.number h held (leads_all (shown (seen s)).descriptor k
       (cpu_at s.processors c).assoc.segs its_segs))
-    where
-      its_segs : AreHeldSegs (shown (seen s)).descriptor k (cpu_at s.processors c).assoc.segs
-      its_segs = rw speaks.its at (keeps.book.holding_right c).segs
 
   pub known : known_uid t k r.number ≡ Some h.uid
   known = cc (keeps.faithful.known, number_same, right.stands)
@@ -181,15 +175,12 @@ module _ (s : State) (c : ℕ) (keeps : Keeps s) (entitled : IsEntitledToAll s) 
     pages : h.pages ≡ node.pages
 
   has_node : HasNode
-  has_node = by (node_in s.store.accounts.nodes h.uid) refl (active_there s keeps h.uid held_active)
-    where
-      by : (x : Option Node) → node_in s.store.accounts.nodes h.uid ≡ x → is_some x ≡ true → HasNode
-      by None e i = absurd (let none : false ≡ true = i in cc)
-      by (Some n) e i = record {
-        node = n;
-        there = ap (λ (ns : List Node). node_in ns h.uid) keeps.faithful.tree.nodes ∙ e;
-        mode = right.mode n e ∙ ap (λ (w : Who). access_of w n.rows) (who_is s keeps k);
-        pages = right.pages n e;
+  has_node = let n = some_there (node_in s.store.accounts.nodes h.uid) (active_there s keeps h.uid held_active) in
+      record {
+        node = n.0;
+        there = cc;
+        mode = cc (right.mode n.0 n.1, who_is s keeps k);
+        pages = right.pages n.0 n.1;
       }
 
   -- a reference that the held descriptor refuses
@@ -203,20 +194,19 @@ module _ (s : State) (c : ℕ) (keeps : Keeps s) (entitled : IsEntitledToAll s) 
   too_long on long = cc (known, has_node.there, has_node.mode, has_node.pages)
 
   due : (x : Reply) → reply_to_reference s.plan t k r ≡ x → x ≡ reply_to_command s.plan t k cmd
-  due x e = sym (ap (reply_by s.plan t k cmd) is ∙ e)
+  due x e = cc
 
   pub no_access_asks : permits h.mode r.kind ≡ false → CanReply s c reply.NoAccess
-  no_access_asks off = record {
-    tell = can_refuse s c k cmd reply.NoAccess speaks (due reply.NoAccess (no_access off)) refl;
-    says = refused_says s c k None reply.NoAccess keeps refl;
-  }
+  no_access_asks off = assumption (
+    can_refuse s c k cmd reply.NoAccess speaks (due reply.NoAccess (no_access off)) refl,
+    refused_says s c k None reply.NoAccess keeps refl,
+  )
 
-  pub length_asks : permits h.mode r.kind ≡ true → nat_le (1024 * h.pages) r.offset ≡ true
-      → CanReply s c reply.Length
-  length_asks on long = record {
-    tell = can_refuse s c k cmd reply.Length speaks (due reply.Length (too_long on long)) refl;
-    says = refused_says s c k None reply.Length keeps refl;
-  }
+  pub length_asks : permits h.mode r.kind ≡ true → nat_le (1024 * h.pages) r.offset ≡ true → CanReply s c reply.Length
+  length_asks on long = assumption (
+    can_refuse s c k cmd reply.Length speaks (due reply.Length (too_long on long)) refl,
+    refused_says s c k None reply.Length keeps refl,
+  )
 
   module _ (on : permits h.mode r.kind ≡ true) (short : nat_le (1024 * h.pages) r.offset ≡ false) where
     inside : IsInside s k r h.uid
@@ -224,8 +214,8 @@ module _ (s : State) (c : ℕ) (keeps : Keeps s) (entitled : IsEntitledToAll s) 
       known = known;
       node = has_node.node;
       there = has_node.there;
-      permitted = ap (λ (m : Mode). permits m r.kind) (sym has_node.mode) ∙ on;
-      within = subst (λ (n : ℕ). r.offset < 1024 * n) has_node.pages (elim (leb_tells (1024 * h.pages) r.offset) [
+      permitted = cc (has_node.mode, on);
+      within = rw (← has_node.pages) (elim (leb_tells (1024 * h.pages) r.offset) [
         | inl e ↦ absurd (not_both e.0 short)
         | inr m ↦ (let lt = m.1 in omega (arith, lt))
       ]);
@@ -241,13 +231,10 @@ module _ (s : State) (c : ℕ) (keeps : Keeps s) (entitled : IsEntitledToAll s) 
         → CanReply s c (word_reply 0 r.kind)
     unfolding after_reference
     zero_asks null stays = record {
-      tell = can_tell s c k cmd None (word_reply 0 r.kind) speaks
-          (inl (record {
-            own = due (word_reply 0 r.kind) (zero_due s k r keeps h.uid inside zero_word stays);
-            free = zero_free s k r keeps h.uid inside cmd is zero_word stays;
-          }))
-          (subst (λ (x : Option Reference). MayAnswerBy s.plan t (shown (seen s)) c k None cmd (word_reply 0 r.kind) x)
-          (sym is) (inr (ap (λ (x : Option ℕ). stores t x r.offset) known
+      tell = can_tell s c k cmd None (word_reply 0 r.kind) speaks (inl (record {
+        own = due (word_reply 0 r.kind) (zero_due s k r keeps h.uid inside zero_word stays);
+        free = zero_free s k r keeps h.uid inside cmd is zero_word stays;
+      })) (rw is (inr (ap (λ (x : Option ℕ). stores t x r.offset) known
           ∙ (stored_is s keeps h.uid held_active (r.offset / 1024) ∙ ap has_record null))));
       says = plain_says s c r cmd keeps speaks.next is like;
     }
@@ -258,28 +245,23 @@ module _ (s : State) (c : ℕ) (keeps : Keeps s) (entitled : IsEntitledToAll s) 
         zeros_put : (v o : ℕ) → cond (eqb v h.uid && eqb o r.offset) 0 (t.words v o) ≡ t.words v o
         zeros_put v o = elim (eqb_tells v h.uid) [
           | inl a ↦ elim (eqb_tells o r.offset) [
-            | inl b ↦ rw (a.0, b.0) (sym (ap (λ (x : ℕ). t.words x o) a.1 ∙ (ap (t.words h.uid) b.1 ∙ zero_word)))
+            | inl b ↦ rw (a.0, b.0) (cc (a.1, b.1, zero_word))
             | inr b ↦ rw (a.0, b.0) refl
           ]
           | inr a ↦ rw a.0 refl
         ]
 
-        new_zero : (how : RefKind) → eqb (new_word 0 how) 0 ≡ true → new_word 0 how ≡ 0
-        new_zero how e = elim (eqb_tells (new_word 0 how) 0) [ inl x ↦ x.1 | inr m ↦ absurd (not_both e m.0) ]
-
         zero_written : IsAlike t (written t h.uid r.offset 0)
         zero_written = record { nodes = refl; next = refl; words = zeros_put; stored = refl; known = refl }
 
         like : IsAlike t (after_reference t k r)
-        like = subst (IsAlike t) (sym (ap (written_by t r.offset r.kind) known)) (by (alters r.kind))
-          where
-            by : (b : Bool) → IsAlike t (cond b (written t h.uid r.offset (new_word (t.words h.uid r.offset) r.kind)) t)
-            by true = rw (ap (λ (w : ℕ). new_word w r.kind) zero_word ∙ new_zero r.kind stays) zero_written
-            by false = alike t
+        like = subst (IsAlike t) (cc (known)) (cond_both (alters r.kind)
+            (written t h.uid r.offset (new_word (t.words h.uid r.offset) r.kind)) t (IsAlike t)
+            (λ h. (rw (ap (λ (w : ℕ). new_word w r.kind) zero_word ∙ eqb-true (new_word 0 r.kind) 0 stays)
+            zero_written)) (λ h. alike t))
 
     -- a page that is held goes through its frame
-    pub through_asks : (o : Outcome) (f : ℕ)
-        → frame_of (cpu_at s.processors c).assoc h.uid (r.offset / 1024) ≡ Some f
+    pub through_asks : (o : Outcome) (f : ℕ) → frame_of (cpu_at s.processors c).assoc h.uid (r.offset / 1024) ≡ Some f
         → Says s c o (act.Through f r) → CanGoThrough s c f r
     through_asks o f found says = record {
       tell = record {
@@ -302,38 +284,29 @@ module _ (s : State) (c : ℕ) (keeps : Keeps s) (entitled : IsEntitledToAll s) 
         answer = word_reply (old_word s.store.pages f r) r.kind
 
         page_at : page_in s.store f ≡ (h.uid, r.offset / 1024)
-        page_at = ap page_or_zero (sym (binding_is s f) ∙ both.1)
+        page_at = cc (binding_is s f, both.1)
 
         old_is : old_word s.store.pages f r ≡ t.words h.uid r.offset
         old_is = sym (bound_word s keeps h.uid held_active f r.offset both.1)
 
         stored : is_stored t.stored h.uid (r.offset / 1024) ≡ true
-        stored = stored_is s keeps h.uid held_active (r.offset / 1024)
-            ∙ recorded (word_of s.store.ast h.uid (r.offset / 1024))
-            (keeps.book.tied.named f h.uid (r.offset / 1024) both.1)
-          where
-            recorded : (w : Ptw) → names w ≡ Some f → has_record w ≡ true
-            recorded (ptw.Here g) e = refl
-            recorded (ptw.Leaving g) e = refl
-            recorded _ e = absurd (none_some e)
+        stored = bound_stored s keeps f h.uid (r.offset / 1024) held_active both.1
 
         tells : CanTell s c k (Some f) answer
-        tells = can_tell s c k cmd (Some f) answer speaks
-            (inl (record {
-              own = ap (λ (w : ℕ). word_reply w r.kind) old_is
-                  ∙ due (word_reply (t.words h.uid r.offset) r.kind) (stored_due s k r keeps h.uid inside stored);
-              free = stored_free s k r keeps h.uid inside cmd is stored;
-            })) (rw is (record {
-              segment = seg_has (cpu_at s.processors c).assoc.segs r.number h held;
-              page =
-                  both.0;
-              bound = page_there (bound_page ((shown (seen s)).frame f)) (bound_shown (seen s) f ∙ both.1);
-              answered = word_answer (old_word s.store.pages f r) r.kind;
-            }))
+        tells = can_tell s c k cmd (Some f) answer speaks (inl (record {
+          own = ap (λ (w : ℕ). word_reply w r.kind) old_is
+              ∙ due (word_reply (t.words h.uid r.offset) r.kind) (stored_due s k r keeps h.uid inside stored);
+          free = stored_free s k r keeps h.uid inside cmd is stored;
+        })) (rw is (record {
+          segment = seg_has (cpu_at s.processors c).assoc.segs r.number h held;
+          page = both.0;
+          bound = page_there (bound_page ((shown (seen s)).frame f)) (bound_shown (seen s) f ∙ both.1);
+          answered = word_answer (old_word s.store.pages f r) r.kind;
+        }))
           where
             page_there : (x : Option (ℕ × ℕ)) → x ≡ Some (h.uid, r.offset / 1024)
                 → IsPageAt (known_uid t k r.number) r.offset x
-            page_there None e = absurd (none_some e)
+            page_there None e = cc
             page_there (Some x) e = (
               known ∙ ap (λ (y : ℕ × ℕ). Some y.0) (sym (page_same x e)),
               ap (λ (y : ℕ × ℕ). y.1) (page_same x e),

@@ -12,38 +12,37 @@ use Rattle.machine_model.proofs.PageShown.{null_word, stored_is}
 -- ---- the first that passes a test
 
 none_below : (test : ℕ → Bool) (n v : ℕ) → first_below test n ≡ None → v < n → test v ≡ false
-none_below test zero v none lt = absurd (omega (arith, lt))
+none_below test zero v none lt = absurd (omega arith)
 none_below test (suc n) v none lt = by (first_below test n) refl (none_below test n v)
   where
     past : (b : Bool) → test n ≡ b → cond b (Some n) None ≡ None → (v < n → test v ≡ false) → test v ≡ false
-    past true e i rest = absurd (let no : Some n ≡ None = i in cc)
+    past true e i rest = cc
     past false e i rest = elim (cases_eq v n) [
       | inl same ↦ ap test same ∙ e
-      | inr other ↦ rest (omega (arith, lt, other))
+      | inr other ↦ rest (omega arith)
     ]
 
-    by : (x : Option ℕ) → first_below test n ≡ x → (first_below test n ≡ None → v < n → test v ≡ false)
-        → test v ≡ false
-    by (Some w) e rest = absurd (let no : Some w ≡ None = rw e at none in cc)
+    by : (x : Option ℕ) → first_below test n ≡ x → (first_below test n ≡ None → v < n → test v ≡ false) → test v ≡ false
+    by (Some w) e rest = cc
     by None e rest = past (test n) refl (rw e at none) (rest e)
 
 first_found : (test : ℕ → Bool) (n v : ℕ) → first_below test n ≡ Some v
     → (test v ≡ true) × ((u : ℕ) → u < v → test u ≡ false)
-first_found test zero v h = absurd (let no : None ≡ Some v = h in cc)
+first_found test zero v h = cc
 first_found test (suc n) v h = by (first_below test n) refl (first_found test n v)
   where
     last : (b : Bool) → test n ≡ b → first_below test n ≡ None → cond b (Some n) None ≡ Some v
         → (test v ≡ true) × ((u : ℕ) → u < v → test u ≡ false)
     last true e none i = let same : n ≡ v = cc in (
-      ap test (sym same) ∙ e,
-      λ u lt. none_below test n u none (omega (arith, lt, same)),
+      cc,
+      λ u lt. none_below test n u none (omega arith),
     )
-    last false e none i = absurd (let no : None ≡ Some v = i in cc)
+    last false e none i = cc
 
     by : (x : Option ℕ) → first_below test n ≡ x
         → (first_below test n ≡ Some v → (test v ≡ true) × ((u : ℕ) → u < v → test u ≡ false))
         → (test v ≡ true) × ((u : ℕ) → u < v → test u ≡ false)
-    by (Some w) e rest = rest (e ∙ (let same : Some w ≡ Some v = rw e at h in same))
+    by (Some w) e rest = rest (e ∙ (rw e at h))
     by None e rest = last (test n) refl e (rw e at h)
 
 module _ (s : State) (k : ℕ) (cmd : Command) (keeps : Keeps s) (u volume : ℕ) (finds : FindsMove s k cmd u volume)
@@ -63,7 +62,7 @@ module _ (s : State) (k : ℕ) (cmd : Command) (keeps : Keeps s) (u volume : ℕ
       → cond b (room_for s.plan t u) None ≡ Some volume
       → (is_volume_full s.plan t (volume_in t.nodes u) ≡ true) × (room_for s.plan t u ≡ Some volume)
   moves true e i = (e, i)
-  moves false e i = absurd (let no : None ≡ Some volume = i in cc)
+  moves false e i = cc
 
   to : (is_volume_full s.plan t (volume_in t.nodes u) ≡ true) × (room_for s.plan t u ≡ Some volume)
   unfolding move_to
@@ -78,7 +77,7 @@ module _ (s : State) (k : ℕ) (cmd : Command) (keeps : Keeps s) (u volume : ℕ
   -- ---- nothing else refuses it
 
   unstored : is_stored t.stored u (r.offset / 1024) ≡ false
-  unstored = stored_is s keeps u active (r.offset / 1024) ∙ ap has_record finds.null
+  unstored = cc (stored_is s keeps u active (r.offset / 1024))
 
   stores : stores_page t u r.offset r.kind ≡ true
   stores = rw (nonzero_alters r.kind finds.word, null_word s keeps u active r.offset finds.null, finds.word, unstored)
@@ -93,7 +92,7 @@ module _ (s : State) (k : ℕ) (cmd : Command) (keeps : Keeps s) (u volume : ℕ
 
       by : (b : Bool) → only is_of_room (cond b reply.Quota (cond (is_out_of_room s.plan t inside.node) reply.NoRecord
           word)) ≡ None → b ≡ false
-      by true i = absurd (let no : Some reply.Quota ≡ None = i in cc)
+      by true i = cc
       by false i = refl
 
   lacks : LacksRecord (tables_of s.store) k u r
@@ -128,7 +127,7 @@ module _ (s : State) (k : ℕ) (cmd : Command) (keeps : Keeps s) (u volume : ℕ
 
   pub move_found : (x : Option Command) → x ≡ Some cmd → IsMovedFor s.store k (mover_to s.store u volume) x
   move_found x next = record {
-    moves = subst (MovesForNext (tables_of s.store) k (mover_to s.store u volume)) (sym next) moves_for;
+    moves = rw next moves_for;
     active = active;
     unread = record { none = λ f p. unread_any s.store.pages.core u finds.unread f p };
   }

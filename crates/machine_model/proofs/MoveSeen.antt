@@ -23,9 +23,7 @@ reading_seen s c t d there = put_list s.processors c
     (with_transfer (processor_at s.processors c) t) no_processor d there
 
 pub start_seen : (s : State) (c : ℕ) (t : Transfer) (owner : Option Owner) → c < length s.processors
-    → t.frame < length s.store.pages.core.frames
-    → (seen s).bound t.frame ≡ None
-    → seen (record s {
+    → t.frame < length s.store.pages.core.frames → (seen s).bound t.frame ≡ None → seen (record s {
       store = with_pages s.store (framed s.store.pages t.frame (frame.Started t.uid t.page));
       processors = with_reading s c (Some t);
       owner = owner;
@@ -41,9 +39,7 @@ start_seen s c t owner there within free = λ i. record (seen s) {
 }
 
 pub lose_seen : (s : State) (c : ℕ) (t : Transfer) → c < length s.processors
-    → t.frame < length s.store.pages.core.frames
-    → (seen s).bound t.frame ≡ None
-    → seen (record s {
+    → t.frame < length s.store.pages.core.frames → (seen s).bound t.frame ≡ None → seen (record s {
       store = with_pages s.store (framed s.store.pages t.frame frame.Free);
       processors = with_reading s c None;
       entries = s.entries ++ entry.Lose t.frame ∷ [];
@@ -56,18 +52,14 @@ lose_seen s c t there within free = λ i. record (seen s) {
 }
 
 out_some : (w : Ptw) → is_out w ≡ true → w ≢ ptw.Null
-out_some w h n = let no : true ≡ false = sym h ∙ ap is_out n in cc
+out_some w h n = let no = sym h ∙ ap is_out n in cc
 
 pub brought_seen : (s : State) (c : ℕ) (t : Transfer) → HasTables s → c < length s.processors
-    → t.frame < length s.store.pages.core.frames
-    → is_out ((seen s).words t.uid t.page) ≡ true
-    → seen (record s {
+    → t.frame < length s.store.pages.core.frames → is_out ((seen s).words t.uid t.page) ≡ true → seen (record s {
       store = brought s.store t;
       processors = with_reading s c None;
-      entries = s.entries ++ entry.Here
-          t.frame t.uid t.page ∷ [];
-    })
-    ≡ page_brought (seen s) c t
+      entries = s.entries ++ entry.Here t.frame t.uid t.page ∷ [];
+    }) ≡ page_brought (seen s) c t
 brought_seen s c t tables there within out = λ i. record (seen s) {
   bound = λ g. bound_put s.store.pages.core t.frame (frame.Bound t.uid t.page false false) within g i;
   reads = λ g. reads_put s.store.pages.core t.frame (frame.Bound t.uid t.page false false) within g i;
@@ -97,18 +89,16 @@ linked_put : (s : State) (k n u : ℕ) (m : Mode) (pages : ℕ) → k < length s
     → uid_at s.store.ast.entries (place_of s.store.ast.entries u) ≡ Some u → (i j : ℕ)
     → led_to s.store.ast.entries (descriptor_of (linked s.store.links k n (place_of s.store.ast.entries u) m pages) i j)
     ≡ at_put_two (seen s).linked k n (Some u) i j
-linked_put s k n u m pages outer inner active i j =
-    ap (led_to s.store.ast.entries) (descriptors_put s.store.links
-    (linked s.store.links k n (place_of s.store.ast.entries u) m pages).trailers k n
-    (sdw.Present (place_of s.store.ast.entries u) m pages) outer inner i j)
-    ∙ (put_two_map (led_to s.store.ast.entries) (λ x y. descriptor_of s.store.links x y) k n
-    (sdw.Present (place_of s.store.ast.entries u) m pages) i j
-    ∙ ap (λ (o : Option ℕ). at_put_two (seen s).linked k n o i j) active)
+linked_put s k n u m pages outer inner active i j = cc (
+  descriptors_put s.store.links (linked s.store.links k n (place_of s.store.ast.entries u) m pages).trailers k n
+      (sdw.Present (place_of s.store.ast.entries u) m pages) outer inner i j,
+  put_two_map (led_to s.store.ast.entries)
+      (λ x y. descriptor_of s.store.links x y) k n (sdw.Present (place_of s.store.ast.entries u) m pages) i j,
+)
 
 pub connect_seen : (s : State) (k n u : ℕ) (m : Mode) (pages : ℕ) → k < length s.store.links.descriptors
     → n < length (sdws_at s.store.links.descriptors k)
-    → uid_at s.store.ast.entries (place_of s.store.ast.entries u) ≡ Some u
-    → seen (record s {
+    → uid_at s.store.ast.entries (place_of s.store.ast.entries u) ≡ Some u → seen (record s {
       store = record s.store { links = linked s.store.links k n (place_of s.store.ast.entries u) m pages };
       entries = s.entries ++ entry.Connect k n u ∷ [];
     }) ≡ connected (seen s) k n u
@@ -118,13 +108,10 @@ connect_seen s k n u m pages outer inner active = λ i. record (seen s) {
 }
 
 pub back_seg_seen : (s : State) (d : CutDescriptor) (owner : Option Owner)
-    → d.process < length s.store.links.descriptors
-    → d.number < length (sdws_at s.store.links.descriptors d.process)
-    → uid_at s.store.ast.entries (place_of s.store.ast.entries d.uid) ≡ Some d.uid
-    → seen (record s {
+    → d.process < length s.store.links.descriptors → d.number < length (sdws_at s.store.links.descriptors d.process)
+    → uid_at s.store.ast.entries (place_of s.store.ast.entries d.uid) ≡ Some d.uid → seen (record s {
       store = record s.store {
-        links = linked s.store.links d.process d.number
-            (place_of s.store.ast.entries d.uid) d.mode d.pages;
+        links = linked s.store.links d.process d.number (place_of s.store.ast.entries d.uid) d.mode d.pages;
       };
       owner = owner;
       entries = s.entries ++ entry.BackSeg d.process d.number ∷ [];

@@ -25,21 +25,21 @@ roomy own volume pages used records rest h = record {
 
     rest_of : (a b : Bool) → (a && b) ≡ true → b ≡ true
     rest_of true b is = is
-    rest_of false b is = absurd (let no : false ≡ true = is in cc)
+    rest_of false b is = cc
 
     more : (b : Bool) → nat_lt pages (records - used) ≡ b → (b && rest) ≡ true → pages + used < records
-    more true e is = let lt = (Decides-ltb pages (records - used)).0 e in omega (arith, lt)
-    more false e is = absurd (let no : false ≡ true = is in cc)
+    more true e is = omega (arith, (Decides-ltb pages (records - used)).0 e)
+    more false e is = cc
 
 -- where records for more are free, one is still after these have taken theirs
 has_one : (flags : List Bool) (places : List (Option ℕ))
     → count_by is_some places + count_by (λ flag. flag) flags < length flags
     → eqb (count_by (λ flag. flag) (flags_taken flags places)) (length (flags_taken flags places)) ≡ false
 has_one flags places room =
-    let took : HasTaken flags places = has_taken flags places (omega (arith, room)) in
+    let took = has_taken flags places (omega arith) in
     let count = took.count in
     let size = took.adds.size in
-    ne_eqb _ _ (omega (arith, room, count, size))
+    ne_eqb _ _ (omega arith)
 
 module _ (s : State) (keeps : Keeps s) (k : ℕ) (m : Mover) (cmd : Command)
     (active : is_active s.store.ast m.uid ≡ true) (moves : MovesFor (tables_of s.store) k m cmd) where
@@ -50,7 +50,7 @@ module _ (s : State) (keeps : Keeps s) (k : ℕ) (m : Mover) (cmd : Command)
   lacks = moves.lacks
 
   from : m.from ≡ pair_of (home_of s.store.accounts m.uid)
-  from = ap (λ (x : Mover). x.from) moves.its
+  from = cc
 
   room : IsRoomy (volume_in nodes m.uid) m.to.0 (count_of s.store.accounts m.uid)
       (taken s.store.pages.records m.to.0) (size s.store.pages.records m.to.0)
@@ -62,26 +62,26 @@ module _ (s : State) (keeps : Keeps s) (k : ℕ) (m : Mover) (cmd : Command)
   places = map_at (volumes_of s.store.pages) m.from
 
   named : count_by is_some places ≡ count_of s.store.accounts m.uid
-  named = cc (from, keeps.store.counted.counted.counts m.uid (ap (λ (x : Option Node). is_some x) lacks.there))
+  named = cc (from, keeps.store.counted.counted.counts m.uid (cc))
 
   abbrev flags : List Bool
   flags = get_or s.store.pages.records m.to.0 []
 
   there : m.to.0 < length s.store.pages.records
-  there = within_from s.store.pages.records m.to.0 [] (λ none. (let none_long : length flags ≡ 0 = ap length none in
-      let more = room.room in omega (arith, none_long, more)))
+  there = within_from s.store.pages.records m.to.0 [] (λ none. (omega (arith, (ap length none), room.room)))
 
   flags_then : get_or (with_moved s.store m).pages.records m.to.0 [] ≡ flags_taken flags places
   flags_then = get_or-set_other (begun (volumes_of s.store.pages) m.uid m.from m.to.0).records m.from.0 m.to.0 _ []
-      (λ same. room.other (sym (same ∙ ap (λ (home : ℕ × ℕ). home.0) from)))
+      (λ same. room.other (cc (same, from)))
       ∙ get_or-set_same s.store.pages.records m.to.0 (flags_taken flags places) [] there
 
   has : full_there s.store m m.uid ≡ false
-  has = ap (λ (ns : List Node). is_full (with_moved s.store m).pages.records (volume_in ns m.uid))
-      (put_is m.uid m.to.0 nodes)
-      ∙ (ap (is_full (with_moved s.store m).pages.records) (put_there m.uid m.to.0 nodes lacks.node lacks.there)
-      ∙ (ap (λ (fs : List Bool). eqb (count_by (λ flag. flag) fs) (length fs)) flags_then
-      ∙ has_one flags places (let more = room.room in omega (arith, more, named))))
+  has = cc (
+    put_is m.uid m.to.0 nodes,
+    put_there m.uid m.to.0 nodes lacks.node lacks.there,
+    flags_then,
+    has_one flags places (omega (arith, room.room, named)),
+  )
 
   -- ---- the command
 
@@ -95,11 +95,10 @@ module _ (s : State) (keeps : Keeps s) (k : ℕ) (m : Mover) (cmd : Command)
     chain = chain_of nodes m.uid;
     uid = m.uid;
     page = moves.reference.offset / 1024;
-    want = want_here s c k its
-        ∙ (ap (want_of (around s) k) next
-        ∙ (ap (want_by (around s) k cmd) moves.is
-        ∙ (refer_wants s k keeps moves.reference m.uid (inside s keeps k m.uid moves.reference active lacks)
-        ∙ ap (λ (b : Bool). Refer (chain_of nodes m.uid) m.uid (moves.reference.offset / 1024) (not b)) lacks.word)));
+    want = cc (
+      want_here s c k its,
+      refer_wants s k keeps moves.reference m.uid (inside s keeps k m.uid moves.reference active lacks),
+    );
     lacked = full_seen;
     has = has;
   }

@@ -84,9 +84,7 @@ module _ (s : State) (c : ℕ) where
 
   own_asks : (x : Option Owner) → s.owner ≡ x → Fits (own_or_run s c p x)
   own_asks None e = run_asks p.cpu.process
-  own_asks (Some o) e = cond_both (eqb o.cpu c) _ _ Fits
-      (λ h. subst (AsksMover (go_on_with s (process_at s c) o o.phase)) (sym (ap mover_of e))
-      (go_asks (process_at s c) o o.phase))
+  own_asks (Some o) e = cond_both (eqb o.cpu c) _ _ Fits (λ h. rw (ap mover_of e) (go_asks (process_at s c) o o.phase))
       (λ h. run_asks p.cpu.process)
 
   transfer_asks : (x : Option Transfer) → Fits (transfer_or s c p x)
@@ -113,7 +111,7 @@ record IsStill (s : State) : Type 0 where
   pub owner : mover_of s.owner ≡ None
 
 still : {s : State} → s.store.moving ≡ None → mover_of s.owner ≡ None → IsStill s
-still moving owner = record { moving = moving; owner = owner }
+still moving owner = assumption
 
 pub leaving_moving : (st : Storage) (f : ℕ) (x : Option (ℕ × ℕ)) → (leaving_if st f x).moving ≡ st.moving
 leaving_moving st f None = refl
@@ -131,8 +129,7 @@ taken s c a w [] h = h
 taken s c a w (f ∷ fs) h = taken (take_one s c a w f) c a w fs
     (still (leaving_moving s.store f (bound_page (frame_in s.store.pages f)) ∙ h.moving) refl)
 
-all_cut : (s : State) (c : ℕ) (a : Aim) (w : What) (pairs : List (ℕ × ℕ)) → IsStill s
-    → IsStill (cut_all s c a w pairs)
+all_cut : (s : State) (c : ℕ) (a : Aim) (w : What) (pairs : List (ℕ × ℕ)) → IsStill s → IsStill (cut_all s c a w pairs)
 all_cut s c a w [] h = h
 all_cut s c a w (x ∷ xs) h = all_cut (cut_one s c a w x) c a w xs (still h.moving refl)
 
@@ -215,10 +212,9 @@ commits s c (Some cmd) h = by cmd
   where
     by : (x : Command)
         → (with_effect s.store (process_at s c) (uid_of_command s.store (process_at s c) x) (frames_of_owner s.owner)
-        x).moving ≡ s.store.moving
-        → IsStill (committed s c (process_at s c) x)
-    by command.End e = still (e ∙ h.moving) refl
-    by _ e = still (e ∙ h.moving) refl
+        x).moving ≡ s.store.moving → IsStill (committed s c (process_at s c) x)
+    by command.End e = still (cc) refl
+    by _ e = still (cc) refl
 
 -- ---- each action
 
@@ -227,7 +223,7 @@ abbrev pub IsTied : State → Type 0
 IsTied s = s.store.moving ≡ mover_of s.owner
 
 tied : {s : State} → IsStill s → IsTied s
-tied h = h.moving ∙ sym h.owner
+tied h = cc
 
 tied_either : (b : Bool) (x y : State) → IsTied x → IsTied y → IsTied (cond b y x)
 tied_either true x y a b = b
@@ -249,8 +245,7 @@ module _ (s : State) (c : ℕ) (o : Outcome) (h : IsTied s) where
   tie_kept (act.Evict f) asks = tied (taken (with_store s (with_choice s.store f)) c aim.Evicting (what.Page f)
       (f ∷ []) (still (h ∙ asks) asks))
   tie_kept (act.Empty u) asks = tied (segment s c u (frames_from s.store.ast u 0) (trailers_in s.store u) (idle asks))
-  tie_kept (act.EmptyVictim pool chain u) asks = tied
-      (segment (with_store s (with_hand_moved s.store pool chain)) c u
+  tie_kept (act.EmptyVictim pool chain u) asks = tied (segment (with_store s (with_hand_moved s.store pool chain)) c u
       (frames_from (with_store s (with_hand_moved s.store pool chain)).store.ast u 0)
       (trailers_in (with_store s (with_hand_moved s.store pool chain)).store u) (still (h ∙ asks) asks))
   tie_kept (act.TakeAway fs pairs w) asks = tied (all_taken s c aim.Committing w fs pairs (idle asks))

@@ -16,7 +16,7 @@ use Rattle.machine_model.proofs.ActiveKept.{looks_idle}
 -- ---- owners that have taken nothing
 
 pub moving_idle : (c : ℕ) (m : Mover) → IsIdle (Some (moving c m))
-moving_idle c m = record { frames = refl; cut = refl; waits = refl; says = refl; shaped = (refl, refl) }
+moving_idle c m = assumption ((refl, refl))
 
 some_same : (x y : Owner) → Some x ≡ Some y → x ≡ y
 some_same x y h = cc
@@ -35,12 +35,10 @@ module _ (s : State) (c : ℕ) (k : Keeps s) (idle : IsIdle s.owner) (still : is
       (λ r h. at_work (moving c (mover_to s.store u volume)) r h refl)
 
   pub copied_kept : (m : Mover) (p faults : ℕ) → s.faults ≤ faults
-      → StoreSays (page_copied (with_faults s faults) c m p)
-      → Keeps (page_copied (with_faults s faults) c m p)
+      → StoreSays (page_copied (with_faults s faults) c m p) → Keeps (page_copied (with_faults s faults) c m p)
   copied_kept m p faults rose says = kept_with (page_copied (with_faults s faults) c m p)
       (owner_keeps (seen s) (Some (moving c (past_page m p))) k.book idle (moving_idle c (past_page m p)) still) says
-      (let few = k.few_faults in omega (arith, few, rose)) k.sizes.processors k.sizes.processes
-      (λ r h. at_work (moving c (past_page m p)) r h refl)
+      (omega arith) k.sizes.processors k.sizes.processes (λ r h. at_work (moving c (past_page m p)) r h refl)
 
 -- ---- a copy failed
 
@@ -56,14 +54,16 @@ copy_failed_kept s c faults k idle still rose may can says = kept_with (copy_fai
     (told_keeps (copy_failing s c faults) c (process_at s c) None reply.Device
     (fault_keeps (seen s) (Some (process_at s c)) k.book may) can) idle nobody still) says few
     (length-set s.processors c _ ∙ k.sizes.processors) (length-set s.runs (process_at s c) _ ∙ k.sizes.processes)
-    (λ o h. absurd (none_some h))
+    (λ o h. cc)
   where
     few : min (count_by is_fault ((s.entries ++ entry.Fault (Some (process_at s c)) ∷ [])
         ++ entry.Do (process_at s c) (run_at s.runs (process_at s c)).place c None reply.Device ∷ [])) (2 ^ 63) ≤ faults
-    few = let one = faults_push s.entries (entry.Fault (Some (process_at s c))) in
-        let two = faults_push (s.entries ++ entry.Fault (Some (process_at s c)) ∷ [])
-        (entry.Do (process_at s c) (run_at s.runs (process_at s c)).place c None reply.Device) in
-        let was = k.few_faults in omega (arith, one, two, was, rose)
+    few = omega (
+      arith,
+      faults_push s.entries (entry.Fault (Some (process_at s c))),
+      faults_push (s.entries ++ entry.Fault (Some (process_at s c)) ∷ []) (entry.Do (process_at s c)
+          (run_at s.runs (process_at s c)).place c None reply.Device),
+    )
 
 -- ---- words by another file map
 
@@ -82,11 +82,10 @@ pub word_rehomed : (ast : ActiveSegs) (uid : ℕ) (places : List (Option ℕ)) (
     ≡ rehomed_word (word_of ast u p) q))
 word_rehomed ast uid places u p = elim (set_either ast.tables (place_of ast.entries uid)
     (rehomed (table_of ast uid) places) (place_of ast.entries u) []) [
-      | inl same ↦ inl (ap (λ (t : List Ptw). ptw_at t p) same)
+      | inl same ↦ inl (cc)
       | inr is ↦ (let at = rehomed_at (table_of ast uid) places p in inr (
         at.0,
-        ap (λ (t : List Ptw). ptw_at t p) is.1 ∙ (at.1
-            ∙ ap (λ (i : ℕ). rehomed_word (ptw_at (table_at ast.tables i) p) at.0) (sym is.0)),
+        cc,
       ))
     ]
 
@@ -106,9 +105,8 @@ rehomed_alike (ptw.Leaving f) q = record { named = refl; out = refl; used = λ p
 word_alike : (ast : ActiveSegs) (uid : ℕ) (places : List (Option ℕ)) (u p : ℕ)
     → IsWordAlike (word_of ast u p) (word_of (tabled ast uid (rehomed (table_of ast uid) places)) u p)
 word_alike ast uid places u p = elim (word_rehomed ast uid places u p) [
-  | inl same ↦ subst (IsWordAlike (word_of ast u p)) (sym same)
-      (record { named = refl; out = refl; used = λ page. refl })
-  | inr is ↦ subst (IsWordAlike (word_of ast u p)) (sym is.1) (rehomed_alike (word_of ast u p) is.0)
+  | inl same ↦ rw same (record { named = refl; out = refl; used = λ page. refl })
+  | inr is ↦ rw is.1 (rehomed_alike (word_of ast u p) is.0)
 ]
 
 -- ---- a book whose words are other ones of the same kind
@@ -126,8 +124,8 @@ module _ (v : Seen) (words : ℕ → ℕ → Ptw) (like : (u p : ℕ) → IsWord
     legal = k.legal;
     clean = k.clean;
     held = shown_like ∙ k.held;
-    stale_due = subst (λ (x : Custody). Fine x (is_pending v.owner)) (sym shown_like) k.stale_due;
-    going_owned = subst (λ (x : Custody). IsOwned x v.owner) (sym shown_like) k.going_owned;
+    stale_due = rw shown_like k.stale_due;
+    going_owned = rw shown_like k.going_owned;
     tied = record {
       named = λ f u p h. (like u p).named ∙ k.tied.named f u p h;
       back = λ f u p h. k.tied.back f u p (sym (like u p).named ∙ h);

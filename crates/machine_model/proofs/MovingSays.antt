@@ -15,8 +15,7 @@ module _ (s : State) (c : ℕ) (o : Outcome) (k : Keeps s) where
   pub copied_says : (m : Mover) (p : ℕ) → Says s c o (act.CopyPage m p) → o.failed ≡ false
       → StoreSays (page_copied (with_faults s o.faults) c m p)
   unfolding after
-  copied_says m p says h = says_is s c o (act.CopyPage m p) now k says
-      (ap (λ (b : Bool). cond b (copy_failed s c o.faults) now) h) (alike (flat_of s)) k.conserved.total
+  copied_says m p says h = says_is s c o (act.CopyPage m p) now k says (cc) (alike (flat_of s)) k.conserved.total
       (none_rest s now refl refl refl)
     where
       now : State
@@ -25,8 +24,7 @@ module _ (s : State) (c : ℕ) (o : Outcome) (k : Keeps s) where
   pub copy_failed_says : (m : Mover) (p : ℕ) → Says s c o (act.CopyPage m p) → o.failed ≡ true
       → StoreSays (copy_failed s c o.faults)
   unfolding after
-  copy_failed_says m p says h = says_is s c o (act.CopyPage m p) (copy_failed s c o.faults) k says
-      (ap (λ (b : Bool). cond b (copy_failed s c o.faults) (page_copied (with_faults s o.faults) c m p)) h)
+  copy_failed_says m p says h = says_is s c o (act.CopyPage m p) (copy_failed s c o.faults) k says (cc)
       (alike_on (fault_alike s.plan s.entries (Some (process_at s c)))
       (refused_alike s.plan failing.entries (process_at s c) (run_at s.runs (process_at s c)).place c None reply.Device
       refl)) k.conserved.total (none_rest s (copy_failed s c o.faults) refl refl refl)
@@ -40,6 +38,6 @@ module _ (s : State) (c : ℕ) (o : Outcome) (k : Keeps s) where
   moved_says m says may = says_is s c o (act.CommitMove m) (move_committed s c m) k says refl
       (alike_by (alike (moved (flat_of s) m.uid m.to.0)) (store_after-push s.plan s.entries
       (entry.Moved (process_at s c) m.uid m.to.0)))
-      (entry_total s.plan (flat_of s) (entry.Moved (process_at s c) m.uid m.to.0)
-      (subst IsTree (sym k.faithful.tree.nodes) k.store.accounts.tree) may ∙ k.conserved.total)
+      (cc (entry_total s.plan (flat_of s) (entry.Moved (process_at s c) m.uid m.to.0)
+      (subst IsTree (sym k.faithful.tree.nodes) k.store.accounts.tree) may))
       (none_rest s (move_committed s c m) refl (length-map s.store.pages.core.frames (modified_of m.uid)) refl)

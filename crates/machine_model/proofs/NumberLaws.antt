@@ -15,9 +15,9 @@ linked_known s keeps k n u h = by (descriptor_of s.store.links k n) refl h
   where
     by : (x : Sdw) → descriptor_of s.store.links k n ≡ x → led_to s.store.ast.entries x ≡ Some u
         → uid_of (kst_at s.store.links.known k) n ≡ Some u
-    by sdw.Fault e i = absurd (none_some i)
+    by sdw.Fault e i = cc
     by (sdw.Present aste mode pages) e i = let at = keeps.store.kept.linked.known k n aste (ap leads e) in
-        at.known_as ∙ (sym at.active ∙ i)
+        cc
 
 numbered_push : (numbers : List (List (Option ℕ))) (ds : List CutDescriptor) (d : CutDescriptor)
     → AreNumbered numbers ds → uid_of (kst_at numbers d.process) d.number ≡ Some d.uid
@@ -43,10 +43,9 @@ take_cut s c a w (f ∷ fs) = take_cut (take_one s c a w f) c a w fs
 pub took_numbered : (s : State) (c : ℕ) (a : Aim) (w : What) (fs : List ℕ) (pairs : List (ℕ × ℕ)) → Keeps s
     → AreNumbered s.store.links.known (cut_of_owner s.owner) → ArePairs (seen s).linked w pairs
     → AreNumbered s.store.links.known (cut_of_owner (took s c a w fs pairs).owner)
-took_numbered s c a w fs pairs keeps had are = cut_numbered mid c a w pairs s.store.links.known
-    (subst (λ (l : ℕ → ℕ → Option ℕ). ArePairs l w pairs) (sym same) are)
+took_numbered s c a w fs pairs keeps had are = cut_numbered mid c a w pairs s.store.links.known (rw same are)
     (subst (λ (l : ℕ → ℕ → Option ℕ). KnowsLinked l s.store.links.known) (sym same) (linked_known s keeps))
-    (subst (AreNumbered s.store.links.known) (sym (take_cut s c a w fs)) had)
+    (rw (take_cut s c a w fs) had)
   where
     mid : State
     mid = take_all s c a w fs
@@ -64,24 +63,28 @@ cut_signalled (Some q) = refl
 pub take_long : (s : State) (c : ℕ) (a : Aim) (w : What) (fs : List ℕ)
     → length (frames_of_owner (take_all s c a w fs).owner) ≡ length (frames_of_owner s.owner) + length fs
 take_long s c a w [] = omega arith
-take_long s c a w (f ∷ fs) = let rest = take_long (take_one s c a w f) c a w fs in
-    let one = length-append (frames_of_owner s.owner) (f ∷ []) in omega (arith, rest, one)
+take_long s c a w (f ∷ fs) = omega (
+  arith,
+  take_long (take_one s c a w f) c a w fs,
+  length-append (frames_of_owner s.owner) (f ∷ []),
+)
 
 pub cut_long : (s : State) (c : ℕ) (a : Aim) (w : What) (xs : List (ℕ × ℕ))
     → length (cut_of_owner (cut_all s c a w xs).owner) ≡ length (cut_of_owner s.owner) + length xs
 cut_long s c a w [] = omega arith
-cut_long s c a w (x ∷ xs) = let rest = cut_long (cut_one s c a w x) c a w xs in
-    let one = length-append (cut_of_owner s.owner) (note_of s.store x.0 x.1
-    (descriptor_of s.store.links x.0 x.1) ∷ []) in omega (arith, rest, one)
+cut_long s c a w (x ∷ xs) = omega (
+  arith,
+  cut_long (cut_one s c a w x) c a w xs,
+  length-append (cut_of_owner s.owner) (note_of s.store x.0 x.1 (descriptor_of s.store.links x.0 x.1) ∷ []),
+)
 
 pub took_few : (s : State) (c : ℕ) (a : Aim) (w : What) (fs : List ℕ) (pairs : List (ℕ × ℕ)) → IsIdle s.owner
     → length fs + length pairs ≤ 288 → OwnsFew (took s c a w fs pairs).owner
-took_few s c a w fs pairs idle few = let x = take_long s c a w fs in
-    let y = cut_long (take_all s c a w fs) c a w pairs in
+took_few s c a w fs pairs idle few = let y = cut_long (take_all s c a w fs) c a w pairs in
     let z = ap (λ (gs : List ℕ). length gs) (cut_frames (take_all s c a w fs) c a w pairs) in
     let v = ap (λ (gs : List ℕ). length gs) idle.frames in
     let t = ap (λ (ds : List CutDescriptor). length ds) (take_cut s c a w fs ∙ idle.cut) in
-    omega (arith, x, y, z, v, t, few)
+    omega (arith, (take_long s c a w fs))
 
 pub signalled_few : (o : Option Owner) → OwnsFew o → OwnsFew (owner_signalled o)
 signalled_few None h = h
@@ -94,4 +97,4 @@ less_few (Some q) h = by q.frames h
     by : (fs : List ℕ) → length fs + length q.cut ≤ 288
         → OwnsFew (without_first_frame (Some (record q { frames = fs })))
     by [] e = e
-    by (f ∷ fs) e = omega (arith, e)
+    by (f ∷ fs) e = omega arith

@@ -6,16 +6,16 @@ use Rattle.active_segs.specs.declared.Entry.{Entry}
 
 -- one of the first n numbers passes, or none does
 pub found_or : (test : ℕ → Bool) (n : ℕ) → ((i : ℕ) × (i < n) × (test i ≡ true)) ⊎ ((i : ℕ) → i < n → test i ≡ false)
-found_or test zero = inr (λ i lt. absurd (omega (arith, lt)))
+found_or test zero = inr (λ i lt. absurd (omega arith))
 found_or test (suc n) = by (found_or test n) (test n) refl
   where
     by : ((i : ℕ) × (i < n) × (test i ≡ true)) ⊎ ((i : ℕ) → i < n → test i ≡ false) → (b : Bool) → test n ≡ b
         → ((i : ℕ) × (i < suc n) × (test i ≡ true)) ⊎ ((i : ℕ) → i < suc n → test i ≡ false)
-    by (inl x) b h = inl (x.0, omega (arith, x.1), x.2)
+    by (inl x) b h = inl (x.0, omega arith, x.2)
     by (inr none) true h = inl (n, omega arith, h)
     by (inr none) false h = inr (λ i lt. elim (eqb_tells i n) [
-      | inl e ↦ subst (λ (j : ℕ). test j ≡ false) (sym e.1) h
-      | inr other ↦ none i (omega (arith, lt, other.1))
+      | inl e ↦ rw e.1 h
+      | inr other ↦ none i (omega arith)
     ])
 
 -- ---- the uids of some places
@@ -30,7 +30,7 @@ uids entries first (suc n) = uid_in_place entries first ∷ uids entries (first 
 uids_long : (entries : List (Option Entry)) (first n : ℕ) → length (uids entries first n) ≡ n
 unfolding uids
 uids_long entries first zero = refl
-uids_long entries first (suc n) = let rest = uids_long entries (first + 1) n in omega (arith, rest)
+uids_long entries first (suc n) = omega (arith, uids_long entries (first + 1) n)
 
 -- each of the places from one on is used
 abbrev AreUsed : List (Option Entry) → ℕ → ℕ → Type 0
@@ -39,10 +39,10 @@ AreUsed entries first n = (i : ℕ) → i < n → is_some (entry_at entries (fir
 used_next : (entries : List (Option Entry)) (first n : ℕ) → AreUsed entries first (suc n)
     → AreUsed entries (first + 1) n
 used_next entries first n used i lt =
-    subst (λ (p : ℕ). is_some (entry_at entries p) ≡ true) (omega arith) (used (suc i) (omega (arith, lt)))
+    subst (λ (p : ℕ). is_some (entry_at entries p) ≡ true) (omega arith) (used (suc i) (omega arith))
 
 uid_there : (o : Option Entry) → is_some o ≡ true → uid_in o ≡ Some (or_zero (uid_in o))
-uid_there None h = let no : false ≡ true = h in absurd cc
+uid_there None h = let no = h in absurd cc
 uid_there (Some e) h = refl
 
 apart : (entries : List (Option Entry)) (a b n : ℕ) → IsOneToOne entries → a < b → is_some (entry_at entries a) ≡ true
@@ -52,14 +52,13 @@ apart entries a b zero once lt here used = tt
 apart entries a b (suc n) once lt here used = (
   elim (eqb_tells (uid_in_place entries a) (uid_in_place entries b)) [
     | inl e ↦ (
-        let there : is_some (entry_at entries b) ≡ true =
-        subst (λ (p : ℕ). is_some (entry_at entries p) ≡ true) (add-zero b) (used zero (omega arith)) in
         let same : a ≡ b = once a b (uid_in_place entries b)
-        (uid_there (entry_at entries a) here ∙ ap (λ (u : ℕ). Some u) e.1) (uid_there (entry_at entries b) there) in
-        absurd (omega (arith, lt, same)))
+        (cc (uid_there (entry_at entries a) here)) (uid_there (entry_at entries b)
+        (rw (← (add-zero b)) (used zero (omega arith)))) in
+        absurd (omega arith))
     | inr n ↦ n.0
   ],
-  apart entries a (b + 1) n once (omega (arith, lt)) here (used_next entries b n used),
+  apart entries a (b + 1) n once (omega arith) here (used_next entries b n used),
 )
 
 distinct : (entries : List (Option Entry)) (first n : ℕ) → IsOneToOne entries → AreUsed entries first n
@@ -68,8 +67,7 @@ unfolding uids IsDistinct
 distinct entries first zero once used = tt
 distinct entries first (suc n) once used = (
   apart entries first (first + 1) n once (omega arith)
-      (subst (λ (p : ℕ). is_some (entry_at entries p) ≡ true) (add-zero first) (used zero (omega arith)))
-      (used_next entries first n used),
+      (rw (← (add-zero first)) (used zero (omega arith))) (used_next entries first n used),
   distinct entries (first + 1) n once (used_next entries first n used),
 )
 
@@ -81,7 +79,7 @@ eqb_turn i j h = elim (eqb_tells j i) [
   | inr n ↦ elim (eqb_tells i j) [
     | inl e ↦ absurd (n.1 (sym e.1))
     | inr m ↦
-        (let no : true ≡ false = sym h ∙ m.0 in absurd cc)
+        (let no = sym h ∙ m.0 in absurd cc)
   ]
 ]
 
@@ -100,35 +98,33 @@ any_turn (x ∷ xs) q h = by (eqb x q) refl (any_turn xs q) h
 
 in_chain : (chain : List ℕ) (o : Option Entry) → is_some o ≡ true → off_chain chain o ≡ false
     → list_any (eqb (or_zero (uid_in o))) chain ≡ true
-in_chain chain None some on = let no : false ≡ true = some in absurd cc
+in_chain chain None some on = let no = some in absurd cc
 in_chain chain (Some e) some on = any_turn chain e.uid (by (list_any (λ u. eqb u e.uid) chain) on)
   where
     by : (b : Bool) → not b ≡ false → b ≡ true
     by true h = refl
-    by false h = let no : true ≡ false = h in absurd cc
+    by false h = let no = h in absurd cc
 
 all_in : (entries : List (Option Entry)) (chain : List ℕ) (first n : ℕ) → AreUsed entries first n
     → ((i : ℕ) → i < n → off_chain chain (entry_at entries (first + i)) ≡ false) → (q : ℕ)
     → list_any (eqb q) (uids entries first n) ≡ true → list_any (eqb q) chain ≡ true
 unfolding uids
-all_in entries chain first zero used on q h = let no : false ≡ true = h in absurd cc
+all_in entries chain first zero used on q h = let no = h in absurd cc
 all_in entries chain first (suc n) used on q h =
     by (eqb q (uid_in_place entries first)) refl (all_in entries chain (first + 1) n (used_next entries first n used)
     (λ i lt. subst (λ (p : ℕ). off_chain chain (entry_at entries p) ≡ false) (omega arith)
-    (on (suc i) (omega (arith, lt)))) q)
-    h
+    (on (suc i) (omega arith))) q) h
   where
     here : list_any (eqb (uid_in_place entries first)) chain ≡ true
-    here = in_chain chain (entry_at entries first)
-        (subst (λ (p : ℕ). is_some (entry_at entries p) ≡ true) (add-zero first) (used zero (omega arith)))
-        (subst (λ (p : ℕ). off_chain chain (entry_at entries p) ≡ false) (add-zero first) (on zero (omega arith)))
+    here = in_chain chain (entry_at entries first) (rw (← (add-zero first)) (used zero (omega arith)))
+        (rw (← (add-zero first)) (on zero (omega arith)))
 
     by : (b : Bool) → eqb q (uid_in_place entries first) ≡ b
         → (list_any (eqb q) (uids entries (first + 1) n) ≡ true → list_any (eqb q) chain ≡ true)
         → (b || list_any (eqb q) (uids entries (first + 1) n)) ≡ true → list_any (eqb q) chain ≡ true
     by true e others i = elim (eqb_tells q (uid_in_place entries first)) [
-      | inl x ↦ subst (λ (u : ℕ). list_any (eqb u) chain ≡ true) (sym x.1) here
-      | inr x ↦ (let no : true ≡ false = sym e ∙ x.0 in absurd cc)
+      | inl x ↦ rw x.1 here
+      | inr x ↦ (let no = sym e ∙ x.0 in absurd cc)
     ]
     by false e others i = others i
 
@@ -144,10 +140,9 @@ one_off entries chain first n once used few = by (found_or (λ i. off_chain chai
     by (inl found) = found
     by (inr none) =
         let long = length-le_from_is_member nat_eq_equiv (uids entries first n) chain
-        (distinct entries first n once used)
-        (all_in entries chain first n used none) in
+        (distinct entries first n once used) (all_in entries chain first n used none) in
         let same = uids_long entries first n in
-        absurd (omega (arith, long, same, few))
+        absurd (omega arith)
 
 -- the same of a pool
 pub pool_one_off : (s : ActiveSegs) (pool : ℕ) (chain : List ℕ) → IsOneToOne s.entries
@@ -158,6 +153,6 @@ pool_one_off s pool chain once used few =
     let lt = found.1 in
     record {
       place = first_of s.sizes pool + found.0;
-      in_pool = record { from = omega arith; to = omega (arith, lt) };
+      in_pool = record { from = omega arith; to = omega arith };
       off = found.2;
     }

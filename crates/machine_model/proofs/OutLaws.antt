@@ -14,8 +14,7 @@ word_out ast u p w off v q h = elim (set_either ast.tables (place_of ast.entries
       | inl same ↦ ap (λ (t : List Ptw). is_out (get_or t q ptw.Null)) same ∙ h
       | inr is ↦ ap (λ (t : List Ptw). is_out (get_or t q ptw.Null)) is.1 ∙ elim (set_either (table_of ast u) p w q
           ptw.Null) [
-            | inl same ↦ ap is_out same ∙ (ap (λ (i : ℕ). is_out (get_or (table_at ast.tables i) q ptw.Null))
-                (sym is.0) ∙ h)
+            | inl same ↦ ap is_out same ∙ (cc)
             | inr at ↦ ap is_out at.1 ∙ off
           ]
     ]

@@ -40,34 +40,27 @@ offline_few xs = count_by-le-length (λ r. not r.online) xs
 pub all_le : (s t : Outline) → t.left ≡ s.left → over t.runners ≤ over s.runners → t.ready ≡ s.ready
     → offline t.runners ≤ offline s.runners → all_rank t ≤ all_rank s
 unfolding all_rank
-all_le s t left turns ready off = omega (arith, left, turns, ready, off)
+all_le s t left turns ready off = omega arith
 
 -- a command less to come
 pub all_fewer : (s t : Outline) → HasSizes t → t.left < s.left → all_rank t < all_rank s
 unfolding all_rank
-all_fewer s t sizes fewer =
-    let turns = over_few t.runners in
-    let off = offline_few t.runners in
-    omega (arith, fewer, turns, off, sizes.few_runners, sizes.few_ready)
+all_fewer s t sizes fewer = omega (arith, over_few t.runners, offline_few t.runners)
 
 -- a process has had its turn less
 pub all_turn : (s t : Outline) → HasSizes t → t.left ≡ s.left → over t.runners < over s.runners
     → all_rank t < all_rank s
 unfolding all_rank
-all_turn s t sizes left turn =
-    let off = offline_few t.runners in
-    omega (arith, left, turn, off, sizes.few_runners, sizes.few_ready)
+all_turn s t sizes left turn = omega (arith, offline_few t.runners)
 
 -- a process less is ready
 pub all_loaded : (s t : Outline) → HasSizes t → t.left ≡ s.left → over t.runners ≤ over s.runners → t.ready < s.ready
     → all_rank t < all_rank s
 unfolding all_rank
-all_loaded s t sizes left turns ready =
-    let off = offline_few t.runners in
-    omega (arith, left, turns, ready, off, sizes.few_runners)
+all_loaded s t sizes left turns ready = omega (arith, offline_few t.runners)
 
 -- a processor more takes part
 pub all_online : (s t : Outline) → t.left ≡ s.left → over t.runners ≤ over s.runners → t.ready ≡ s.ready
     → offline t.runners < offline s.runners → all_rank t < all_rank s
 unfolding all_rank
-all_online s t left turns ready off = omega (arith, left, turns, ready, off)
+all_online s t left turns ready off = omega arith

@@ -24,29 +24,27 @@ online_runner a p = by p.cpu.process
 pub online_outlined : (s : State) (c : ℕ) → rule_of (outline_of s) c ≡ Comes
     → Step (outline_of s) c Moved (outline_of (came_online s c))
 online_outlined s c h =
-    let p : Processor = processor_at s.processors c in
+    let p = processor_at s.processors c in
     step_to (outline_of s) (with_runner (outline_of s) c
-    (record (runner_at (outline_of s).runners c) { online = true }))
-    (outline_of (came_online s c)) c Moved
+    (record (runner_at (outline_of s).runners c) { online = true })) (outline_of (came_online s c)) c Moved
     (ap (λ (x : Runner). with_runner (outline_of s) c (record x { online = true })) (at_outline s c)
     ∙ ap (λ (x : Runner). with_runner (outline_of s) c x) (sym (online_runner (around s) (processor_at s.processors c)))
     ∙ sym (one_outlined s c (record (processor_at s.processors c)
-    { cpu = record (cpu_at s.processors c) { online = true } }) _))
-    (comes h)
+    { cpu = record (cpu_at s.processors c) { online = true } }) _)) (comes h)
 
 -- two processors of which the outlines read the same but for what is due
 cleared_runner : (a : Around) (p : Processor) (held : Held)
     → IsCleared (runner_of a p) (runner_of a (record p { cpu = record p.cpu { due = None; assoc = held } }))
 cleared_runner a p held =
     let q : Processor = record p { cpu = record p.cpu { due = None; assoc = held } } in
-    record {
-      due = seen_due a (record p { cpu = record p.cpu { due = None; assoc = held } });
-      online = seen_online a (record p { cpu = record p.cpu { due = None; assoc = held } }) ∙ sym (seen_online a p);
-      running = seen_running a (record p { cpu = record p.cpu { due = None; assoc = held } }) ∙ sym (seen_running a p);
-      reading = seen_reading a (record p { cpu = record p.cpu { due = None; assoc = held } }) ∙ sym (seen_reading a p);
-      since = seen_since a (record p { cpu = record p.cpu { due = None; assoc = held } }) ∙ sym (seen_since a p);
-      tried = seen_tried a (record p { cpu = record p.cpu { due = None; assoc = held } }) ∙ sym (seen_tried a p);
-    }
+    assumption (
+      seen_due a (record p { cpu = record p.cpu { due = None; assoc = held } }),
+      seen_online a (record p { cpu = record p.cpu { due = None; assoc = held } }) ∙ sym (seen_online a p),
+      seen_running a (record p { cpu = record p.cpu { due = None; assoc = held } }) ∙ sym (seen_running a p),
+      seen_reading a (record p { cpu = record p.cpu { due = None; assoc = held } }) ∙ sym (seen_reading a p),
+      seen_since a (record p { cpu = record p.cpu { due = None; assoc = held } }) ∙ sym (seen_since a p),
+      seen_tried a (record p { cpu = record p.cpu { due = None; assoc = held } }) ∙ sym (seen_tried a p),
+    )
 
 pub clear_outlined : (s : State) (c : ℕ) (w : What) → rule_of (outline_of s) c ≡ Clears
     → Step (outline_of s) c Moved (outline_of (cleared_at s c w))
@@ -58,8 +56,7 @@ clear_outlined s c w h =
         due = None;
         assoc = cleared (cpu_at s.processors c).assoc w;
       };
-    }) _))
-    (clears (runner_of (around s) (record (processor_at s.processors c) {
+    }) _)) (clears (runner_of (around s) (record (processor_at s.processors c) {
       cpu = record (cpu_at s.processors c) {
         due = None;
         assoc = cleared (cpu_at s.processors c).assoc w;
@@ -83,8 +80,7 @@ abbrev loaded_processor : Processor → ℕ → Processor
 loaded_processor p k = record {
   cpu = record p.cpu { process = Some k; assoc = nothing_held };
   count = 0;
-  tried =
-      false;
+  tried = false;
 }
 
 loaded_runner : (a : Around) (p : Processor) (k : ℕ) → IsFree p → HasLoaded (runner_of a (loaded_processor p k))
@@ -93,23 +89,21 @@ loaded_runner a p k free = assumption (ap (λ (o : Option What). is_some o) free
 loaded_outline : (s : State) (c k : ℕ) → outline_of (loaded s c k) ≡ record (with_runner (outline_of s) c
     (runner_of (around s) (loaded_processor (processor_at s.processors c) k))) { ready = (outline_of s).ready - 1 }
 unfolding outline_of
-loaded_outline s c k =
-    ap (λ (rs : List Runner). record (outline_of s) { runners = rs; ready = length (drop 1 s.ready) })
-    (set_map (runner_of (around s)) s.processors c (loaded_processor (processor_at s.processors c) k))
-    ∙ ap (λ (n : ℕ). record (with_runner (outline_of s) c
-    (runner_of (around s) (loaded_processor (processor_at s.processors c) k))) { ready = n }) (drop_one s.ready)
+loaded_outline s c k = cc (
+  set_map (runner_of (around s)) s.processors c (loaded_processor (processor_at s.processors c) k),
+  drop_one s.ready,
+)
 
 pub load_outlined : (s : State) (c k : ℕ) → rule_of (outline_of s) c ≡ Loads → 0 < length s.ready
     → IsFree (processor_at s.processors c) → Step (outline_of s) c Moved (outline_of (loaded s c k))
 load_outlined s c k h some free =
     step_to (outline_of s) _ (outline_of (loaded s c k)) c Moved (sym (loaded_outline s c k))
-    (loads (runner_of (around s) (loaded_processor (processor_at s.processors c) k)) h
-    (subst (λ (n : ℕ). 0 < n) (sym (ready_seen s)) some)
+    (loads (runner_of (around s) (loaded_processor (processor_at s.processors c) k)) h (rw (ready_seen s) some)
     (loaded_runner (around s) (processor_at s.processors c) k free))
 
 pub idle_outlined : (s : State) (c busy : ℕ) → rule_of (outline_of s) c ≡ Loads → s.ready ≡ []
     → Step (outline_of s) c (WaitsFor (WhileIdle busy)) (outline_of s)
-idle_outlined s c busy h none = idles busy h (ready_seen s ∙ ap (λ (xs : List ℕ). length xs) none)
+idle_outlined s c busy h none = idles busy h (cc (ready_seen s))
 
 abbrev left_processor : Processor → Processor
 left_processor p = record p { cpu = record p.cpu { process = None; assoc = nothing_held } }
@@ -119,21 +113,18 @@ left_runner a p free = assumption (ap (λ (o : Option What). is_some o) free.due
 
 one_more : (xs : List ℕ) (k : ℕ) → length (xs ++ k ∷ []) ≡ length xs + 1
 one_more [] k = refl
-one_more (x ∷ xs) k = let rest = one_more xs k in omega (arith, rest)
+one_more (x ∷ xs) k = omega (arith, one_more xs k)
 
 queued_long : (run : Run) (ready : List ℕ) (k : ℕ) → run.ended ≡ false → length (queued run ready k) ≡ length ready + 1
-queued_long run ready k going =
-    ap (λ (b : Bool). length (cond b ready (ready ++ k ∷ []))) going ∙ one_more ready k
+queued_long run ready k going = cc (one_more ready k)
 
 left_outline : (s : State) (c : ℕ) → (run_at s.runs (process_at s c)).ended ≡ false
     → outline_of (left_at s c) ≡ record (with_runner (outline_of s) c
     (runner_of (around s) (left_processor (processor_at s.processors c)))) { ready = (outline_of s).ready + 1 }
 unfolding outline_of
 left_outline s c going = cc (
-  set_map (runner_of (around s)) s.processors c
-      (left_processor (processor_at s.processors c)),
-  queued_long (run_at s.runs (process_at s c)) s.ready
-      (process_at s c) going,
+  set_map (runner_of (around s)) s.processors c (left_processor (processor_at s.processors c)),
+  queued_long (run_at s.runs (process_at s c)) s.ready (process_at s c) going,
 )
 
 pub leave_outlined : (s : State) (c : ℕ) → rule_of (outline_of s) c ≡ Leaves
@@ -165,8 +156,7 @@ filled_runner a p held k process less = record {
   tried = seen_tried a (held_processor p held) ∙ sym (seen_tried a p);
   want = want p.cpu.process;
   linked = linked p.cpu.process;
-  missing = subst (λ (o : Option ℕ). missing (runner_by a (held_processor p held) o) < missing (runner_by a p o))
-      (sym process) less;
+  missing = rw process less;
 }
   where
     want : (o : Option ℕ) → (runner_by a (held_processor p held) o).want ≡ (runner_by a p o).want
@@ -180,8 +170,7 @@ filled_runner a p held k process less = record {
 pub fill_outlined : (s : State) (c k : ℕ) (held : Held) → rule_of (outline_of s) c ≡ Commands
     → (cpu_at s.processors c).process ≡ Some k
     → lacking held (reference_in ((around s).next k)) < lacking (cpu_at s.processors c).assoc
-    (reference_in ((around s).next k))
-    → Step (outline_of s) c Moved
+    (reference_in ((around s).next k)) → Step (outline_of s) c Moved
     (with_runner (outline_of s) c (runner_of (around s) (held_processor (processor_at s.processors c) held)))
 fill_outlined s c k held h process less =
     fills (runner_of (around s) (held_processor (processor_at s.processors c) held)) h
@@ -190,7 +179,7 @@ fill_outlined s c k held h process less =
 -- what is found once one more stands at the end
 found_last : {A : Type 0} (test : A → Bool) (xs : List A) (x : A) → test x ≡ true
     → is_some (find test (xs ++ x ∷ [])) ≡ true
-found_last test [] x h = ap (λ (b : Bool). is_some (cond b (Some x) None)) h
+found_last test [] x h = cc
 found_last test (y ∷ ys) x h = by (test y) (found_last test ys x h)
   where
     by : (b : Bool) → is_some (find test (ys ++ x ∷ [])) ≡ true
@@ -201,7 +190,7 @@ found_last test (y ∷ ys) x h = by (test y) (found_last test ys x h)
 holds_filled_seg : (held : Held) (e : HeldSeg) (n : ℕ) → e.number ≡ n → is_some (seg_of (with_seg held e) n) ≡ true
 holds_filled_seg held e n same =
     found_last (is_number n) (cond (eqb (length held.segs) 16) (drop 1 held.segs) held.segs) e
-    (subst (λ (i : ℕ). eqb e.number i ≡ true) same (eqb_self e.number))
+    (rw (← same) (eqb_self e.number))
 
 number_held : (s : State) (n : ℕ) (w : Sdw) → (held_seg s.store n w).number ≡ n
 number_held s n sdw.Fault = refl
@@ -213,20 +202,18 @@ pub fill_seg_outlined : (s : State) (c k : ℕ) (r : Reference) → rule_of (out
     → Step (outline_of s) c Moved (outline_of (seg_filled s c r.number))
 fill_seg_outlined s c k r h process next none =
     let cpu = cpu_at s.processors c in
-    let e : HeldSeg = held_seg s.store r.number (descriptor_of s.store.links (process_at s c) r.number) in
+    let e = held_seg s.store r.number (descriptor_of s.store.links (process_at s c) r.number) in
     step_to (outline_of s) _ (outline_of (seg_filled s c r.number)) c Moved
     (sym (one_outlined s c (held_processor (processor_at s.processors c) (with_seg (cpu_at s.processors c).assoc
     (held_seg s.store r.number (descriptor_of s.store.links (process_at s c) r.number)))) _))
     (fill_outlined s c k (with_seg (cpu_at s.processors c).assoc
-    (held_seg s.store r.number (descriptor_of s.store.links (process_at s c) r.number))) h process
-    (rw (
+    (held_seg s.store r.number (descriptor_of s.store.links (process_at s c) r.number))) h process (rw (
       next,
       none,
       holds_filled_seg (cpu_at s.processors c).assoc
           (held_seg s.store r.number (descriptor_of s.store.links (process_at s c) r.number)) r.number
           (number_held s r.number (descriptor_of s.store.links (process_at s c) r.number)),
-    )
-    (few (holds_page (with_seg (cpu_at s.processors c).assoc
+    ) (few (holds_page (with_seg (cpu_at s.processors c).assoc
     (held_seg s.store r.number (descriptor_of s.store.links (process_at s c) r.number))) (Some r)))))
   where
     few : (b : Bool) → cond {A = ℕ} b 0 1 < 2
@@ -235,8 +222,7 @@ fill_seg_outlined s c k r h process next none =
 
 holds_filled_page : (held : Held) (e : HeldPage) (uid page : ℕ) → e.uid ≡ uid → e.page ≡ page
     → is_some (frame_of (with_page held e) uid page) ≡ true
-holds_filled_page held e uid page a b =
-    mapped (page_of (with_page held e) uid page)
+holds_filled_page held e uid page a b = mapped (page_of (with_page held e) uid page)
     (found_last (is_page uid page) (cond (eqb (length held.pages) 16) (drop 1 held.pages) held.pages) e
     (rw (a, b) (both (eqb_self uid) (eqb_self page))))
   where
@@ -281,8 +267,7 @@ transferred_outline : (s : State) (c count : ℕ) (t : Transfer) → outline_of 
     (runner_of (around s) (idle_processor (processor_at s.processors c)))
 unfolding outline_of
 transferred_outline s c count t = cc (
-  set_map (runner_of (around s)) s.processors c
-      (idle_processor (processor_at s.processors c)),
+  set_map (runner_of (around s)) s.processors c (idle_processor (processor_at s.processors c)),
   set_map bare s.store.pages.core.frames t.frame (frame.Bound t.uid t.page false false),
 )
 
@@ -292,18 +277,14 @@ pub transfer_outlined : (s : State) (c count : ℕ) (t : Transfer) → rule_of (
 transfer_outlined s c count t h reading =
     step_to (outline_of s) (not_reading (with_bound (outline_of s) t false false) c)
     (outline_of (transferred (with_faults s count) c t)) c Moved
-    (ap (λ (x : Runner). with_runner (with_bound (outline_of s) t false false) c (record x { reading = None }))
-    (at_outline s c)
-    ∙ ap (λ (x : Runner). with_runner (with_bound (outline_of s) t false false) c x)
-    (sym (idle_runner (around s) (processor_at s.processors c))) ∙ sym (transferred_outline s c count t))
-    (reads t false false h
-    (ap (λ (x : Runner). x.reading) (at_outline s c) ∙ seen_reading (around s) (processor_at s.processors c) ∙ reading))
+    (cc (at_outline s c, idle_runner (around s) (processor_at s.processors c), transferred_outline s c count t))
+    (reads t false false h (cc (at_outline s c, seen_reading (around s) (processor_at s.processors c))))
 
 -- ---- the supervisor
 
 pub owner_none : (s : State) → s.owner ≡ None → (outline_of s).owner ≡ None
 unfolding outline_of
-owner_none s none = ap (λ (o : Option Owner). keeper_of s.store.ast.entries o) none
+owner_none s none = cc
 
 looking_outline : (s : State) (c : ℕ) → outline_of (with_owner s (Some (looking c))) ≡ at_stage (outline_of s) c Look
 unfolding outline_of
@@ -328,7 +309,7 @@ fault_outlined s c chain uid page makes h none want lacks =
 
 owner_some : (s : State) (o : Owner) → s.owner ≡ Some o → (outline_of s).owner ≡ keeper_of s.store.ast.entries (Some o)
 unfolding outline_of
-owner_some s o some = ap (λ (x : Option Owner). keeper_of s.store.ast.entries x) some
+owner_some s o some = cc
 
 pub owned_outlined : (s : State) (c : ℕ) (o : Owner) → rule_of (outline_of s) c ≡ Commands → s.owner ≡ Some o
     → Step (outline_of s) c (WaitsFor (ForOwner o.cpu)) (outline_of s)

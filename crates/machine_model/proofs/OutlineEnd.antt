@@ -34,8 +34,7 @@ gone_outline s f k = λ i. record {
     next = next_command s;
   })) s.processors;
   frames = (ap (λ (fs : List Frame). map bare fs) (left_frames s.store f (left_of (words_in s.store.pages f))
-      (page_in s.store f))
-      ∙ set_map bare s.store.pages.core.frames f frame.Free) i;
+      (page_in s.store f)) ∙ set_map bare s.store.pages.core.frames f frame.Free) i;
   entries = s.store.ast.entries;
   stored = stored_then s f;
   full = full_then s f;
@@ -46,9 +45,7 @@ gone_outline s f k = λ i. record {
 
 pub in_stage : (s : State) (o : Owner) (ph : Phase) → s.owner ≡ Some o → o.phase ≡ ph
     → IsIn (outline_of s) o.cpu (stage_of s.store.ast.entries o.frames ph)
-in_stage s o ph owner h =
-    in_job s o owner ∙ ap (λ (x : Phase). Some (record
-    { cpu = o.cpu; stage = stage_of s.store.ast.entries o.frames x })) h
+in_stage s o ph owner h = cc (in_job s o owner)
 
 pub eviction_outlined : (s : State) (o : Owner) (w : What) (f : ℕ) (rest : List ℕ) → s.owner ≡ Some o
     → o.phase ≡ phase.Waiting aim.Evicting w → o.frames ≡ f ∷ rest → dues (outline_of s).runners ≡ 0
@@ -63,8 +60,7 @@ rest_keeper : (entries : List (Option Active)) (o : Owner) (uid : ℕ) (w : What
     → o.phase ≡ phase.Waiting (aim.Deactivating uid) w → o.frames ≡ f ∷ rest
     → keeper_of entries (without_first_frame (Some o)) ≡ Some
     (record { cpu = o.cpu; stage = Waiting (EmptyPlace (place_of entries uid) rest) })
-rest_keeper entries o uid w f rest h frames =
-    ap (λ (x : Owner). keeper_of entries (without_first_frame (Some x)))
+rest_keeper entries o uid w f rest h frames = ap (λ (x : Owner). keeper_of entries (without_first_frame (Some x)))
     (λ i. record { cpu = o.cpu; phase = h i; frames = frames i; cut = o.cut })
 
 done_outline : (s : State) (f : ℕ) → outline_of (page_done s f)
@@ -104,8 +100,7 @@ pub deactivate_outlined : (s : State) (o : Owner) (uid : ℕ) (w : What) → s.o
     → JobStep (outline_of s) o.cpu (outline_of (emptied s o.cpu uid))
 deactivate_outlined s o uid w owner h frames due =
     job_to (outline_of s) (with_runners (at_stage (with_entry (outline_of s) (place_of s.store.ast.entries uid) None)
-    o.cpu Look)
-    (outline_of s).runners) (outline_of (emptied s o.cpu uid)) o.cpu (sym (emptied_outline s o.cpu uid))
+    o.cpu Look) (outline_of s).runners) (outline_of (emptied s o.cpu uid)) o.cpu (sym (emptied_outline s o.cpu uid))
     (empties (place_of s.store.ast.entries uid) (outline_of s).runners
     (cc (in_stage s o (phase.Waiting (aim.Deactivating uid) w) owner h)) due (alike_self (outline_of s).runners o.cpu)
     due)
@@ -131,8 +126,7 @@ pub give_up_outlined : (s : State) (o : Owner) (chain : List ℕ) (uid page : �
     → JobStep (outline_of s) o.cpu (outline_of (with_owner s None))
 give_up_outlined s o chain uid page makes owner looks want fits =
     job_to (outline_of s) (without_owner (outline_of s)) (outline_of (with_owner s None)) o.cpu
-    (sym (gave_up_outline s))
-    (gives_up chain uid page makes (in_look s o owner looks) want fits)
+    (sym (gave_up_outline s)) (gives_up chain uid page makes (in_look s o owner looks) want fits)
 
 -- ---- a transfer begins
 
@@ -150,24 +144,15 @@ reading_runner a p t = by p.cpu.process
 started_outline : (s : State) (c f uid page : ℕ)
     → without_owner (now_reading (outline_of s) c f uid page) ≡ outline_of (started s c f uid page)
 unfolding outline_of
-started_outline s c f uid page =
-    sym (ap (λ (fs : List Frame). record (without_owner (outline_of s)) {
-      runners = map (runner_of (around s)) (set s.processors c
-          (reading_processor (processor_at s.processors c) (record { frame = f; uid = uid; page = page })));
-      frames = fs;
-    }) (set_map bare s.store.pages.core.frames f (frame.Started uid page))
-    ∙ ap (λ (rs : List Runner). record (without_owner (with_frame (outline_of s) f (frame.Started uid page)))
-    { runners = rs })
-    (set_map (runner_of (around s)) s.processors c
-    (reading_processor (processor_at s.processors c) (record { frame = f; uid = uid; page = page })))
-    ∙ ap (λ (x : Runner). without_owner (with_runner (with_frame (outline_of s) f (frame.Started uid page)) c x))
-    (reading_runner (around s) (processor_at s.processors c) (record { frame = f; uid = uid; page = page })
-    ∙ ap (λ (x : Runner). record x { reading = Some (record { frame = f; uid = uid; page = page }) })
-    (sym (at_outline s c))))
+started_outline s c f uid page = cc (
+  set_map bare s.store.pages.core.frames f (frame.Started uid page),
+  set_map (runner_of (around s)) s.processors c
+      (reading_processor (processor_at s.processors c) (record { frame = f; uid = uid; page = page })),
+  reading_runner (around s) (processor_at s.processors c) (record { frame = f; uid = uid; page = page }),
+  at_outline s c,
+)
 
 pub start_outlined : (s : State) (c f uid page : ℕ) → CanStart (outline_of s) c f uid page
     → JobStep (outline_of s) c (outline_of (started s c f uid page))
-start_outlined s c f uid page can =
-    job_to (outline_of s) (without_owner (now_reading (outline_of s) c f uid page))
-    (outline_of (started s c f uid page)) c
-    (started_outline s c f uid page) (starts f uid page can)
+start_outlined s c f uid page can = job_to (outline_of s) (without_owner (now_reading (outline_of s) c f uid page))
+    (outline_of (started s c f uid page)) c (started_outline s c f uid page) (starts f uid page can)

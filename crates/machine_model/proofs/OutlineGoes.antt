@@ -25,20 +25,16 @@ module _ (s : Outline) (k : IsKept s) (more : IsEnded s → ⊥) (all : HaveStep
 
   -- who is to drop something does so, or comes online
   dropper_goes : (d : ℕ) → d < length s.runners → (runner_at s.runners d).due ≡ true → Goes s all
-  dropper_goes d there due = by_rule d there
-      (λ h. not_both due (tells s d Works h).0)
-      (λ h none. not_both due (tells s d Loads h).0)
-      (λ h o some. not_both due (tells s d Commands h).0)
+  dropper_goes d there due = by_rule d there (λ h. not_both due (tells s d Works h).0)
+      (λ h none. not_both due (tells s d Loads h).0) (λ h o some. not_both due (tells s d Commands h).0)
 
   -- who reads a page in ends that, or drops something before
   reader_goes : (d : ℕ) (r : Transfer) → d < length s.runners → (runner_at s.runners d).reading ≡ Some r → Goes s all
-  reader_goes d r there reading = by_rule d there
-      (λ h. not_both is (tells s d Works h).1)
-      (λ h none. not_both is (tells s d Loads h).1)
-      (λ h o some. not_both is (tells s d Commands h).1)
+  reader_goes d r there reading = by_rule d there (λ h. not_both is (tells s d Works h).1)
+      (λ h none. not_both is (tells s d Loads h).1) (λ h o some. not_both is (tells s d Commands h).1)
     where
       is : is_some (runner_at s.runners d).reading ≡ true
-      is = ap (λ (x : Option Transfer). is_some x) reading
+      is = cc
 
   -- the owner, or who it waits for
   owner_goes : (c : ℕ) (stage : Stage) → IsIn s c stage → Goes s all
@@ -48,7 +44,7 @@ module _ (s : Outline) (k : IsKept s) (more : IsEnded s → ⊥) (all : HaveStep
       there = (k.job.at_work c stage mine).within
 
       own : owns s.owner c ≡ true
-      own = ap (λ (o : Option Keeper). owns o c) mine ∙ self c
+      own = cc (self c)
         where
           self : (i : ℕ) → eqb i i ≡ true
           self i = elim (eqb_tells i i) [ inl x ↦ x.0 | inr x ↦ absurd (x.1 refl) ]
@@ -61,23 +57,21 @@ module _ (s : Outline) (k : IsKept s) (more : IsEnded s → ⊥) (all : HaveStep
       by x t e (awaits_clear w d h waiting online due) = dropper_goes d (inside s.runners d online) due
       by x t e (awaits_transfer f uid page h look started) = let reader = k.tied.started f uid page started in
           reader_goes reader.0 (record { frame = f; uid = uid; page = page }) reader.1 reader.2
-      by x t e (idles busy h none) = absurd (not_both own (tells s c Loads h).2)
-      by x t e (waits o h some) = absurd (not_both own (tells s c Commands h).2)
+      by x t e (idles busy h none) = cc (own, (tells s c Loads h).2)
+      by x t e (waits o h some) = cc (own, (tells s c Commands h).2)
       by x t e _ = here e
 
   -- nobody owns the supervisor
   module _ (none : s.owner ≡ None) where
     no_work : (c : ℕ) → rule_of s c ≡ Works → ⊥
-    no_work c h = not_both (tells s c Works h).2 (ap (λ (o : Option Keeper). owns o c) none)
+    no_work c h = not_both (tells s c Works h).2 (cc)
 
     runner_goes : (c : ℕ) → c < length s.runners → (runner_at s.runners c).running ≡ true → Goes s all
-    runner_goes c there running = by_rule c there (no_work c)
-        (λ h ready. not_both running (tells s c Loads h).3)
-        (λ h o some. let no : None ≡ Some o = sym none ∙ some in cc)
+    runner_goes c there running = by_rule c there (no_work c) (λ h ready. not_both running (tells s c Loads h).3)
+        (λ h o some. let no = sym none ∙ some in cc)
 
     idle_goes : ((d : ℕ) → (runner_at s.runners d).running ≡ false) → Goes s all
-    idle_goes idle = by_rule 0 k.sizes.some_runner (no_work 0)
-        (λ h ready. more (record { ready = ready; running = idle }))
+    idle_goes idle = by_rule 0 k.sizes.some_runner (no_work 0) (λ h ready. more (assumption))
         (λ h o some. not_both (tells s 0 Commands h).3 (idle 0))
 
     free_goes : Goes s all

@@ -6,24 +6,22 @@ use Rattle.machine_model.proofs.OutlineReads.{at_outline}
 
 -- a step of a job to an outline that is the same
 pub job_to : (s t u : Outline) (c : ℕ) → t ≡ u → JobStep s c t → JobStep s c u
-job_to s t u c same step = subst (λ (x : Outline). JobStep s c x) same step
+job_to s t u c same step = rw (← same) step
 
 -- ---- the owner
 
 pub in_job : (s : State) (o : Owner) → s.owner ≡ Some o
     → IsIn (outline_of s) o.cpu (stage_of s.store.ast.entries o.frames o.phase)
 unfolding outline_of
-in_job s o h = ap (λ (x : Option Owner). keeper_of s.store.ast.entries x) h
+in_job s o h = cc
 
 look_of_keeper : (entries : List (Option Active)) (o : Owner) → o.phase ≡ phase.Looking
     → keeper_of entries (Some o) ≡ Some (record { cpu = o.cpu; stage = Look })
-look_of_keeper entries o looks =
-    ap (λ (x : Phase). Some (record { cpu = o.cpu; stage = stage_of entries o.frames x })) looks
+look_of_keeper entries o looks = cc
 
 pub in_look : (s : State) (o : Owner) → s.owner ≡ Some o → o.phase ≡ phase.Looking → IsIn (outline_of s) o.cpu Look
 unfolding outline_of
-in_look s o h looks =
-    ap (λ (x : Option Owner). keeper_of s.store.ast.entries x) h ∙ look_of_keeper s.store.ast.entries o looks
+in_look s o h looks = cc (look_of_keeper s.store.ast.entries o looks)
 
 -- an owner that looks is the same whatever is active
 keep_look : (es fs : List (Option Active)) (x : Option Owner) (o : Owner) → x ≡ Some o → o.phase ≡ phase.Looking
@@ -48,18 +46,16 @@ activate_outlined s o uid place owner looks can =
 map_like : {A B : Type 0} (f g : A → B) (xs : List A) (d : A) → ((i : ℕ) → g (get_or xs i d) ≡ f (get_or xs i d))
     → map g xs ≡ map f xs
 map_like f g [] d same = refl
-map_like {B = B} f g (x ∷ xs) d same =
-    ap (λ (y : B). y ∷ map g xs) (same zero) ∙ ap (λ (ys : List B). f x ∷ ys) (map_like f g xs d (λ i. same (suc i)))
+map_like {B = B} f g (x ∷ xs) d same = cc (same zero, map_like f g xs d (λ i. same (suc i)))
 
 pub map_change : {A B : Type 0} (f g : A → B) (xs : List A) (c : ℕ) (y : B) (d : A) → c < length xs
-    → g (get_or xs c d) ≡ y
-    → ((i : ℕ) → i ≢ c → g (get_or xs i d) ≡ f (get_or xs i d)) → map g xs ≡ set (map f xs) c y
+    → g (get_or xs c d) ≡ y → ((i : ℕ) → i ≢ c → g (get_or xs i d) ≡ f (get_or xs i d)) → map g xs ≡ set (map f xs) c y
 map_change f g [] c y d lt here other = absurd (omega arith)
 map_change {B = B} f g (x ∷ xs) zero y d lt here other =
-    cc (map_like f g xs d (λ i. other (suc i) (λ e. absurd (omega (arith, e)))))
+    cc (map_like f g xs d (λ i. other (suc i) (λ e. absurd (omega arith))))
 map_change {B = B} f g (x ∷ xs) (suc c) y d lt here other = cc (
-  other zero (λ e. absurd (omega (arith, e))),
-  map_change f g xs c y d (omega arith) here (λ i n. other (suc i) (λ e. n (omega (arith, e)))),
+  other zero (λ e. absurd (omega arith)),
+  map_change f g xs c y d (omega arith) here (λ i n. other (suc i) (λ e. n (omega arith))),
 )
 
 -- ---- a look that connects
@@ -79,7 +75,7 @@ linked_runner a links p k r process next known now =
     want_same = rw (known)
 
     linked_now : is_linked (linked_around a links) k (reference_in (a.next k)) ≡ true
-    linked_now = ap (λ (x : Option Reference). is_linked (linked_around a links) k x) next ∙ now
+    linked_now = cc
 
 -- the runner of a processor whose process has the same descriptors as before
 other_runner : (a : Around) (links : Links) (p : Processor) → links.known ≡ a.links.known
@@ -98,17 +94,17 @@ other_runner a links p known same = by p.cpu.process same
         linked_same : (r : Option Reference) → sdws_at links.descriptors k ≡ sdws_at a.links.descriptors k
             → is_linked (linked_around a links) k r ≡ is_linked a k r
         linked_same None e = refl
-        linked_same (Some r) e = ap (λ (ws : List Sdw). is_connected (sdw_at ws r.number)) e
+        linked_same (Some r) e = cc
 
 now_connected : (s : State) (k n uid : ℕ) → HasDescriptor s.store.links k n
     → is_connected (descriptor_of (with_link_of s.store k n uid).links k n) ≡ true
-now_connected s k n uid there =
-    ap (λ (ws : List Sdw). is_connected (sdw_at ws n))
-    (get_or-set_same s.store.links.descriptors k (set (sdws_at s.store.links.descriptors k) n
-    (sdw.Present (place_of s.store.ast.entries uid) (mode_in s.store k uid) (length_in s.store uid))) [] there.process)
-    ∙ ap is_connected (get_or-set_same (sdws_at s.store.links.descriptors k) n
-    (sdw.Present (place_of s.store.ast.entries uid) (mode_in s.store k uid) (length_in s.store uid)) sdw.Fault
-    there.number)
+now_connected s k n uid there = cc (
+  get_or-set_same s.store.links.descriptors k (set (sdws_at s.store.links.descriptors k) n
+      (sdw.Present (place_of s.store.ast.entries uid) (mode_in s.store k uid) (length_in s.store uid))) []
+      there.process,
+  get_or-set_same (sdws_at s.store.links.descriptors k) n (sdw.Present (place_of s.store.ast.entries uid)
+      (mode_in s.store k uid) (length_in s.store uid)) sdw.Fault there.number,
+)
 
 connected_outline : (s : State) (c k n uid : ℕ) (r : Reference) → c < length s.processors → IsPlaced s.processors c k
     → reference_in ((around s).next k) ≡ Some r → r.number ≡ n → HasDescriptor s.store.links k n
@@ -116,14 +112,14 @@ connected_outline : (s : State) (c k n uid : ℕ) (r : Reference) → c < length
 unfolding outline_of
 connected_outline s c k n uid r lt placed next number there =
     cc (map_change (runner_of (around s)) (runner_of (linked_around (around s) (with_link_of s.store k n uid).links))
-    s.processors c (record (runner_at (outline_of s).runners c) { linked = true }) no_processor lt
-    (linked_runner (around s) (with_link_of s.store k n uid).links (processor_at s.processors c) k r placed.here
-    next refl (rw number (now_connected s k n uid there)) ∙ ap (λ (x : Runner). record x { linked = true })
-    (sym (at_outline s c))) (λ d apart. other_runner (around s) (with_link_of s.store k n uid).links
+    s.processors c (record (runner_at (outline_of s).runners c) { linked = true }) no_processor lt (cc (
+      linked_runner (around s) (with_link_of s.store k n uid).links (processor_at s.processors c) k r placed.here
+          next refl (rw number (now_connected s k n uid there)),
+      at_outline s c,
+    )) (λ d apart. other_runner (around s) (with_link_of s.store k n uid).links
     (processor_at s.processors d) refl (λ j h. get_or-set_other s.store.links.descriptors k j
     (set (sdws_at s.store.links.descriptors k) n (sdw.Present (place_of s.store.ast.entries uid)
-    (mode_in s.store k uid) (length_in s.store uid))) [] (λ e. placed.only d apart (h
-    ∙ ap (λ (i : ℕ). Some i) e)))))
+    (mode_in s.store k uid) (length_in s.store uid))) [] (λ e. placed.only d apart (cc)))))
 
 pub connect_outlined : (s : State) (o : Owner) (k uid : ℕ) (r : Reference) (chain : List ℕ) (u page : ℕ) (makes : Bool)
     → s.owner ≡ Some o → o.phase ≡ phase.Looking → o.cpu < length s.processors → IsPlaced s.processors o.cpu k

@@ -10,7 +10,7 @@ use Rattle.machine_model.proofs.OutlineAnswer.{told_left, outline_left, left_is}
 set_twice : {A : Type 0} (xs : List A) (i : ℕ) (x y : A) → set (set xs i x) i y ≡ set xs i y
 set_twice [] i x y = refl
 set_twice (z ∷ zs) zero x y = refl
-set_twice {A} (z ∷ zs) (suc i) x y = ap (λ (ws : List A). z ∷ ws) (set_twice zs i x y)
+set_twice {A} (z ∷ zs) (suc i) x y = cc (set_twice zs i x y)
 
 -- the runner of a processor whose process comes to the same command next
 next_runner : (a : Around) (next : ℕ → Option Command) (p : Processor)
@@ -20,7 +20,7 @@ next_runner a next p same = by p.cpu.process same
     by : (o : Option ℕ) → ((j : ℕ) → o ≡ Some j → next j ≡ a.next j)
         → runner_by (record a { next = next }) p o ≡ runner_by a p o
     by None h = refl
-    by (Some j) h = ap (λ (o : Option Command). runner_by (record a { next = λ i. o }) p (Some j)) (h j refl)
+    by (Some j) h = cc (h j refl)
 
 -- what was released where the command was no end
 none_released : (p : Plan) (k : ℕ) (x : Command) (o : Option Command) → o ≡ Some x → is_end x ≡ false
@@ -36,10 +36,8 @@ failed_around s c n t = around (transfer_failed s c t n)
 
 failed_processors : (s : State) (c n : ℕ) (t : Transfer) → c < length s.processors
     → (transfer_failed s c t n).processors ≡ set s.processors c (lost_processor s c n t)
-failed_processors s c n t lt =
-    set_twice s.processors c _ _ ∙ ap (λ (p : Processor). set s.processors c p)
-    (sym (get_or-set_same (set s.processors c _) c _ no_processor
-    (subst (λ (m : ℕ). c < m) (sym (length-set s.processors c _)) lt)))
+failed_processors s c n t lt = set_twice s.processors c _ _ ∙ ap (λ (p : Processor). set s.processors c p)
+    (sym (get_or-set_same (set s.processors c _) c _ no_processor (rw (length-set s.processors c _) lt)))
 
 -- the machine once the frame is lost and the failure told, before its process is
 abbrev lost_state : State → ℕ → ℕ → Transfer → State
@@ -51,7 +49,7 @@ lost_process s c n t lt = ap (λ (p : Processor). p.cpu.process) (get_or-set_sam
 
 lost_tells : (s : State) (c k n : ℕ) (t : Transfer) (x : Command) → CanTell s c k x → CanTell (lost_state s c n t) c k x
 lost_tells s c k n t x can = record {
-  within = subst (λ (m : ℕ). c < m) (sym (length-set s.processors c _)) can.within;
+  within = rw (length-set s.processors c _) can.within;
   process = lost_process s c n t can.within ∙ can.process;
   there = can.there;
   planned = can.planned;
@@ -61,7 +59,7 @@ lost_tells s c k n t x can = record {
 -- which process is told
 lost_told : (s : State) (c k n : ℕ) (t : Transfer) (x : Command) → CanTell s c k x
     → process_at (lost_state s c n t) c ≡ k
-lost_told s c k n t x can = ap or_zero (lost_process s c n t can.within ∙ can.process)
+lost_told s c k n t x can = cc (lost_process s c n t can.within)
 
 other_next : (s : State) (c k n j : ℕ) (t : Transfer) (x : Command) → CanTell s c k x → j ≢ k
     → next_command (transfer_failed s c t n) j ≡ next_command s j
@@ -70,38 +68,34 @@ other_next s c k n j t x can apart = rw (get_or-set_other s.runs (process_at (lo
     (process_at (lost_state s c n t) c)) reply.Device) no_run (λ e. apart (e ∙ lost_told s c k n t x can)))
 
 others_same : (s : State) (c k n d : ℕ) (t : Transfer) (x : Command) → CanTell s c k x → IsPlaced s.processors c k
-    → d ≢ c
-    → runner_of (failed_around s c n t) (processor_at (set s.processors c (lost_processor s c n t)) d)
+    → d ≢ c → runner_of (failed_around s c n t) (processor_at (set s.processors c (lost_processor s c n t)) d)
     ≡ runner_of (around s) (processor_at (set s.processors c (lost_processor s c n t)) d)
-others_same s c k n d t x can placed apart =
-    next_runner (around s) (next_command (transfer_failed s c t n))
-    (processor_at (set s.processors c (lost_processor s c n t)) d)
-    (λ j h. other_next s c k n j t x can
+others_same s c k n d t x can placed apart = next_runner (around s) (next_command (transfer_failed s c t n))
+    (processor_at (set s.processors c (lost_processor s c n t)) d) (λ j h. other_next s c k n j t x can
     (λ e. placed.only d apart (cc (get_or-set_other s.processors c d (lost_processor s c n t) no_processor apart))))
 
 failed_runners : (s : State) (c k n : ℕ) (t : Transfer) (x : Command) → CanTell s c k x → IsPlaced s.processors c k
     → map (runner_of (failed_around s c n t)) (transfer_failed s c t n).processors
     ≡ set (map (runner_of (around s)) s.processors) c (runner_of (failed_around s c n t) (lost_processor s c n t))
-failed_runners s c k n t x can placed =
-    cc (
-      failed_processors s c n t can.within,
-      map_change (runner_of (around s)) (runner_of (failed_around s c n t))
-          (set s.processors c (lost_processor s c n t)) c (runner_of (failed_around s c n t) (lost_processor s c n t))
-          no_processor (subst (λ (m : ℕ). c < m) (sym (length-set s.processors c (lost_processor s c n t))) can.within)
-          (ap (runner_of (failed_around s c n t)) (get_or-set_same s.processors c (lost_processor s c n t) no_processor
-          can.within)) (λ d apart. others_same s c k n d t x can placed apart),
-      set_map (runner_of (around s)) s.processors c (lost_processor s c n t),
-      set_twice (map (runner_of (around s)) s.processors) c (runner_of (around s) (lost_processor s c n t))
-          (runner_of (failed_around s c n t) (lost_processor s c n t)),
-    )
+failed_runners s c k n t x can placed = cc (
+  failed_processors s c n t can.within,
+  map_change (runner_of (around s)) (runner_of (failed_around s c n t))
+      (set s.processors c (lost_processor s c n t)) c (runner_of (failed_around s c n t) (lost_processor s c n t))
+      no_processor (rw (length-set s.processors c (lost_processor s c n t)) can.within)
+      (cc (get_or-set_same s.processors c (lost_processor s c n t) no_processor can.within))
+      (λ d apart. others_same s c k n d t x can placed apart),
+  set_map (runner_of (around s)) s.processors c (lost_processor s c n t),
+  set_twice (map (runner_of (around s)) s.processors) c (runner_of (around s) (lost_processor s c n t))
+      (runner_of (failed_around s c n t) (lost_processor s c n t)),
+)
 
 failed_ready : (s : State) (c k n : ℕ) (t : Transfer) (x : Command) → CanTell s c k x → is_end x ≡ false
     → length (transfer_failed s c t n).ready ≡ length s.ready
-failed_ready s c k n t x can out =
-    ap (λ (es : List ℕ). length (s.ready ++ es)) (none_released s.plan (process_at (lost_state s c n t) c) x
-    (next_command (lost_state s c n t) (process_at (lost_state s c n t) c))
-    (ap (λ (j : ℕ). next_command s j) (lost_told s c k n t x can) ∙ can.on.next) out)
-    ∙ ap (λ (es : List ℕ). length es) (append-nil s.ready)
+failed_ready s c k n t x can out = cc (
+  none_released s.plan (process_at (lost_state s c n t) c) x (next_command (lost_state s c n t)
+      (process_at (lost_state s c n t) c)) (cc (lost_told s c k n t x can)) out,
+  append-nil s.ready,
+)
 
 failed_outline : (s : State) (c k n : ℕ) (t : Transfer) (x : Command) → CanTell s c k x → IsPlaced s.processors c k
     → is_end x ≡ false → outline_of (transfer_failed s c t n)
@@ -163,6 +157,6 @@ loss_outlined s c k n t x h reading can placed out =
     step_to (outline_of s) _ (outline_of (transfer_failed s c t n)) c Moved
     (sym (failed_outline s c k n t x can placed out))
     (loses t (runner_of (failed_around s c n t) (lost_processor s c n t)) (left_is (transfer_failed s c t n)) h
-    (ap (λ (y : Runner). y.reading) (at_outline s c) ∙ seen_reading (around s) (processor_at s.processors c) ∙ reading)
+    (cc (at_outline s c, seen_reading (around s) (processor_at s.processors c)))
     (lost_runner s c n t can.within) (rw (outline_left s) (told_left (lost_state s c n t) c k None reply.Device x
     (lost_tells s c k n t x can))))

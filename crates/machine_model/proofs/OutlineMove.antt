@@ -14,8 +14,7 @@ use Rattle.machine_model.proofs.WantMoved.{put_is, put_on, runner_same}
 pub begin_outlined : (s : State) (o : Owner) (uid volume : ℕ) → s.owner ≡ Some o → o.phase ≡ phase.Looking
     → JobStep (outline_of s) o.cpu (outline_of (move_begun s o.cpu uid volume))
 unfolding outline_of
-begin_outlined s o uid volume owner looks =
-    subst (JobStep (outline_of s) o.cpu) is (begins_move 256 (in_look s o owner looks) (le_refl 256))
+begin_outlined s o uid volume owner looks = rw (← is) (begins_move 256 (in_look s o owner looks) (le_refl 256))
   where
     is : at_stage (outline_of s) o.cpu (Copying 256) ≡ outline_of (move_begun s o.cpu uid volume)
     is = refl
@@ -25,29 +24,27 @@ begin_outlined s o uid volume owner looks =
 -- the next page that is on its record alone is none of those before
 pub first_past : (table : List Ptw) (count n p : ℕ) → first_out table count n ≡ Some p → (n ≤ p) × (p < n + count)
 unfolding first_out
-first_past table zero n p h = absurd (let no : None ≡ Some p = h in cc)
+first_past table zero n p h = cc
 first_past table (suc count) n p h = by (is_out (ptw_at table n)) (first_past table count (n + 1) p) h
   where
     by : (b : Bool) → (first_out table count (n + 1) ≡ Some p → (n + 1 ≤ p) × (p < n + 1 + count))
         → cond b (Some n) (first_out table count (n + 1)) ≡ Some p → (n ≤ p) × (p < n + suc count)
-    by true rest e = let same : n ≡ p = cc in (omega (arith, same), omega (arith, same))
+    by true rest e = let same : n ≡ p = cc in (omega arith, omega arith)
     by false rest e = let past = rest e in
-        let from = past.0 in let to = past.1 in (omega (arith, from), omega (arith, to))
+        let from = past.0 in let to = past.1 in (omega arith, omega arith)
 
 pub copy_outlined : (s : State) (o : Owner) (m : Mover) (p n : ℕ) → s.owner ≡ Some o → o.phase ≡ phase.Moving m
     → next_out (table_of s.store.ast m.uid) m.next ≡ Some p
     → JobStep (outline_of s) o.cpu (outline_of (page_copied (with_faults s n) o.cpu m p))
 unfolding outline_of
 copy_outlined s o m p n owner moves next =
-    subst (JobStep (outline_of s) o.cpu) is
-    (copies (256 - m.next) (256 - (p + 1)) (in_stage s o (phase.Moving m) owner moves) fewer)
+    rw (← is) (copies (256 - m.next) (256 - (p + 1)) (in_stage s o (phase.Moving m) owner moves) fewer)
   where
     is : at_stage (outline_of s) o.cpu (Copying (256 - (p + 1))) ≡ outline_of (page_copied (with_faults s n) o.cpu m p)
     is = refl
 
     fewer : 256 - (p + 1) < 256 - m.next
-    fewer = let past = first_past (table_of s.store.ast m.uid) (256 - m.next) m.next p next in
-        let from = past.0 in let to = past.1 in omega (arith, from, to)
+    fewer = omega (arith, first_past (table_of s.store.ast m.uid) (256 - m.next) m.next p next)
 
 -- ---- a copy failed
 
@@ -58,10 +55,7 @@ copy_failed_outlined s o m k n command owner moves due can =
     answers (Copying (256 - m.next)) (outline_of (copy_failed s o.cpu n))
     (in_stage s o (phase.Moving m) owner moves) due
     (ends_job s (fault_told (with_store s (without_move s.store)) (Some (process_at s o.cpu)) n)
-    (copy_failed s o.cpu n) o.cpu k None reply.Device command
-    (record { plan = refl; runs = refl; processors = refl })
-    (record { within = can.within; process = can.process; there = can.there; planned = can.planned; on = can.on })
-    refl refl refl (λ h. refl))
+    (copy_failed s o.cpu n) o.cpu k None reply.Device command (assumption) (assumption) refl refl refl (λ h. refl))
 
 -- ---- the segment has another home
 
@@ -97,5 +91,5 @@ pub move_outlined : (s : State) (o : Owner) (m : Mover) → s.owner ≡ Some o �
     → HasMoved (outline_of s) o.cpu (full_there s.store m)
     → JobStep (outline_of s) o.cpu (outline_of (move_committed s o.cpu m))
 move_outlined s o m owner moves has =
-    subst (JobStep (outline_of s) o.cpu) (moved_outline s o.cpu m)
-    (commits_move (256 - m.next) _ (full_there s.store m) (in_stage s o (phase.Moving m) owner moves) has)
+    rw (← (moved_outline s o.cpu m)) (commits_move (256 - m.next) _ (full_there s.store m)
+    (in_stage s o (phase.Moving m) owner moves) has)

@@ -19,7 +19,7 @@ use Rattle.machine_model.proofs.OutlineStep.{Goal, IsAtRest, clears_rule, comes_
 -- ---- a segment is taken
 
 cons_nil : {A : Type 0} (x : A) (xs : List A) → (x ∷ xs) ≢ []
-cons_nil {A} x xs h = let no : suc (length xs) ≡ 0 = ap (λ (ys : List A). length ys) h in omega (arith, no)
+cons_nil {A} x xs h = let no = ap (λ (ys : List A). length ys) h in omega arith
 
 empty_of : (s : State) (o : Owner) (uid : ℕ) (fs : List ℕ) (pairs : List (ℕ × ℕ)) → s.owner ≡ Some o
     → o.phase ≡ phase.Looking → frames_of_owner s.owner ≡ []
@@ -30,15 +30,12 @@ empty_of : (s : State) (o : Owner) (uid : ℕ) (fs : List ℕ) (pairs : List (�
 empty_of s o uid [] [] owner looks none can of_it few link = deactivate_at_once_outlined s o uid owner looks can
 empty_of s o uid [] (pair ∷ pairs) owner looks none can of_it few link =
     take_segment_outlined s (took s o.cpu (aim.Deactivating uid) (what.Seg uid) [] (pair ∷ pairs)) o.cpu uid
-    (what.Seg uid) []
-    (took_like s o.cpu (aim.Deactivating uid) (what.Seg uid) [] (pair ∷ pairs))
+    (what.Seg uid) [] (took_like s o.cpu (aim.Deactivating uid) (what.Seg uid) [] (pair ∷ pairs))
     (took_owner s o.cpu (aim.Deactivating uid) (what.Seg uid) [] (pair ∷ pairs) none
-    (inr (λ h. cons_nil pair pairs h))) can of_it
-    few link
+    (inr (λ h. cons_nil pair pairs h))) can of_it few link
 empty_of s o uid (f ∷ fs) [] owner looks none can of_it few link =
     take_segment_outlined s (took s o.cpu (aim.Deactivating uid) (what.Seg uid) (f ∷ fs) []) o.cpu uid (what.Seg uid)
-    (f ∷ fs)
-    (took_like s o.cpu (aim.Deactivating uid) (what.Seg uid) (f ∷ fs) [])
+    (f ∷ fs) (took_like s o.cpu (aim.Deactivating uid) (what.Seg uid) (f ∷ fs) [])
     (took_owner s o.cpu (aim.Deactivating uid) (what.Seg uid) (f ∷ fs) [] none (inl (λ h. cons_nil f fs h))) can of_it
     few link
 empty_of s o uid (f ∷ fs) (pair ∷ pairs) owner looks none can of_it few link =
@@ -53,8 +50,7 @@ empty_of s o uid (f ∷ fs) (pair ∷ pairs) owner looks none can of_it few link
 victim_of_pool : (s : State) (o : Owner) (pool uid : ℕ) (place : Option ℕ) → s.owner ≡ Some o → o.phase ≡ phase.Looking
     → frames_of_owner s.owner ≡ []
     → MayEmpty s (deactivation_begun (with_store s (record s.store { ast = hand_past s.store.ast pool place })) o.cpu
-    uid) o.cpu uid
-    → JobStep (outline_of s) o.cpu
+    uid) o.cpu uid → JobStep (outline_of s) o.cpu
     (outline_of (deactivation_begun (with_store s (record s.store { ast = hand_past s.store.ast pool place })) o.cpu
     uid))
 unfolding outline_of
@@ -65,15 +61,13 @@ victim_of_pool s o pool uid (Some place) owner looks none may =
     empty_of (with_store s (record s.store { ast = hand_past s.store.ast pool (Some place) })) o uid
     (frames_from s.store.ast uid 0)
     (trailers_in (record s.store { ast = hand_past s.store.ast pool (Some place) }) uid) owner looks none may.can
-    may.of_it
-    may.few may.link
+    may.of_it may.few may.link
 
 -- ---- a command takes effect
 
 commit_is : (s : State) (c : ℕ) (may : MayAnswer s c) → committed s c may.process may.command
     ≡ committed_at s c (next_command s (process_at s c))
-commit_is s c may =
-    sym (ap (λ (j : ℕ). committed_at s c (next_command s j)) (ap or_zero may.can.process)
+commit_is s c may = sym (ap (λ (j : ℕ). committed_at s c (next_command s j)) (ap or_zero may.can.process)
     ∙ ap (λ (x : Option Command). committed_at s c x) may.can.on.next
     ∙ ap (λ (j : ℕ). committed s c j may.command) (ap or_zero may.can.process))
 
@@ -91,7 +85,7 @@ module _ (s : State) (o : Owner) (out : Outcome) (f : Foresees s o.cpu) (rule : 
   due_none = f.kept.job.fits o.cpu Look (in_look s o owner looks)
 
   taken_none : frames_of_owner s.owner ≡ []
-  taken_none = ap frames_of_owner owner ∙ f.looking o owner looks
+  taken_none = cc (f.looking o owner looks)
 
   look_goal : (a : act.Action) → IsLook s o.cpu a → Goal s o.cpu out a
   unfolding after
@@ -104,7 +98,7 @@ module _ (s : State) (o : Owner) (out : Outcome) (f : Foresees s o.cpu) (rule : 
   look_goal (act.Activate uid place) may = works _ rule (activate_outlined s o uid place owner looks may)
   look_goal (act.Connect n uid) may = works _ rule (rw may.number at (connect_outlined s o may.process uid may.reference
       may.wants.chain may.wants.uid may.wants.page may.wants.makes owner looks may.within may.placed may.next
-      (subst (λ (m : ℕ). HasDescriptor s.store.links may.process m) (sym may.number) may.there) may.wants.want may.off))
+      (rw may.number may.there) may.wants.want may.off))
   look_goal (act.Create g uid p r) may =
       works _ rule (create_outlined s o.cpu may.process Look g uid p r may.command (in_look s o owner looks) due_none
       may.can)
@@ -112,8 +106,7 @@ module _ (s : State) (o : Owner) (out : Outcome) (f : Foresees s o.cpu) (rule : 
   look_goal (act.Evict g) may = works _ rule (evict_outlined s o g owner (f.looking o owner looks) may)
   look_goal (act.Empty uid) may =
       works _ rule (empty_of s o uid (frames_from s.store.ast uid 0) (trailers_in s.store uid) owner looks taken_none
-      may.can
-      may.of_it may.few may.link)
+      may.can may.of_it may.few may.link)
   look_goal (act.EmptyVictim pool chain uid) may =
       works _ rule (victim_of_pool s o pool uid (first_off_chain s.store.ast pool chain) owner looks taken_none may)
   look_goal (act.TakeAway fs pairs w) may =
@@ -127,8 +120,7 @@ module _ (s : State) (o : Owner) (out : Outcome) (f : Foresees s o.cpu) (rule : 
 -- ---- nothing is due any more
 
 none_some : (n : ℕ) (o : Option ℕ) → o ≡ None → o ≢ Some n
-none_some n o none some = let no : true ≡ false = sym (ap (λ (x : Option ℕ). is_some x) some)
-    ∙ ap (λ (x : Option ℕ). is_some x) none in cc
+none_some n o none some = let no : true ≡ false = sym (cc) ∙ ap (λ (x : Option ℕ). is_some x) none in cc
 
 -- where no element of a list passes, the first that does is none of them
 none_at : {A : Type 0} (p : A → Bool) (xs : List A) → position p xs ≡ None → (i : ℕ) (d : A) → p d ≡ false
@@ -137,7 +129,7 @@ none_at p xs none i d past = elim (cases_lt (position_or_len p xs) (length xs)) 
   | inl lt ↦ absurd (none_some (position_or_len p xs) (position p xs) none
       (rw ((Decides-ltb (position_or_len p xs) (length xs)).1 lt)))
   | inr le ↦ elim (cases_lt i (length xs)) [
-    | inl lt ↦ fails_before_first p xs i d (omega (arith, lt, le))
+    | inl lt ↦ fails_before_first p xs i d (omega arith)
     | inr out ↦ ap p (get_or_past xs i d out) ∙ past
   ]
 ]
@@ -147,9 +139,8 @@ pub count_zero : {A : Type 0} (p : A → Bool) (xs : List A) (d : A) → ((i : �
 count_zero p [] d none = refl
 count_zero p (x ∷ xs) d none =
     let rest = count_zero p xs d (λ i. none (suc i)) in
-    let here : cond {A = ℕ} (p x) 1 0 ≡ 0 = ap (λ (b : Bool). cond {A = ℕ} b 1 0) (none zero) in
-    let all = count_cons p x xs in
-    omega (arith, rest, here, all)
+    let here = ap (λ (b : Bool). cond {A = ℕ} b 1 0) (none zero) in
+    omega (arith, count_cons p x xs)
 
 due_at : (s : State) (c d : ℕ) → Foresees s c → position is_due s.processors ≡ None
     → is_some (cpu_at s.processors d).due ≡ false
@@ -159,14 +150,13 @@ due_at s c d f none = by (cpu_at s.processors d).online refl
     not_due = none_at is_due s.processors none d no_processor refl
 
     by : (b : Bool) → (cpu_at s.processors d).online ≡ b → is_some (cpu_at s.processors d).due ≡ false
-    by false off = ap (λ (o : Option What). is_some o) (f.quiet d off)
-    by true on = ap (λ (b : Bool). b && is_some (cpu_at s.processors d).due) (sym on) ∙ not_due
+    by false off = cc (f.quiet d off)
+    by true on = cc (on, not_due)
 
 dues_over : (s : State) (c : ℕ) → Foresees s c → position is_due s.processors ≡ None → dues (outline_of s).runners ≡ 0
 unfolding dues
 dues_over s c f none = count_zero (λ (x : Runner). x.due) (outline_of s).runners no_runner (λ d.
-    ap (λ (x : Runner). x.due) (at_outline s d) ∙ seen_due (around s) (processor_at s.processors d)
-    ∙ due_at s c d f none)
+    cc (at_outline s d, seen_due (around s) (processor_at s.processors d), due_at s c d f none))
 
 -- ---- the phases
 
@@ -252,19 +242,17 @@ module _ (s : State) (o : Owner) (out : Outcome) (f : Foresees s o.cpu) (rule : 
 
 owner_goal : (s : State) (c : ℕ) (out : Outcome) → Foresees s c → IsAtRest s c → (x : Option Owner) → s.owner ≡ x
     → Goal s c out (act.own_or_run s c (processor_at s.processors c) x)
-owner_goal s c out f rest None none =
-    run_goal s c out f rest (ap (λ (x : Option Owner). is_owner x c) none) (cpu_at s.processors c).process refl
+owner_goal s c out f rest None none = run_goal s c out f rest (cc) (cpu_at s.processors c).process refl
 owner_goal s c out f rest (Some w) owner = by (eqb w.cpu c) refl
   where
     own : is_owner s.owner c ≡ eqb w.cpu c
-    own = ap (λ (x : Option Owner). is_owner x c) owner
+    own = cc
 
     mine : w.cpu ≡ c → eqb w.cpu c ≡ true → Goal s c out (act.go_on_with s (process_at s c) w w.phase)
     mine same is =
-        let seen = works_seen s c rest (own ∙ is) in
         let work = f.kept.job.at_work c _ (rw same at (in_job s w owner)) in
         let has = sym (running_at s c) ∙ work.running in
-        at_same same f seen has
+        at_same same f (works_seen s c rest (own ∙ is)) has
       where
         at_same : w.cpu ≡ c → Foresees s c → rule_of (outline_of s) c ≡ Works
             → is_some (cpu_at s.processors c).process ≡ true
@@ -275,7 +263,7 @@ owner_goal s c out f rest (Some w) owner = by (eqb w.cpu c) refl
         (act.run_process s (processor_at s.processors c) (cpu_at s.processors c).process))
     by true is = elim (eqb_tells w.cpu c) [
       | inl e ↦ mine e.1 is
-      | inr n ↦ (let no : true ≡ false = sym is ∙ n.0 in absurd cc)
+      | inr n ↦ (let no = sym is ∙ n.0 in absurd cc)
     ]
     by false is = run_goal s c out f rest (own ∙ is) (cpu_at s.processors c).process refl
 
@@ -283,8 +271,7 @@ transfer_or_goal : (s : State) (c : ℕ) (out : Outcome) → Foresees s c → (c
     → (cpu_at s.processors c).due ≡ None → (x : Option Transfer) → (cpu_at s.processors c).transfer ≡ x
     → Goal s c out (act.transfer_or s c (processor_at s.processors c) x)
 transfer_or_goal s c out f on due (Some t) is = transfer_goal s c out t f (reads_rule s c t on due is) is
-transfer_or_goal s c out f on due None is =
-    owner_goal s c out f (record { online = on; due = due; transfer = is }) s.owner refl
+transfer_or_goal s c out f on due None is = owner_goal s c out f (assumption) s.owner refl
 
 clear_or_goal : (s : State) (c : ℕ) (out : Outcome) → Foresees s c → (cpu_at s.processors c).online ≡ true
     → (x : Option What) → (cpu_at s.processors c).due ≡ x
@@ -311,8 +298,7 @@ over_goal s c out f false is = online_goal s c out f (cpu_at s.processors c).onl
 pub step_outlined : (s : State) (c : ℕ) (out : Outcome) → s.stopped ≡ false → Foresees s c
     → Step (outline_of s) c (turn_of (action_of s c)) (outline_of (after s c (action_of s c) out))
 unfolding action_of
-step_outlined s c out going f =
-    subst (λ (b : Bool). Goal s c out (cond b act.IsStopped (cond (is_over s) act.HasEnded
+step_outlined s c out going f = subst (λ (b : Bool). Goal s c out (cond b act.IsStopped (cond (is_over s) act.HasEnded
     (cond (not (cpu_at s.processors c).online) act.Online
     (act.clear_or s c (processor_at s.processors c) (cpu_at s.processors c).due))))) (sym going)
     (over_goal s c out f (is_over s) refl)

@@ -8,7 +8,7 @@ map_at f (x ∷ xs) (suc i) d = map_at f xs i d
 map_at f _ _ d = refl
 
 pub set_map : {A B : Type 0} (f : A → B) (xs : List A) (i : ℕ) (y : A) → map f (set xs i y) ≡ set (map f xs) i (f y)
-set_map f (x ∷ xs) (suc i) y = ap (λ ys. f x ∷ ys) (set_map f xs i y)
+set_map f (x ∷ xs) (suc i) y = cc (set_map f xs i y)
 set_map f _ _ y = refl
 
 long_map : {A B : Type 0} (f : A → B) (xs : List A) → length (map f xs) ≡ length xs
@@ -64,8 +64,7 @@ long_outline s = long_map (runner_of (around s)) s.processors
 pub one_outlined : (s : State) (c : ℕ) (p : Processor) (es : List Entry)
     → outline_of (booked (with_processor s c p) es) ≡ with_runner (outline_of s) c (runner_of (around s) p)
 unfolding outline_of
-one_outlined s c p es =
-    ap (λ (rs : List Runner). record (outline_of s) { runners = rs }) (set_map (runner_of (around s)) s.processors c p)
+one_outlined s c p es = cc (set_map (runner_of (around s)) s.processors c p)
 
 -- ---- rules
 
@@ -93,8 +92,8 @@ pub rule_seen : (s : State) (c : ℕ) → rule_of (outline_of s) c ≡ rule_by (
     && nat_lt 0 (length s.ready))
 unfolding rule_of
 rule_seen s c =
-    let a : Around = around s in
-    let p : Processor = processor_at s.processors c in
+    let a = around s in
+    let p = processor_at s.processors c in
     rw (
       at_outline s c,
       seen_online (around s) (processor_at s.processors c),

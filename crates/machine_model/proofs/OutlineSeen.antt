@@ -21,10 +21,10 @@ distinct_of (x ∷ xs) h = (apart xs h.0, distinct_of xs h.1)
     apart : (ys : List ℕ) → has ys x ≡ false → AllByRecursion (λ y. eqb x y ≡ false) ys
     apart [] i = tt
     apart (y ∷ ys) i = elim (eqb_tells y x) [
-      | inl e ↦ absurd (not_both (ap (λ (b : Bool). b || has ys x) e.0) i)
+      | inl e ↦ absurd (not_both (cc) i)
       | inr n ↦ (
         elim (eqb_tells x y) [ inl e ↦ absurd (n.1 (sym e.1)) | inr o ↦ o.0 ],
-        apart ys (sym (ap (λ (b : Bool). b || has ys x) n.0) ∙ i),
+        apart ys (cc),
       )
     ]
 
@@ -44,7 +44,7 @@ module _ (nodes : List Node) (t : IsTree nodes) where
       by : (y : Option Node) → IsShort (want_in nodes who r y)
       by None = none_short
       by (Some n) = test (not (permits (access_of who n.rows) r.kind)) (nat_le (1024 * n.pages) r.offset)
-          (Refer _ n.uid _ _) (record { few = chain_few nodes t n.uid; ends = chain_ends nodes t n.uid })
+          (Refer _ n.uid _ _) (assumption (chain_few nodes t n.uid, chain_ends nodes t n.uid))
         where
           test : (a b : Bool) (w : Want) → IsShort w → IsShort (cond a Other (cond b Other w))
           test false false w h = h
@@ -55,7 +55,7 @@ module _ (nodes : List Node) (t : IsTree nodes) where
     where
       by : (x : Result Node Reply) → IsShort (want_truncated nodes words x)
       by (Err e) = none_short
-      by (Ok n) = record { few = chain_few nodes t n.uid; ends = chain_ends nodes t n.uid }
+      by (Ok n) = assumption (chain_few nodes t n.uid, chain_ends nodes t n.uid)
   command_short (command.Length path pages) = by (segment_at nodes path)
     where
       by : (x : Result Node Reply) → IsShort (want_lengthened x)
@@ -84,20 +84,19 @@ module _ (s : State) (m : IsMachine s) where
       by (Some k) = want_short k (next_command s k)
 
   ready_few : length s.ready ≤ 32
-  ready_few = let few = length-le_from_distinct_below s.ready (length s.plan.processes)
-      (distinct_of s.ready m.scheduled.once)
-      (λ q h. (m.scheduled.waiting q (any_turned s.ready q h)).planned) in let most = m.script.processes in
-      omega (arith, few, most)
+  ready_few = omega (
+    arith,
+    (length-le_from_distinct_below s.ready (length s.plan.processes)
+        (distinct_of s.ready m.scheduled.once) (λ q h. (m.scheduled.waiting q (any_turned s.ready q h)).planned)),
+  )
 
   pub sizes_seen : HasSizes (outline_of s)
   unfolding outline_of
   sizes_seen = record {
-    few_runners = let long = long_outline s in let same = keeps.sizes.processors in
-        let few = m.script.processors.1 in omega (arith, long, same, few);
-    some_runner = let long = long_outline s in let same = keeps.sizes.processors in
-        let some = m.script.processors.0 in omega (arith, long, same, some);
-    few_entries = let places = keeps.store.places in let same = ap (λ (xs : List ℕ). sum xs) m.pools in
-        let few = pools_few s.plan.pools m.script.pools in omega (arith, places, same, few);
+    few_runners = omega (arith, long_outline s);
+    some_runner = omega (arith, long_outline s);
+    few_entries = let same = ap (λ (xs : List ℕ). sum xs) m.pools in
+        omega (arith, pools_few s.plan.pools m.script.pools);
     few_ready = ready_few;
     few_links = λ c. (short_at c).few;
     chains = λ c. (short_at c).ends;
@@ -107,11 +106,11 @@ module _ (s : State) (m : IsMachine s) where
 
 started_tells : (x : Frame) (u p : ℕ) → bare x ≡ frame.Started u p → started_page x ≡ Some (u, p)
 started_tells (frame.Started v q) u p h = ap started_page h
-started_tells _ u p h = absurd (let off : None ≡ Some (u, p) = ap started_page h in none_some off)
+started_tells _ u p h = cc
 
 page_started : (x : Frame) (u p : ℕ) → started_page x ≡ Some (u, p) → bare x ≡ frame.Started u p
 page_started (frame.Started v q) u p h = let both = page_is v q u p h in λ i. frame.Started (both.0 i) (both.1 i)
-page_started _ u p h = absurd (none_some h)
+page_started _ u p h = cc
 
 module _ (s : State) (k : Keeps s) where
   abbrev runner : ℕ → Runner
@@ -124,10 +123,10 @@ module _ (s : State) (k : Keeps s) where
   running_is c = cc (at_outline s c, seen_running (around s) (processor_at s.processors c))
 
   online_is : (c : ℕ) → (runner c).online ≡ (cpu_at s.processors c).online
-  online_is c = ap (λ (x : Runner). x.online) (at_outline s c) ∙ seen_online (around s) (processor_at s.processors c)
+  online_is c = cc (at_outline s c, seen_online (around s) (processor_at s.processors c))
 
   due_is : (c : ℕ) → (runner c).due ≡ is_some (cpu_at s.processors c).due
-  due_is c = ap (λ (x : Runner). x.due) (at_outline s c) ∙ seen_due (around s) (processor_at s.processors c)
+  due_is c = cc (at_outline s c, seen_due (around s) (processor_at s.processors c))
 
   reads_is : (f : ℕ) → (seen s).reads f ≡ started_page (store_frame s.store.pages f)
   reads_is f = map_list started_page s.store.pages.core.frames f frame.Free
@@ -137,7 +136,7 @@ module _ (s : State) (k : Keeps s) where
       (sym (ap (λ (p : Processor). p.cpu.transfer) e) ∙ h))
 
   has_process_by : (o : Option ℕ) → is_some o ≡ true → (j : ℕ) × (o ≡ Some j)
-  has_process_by None h = absurd (let none : false ≡ true = h in cc)
+  has_process_by None h = cc
   has_process_by (Some j) h = (j, refl)
 
   pub tied_seen : IsMachine s → IsReading s → AreTied (outline_of s).runners (outline_of s).frames
@@ -148,15 +147,13 @@ module _ (s : State) (k : Keeps s) where
     started = λ f u p h. (let at = k.book.under_way.reader f u p (reads_is f
         ∙ started_tells (store_frame s.store.pages f) u p (sym (frame_outlined s f) ∙ h)) in (
           at.0,
-          subst (λ (n : ℕ). at.0 < n) (sym (long_outline s)) (there_by at.0 _ at.1),
+          rw (long_outline s) (there_by at.0 _ at.1),
           reading_is at.0 ∙ at.1,
         ));
-    read = λ d r h. (let at = k.book.under_way.reading d r (sym (reading_is d) ∙ h) in
-        let is = frame_outlined s r.frame
-        ∙ page_started (store_frame s.store.pages r.frame) r.uid r.page (sym (reads_is r.frame) ∙ at) in (
+    read = λ d r h. (let is = frame_outlined s r.frame ∙ page_started (store_frame s.store.pages r.frame) r.uid r.page
+        (sym (reads_is r.frame) ∙ (k.book.under_way.reading d r (sym (reading_is d) ∙ h))) in (
           is,
-          within_by (outline_of s).frames r.frame frame.Free (λ e.
-              none_some (let off : None ≡ Some (r.uid, r.page) = ap started_page (sym e ∙ is) in off)),
+          within_by (outline_of s).frames r.frame frame.Free (λ e. none_some (ap started_page (sym e ∙ is))),
         ));
     one_reader = λ d e r q h i same. k.book.under_way.alone d e r q (sym (reading_is d) ∙ h) (sym (reading_is e) ∙ i)
         same;
@@ -170,7 +167,7 @@ module _ (s : State) (k : Keeps s) where
     where
       by : (c : ℕ) (x : Option What) → (cpu_at s.processors c).due ≡ x → is_some x ≡ false
       by c None e = refl
-      by c (Some w) e = absurd (none_some (sym none ∙ k.book.going_owned.due c w e))
+      by c (Some w) e = cc (k.book.going_owned.due c w e)
 
 -- ---- the job
 
@@ -186,9 +183,8 @@ module _ (s : State) (c : ℕ) (stage : Stage) where
   unfolding outline_of
   seen_in h = by s.owner refl h
     where
-      by : (o : Option Owner) → s.owner ≡ o → keeper_of s.store.ast.entries o
-          ≡ Some (record { cpu = c; stage = stage }) → IsSeenIn
-      by None e i = absurd (none_some i)
+      by : (o : Option Owner) → s.owner ≡ o → keeper_of s.store.ast.entries o ≡ Some (record { cpu = c; stage = stage }) → IsSeenIn
+      by None e i = cc
       by (Some q) e i = record {
         owner = q;
         mine = e;
@@ -202,17 +198,17 @@ no_owner s h = by s.owner h
   where
     by : (o : Option Owner) → keeper_of s.store.ast.entries o ≡ None → o ≡ None
     by None i = refl
-    by (Some q) i = absurd (none_some (sym i))
+    by (Some q) i = cc
 
 pub job_seen : (s : State) → IsMachine s → IsFitting s → HasJob (outline_of s)
 job_seen s m fitting = record {
   at_work = λ c stage h. (let is = seen_in s c stage h in
       let work = subst (λ (d : ℕ). AtWork (processor_at s.processors d)) is.cpu (m.keeps.at_work is.owner is.mine) in
       record {
-        within = subst (λ (n : ℕ). c < n) (sym (long_outline s)) (within_by s.processors c no_processor
-            (λ e. (let off : false ≡ true = sym (ap (λ (p : Processor). p.cpu.online) e) ∙ work.online in cc)));
+        within = rw (long_outline s) (within_by s.processors c no_processor
+            (λ e. (let off = sym (ap (λ (p : Processor). p.cpu.online) e) ∙ work.online in cc)));
         running = running_is s m.keeps c ∙ work.busy;
-        clear = due_is s m.keeps c ∙ ap (λ (x : Option What). is_some x) work.clear;
+        clear = cc (due_is s m.keeps c);
         idle = reading_is s m.keeps c ∙ work.idle;
       });
   fits = λ c stage h. (let is = seen_in s c stage h in

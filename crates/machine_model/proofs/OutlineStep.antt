@@ -20,13 +20,11 @@ pub comes_rule : (s : State) (c : ℕ) → (cpu_at s.processors c).online ≡ fa
 comes_rule s c off = rule_seen s c ∙ rw (off) refl
 
 pub clears_rule : (s : State) (c : ℕ) (w : What) → (cpu_at s.processors c).online ≡ true
-    → (cpu_at s.processors c).due ≡ Some w
-    → rule_of (outline_of s) c ≡ Clears
+    → (cpu_at s.processors c).due ≡ Some w → rule_of (outline_of s) c ≡ Clears
 clears_rule s c w on due = rule_seen s c ∙ rw (on, due) refl
 
 pub reads_rule : (s : State) (c : ℕ) (t : Transfer) → (cpu_at s.processors c).online ≡ true
-    → (cpu_at s.processors c).due ≡ None
-    → (cpu_at s.processors c).transfer ≡ Some t → rule_of (outline_of s) c ≡ Reads
+    → (cpu_at s.processors c).due ≡ None → (cpu_at s.processors c).transfer ≡ Some t → rule_of (outline_of s) c ≡ Reads
 reads_rule s c t on due reading = rule_seen s c ∙ rw (on, due, reading) refl
 
 -- a processor that takes part, has nothing to drop, and reads nothing
@@ -101,7 +99,7 @@ fill_seg_new : (held : Held) (ds : List Sdw) (words : ℕ → ℕ → Ptw) (r : 
 unfolding is_fill_seg
 fill_seg_new held ds words r None h = refl
 fill_seg_new held ds words r (Some e) h =
-    let no : false ≡ true = sym (held_fill held words r e) ∙ ap is_fill_seg h in absurd cc
+    let no = sym (held_fill held words r e) ∙ ap is_fill_seg h in absurd cc
 
 descriptor_page : (w : Sdw) → is_fill_page (by_descriptor w) ≡ false
 unfolding is_fill_page
@@ -114,7 +112,7 @@ fill_page_new : (held : Held) (ds : List Sdw) (words : ℕ → ℕ → Ptw) (r :
     → (is_some o ≡ true) × (holds_page held (Some r) ≡ false)
 unfolding is_fill_page
 fill_page_new held ds words r f None seg h =
-    let no : false ≡ true = sym (descriptor_page (sdw_at ds r.number)) ∙ ap is_fill_page h in absurd cc
+    let no = sym (descriptor_page (sdw_at ds r.number)) ∙ ap is_fill_page h in absurd cc
 fill_page_new held ds words r f (Some e) seg h = (
   refl,
   ap (λ (x : Option HeldSeg). is_some (frame_of held (uid_of_held x) (r.offset / 1024))) seg
@@ -126,7 +124,7 @@ fill_page_new held ds words r f (Some e) seg h = (
         (cond a (move.Plain reply.NoAccess) (cond b (move.Plain reply.Length)
         (by_page o (words e.uid (r.offset / 1024)) r.kind))) ≡ true → is_some o ≡ false
     by false false None i = refl
-    by _ _ _ i = let no : false ≡ true = i in absurd cc
+    by _ _ _ i = let no = i in absurd cc
 
 -- ---- a processor by itself
 
@@ -140,7 +138,7 @@ unfolding after
 transfer_goal s c o t f h reading = by o.failed
   where
     lost : MayLose s c
-    lost = f.loses (ap (λ (x : Option Transfer). is_some x) reading)
+    lost = f.loses (cc)
 
     by : (b : Bool) → Step (outline_of s) c Moved
         (outline_of (cond b (transfer_failed s c t o.faults) (transferred (with_faults s o.faults) c t)))
@@ -169,14 +167,12 @@ move_goal : (s : State) (c k : ℕ) (o : Outcome) (r : Reference) → rule_of (o
     → (s.owner ≡ None → act.by_move s.owner r m ≡ act.TakeSupervisor → MayEnter s c)
     → Goal s c o (act.by_move s.owner r m)
 unfolding after
-move_goal s c k o r h process next may move.FillSeg is enters =
-    fill_seg_outlined s c k r h process next
+move_goal s c k o r h process next may move.FillSeg is enters = fill_seg_outlined s c k r h process next
     (fill_seg_new (cpu_at s.processors c).assoc (sdws_at s.store.links.descriptors k) (word_of s.store.ast) r
     (seg_of (cpu_at s.processors c).assoc r.number) is)
 move_goal s c k o r h process next may (move.FillPage f) is enters =
     let new = fill_page_new (cpu_at s.processors c).assoc (sdws_at s.store.links.descriptors k) (word_of s.store.ast)
-    r f
-    (seg_of (cpu_at s.processors c).assoc r.number) refl is in
+    r f (seg_of (cpu_at s.processors c).assoc r.number) refl is in
     fill_page_outlined s c k f r h process next new.0 new.1
 move_goal s c k o r h process next may (move.Through f) is enters =
     through_outlined s c may.process f r may.command h may.can
@@ -205,18 +201,17 @@ command_goal s c k o h process may (Some x) next enters =
     refer_goal s c k o h process may (reference_of x) (ap reference_in next) enters
 
 free_of : (s : State) (c : ℕ) → IsAtRest s c → IsFree (processor_at s.processors c)
-free_of s c rest = record { online = rest.online; due = rest.due; transfer = rest.transfer }
+free_of s c rest = assumption
 
 load_goal : (s : State) (c : ℕ) (o : Outcome) → IsAtRest s c → rule_of (outline_of s) c ≡ Loads → (ready : List ℕ)
     → s.ready ≡ ready → Goal s c o (act.load_or_idle s ready)
 unfolding after
 load_goal s c o rest h [] is = idle_outlined s c (count_by act.has_process s.processors) h is
-load_goal s c o rest h (k ∷ ks) is =
-    load_outlined s c k h (subst (λ (xs : List ℕ). 0 < length xs) (sym is) (omega arith)) (free_of s c rest)
+load_goal s c o rest h (k ∷ ks) is = load_outlined s c k h (rw is (omega arith)) (free_of s c rest)
 
 -- a process that is at a processor goes on
 going_on : (s : State) (c : ℕ) → MayAnswer s c → (run_at s.runs (process_at s c)).ended ≡ false
-going_on s c may = ap (λ (j : ℕ). (run_at s.runs j).ended) (ap or_zero may.can.process) ∙ may.can.on.going
+going_on s c may = cc
 
 pub run_goal : (s : State) (c : ℕ) (o : Outcome) → Foresees s c → IsAtRest s c → is_owner s.owner c ≡ false
     → (x : Option ℕ) → (cpu_at s.processors c).process ≡ x
@@ -227,7 +222,7 @@ run_goal s c o f rest own (Some k) process =
     by (has_had_its_turn (processor_at s.processors c) && not (is_empty s.ready)) refl
   where
     may : MayAnswer s c
-    may = f.answers (ap (λ (x : Option ℕ). is_some x) process)
+    may = f.answers (cc)
 
     at_k : process_at s c ≡ k
     at_k = ap or_zero process

@@ -24,8 +24,7 @@ passed_bare frames [] = refl
 passed_bare frames (f ∷ fs) =
     by (is_idle (core_frame frames f)) (passed_bare (set frames f (unmarked (core_frame frames f))) fs)
   where
-    by : (b : Bool)
-        → map bare (passed_over (set frames f (unmarked (core_frame frames f))) fs) ≡ map bare
+    by : (b : Bool) → map bare (passed_over (set frames f (unmarked (core_frame frames f))) fs) ≡ map bare
         (set frames f (unmarked (core_frame frames f)))
         → map bare (cond b frames (passed_over (set frames f (unmarked (core_frame frames f))) fs)) ≡ map bare frames
     by true rest = refl
@@ -66,31 +65,18 @@ looks_like : {s t : State} → t.plan ≡ s.plan → t.runs ≡ s.runs → t.rea
     → t.store.pages ≡ s.store.pages → t.store.ast.entries ≡ s.store.ast.entries
     → t.store.accounts ≡ s.store.accounts → t.store.whos ≡ s.store.whos
     → t.store.links.known ≡ s.store.links.known → LooksLike s t
-looks_like plan runs ready processors pages entries accounts whos known = record {
-  plan = plan;
-  runs = runs;
-  ready = ready;
-  processors = processors;
-  pages = pages;
-  entries = entries;
-  accounts = accounts;
-  whos = whos;
-  known = known;
-}
+looks_like plan runs ready processors pages entries accounts whos known = assumption
 
 take_one_like : (s : State) (c : ℕ) (a : Aim) (w : What) (f : ℕ) → LooksLike s (take_one s c a w f)
 take_one_like s c a w f = let page = bound_page (core_frame s.store.pages.core.frames f) in
     looks_like refl refl refl refl (leaving_pages s.store f page) (leaving_entries s.store f page)
-    (leaving_accounts s.store f page) (leaving_whos s.store f page)
-    (ap (λ (l : Links). l.known) (leaving_links s.store f page))
+    (leaving_accounts s.store f page) (leaving_whos s.store f page) (cc (leaving_links s.store f page))
 
 like_self : (s : State) → LooksLike s s
 like_self s = looks_like refl refl refl refl refl refl refl refl refl
 
 like_on : (s t u : State) → LooksLike s t → LooksLike t u → LooksLike s u
-like_on s t u one two = looks_like (two.plan ∙ one.plan) (two.runs ∙ one.runs) (two.ready ∙ one.ready)
-    (two.processors ∙ one.processors) (two.pages ∙ one.pages) (two.entries ∙ one.entries)
-    (two.accounts ∙ one.accounts) (two.whos ∙ one.whos) (two.known ∙ one.known)
+like_on s t u one two = looks_like (cc) (cc) (cc) (cc) (cc) (cc) (cc) (cc) (cc)
 
 take_all_like : (s : State) (c : ℕ) (a : Aim) (w : What) (fs : List ℕ) → LooksLike s (take_all s c a w fs)
 take_all_like s c a w [] = like_self s
@@ -120,14 +106,11 @@ take_owner : (s : State) (c : ℕ) (a : Aim) (w : What) (f : ℕ) (fs : List ℕ
       cpu = c;
       phase = phase.Taken a w;
       frames = frames_of_owner s.owner ++ (f ∷ fs);
-      cut =
-          cut_of_owner s.owner;
+      cut = cut_of_owner s.owner;
     })
 take_owner s c a w f [] = refl
 take_owner s c a w f (g ∷ gs) =
-    take_owner (take_one s c a w f) c a w g gs
-    ∙ ap (λ (xs : List ℕ). Some (record { cpu = c; phase = phase.Taken a w; frames = xs; cut = cut_of_owner s.owner }))
-    (append_assoc (frames_of_owner s.owner) (f ∷ []) (g ∷ gs))
+    cc (take_owner (take_one s c a w f) c a w g gs, append_assoc (frames_of_owner s.owner) (f ∷ []) (g ∷ gs))
 
 -- who the owner is once something was taken: the processor, having taken these frames
 pub record HasTakenFrames (s : State) (c : ℕ) (a : Aim) (w : What) (frames : List ℕ) : Type 0 where
@@ -148,17 +131,11 @@ took_owner s c a w [] (pair ∷ pairs) none some =
     (cut_owner s c a w pair pairs)
 took_owner s c a w (f ∷ fs) [] none some = record {
   cut = cut_of_owner s.owner;
-  owner = take_owner s c a w f fs ∙ ap (λ (xs : List ℕ). Some (record {
-    cpu = c;
-    phase = phase.Taken a w;
-    frames = xs ++ (f ∷ fs);
-    cut = cut_of_owner s.owner;
-  })) none;
+  owner = cc (take_owner s c a w f fs);
 }
 took_owner s c a w (f ∷ fs) (pair ∷ pairs) none some =
     subst (λ (xs : List ℕ). HasTakenFrames (cut_all (take_all s c a w (f ∷ fs)) c a w (pair ∷ pairs)) c a w xs)
-    (ap frames_of_owner (take_owner s c a w f fs) ∙ ap (λ (xs : List ℕ). xs ++ (f ∷ fs)) none)
-    (cut_owner (take_all s c a w (f ∷ fs)) c a w pair pairs)
+    (cc (take_owner s c a w f fs)) (cut_owner (take_all s c a w (f ∷ fs)) c a w pair pairs)
 
 -- ---- the outline then
 
@@ -195,8 +172,7 @@ next_like : (s t : State) → LooksLike s t → (around t).next ≡ (around s).n
 next_like s t like = λ i. λ k. command_at (like.plan i) k (run_at (like.runs i) k).place
 
 -- all but what is due, connected and held stands
-pub like_alike : (s t : State) (c : ℕ) → LooksLike s t
-    → (runner_of (around t) (processor_at s.processors c)).linked
+pub like_alike : (s t : State) (c : ℕ) → LooksLike s t → (runner_of (around t) (processor_at s.processors c)).linked
     ≡ (runner_of (around s) (processor_at s.processors c)).linked
     → AreAlike (outline_of s).runners (map (runner_of (around t)) s.processors) c
 unfolding outline_of
@@ -213,8 +189,7 @@ like_alike s t c like linked = record {
   tried = λ d. at t d (λ x. x.tried) ∙ seen_tried (around t) (processor_at s.processors d)
       ∙ sym (at s d (λ x. x.tried) ∙ seen_tried (around s) (processor_at s.processors d));
   want = at t c (λ x. x.want) ∙ want_like (around s) (around t) (processor_at s.processors c)
-      (ap (λ (a : AccountMaps). a.nodes) like.accounts) like.whos like.known (next_like s t like)
-      ∙ sym (at s c (λ x. x.want));
+      (cc) like.whos like.known (next_like s t like) ∙ sym (at s c (λ x. x.want));
   linked = at t c (λ x. x.linked) ∙ linked ∙ sym (at s c (λ x. x.linked));
   due = at t c (λ x. x.due) ∙ seen_due (around t) (processor_at s.processors c)
       ∙ sym (at s c (λ x. x.due) ∙ seen_due (around s) (processor_at s.processors c));
@@ -231,18 +206,15 @@ like_alike s t c like linked = record {
 
 taken_outline : (s t : State) (c : ℕ) (a : Aim) (w : What) (fs : List ℕ) → LooksLike s t → HasTakenFrames t c a w fs
     → with_runners (at_stage (outline_of s) c (Taken (work_of s.store.ast.entries fs a)))
-    (map (runner_of (around t)) s.processors)
-    ≡ outline_of t
+    (map (runner_of (around t)) s.processors) ≡ outline_of t
 taken_outline s t c a w fs like took = cc (like_outline s t like)
 
 -- a segment is taken: for its length, or as a victim
 pub take_segment_outlined : (s t : State) (c uid : ℕ) (w : What) (fs : List ℕ) → LooksLike s t
-    → HasTakenFrames t c (aim.Deactivating uid) w fs
-    → CanEmpty (outline_of s) c (place_of s.store.ast.entries uid)
+    → HasTakenFrames t c (aim.Deactivating uid) w fs → CanEmpty (outline_of s) c (place_of s.store.ast.entries uid)
     → AreOf (outline_of s) (place_of s.store.ast.entries uid) fs → length fs ≤ 256
     → (runner_of (around t) (processor_at s.processors c)).linked
-    ≡ (runner_of (around s) (processor_at s.processors c)).linked
-    → JobStep (outline_of s) c (outline_of t)
+    ≡ (runner_of (around s) (processor_at s.processors c)).linked → JobStep (outline_of s) c (outline_of t)
 take_segment_outlined s t c uid w fs like took can of_it few linked =
     job_to (outline_of s) _ (outline_of t) c (taken_outline s t c (aim.Deactivating uid) w fs like took)
     (takes_segment (place_of s.store.ast.entries uid) fs (map (runner_of (around t)) s.processors) can of_it few
@@ -252,8 +224,7 @@ take_segment_outlined s t c uid w fs like took can of_it few linked =
 pub take_away_outlined : (s t : State) (c : ℕ) (w : What) (fs : List ℕ) → LooksLike s t
     → HasTakenFrames t c aim.Committing w fs → IsIn (outline_of s) c Look
     → (runner_of (around t) (processor_at s.processors c)).linked
-    ≡ (runner_of (around s) (processor_at s.processors c)).linked
-    → JobStep (outline_of s) c (outline_of t)
+    ≡ (runner_of (around s) (processor_at s.processors c)).linked → JobStep (outline_of s) c (outline_of t)
 take_away_outlined s t c w fs like took look linked =
     job_to (outline_of s) _ (outline_of t) c (taken_outline s t c aim.Committing w fs like took)
     (takes_for_commit (map (runner_of (around t)) s.processors) look (like_alike s t c like linked))
@@ -272,8 +243,7 @@ evicted_outline s c f none = λ i. record {
   frames = (sym (ap (λ (x : Plain). map bare x.core.frames) (pages s f)
       ∙ passed_bare s.store.pages.core.frames (round_frames s.store.pages.core))) i;
   entries = (sym (leaving_entries (with_choice s.store f) f (taken_page s f))) i;
-  stored = (sym (λ j. is_filed (leaving_accounts (with_choice s.store f) f (taken_page s f) j)
-      (pages s f j).vtocs)) i;
+  stored = (sym (λ j. is_filed (leaving_accounts (with_choice s.store f) f (taken_page s f) j) (pages s f j).vtocs)) i;
   full = (sym (λ j. lacks_record (leaving_accounts (with_choice s.store f) f (taken_page s f) j).nodes
       (pages s f j).records)) i;
   owner = (sym (owner s c f none)) i;
@@ -291,15 +261,12 @@ evicted_outline s c f none = λ i. record {
     owner : (s : State) (c f : ℕ) → frames_of_owner s.owner ≡ []
         → keeper_of (eviction_begun s c f).store.ast.entries (eviction_begun s c f).owner
         ≡ Some (record { cpu = c; stage = Taken (EvictFrame f) })
-    owner s c f none = ap (λ (xs : List ℕ). Some (record
-        { cpu = c; stage = Taken (EvictFrame (first_frame (xs ++ f ∷ []))) })) none
+    owner s c f none = cc
 
 pub evict_outlined : (s : State) (o : Owner) (f : ℕ) → s.owner ≡ Some o → o.frames ≡ []
     → CanEvict (outline_of s) o.cpu f → JobStep (outline_of s) o.cpu (outline_of (eviction_begun s o.cpu f))
-evict_outlined s o f owner none can =
-    job_to (outline_of s) (at_stage (outline_of s) o.cpu (Taken (EvictFrame f)))
-    (outline_of (eviction_begun s o.cpu f)) o.cpu
-    (evicted_outline s o.cpu f (ap frames_of_owner owner ∙ none)) (takes_frame f can)
+evict_outlined s o f owner none can = job_to (outline_of s) (at_stage (outline_of s) o.cpu (Taken (EvictFrame f)))
+    (outline_of (eviction_begun s o.cpu f)) o.cpu (evicted_outline s o.cpu f (cc)) (takes_frame f can)
 
 -- ---- the signal
 
@@ -320,8 +287,7 @@ by_process : {A : Type 0} (see : Runner → A) (a : Around) (p q : Processor)
     → see (runner_by a q None) ≡ see (runner_by a p None)
     → ((k : ℕ) → see (runner_by a q (Some k)) ≡ see (runner_by a p (Some k))) → q.cpu.process ≡ p.cpu.process
     → see (runner_of a q) ≡ see (runner_of a p)
-by_process see a p q none some same =
-    by q.cpu.process ∙ ap (λ (o : Option ℕ). see (runner_by a p o)) same
+by_process see a p q none some same = by q.cpu.process ∙ ap (λ (o : Option ℕ). see (runner_by a p o)) same
   where
     by : (o : Option ℕ) → see (runner_by a q o) ≡ see (runner_by a p o)
     by None = none
@@ -343,9 +309,13 @@ told_alike s c w = record {
   online = λ d. now d (λ x. x.online) ∙ seen_online (around s) (told_at c w (0 + d) (processor_at s.processors d))
       ∙ told_online c w (0 + d) (processor_at s.processors d)
       ∙ sym (was d (λ x. x.online) ∙ seen_online (around s) (processor_at s.processors d));
-  running = λ d. now d (λ x. x.running) ∙ seen_running (around s) (told_at c w (0 + d) (processor_at s.processors d))
-      ∙ ap (λ (o : Option ℕ). is_some o) (told_process c w (0 + d) (processor_at s.processors d))
-      ∙ sym (was d (λ x. x.running) ∙ seen_running (around s) (processor_at s.processors d));
+  running = λ d. cc (
+    now d (λ x. x.running),
+    seen_running (around s) (told_at c w (0 + d) (processor_at s.processors d)),
+    told_process c w (0 + d) (processor_at s.processors d),
+    was d (λ x. x.running),
+    seen_running (around s) (processor_at s.processors d),
+  );
   reading = λ d. now d (λ x. x.reading) ∙ seen_reading (around s) (told_at c w (0 + d) (processor_at s.processors d))
       ∙ told_transfer c w (0 + d) (processor_at s.processors d)
       ∙ sym (was d (λ x. x.reading) ∙ seen_reading (around s) (processor_at s.processors d));
@@ -361,22 +331,27 @@ told_alike s c w = record {
   linked = now c (λ x. x.linked) ∙ linked_by_process (around s) (processor_at s.processors c)
       (told_at c w (0 + c) (processor_at s.processors c)) (told_process c w (0 + c) (processor_at s.processors c))
       ∙ sym (was c (λ x. x.linked));
-  due = now c (λ x. x.due) ∙ seen_due (around s) (told_at c w (0 + c) (processor_at s.processors c))
-      ∙ ap (λ (e : ℕ). is_some (told_at c w e (processor_at s.processors c)).cpu.due) (zero-add c)
-      ∙ ap (λ (o : Option What). is_some o) (told_itself c w (processor_at s.processors c))
-      ∙ sym (was c (λ x. x.due) ∙ seen_due (around s) (processor_at s.processors c));
+  due = cc (
+    now c (λ x. x.due),
+    seen_due (around s) (told_at c w (0 + c) (processor_at s.processors c)),
+    zero-add c,
+    told_itself c w (processor_at s.processors c),
+    was c (λ x. x.due),
+    seen_due (around s) (processor_at s.processors c),
+  );
 }
   where
-    was : {B : Type 0} (d : ℕ) (P : Runner → B)
-        → P (runner_at (map (runner_of (around s)) s.processors) d) ≡ P
+    was : {B : Type 0} (d : ℕ) (P : Runner → B) → P (runner_at (map (runner_of (around s)) s.processors) d) ≡ P
         (runner_of (around s) (processor_at s.processors d))
     was d P = ap P (map_at (runner_of (around s)) s.processors d no_processor)
 
     now : {B : Type 0} (d : ℕ) (P : Runner → B)
         → P (runner_at (map (runner_of (around s)) (told_from c w 0 s.processors)) d)
         ≡ P (runner_of (around s) (told_at c w (0 + d) (processor_at s.processors d)))
-    now d P = ap P (map_at (runner_of (around s)) (told_from c w 0 s.processors) d no_processor)
-        ∙ ap (λ (p : Processor). P (runner_of (around s) p)) (told_reads c w s.processors 0 d)
+    now d P = cc (
+      map_at (runner_of (around s)) (told_from c w 0 s.processors) d no_processor,
+      told_reads c w s.processors 0 d,
+    )
 
     told_long : (f : Processor → Runner) (c : ℕ) (w : What) (d : ℕ) (ps : List Processor)
         → length (map f (told_from c w d ps)) ≡ length (map f ps)
@@ -386,8 +361,7 @@ told_alike s c w = record {
 signalled_keeper : (entries : List (Option Active)) (o : Owner) (a : Aim) (w : What) → o.phase ≡ phase.Taken a w
     → keeper_of entries (owner_signalled (Some o)) ≡ Some
     (record { cpu = o.cpu; stage = Waiting (work_of entries o.frames a) })
-signalled_keeper entries o a w h =
-    ap (λ (x : Phase). Some (record { cpu = o.cpu; stage = stage_of entries o.frames (phase_signalled x) })) h
+signalled_keeper entries o a w h = cc
 
 signalled_outline : (s : State) (o : Owner) (a : Aim) (w v : What) → s.owner ≡ Some o → o.phase ≡ phase.Taken a w
     → with_runners (at_stage (outline_of s) o.cpu (Waiting (work_of s.store.ast.entries o.frames a)))
@@ -400,6 +374,4 @@ pub signal_outlined : (s : State) (o : Owner) (a : Aim) (w v : What) → s.owner
 signal_outlined s o a w v owner h =
     job_to (outline_of s) _ (outline_of (signalled s o.cpu v)) o.cpu (signalled_outline s o a w v owner h)
     (signals (work_of s.store.ast.entries o.frames a) (map (runner_of (around s)) (told_from o.cpu v 0 s.processors))
-    (in_job s o owner ∙ ap (λ (x : Phase). Some (record
-    { cpu = o.cpu; stage = stage_of s.store.ast.entries o.frames x })) h)
-    (told_alike s o.cpu v))
+    (cc (in_job s o owner)) (told_alike s o.cpu v))

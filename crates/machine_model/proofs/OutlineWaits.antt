@@ -15,8 +15,8 @@ pub awaits_clear_outlined : (s : State) (o : Owner) (a : Aim) (w : What) (d : �
 awaits_clear_outlined s o a w d h owner waits due =
     let facts = and_parts (cpu_at s.processors d).online (is_some (cpu_at s.processors d).due) due in
     awaits_clear (work_of s.store.ast.entries o.frames a) d h (in_stage s o (phase.Waiting a w) owner waits)
-    (ap (λ (x : Runner). x.online) (at_outline s d) ∙ seen_online (around s) (processor_at s.processors d) ∙ facts.0)
-    (ap (λ (x : Runner). x.due) (at_outline s d) ∙ seen_due (around s) (processor_at s.processors d) ∙ facts.1)
+    (cc (at_outline s d, seen_online (around s) (processor_at s.processors d)))
+    (cc (at_outline s d, seen_due (around s) (processor_at s.processors d)))
 
 -- a frame that a page is being read into
 started_at : (s : State) (f uid page : ℕ) → get_or s.store.pages.core.frames f frame.Free ≡ frame.Started uid page
@@ -44,12 +44,12 @@ none_has (p ∷ ps) zero h = first (has_process p) (list_any has_process ps) h
 none_has (p ∷ ps) (suc d) h = none_has ps d (rest (has_process p) (list_any has_process ps) h)
   where
     rest : (a b : Bool) → (a || b) ≡ false → b ≡ false
-    rest true b e = let no : true ≡ false = e in absurd cc
+    rest true b e = let no = e in absurd cc
     rest false b e = e
 
 no_length : (xs : List ℕ) → is_empty xs ≡ true → length xs ≡ 0
 no_length [] h = refl
-no_length (x ∷ xs) h = let no : false ≡ true = h in absurd cc
+no_length (x ∷ xs) h = let no = h in absurd cc
 
 ended_is : (s : State) → is_over s ≡ true → IsEnded (outline_of s)
 unfolding outline_of
@@ -58,8 +58,11 @@ ended_is s over =
     record {
       ready = no_length s.ready facts.0;
       running = λ d. (
-          ap (λ (x : Runner). x.running) (at_outline s d) ∙ seen_running (around s) (processor_at s.processors d)
-          ∙ none_has s.processors d (not_true (list_any has_process s.processors) facts.1)
+          cc (
+            at_outline s d,
+            seen_running (around s) (processor_at s.processors d),
+            none_has s.processors d (not_true (list_any has_process s.processors) facts.1),
+          )
           );
     }
 

@@ -29,8 +29,7 @@ module _ (s : State) (all : KeepsAll s) (over : is_over s ≡ true) where
     where
       by : (x : Option Owner) → s.owner ≡ x → x ≡ None
       by None e = refl
-      by (Some q) e = absurd (let no : true ≡ false = sym (all.machine.keeps.at_work q e).busy
-          ∙ ap (λ (x : Option ℕ). is_some x) (over_none q.cpu) in cc)
+      by (Some q) e = cc (sym (all.machine.keeps.at_work q e).busy ∙ ap (λ (x : Option ℕ). is_some x) (over_none q.cpu))
 
   pub over_bare : AreIdle s.processors → AreBare s
   over_bare idle = record {
@@ -40,7 +39,7 @@ module _ (s : State) (all : KeepsAll s) (over : is_over s ≡ true) where
     where
       by : (d : ℕ) (x : Option What) → (processor_at s.processors d).cpu.due ≡ x → x ≡ None
       by d None e = refl
-      by d (Some w) e = absurd (none_some (sym (ap waits_for over_free) ∙ all.machine.keeps.book.going_owned.due d w e))
+      by d (Some w) e = cc (over_free, all.machine.keeps.book.going_owned.due d w e)
 
   -- no page is being read
   pub over_unread : (d : ℕ) (t : Transfer) → (cpu_at s.processors d).transfer ≢ Some t
@@ -50,8 +49,7 @@ module _ (s : State) (all : KeepsAll s) (over : is_over s ≡ true) where
   each_over : (k : ℕ) → (progress_of (flat_of s) k).ended ≡ true
   each_over k = (all.machine.keeps.book.runs k).ended ∙ elim (cases_lt k (length s.plan.processes)) [
     | inl lt ↦ over_ended s all over k lt
-    | inr far ↦ ap (λ (r : Run). r.ended) (get_or_past s.runs k no_run
-        (let same = all.machine.keeps.sizes.processes in omega (arith, far, same)))
+    | inr far ↦ ap (λ (r : Run). r.ended) (get_or_past s.runs k no_run (omega arith))
   ]
 
   -- so a drive's failure may be told of none

@@ -31,17 +31,16 @@ module _ (c e : Custody) (like : IsLike c e) where
   going_like (inr g) = inr (record {
     process = g.process;
     number = g.number;
-    going = descriptor_like g.process g.number
-        ∙ g.going;
+    going = descriptor_like g.process g.number ∙ g.going;
   })
 
   names_frame_like : (w : What) (f : ℕ) → e.frame f ≡ c.frame f → names_frame e w f ≡ names_frame c w f
-  names_frame_like (what.Seg u) f h = ap (λ (x : FrameUse). is_uid u (uid_of_page (bound_page x))) h
+  names_frame_like (what.Seg u) f h = cc
   names_frame_like _ f h = refl
 
   names_descriptor_like : (w : What) (k n : ℕ) → e.descriptor k n ≡ c.descriptor k n
       → names_descriptor e w k n ≡ names_descriptor c w k n
-  names_descriptor_like (what.Seg u) k n h = ap (λ (x : DescriptorUse). is_uid u (leads_to x)) h
+  names_descriptor_like (what.Seg u) k n h = cc
   names_descriptor_like _ k n h = refl
 
   pub all_like : (w : What) → NamesAllGoing c w → NamesAllGoing e w
@@ -75,14 +74,13 @@ pub like_frame : (c : Custody) (f : ℕ) (x : FrameUse) → is_going_frame (c.fr
 like_frame c f x was now = record {
   frames = λ g. by_place (λ (y : FrameUse). (y ≡ c.frame g)
       ⊎ ((is_going_frame y ≡ false) × (is_going_frame (c.frame g) ≡ false))) c.frame f x g
-      (λ e. inr (now, subst (λ (i : ℕ). is_going_frame (c.frame i) ≡ false) (sym e) was)) (λ n. inl refl);
+      (λ e. inr (now, rw e was)) (λ n. inl refl);
   descriptors = λ k n. inl refl;
   due = λ d. refl;
 }
 
 pub like_descriptor : (c : Custody) (k n : ℕ) (x : DescriptorUse) → is_going_descriptor (c.descriptor k n) ≡ false
-    → is_going_descriptor x ≡ false
-    → IsLike c (with_descriptor c k n x)
+    → is_going_descriptor x ≡ false → IsLike c (with_descriptor c k n x)
 like_descriptor c k n x was now = record {
   frames = λ g. inl refl;
   descriptors = λ i j. by_places (λ (y : DescriptorUse). (y ≡ c.descriptor i j) ⊎ ((is_going_descriptor y ≡ false)
@@ -97,8 +95,7 @@ pub like_seat : (c : Custody) (d : ℕ) (s : Seat) (ready : List ℕ) → s.due 
 like_seat c d s ready same = record {
   frames = λ g. inl refl;
   descriptors = λ k n. inl refl;
-  due = λ e. by_place (λ (x : Seat). x.due ≡ (c.seat e).due) c.seat d s e
-      (λ i. same ∙ ap (λ (j : ℕ). (c.seat j).due) (sym i)) (λ n. refl);
+  due = λ e. by_place (λ (x : Seat). x.due ≡ (c.seat e).due) c.seat d s e (λ i. cc) (λ n. refl);
 }
 
 pub like_active : (c : Custody) (active : ℕ → Bool) → IsLike c (record c { active = active })
@@ -115,17 +112,17 @@ pub record IsIdle (o : Option Owner) : Type 0 where
   pub shaped : IsShaped o
 
 pub nobody : IsIdle None
-nobody = record { frames = refl; cut = refl; waits = refl; says = refl; shaped = tt }
+nobody = assumption
 
 pub owned_idle : (c : Custody) (o q : Option Owner) → IsOwned c o → IsIdle o → IsIdle q → IsOwned c q
 owned_idle c o q k was now = record {
-  frames = λ f. k.frames f ∙ ap (λ (fs : List ℕ). has fs f) (was.frames ∙ sym now.frames);
-  cuts = λ p n. k.cuts p n ∙ ap (λ (ds : List CutDescriptor). has_cut ds p n) (was.cut ∙ sym now.cut);
+  frames = λ f. cc (k.frames f);
+  cuts = λ p n. cc (k.cuts p n);
   once = rw now.frames tt;
   apart = rw now.cut tt;
-  due = λ d w h. absurd (none_some (sym was.waits ∙ k.due d w h));
-  alive = λ d w h. absurd (none_some (sym was.waits ∙ k.due d w h));
-  says = λ w h. absurd (none_some (sym now.says ∙ h));
+  due = λ d w h. cc (k.due d w h);
+  alive = λ d w h. cc (k.due d w h);
+  says = λ w h. cc;
   shaped = now.shaped;
 }
 
@@ -158,10 +155,10 @@ push_other fs f g h = elim (eqb_tells f g) [
 pub distinct_push : (fs : List ℕ) (f : ℕ) → AreDistinct fs → has fs f ≡ false → AreDistinct (fs ++ f ∷ [])
 distinct_push [] f once new = (refl, tt)
 distinct_push (g ∷ gs) f once new = elim (eqb_tells g f) [
-  | inl e ↦ absurd (not_both (ap (λ (b : Bool). b || has gs f) e.0) new)
+  | inl e ↦ absurd (not_both (cc) new)
   | inr n ↦ (
     push_other gs f g n.1 ∙ once.0,
-    distinct_push gs f once.1 (ap (λ (b : Bool). b || has gs f) (sym n.0) ∙ new),
+    distinct_push gs f once.1 (cc),
   )
 ]
 
@@ -172,14 +169,13 @@ bound_taken (frame.Current u p) = refl
 bound_taken (frame.Going u p) = refl
 
 pub current_is_not_going : (x : FrameUse) → is_current_frame x ≡ true → is_going_frame x ≡ false
-current_is_not_going (frame.Going u p) h = absurd (let no : false ≡ true = h in cc)
+current_is_not_going (frame.Going u p) h = cc
 current_is_not_going _ h = refl
 
 names_taken : (c : Custody) (f : ℕ) (w : What) (g : ℕ)
     → names_frame (with_frame c f (taken (c.frame f))) w g ≡ names_frame c w g
-names_taken c f (what.Seg u) g = ap (λ (o : Option (ℕ × ℕ)). is_uid u (uid_of_page o))
-    (by_place (λ (y : FrameUse). bound_page y ≡ bound_page (c.frame g)) c.frame f (taken (c.frame f)) g
-    (λ e. bound_taken (c.frame f) ∙ ap (λ (i : ℕ). bound_page (c.frame i)) (sym e)) (λ n. refl))
+names_taken c f (what.Seg u) g = cc (by_place (λ (y : FrameUse). bound_page y ≡ bound_page (c.frame g)) c.frame f
+    (taken (c.frame f)) g (λ e. cc (bound_taken (c.frame f))) (λ n. refl))
 names_taken c f _ g = refl
 
 -- an owner that waited for nothing has taken more: it is to signal something that names all that goes then
@@ -205,16 +201,13 @@ owned_by c made o cpu aim w fs ds k still seats frames cuts once apart goes all 
 
 -- a page is taken: the owner is to signal something that names it, and all that went before
 pub owned_take : (c : Custody) (o : Option Owner) (cpu f : ℕ) (aim : Aim) (w : What) → IsOwned c o
-    → is_current_frame (c.frame f) ≡ true
-    → waits_for o ≡ None → NamesAllGoing c w → names_frame c w f ≡ true
-    → IsAimed aim w (frames_of_owner o ++ f ∷ []) (cut_of_owner o)
-    → IsOwned (with_frame c f (taken (c.frame f)))
+    → is_current_frame (c.frame f) ≡ true → waits_for o ≡ None → NamesAllGoing c w → names_frame c w f ≡ true
+    → IsAimed aim w (frames_of_owner o ++ f ∷ []) (cut_of_owner o) → IsOwned (with_frame c f (taken (c.frame f)))
     (Some (record { cpu = cpu; phase = phase.Taken aim w; frames = frames_of_owner o ++ f ∷ []; cut = cut_of_owner o }))
 owned_take c o cpu f aim w k current still others this aimed =
     owned_by c made o cpu aim w (fs ++ f ∷ []) (cut_of_owner o) k still refl
     (λ g. by_place (λ (x : FrameUse). is_going_frame x ≡ has (fs ++ f ∷ []) g) c.frame f (taken (c.frame f)) g
-    (λ e. going_taken (c.frame f) current ∙ sym (ap (has (fs ++ f ∷ [])) e ∙ push_same fs f))
-    (λ n. k.frames g ∙ sym (push_other fs f g n))) k.cuts
+    (λ e. cc (going_taken (c.frame f) current, push_same fs f)) (λ n. k.frames g ∙ sym (push_other fs f g n))) k.cuts
     (distinct_push fs f k.once (sym (k.frames f) ∙ current_is_not_going (c.frame f) current)) k.apart goes all aimed
   where
     fs : List ℕ
@@ -224,15 +217,14 @@ owned_take c o cpu f aim w k current still others this aimed =
     made = with_frame c f (taken (c.frame f))
 
     here : is_going_frame (made.frame f) ≡ true
-    here = ap is_going_frame (put_here c.frame f (taken (c.frame f))) ∙ going_taken (c.frame f) current
+    here = cc (put_here c.frame f (taken (c.frame f)), going_taken (c.frame f) current)
 
     goes : SomethingGoes made
     goes = inl (record { at = f; going = here })
 
     named : (g : ℕ) → is_going_frame (made.frame g) ≡ true → names_frame c w g ≡ true
     named g = by_place (λ (x : FrameUse). is_going_frame x ≡ true → names_frame c w g ≡ true) c.frame f
-        (taken (c.frame f)) g
-        (λ e h. ap (names_frame c w) e ∙ this) (λ n h. others.frames g h)
+        (taken (c.frame f)) g (λ e h. cc) (λ n h. others.frames g h)
 
     all : NamesAllGoing made w
     all = record {
@@ -277,14 +269,13 @@ apart_push : (ds : List CutDescriptor) (d : CutDescriptor) → AreApart ds → h
     → AreApart (ds ++ d ∷ [])
 apart_push [] d apart new = (refl, tt)
 apart_push (x ∷ xs) d apart new = (
-  cut_push_other xs d x.process x.number not_it
-      ∙ apart.0,
+  cut_push_other xs d x.process x.number not_it ∙ apart.0,
   apart_push xs d apart.1 later,
 )
   where
     by : (b : Bool) → is_cut_at d.process d.number x ≡ b → (b || has_cut xs d.process d.number) ≡ false
         → (is_cut_at d.process d.number x ≡ false) × (has_cut xs d.process d.number ≡ false)
-    by true e h = absurd (let no : true ≡ false = h in cc)
+    by true e h = cc
     by false e h = (e, h)
 
     both : (is_cut_at d.process d.number x ≡ false) × (has_cut xs d.process d.number ≡ false)
@@ -303,7 +294,7 @@ leads_cut (descriptor.Going u) = refl
 
 pub current_descriptor_is_not_going : (x : DescriptorUse) → is_current_descriptor x ≡ true
     → is_going_descriptor x ≡ false
-current_descriptor_is_not_going (descriptor.Going u) h = absurd (let no : false ≡ true = h in cc)
+current_descriptor_is_not_going (descriptor.Going u) h = cc
 current_descriptor_is_not_going _ h = refl
 
 names_cut : (c : Custody) (k n : ℕ) (w : What) (i j : ℕ)
@@ -334,8 +325,10 @@ owned_cut c o cpu d aim w k current still others this aimed =
     made = with_descriptor c d.process d.number (cut (c.descriptor d.process d.number))
 
     here : is_going_descriptor (made.descriptor d.process d.number) ≡ true
-    here = ap is_going_descriptor (put_two_here c.descriptor d.process d.number (cut (c.descriptor d.process d.number)))
-        ∙ going_cut (c.descriptor d.process d.number) current
+    here = cc (
+      put_two_here c.descriptor d.process d.number (cut (c.descriptor d.process d.number)),
+      going_cut (c.descriptor d.process d.number) current,
+    )
 
     goes : SomethingGoes made
     goes = inr (record { process = d.process; number = d.number; going = here })

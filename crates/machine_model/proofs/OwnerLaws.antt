@@ -13,8 +13,7 @@ looking_idle c o k looks = assumption (parts.0, parts.1, ap waits_in looks, ap s
     parts = subst (λ (x : Phase). FitsPhase x o.frames o.cut) looks k.shaped
 
 -- nor has one that moves a segment
-pub moves_idle : (c : Custody) (o : Owner) (m : Mover) → IsOwned c (Some o) → o.phase ≡ phase.Moving m
-    → IsIdle (Some o)
+pub moves_idle : (c : Custody) (o : Owner) (m : Mover) → IsOwned c (Some o) → o.phase ≡ phase.Moving m → IsIdle (Some o)
 moves_idle c o m k moves = assumption (parts.0, parts.1, ap waits_in moves, ap says_in moves)
   where
     parts : (o.frames ≡ []) × (o.cut ≡ [])
@@ -24,9 +23,8 @@ moves_idle c o m k moves = assumption (parts.0, parts.1, ap waits_in moves, ap s
 pub idle_names : (c : Custody) (o : Option Owner) (w : What) → IsOwned c o → frames_of_owner o ≡ []
     → cut_of_owner o ≡ [] → NamesAllGoing c w
 idle_names c o w k frames cut = record {
-  frames = λ f h. absurd (let no : false ≡ true = sym (k.frames f ∙ ap (λ (fs : List ℕ). has fs f) frames) ∙ h in cc);
-  descriptors = λ j n h. absurd (let no : false
-      ≡ true = sym (k.cuts j n ∙ ap (λ (ds : List CutDescriptor). has_cut ds j n) cut) ∙ h in cc);
+  frames = λ f h. absurd (let no : false ≡ true = sym (cc (k.frames f)) ∙ h in cc);
+  descriptors = λ j n h. absurd (let no : false ≡ true = sym (cc (k.cuts j n)) ∙ h in cc);
 }
 
 -- a page in a frame is here where nothing goes
@@ -36,8 +34,8 @@ bound_here v f u p k frames bound = by (v.words u p) (k.tied.named f u p bound) 
   where
     by : (w : Ptw) → names w ≡ Some f → is_going_frame (bound_use (u, p) w) ≡ false → w ≡ ptw.Here f
     by (ptw.Here h) n g = cc
-    by (ptw.Leaving h) n g = absurd (let no : true ≡ false = g in cc)
-    by _ n g = absurd (none_some n)
+    by (ptw.Leaving h) n g = cc
+    by _ n g = cc
 
 -- the owner is another, and custody sees what it saw
 pub owner_next : (v : Seen) (owner : Option Owner) → KeepsBook v → cut_of_owner v.owner ≡ cut_of_owner owner
@@ -46,8 +44,8 @@ owner_next v owner k cut pending owned = record {
   legal = k.legal;
   clean = k.clean;
   held = sym same ∙ k.held;
-  stale_due = subst (λ (c : Custody). Fine c (is_pending owner)) same (subst (Fine (shown v)) pending k.stale_due);
-  going_owned = subst (λ (c : Custody). IsOwned c owner) same owned;
+  stale_due = rw (← same, ← pending) k.stale_due;
+  going_owned = rw (← same) owned;
   tied = k.tied;
   holding_right = λ d. (rw same at (k.holding_right d));
   under_way = k.under_way;
@@ -61,17 +59,16 @@ owner_next v owner k cut pending owned = record {
 pub job_over : (v : Seen) (owner : Option Owner) → KeepsBook v → frames_of_owner v.owner ≡ []
     → cut_of_owner v.owner ≡ [] → NoneDue (shown v)
     → is_pending v.owner ≡ false → IsIdle owner → is_pending owner ≡ false → KeepsBook (record v { owner = owner })
-job_over v owner k frames cut none was now still =
-    owner_next v owner k (cut ∙ sym now.cut) (was ∙ sym still) owned
+job_over v owner k frames cut none was now still = owner_next v owner k (cc) (cc) owned
   where
     owned : IsOwned (shown v) owner
     owned = record {
-      frames = λ f. k.going_owned.frames f ∙ ap (λ (fs : List ℕ). has fs f) (frames ∙ sym now.frames);
-      cuts = λ j n. k.going_owned.cuts j n ∙ ap (λ (ds : List CutDescriptor). has_cut ds j n) (cut ∙ sym now.cut);
+      frames = λ f. cc (k.going_owned.frames f);
+      cuts = λ j n. cc (k.going_owned.cuts j n);
       once = rw now.frames tt;
       apart = rw now.cut tt;
-      due = λ d w h. absurd (none_some (sym (none d) ∙ h));
-      alive = λ d w h. absurd (none_some (sym (none d) ∙ h));
-      says = λ w h. absurd (none_some (sym now.says ∙ h));
+      due = λ d w h. cc (none d);
+      alive = λ d w h. cc (none d);
+      says = λ w h. cc;
       shaped = now.shaped;
     }

@@ -13,7 +13,7 @@ both_same a b c d x y = elim (eqb_tells a c) [
 ]
 
 pub bound_tells : (u p : ℕ) (x : Option (ℕ × ℕ)) → is_binding u p x ≡ true → x ≡ Some (u, p)
-bound_tells u p None h = absurd (let none : false ≡ true = h in cc)
+bound_tells u p None h = cc
 bound_tells u p (Some page) h = let both = and_both page.0 page.1 u p h in λ i. Some (both.0 i, both.1 i)
 
 module _ (s : State) (k : Keeps s) where
@@ -29,17 +29,18 @@ module _ (s : State) (k : Keeps s) where
       by : (x : Option ℕ) → position (is_binding u p) (bindings s.store.pages.core) ≡ x
           → words_held s.store.pages.frames (get_or s.store.pages.disks (home_in s.store u).volume []) filed x
           ≡ words_in s.store.pages f
-      by None e = absurd (not_both (ap (is_binding u p) bound ∙ both_same u p u p refl refl)
-          (position_none (is_binding u p) (bindings s.store.pages.core) None f e refl))
-      by (Some g) e = ap (words_in s.store.pages) same
+      by None e = cc (
+        both_same u p u p refl refl,
+        position_none (is_binding u p) (bindings s.store.pages.core) None f e refl,
+      )
+      by (Some g) e = cc (same)
         where
           there : (seen s).bound g ≡ Some (u, p)
           there = bound_tells u p ((seen s).bound g)
               (position_at (is_binding u p) (bindings s.store.pages.core) None g e).1
 
           same : g ≡ f
-          same = let one : ◌≡◌ {A = Option ℕ} (Some g) (Some f) =
-              sym (k.book.tied.named g u p there) ∙ k.book.tied.named f u p bound in cc
+          same = let one = sym (k.book.tied.named g u p there) ∙ k.book.tied.named f u p bound in cc
 
 module _ (s : State) (k : Keeps s) (u : ℕ) (active : is_active s.store.ast u ≡ true) where
   place_is : uid_at s.store.ast.entries (place_of s.store.ast.entries u) ≡ Some u
@@ -83,19 +84,18 @@ module _ (s : State) (k : Keeps s) (u : ℕ) (active : is_active s.store.ast u �
       filed = record_at (vtoc_in s.store.pages.vtocs (home_in s.store u).volume) (home_in s.store u).entry p
 
       none_filed : filed ≡ None
-      none_filed = none filed (tie.map.stored p ∙ ap has_record null)
+      none_filed = none filed (cc (tie.map.stored p))
         where
           none : (x : Option ℕ) → is_some x ≡ false → x ≡ None
           none None h = refl
-          none (Some r) h = absurd (let no : true ≡ false = h in cc)
+          none (Some r) h = cc
 
       by : (x : Option ℕ) → position (is_binding u p) (bindings s.store.pages.core) ≡ x
           → words_held s.store.pages.frames (get_or s.store.pages.disks (home_in s.store u).volume []) filed x
           ≡ replicate 1024 0
-      by None e = ap (words_filed (get_or s.store.pages.disks (home_in s.store u).volume [])) none_filed
-      by (Some g) e = absurd (none_some (sym (ap names null) ∙ k.book.tied.named g u p
-          (bound_tells u p ((seen s).bound g)
-          (position_at (is_binding u p) (bindings s.store.pages.core) None g e).1)))
+      by None e = cc (none_filed)
+      by (Some g) e = cc (k.book.tied.named g u p (bound_tells u p ((seen s).bound g)
+          (position_at (is_binding u p) (bindings s.store.pages.core) None g e).1))
 
   pub null_word : (o : ℕ) → word_of s.store.ast u (o / 1024) ≡ ptw.Null → (flat_of s).words u o ≡ 0
   null_word o null = cc (words_are o, null_words (o / 1024) null, zeros_read 1024 (o % 1024))

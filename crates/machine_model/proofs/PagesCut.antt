@@ -1,10 +1,9 @@
 -- Pages are cut off one after the other: which frames are bound then, which pages are being read into them, and which
 -- words the pages have.
-use Rattle.machine_model.proofs.Prelude.{◌≡◌, ◌≢◌, ◌<◌, ℕ, Bool, true, false, ◌||◌, cond, eqb, List, [], ◌∷◌, length, Option, None, ◌⊎◌, inl, inr, refl, sym, ap, subst, ◌∙◌, eqb_tells, length-set, reads_of, Ptw, binding_at, bindings, place_of, word_of, read_at, has, at_put_two, without_page, without_pages, Storage, has_head, has_tail, not_both}
+use Rattle.machine_model.proofs.Prelude.{cases_Bool, eqb-true, eqb_self, ◌≡◌, ◌≢◌, ◌<◌, ℕ, Bool, true, false, cond, eqb, List, [], ◌∷◌, length, Option, None, ◌⊎◌, inl, inr, refl, sym, ◌∙◌, eqb_tells, length-set, reads_of, Ptw, binding_at, bindings, place_of, word_of, read_at, has, at_put_two, without_page, without_pages, Storage, has_head, has_tail, not_both}
 use Rattle.core_map.specs.declared.Frame.TheVariants as frame
 use Rattle.page_table.specs.declared.Ptw.TheVariants as ptw
-use Rattle.active_segs.specs.declared.Entry.{Entry}
-use Rattle.machine_model.proofs.Places.{by_places}
+use Rattle.machine_model.proofs.Places.{put_two_here, by_places}
 use Rattle.machine_model.proofs.SeenLaws.{bound_put, reads_put}
 use Rattle.machine_model.proofs.TakeSeen.{words_put}
 
@@ -40,6 +39,10 @@ pub record IsCutOff (old now : Storage) (u p : ℕ) (w : Ptw) : Type 0 where
   pub frames : length now.pages.core.frames ≡ length old.pages.core.frames
   pub tables : length now.ast.tables ≡ length old.ast.tables
 
+pub put_two_other : {A : Type 0} (f : ℕ → ℕ → A) (k n : ℕ) (x : A) (i j : ℕ) → (i ≡ k → j ≡ n → ⊥)
+    → at_put_two f k n x i j ≡ f i j
+put_two_other f k n x i j h = by_places (λ y. y ≡ f i j) f k n x i j (λ a b. absurd (h a b)) (λ m. refl)
+
 null_put : (st : Storage) (u p : ℕ) → word_in st u p ≡ ptw.Null → (v q : ℕ)
     → word_in st v q ≡ at_put_two (λ x y. word_in st x y) u p ptw.Null v q
 null_put st u p e v q = by_places (λ (x : Ptw). word_in st v q ≡ x) (λ x y. word_in st x y) u p ptw.Null v q
@@ -51,8 +54,7 @@ page_cut_off st u p ptw.Null has_places e = assumption (null_put st u p e)
 page_cut_off st u p (ptw.Leaving f) has_places e = record {
   bound = bound_put st.pages.core f frame.Free (has_places.within u p f e);
   reads = reads_put st.pages.core f frame.Free (has_places.within u p f e);
-  words = words_put st.ast u p ptw.Null has_places.tables
-      (λ i. (let no : ptw.Leaving f ≡ ptw.Null = sym e ∙ i in cc));
+  words = words_put st.ast u p ptw.Null has_places.tables (λ i. (let no : ptw.Leaving f ≡ ptw.Null = sym e ∙ i in cc));
   places = refl;
   links = refl;
   frames = length-set st.pages.core.frames f frame.Free;
@@ -77,8 +79,8 @@ cut_leaving old now u p w v q f c e = by_places (λ (x : Ptw). x ≡ ptw.Leaving
 
 pub cut_places : (old now : Storage) (u p : ℕ) (w : Ptw) → HasPlaces old → IsCutOff old now u p w → HasPlaces now
 cut_places old now u p w h c = record {
-  tables = c.tables ∙ (h.tables ∙ ap (λ (es : List (Option Entry)). length es) (sym c.places));
-  within = λ v q f e. subst (λ (n : ℕ). f < n) (sym c.frames) (h.within v q f (cut_leaving old now u p w v q f c e));
+  tables = cc;
+  within = λ v q f e. rw c.frames (h.within v q f (cut_leaving old now u p w v q f c e));
 }
 
 -- ---- many pages
@@ -98,33 +100,27 @@ pub record AreCutOff (old now : Storage) (u : ℕ) (ps : List ℕ) : Type 0 wher
   pub links : now.links ≡ old.links
 
 leaves_is : (w : Ptw) (g : ℕ) → is_left_by w g ≡ true → w ≡ ptw.Leaving g
-leaves_is ptw.Null g h = absurd (not_both h refl)
-leaves_is (ptw.Out r) g h = absurd (not_both h refl)
-leaves_is (ptw.Here f) g h = absurd (not_both h refl)
-leaves_is (ptw.Leaving f) g h = elim (eqb_tells g f) [
-  | inl e ↦ ap (λ (x : ℕ). ptw.Leaving x) (sym e.1)
-  | inr n ↦ absurd (not_both h n.0)
-]
+leaves_is (ptw.Leaving f) g h = cc (eqb-true g f h)
+leaves_is _ g h = cc
 
 is_leaves : (w : Ptw) (g : ℕ) → w ≡ ptw.Leaving g → is_left_by w g ≡ true
-is_leaves w g e = ap (λ (x : Ptw). is_left_by x g) e ∙ elim (eqb_tells g g) [ inl i ↦ i.0 | inr n ↦ absurd (n.1 refl) ]
+is_leaves w g e = cc (eqb_self g)
 
 has_parts : (p : ℕ) (ps : List ℕ) (q : ℕ) → has (p ∷ ps) q ≡ false → (p ≢ q) × (has ps q ≡ false)
 has_parts p ps q h = elim (eqb_tells p q) [
-  | inl e ↦ absurd (let no : true ≡ false = sym (ap (λ (b : Bool). b || has ps q) e.0) ∙ h in cc)
-  | inr n ↦ (n.1, sym (ap (λ (b : Bool). b || has ps q) n.0) ∙ h)
+  | inl e ↦ absurd (let no : true ≡ false = sym (cc) ∙ h in cc)
+  | inr n ↦ (n.1, cc)
 ]
 
 -- it is the first, or one of the others
 has_cases : (p : ℕ) (ps : List ℕ) (q : ℕ) → has (p ∷ ps) q ≡ true → (has ps q ≡ true) ⊎ ((p ≡ q) × (has ps q ≡ false))
-has_cases p ps q h = by (has ps q) refl
-  where
-    by : (b : Bool) → has ps q ≡ b → (has ps q ≡ true) ⊎ ((p ≡ q) × (has ps q ≡ false))
-    by true e = inl e
-    by false e = elim (eqb_tells p q) [
-      | inl i ↦ inr (i.1, e)
-      | inr n ↦ absurd (not_both h (ap (λ (b : Bool). b || has ps q) n.0 ∙ e))
-    ]
+has_cases p ps q h = elim (cases_Bool (has ps q)) [
+  | inl e ↦ inl e
+  | inr e ↦ elim (eqb_tells p q) [
+    | inl i ↦ inr (i.1, e)
+    | inr n ↦ absurd (not_both h (rw (n.0, e) refl))
+  ]
+]
 
 module _ (st : Storage) (u p : ℕ) (ps : List ℕ) (now : Storage)
     (one : IsCutOff st (without_page st u p (word_in st u p)) u p (word_in st u p))
@@ -133,43 +129,34 @@ module _ (st : Storage) (u p : ℕ) (ps : List ℕ) (now : Storage)
   mid = without_page st u p (word_in st u p)
 
   other_word : (v q : ℕ) → (v ≡ u → q ≡ p → ⊥) → word_in mid v q ≡ word_in st v q
-  other_word v q n = one.words v q ∙ by_places (λ (x : Ptw). x ≡ word_in st v q) (λ x y. word_in st x y) u p ptw.Null
-      v q (λ a b. absurd (n a b)) (λ m. refl)
+  other_word v q n = one.words v q ∙ put_two_other (λ x y. word_in st x y) u p ptw.Null v q n
 
   this_word : word_in mid u p ≡ ptw.Null
-  this_word = one.words u p ∙ by_places (λ (x : Ptw). x ≡ ptw.Null) (λ x y. word_in st x y) u p ptw.Null u p
-      (λ a b. refl) (λ m. absurd (m refl refl))
+  this_word = one.words u p ∙ put_two_here (λ x y. word_in st x y) u p ptw.Null
 
   was_leaving : (q g : ℕ) → word_in mid u q ≡ ptw.Leaving g → word_in st u q ≡ ptw.Leaving g
   was_leaving q g e = cut_leaving st mid u p (word_in st u p) u q g one e
 
   bound_by : (g : ℕ) (b : Bool) → is_left_by (word_in st u p) g ≡ b → bound_in mid g ≡ cond b None (bound_in st g)
-  bound_by g b e = one.bound g ∙ ap (λ (x : Bool). cond x None (bound_in st g)) e
-
-  reads_by : (g : ℕ) (b : Bool) → is_left_by (word_in st u p) g ≡ b → read_in mid g ≡ cond b None (read_in st g)
-  reads_by g b e = one.reads g ∙ ap (λ (x : Bool). cond x None (read_in st g)) e
+  bound_by g b e = cc (one.bound g)
 
   free_mid : (g : ℕ) → bound_in st g ≡ None → bound_in mid g ≡ None
-  free_mid g e = by (is_left_by (word_in st u p) g) refl
-    where
-      by : (b : Bool) → is_left_by (word_in st u p) g ≡ b → bound_in mid g ≡ None
-      by true i = bound_by g true i
-      by false i = bound_by g false i ∙ e
+  free_mid g e = elim (cases_Bool (is_left_by (word_in st u p) g)) [
+    | inl i ↦ bound_by g true i
+    | inr i ↦ bound_by g false i ∙ e
+  ]
 
   bound_mid : (g : ℕ) → word_in st u p ≢ ptw.Leaving g → bound_in mid g ≡ bound_in st g
-  bound_mid g n = by (is_left_by (word_in st u p) g) refl
-    where
-      by : (b : Bool) → is_left_by (word_in st u p) g ≡ b → bound_in mid g ≡ bound_in st g
-      by true i = absurd (n (leaves_is (word_in st u p) g i))
-      by false i = bound_by g false i
+  bound_mid g n = elim (cases_Bool (is_left_by (word_in st u p) g)) [
+    | inl i ↦ absurd (n (leaves_is (word_in st u p) g i))
+    | inr i ↦ bound_by g false i
+  ]
 
-  reads_mid : (g : ℕ) → ((q : ℕ) → word_in st u q ≡ ptw.Leaving g → read_in st g ≡ None)
-      → read_in mid g ≡ read_in st g
-  reads_mid g h = by (is_left_by (word_in st u p) g) refl
-    where
-      by : (b : Bool) → is_left_by (word_in st u p) g ≡ b → read_in mid g ≡ read_in st g
-      by true i = reads_by g true i ∙ sym (h p (leaves_is (word_in st u p) g i))
-      by false i = reads_by g false i
+  reads_mid : (g : ℕ) → ((q : ℕ) → word_in st u q ≡ ptw.Leaving g → read_in st g ≡ None) → read_in mid g ≡ read_in st g
+  reads_mid g h = one.reads g ∙ (elim (cases_Bool (is_left_by (word_in st u p) g)) [
+    | inl i ↦ rw i (sym (h p (leaves_is (word_in st u p) g i)))
+    | inr i ↦ rw i refl
+  ])
 
   next_cut_off : AreCutOff st now u (p ∷ ps)
   next_cut_off = record {
@@ -177,13 +164,12 @@ module _ (st : Storage) (u p : ℕ) (ps : List ℕ) (now : Storage)
         ∙ other_word v q (λ a b. (has_parts p ps q (n a)).0 (sym b));
     nulls = λ q i. elim (has_cases p ps q i) [
       | inl e ↦ rest.nulls q e
-      | inr e ↦ rest.words u q (λ x. e.1) ∙ (ap (λ (x : ℕ). word_in mid u x) (sym e.0) ∙ this_word)
+      | inr e ↦ rest.words u q (λ x. e.1) ∙ (cc (e.0, this_word))
     ];
     bound = λ g n. rest.bound g (λ q i e. n q (has_tail p ps q i) (was_leaving q g e))
         ∙ bound_mid g (n p (has_head p ps));
     left = λ g q i e. elim (eqb_tells p q) [
-      | inl same ↦ rest.free g (bound_by g true (is_leaves (word_in st u p) g
-          (ap (λ (x : ℕ). word_in st u x) same.1 ∙ e)))
+      | inl same ↦ rest.free g (bound_by g true (is_leaves (word_in st u p) g (cc)))
       | inr other ↦ elim (has_cases p ps q i) [
         | inl y ↦ rest.left g q y (other_word u q (λ a b. other.1 (sym b)) ∙ e)
         | inr y ↦ absurd (other.1 y.0)
@@ -191,26 +177,23 @@ module _ (st : Storage) (u p : ℕ) (ps : List ℕ) (now : Storage)
     ];
     free = λ g e. rest.free g (free_mid g e);
     reads = λ g h. rest.reads g (λ q e. reads_mid g h ∙ h q (was_leaving q g e)) ∙ reads_mid g h;
-    places = rest.places ∙ one.places;
-    links = rest.links ∙ one.links;
+    places = cc;
+    links = cc;
   }
 
 -- Pages are cut off, one after the other.
 pub pages_cut_off : (st : Storage) (u : ℕ) (ps : List ℕ) → HasPlaces st → AreCutOff st (without_pages st u ps) u ps
 pages_cut_off st u [] h = record {
   words = λ v q n. refl;
-  nulls = λ q i. absurd (not_both i refl);
+  nulls = λ q i. cc;
   bound = λ g n. refl;
-  left = λ g q i e. absurd (not_both i refl);
+  left = λ g q i e. cc;
   free = λ g e. e;
   reads = λ g i. refl;
   places = refl;
   links = refl;
 }
-pages_cut_off st u (p ∷ ps) h = next_cut_off st u p ps
-    (without_pages (without_page st u p (word_in st u p)) u ps) one
+pages_cut_off st u (p ∷ ps) h = let one = page_cut_off st u p (word_in st u p) h refl in
+    next_cut_off st u p ps (without_pages (without_page st u p (word_in st u p)) u ps) one
     (pages_cut_off (without_page st u p (word_in st u p)) u ps
     (cut_places st (without_page st u p (word_in st u p)) u p (word_in st u p) h one))
-  where
-    one : IsCutOff st (without_page st u p (word_in st u p)) u p (word_in st u p)
-    one = page_cut_off st u p (word_in st u p) h refl

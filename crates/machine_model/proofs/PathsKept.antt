@@ -1,9 +1,9 @@
 -- A path that leads to a segment leads to it still where other nodes come or go, and where what is changed of a node is
 -- neither its place nor its name.
-use Rattle.machine_model.proofs.Prelude.{◌≡◌, ◌≢◌, ◌<◌, ℕ, Bool, true, false, not, cond, eqb, List, [], ◌∷◌, map, Option, Some, None, ◌⊎◌, inl, inr, refl, sym, ap, subst, ◌∙◌, arith, Ok, Err, eqb_tells, Node, Walk, LeadsTo, Missing, InSegment, branch_in, has_directory, is_branch, node_in, onward, walk_from, walk_in, without_node, AreBelow, IsTree, Joins, IsMember, found_member, lies, only_branch, node_at, only_segment, segment_at, there_or, walked, directory_gone, only_found, there_found, find_passes, found_uid, joined_below, uid_below, node_without, not_both}
+use Rattle.machine_model.proofs.Prelude.{cases_Bool, ne_eqb, ap, option_map, ◌≡◌, ◌≢◌, ◌<◌, ℕ, Bool, true, false, cond, eqb, List, [], ◌∷◌, map, Option, Some, None, ◌⊎◌, inl, inr, refl, sym, subst, ◌∙◌, arith, Ok, Err, eqb_tells, Node, Walk, LeadsTo, Missing, InSegment, branch_in, has_directory, is_branch, node_in, onward, walk_from, walk_in, without_node, AreBelow, IsTree, Joins, IsMember, found_member, lies, only_branch, node_at, only_segment, segment_at, there_or, walked, directory_gone, only_found, there_found, find_passes, found_uid, joined_below, uid_below, node_without, not_both}
 use Rattle.book.specs.declared.replies.Reply.TheVariants as reply
+use Rattle.std.proofs.lemmas.Option.{same_Some}
 use Rattle.tree_model.proofs.Finds.{branch_found}
-use Rattle.machine_model.proofs.TieLaws.{none_some}
 
 -- a path that led to a segment leads to it
 pub record PathsStay (old now : List Node) (u : ℕ) : Type 0 where
@@ -20,8 +20,7 @@ abbrev Follows : List Node → ℕ → List ℕ → Node → Type 0
 Follows now d name m = (x : Node) × (branch_in now d name ≡ Some x) × (x.uid ≡ m.uid) × (x.directory ≡ m.directory)
 
 walked_uid : (ns : List Node) (w : Walk) (n : Node) → walked ns w ≡ Ok n → w ≡ LeadsTo n.uid
-walked_uid ns (LeadsTo u) n h =
-    ap (λ (x : ℕ). LeadsTo x) (sym (found_uid ns u n (there_found (node_in ns u) n h)))
+walked_uid ns (LeadsTo u) n h = cc (found_uid ns u n (there_found (node_in ns u) n h))
 walked_uid ns Missing n h = absurd (let no : Err reply.NoPath ≡ Ok n = h in cc)
 walked_uid ns InSegment n h = absurd (let no : Err reply.NotDir ≡ Ok n = h in cc)
 
@@ -32,8 +31,7 @@ module _ (old now : List Node) (u : ℕ) (Stays : ℕ → Type 0) (end : Stays u
   walk_stays : (names : List (List ℕ)) (d : ℕ) (b : Bool) → walk_from old d b names ≡ LeadsTo u
       → (walk_from now d b names ≡ LeadsTo u) × Stays d
   walk_stays [] d b h = (h, subst Stays (let same : u ≡ d = cc in same) end)
-  walk_stays (name ∷ names) d b h = by b (branch_in old d name) refl
-      (λ m i. walk_stays names m.uid m.directory i) h
+  walk_stays (name ∷ names) d b h = by b (branch_in old d name) refl (λ m i. walk_stays names m.uid m.directory i) h
     where
       by : (x : Bool) (o : Option Node) → branch_in old d name ≡ o
           → ((m : Node) → walk_from old m.uid m.directory names ≡ LeadsTo u
@@ -58,7 +56,7 @@ module _ (old now : List Node) (u : ℕ) (Stays : ℕ → Type 0) (end : Stays u
           → (m : Node) × (segment_at now path ≡ Ok m) × (m.uid ≡ u)
       each path n h e = let both = only_found (node_at old path) n h in
           let was = walked_uid old (walk_in old path) n both.0 in
-          let walk = walk_stays path 1 true (was ∙ ap (λ (x : ℕ). LeadsTo x) e) in
+          let walk = walk_stays path 1 true (cc) in
           let at = there n (here path n h e was both.0) both.1 in (
             at.0,
             ap (λ (w : Walk). only_segment (walked now w)) walk.0
@@ -69,8 +67,7 @@ module _ (old now : List Node) (u : ℕ) (Stays : ℕ → Type 0) (end : Stays u
         where
           here : (path : List (List ℕ)) (n : Node) → segment_at old path ≡ Ok n → n.uid ≡ u
               → walk_in old path ≡ LeadsTo n.uid → walked old (walk_in old path) ≡ Ok n → node_in old u ≡ Some n
-          here path n h e was found = there_found (node_in old u) n
-              (ap (λ (x : ℕ). there_or (node_in old x)) (sym e) ∙ (ap (walked old) (sym was) ∙ found))
+          here path n h e was found = there_found (node_in old u) n (cc)
 
 -- ---- nodes change, but for place and name
 
@@ -81,37 +78,30 @@ pub record KeepsName (change : Node → Node) : Type 0 where
   pub name : (n : Node) → (change n).name ≡ n.name
   pub directory : (n : Node) → (change n).directory ≡ n.directory
 
+-- the first node that passes a test, where each is changed
+first_mapped : (change : Node → Node) (n : Node) (a b : Bool) (x y : Option Node) → b ≡ a → x ≡ option_map change y
+    → cond b (Some (change n)) x ≡ option_map change (cond a (Some n) y)
+first_mapped change n true b x y e rest = cc
+first_mapped change n false b x y e rest = cc
+
+pub node_mapped : (change : Node → Node) → ((n : Node) → (change n).uid ≡ n.uid) → (ns : List Node) (u : ℕ)
+    → node_in (map change ns) u ≡ option_map change (node_in ns u)
+node_mapped change uid [] u = refl
+node_mapped change uid (n ∷ ns) u = first_mapped change n (eqb n.uid u) (eqb (change n).uid u) _ _
+    (cc (uid n)) (node_mapped change uid ns u)
+
 module _ (change : Node → Node) (same : KeepsName change) where
-  branch_same : (d : ℕ) (name : List ℕ) (n : Node) → is_branch d name (change n) ≡ is_branch d name n
-  branch_same d name n = λ i. is_branch d name (record n { superior = same.superior n i; name = same.name n i })
-
-  branch_map : (ns : List Node) (d : ℕ) (name : List ℕ) (m : Node) → branch_in ns d name ≡ Some m
-      → branch_in (map change ns) d name ≡ Some (change m)
-  branch_map [] d name m h = absurd (none_some h)
-  branch_map (n ∷ ns) d name m h = by (is_branch d name n) refl h (branch_map ns d name m)
-    where
-      by : (b : Bool) → is_branch d name n ≡ b → cond b (Some n) (branch_in ns d name) ≡ Some m
-          → (branch_in ns d name ≡ Some m → branch_in (map change ns) d name ≡ Some (change m))
-          → branch_in (map change (n ∷ ns)) d name ≡ Some (change m)
-      by true e i rest = ap (λ (b : Bool). cond b (Some (change n)) (branch_in (map change ns) d name))
-          (branch_same d name n ∙ e) ∙ ap (λ (x : Node). Some (change x)) (let is : n ≡ m = cc in is)
-      by false e i rest = cc (branch_same d name n, rest i)
-
-  node_map : (ns : List Node) (u : ℕ) (m : Node) → node_in ns u ≡ Some m → node_in (map change ns) u ≡ Some (change m)
-  node_map [] u m h = absurd (none_some h)
-  node_map (n ∷ ns) u m h = by (eqb n.uid u) refl h (node_map ns u m)
-    where
-      by : (b : Bool) → eqb n.uid u ≡ b → cond b (Some n) (node_in ns u) ≡ Some m
-          → (node_in ns u ≡ Some m → node_in (map change ns) u ≡ Some (change m))
-          → node_in (map change (n ∷ ns)) u ≡ Some (change m)
-      by true e i rest = ap (λ (b : Bool). cond b (Some (change n)) (node_in (map change ns) u))
-          (ap (λ (x : ℕ). eqb x u) (same.uid n) ∙ e) ∙ ap (λ (x : Node). Some (change x)) (let is : n ≡ m = cc in is)
-      by false e i rest = cc (same.uid n, rest i)
+  branch_mapped : (ns : List Node) (d : ℕ) (name : List ℕ)
+      → branch_in (map change ns) d name ≡ option_map change (branch_in ns d name)
+  branch_mapped [] d name = refl
+  branch_mapped (n ∷ ns) d name = first_mapped change n (is_branch d name n) (is_branch d name (change n)) _ _
+      (λ i. is_branch d name (record n { superior = same.superior n i; name = same.name n i }))
+      (branch_mapped ns d name)
 
   pub paths_changed : (ns : List Node) (u : ℕ) → PathsStay ns (map change ns) u
   paths_changed ns u = path_stays ns (map change ns) u (λ d. Unit {0}) tt (λ d name m h. tt)
-      (λ d name m h e. (change m, branch_map ns d name m h, same.uid m, same.directory m))
-      (λ n h dir. (change n, node_map ns u n h, same.directory n ∙ dir))
+      (λ d name m h e. (change m, cc (branch_mapped ns d name), same.uid m, same.directory m))
+      (λ n h dir. (change n, cc (node_mapped change same.uid ns u), same.directory n ∙ dir))
 
 -- ---- a node more
 
@@ -124,21 +114,19 @@ is_here ns d name m h = (
 
 pub paths_more : (ns : List Node) (n : Node) (u : ℕ) → IsTree (n ∷ ns) → PathsStay ns (n ∷ ns) u
 paths_more ns n u tree = path_stays ns (n ∷ ns) u (λ d. Unit {0}) tt (λ d name m h. tt)
-    (λ d name m h e. follows d name m h (is_branch d name n) refl)
-    (λ m h dir. (m, ap (λ (b : Bool). cond b (Some n) (node_in ns u)) (other m h) ∙ h, dir))
+    (λ d name m h e. follows d name m h (is_branch d name n) refl) (λ m h dir. (m, cc (other m h), dir))
   where
     follows : (d : ℕ) (name : List ℕ) (m : Node) → branch_in ns d name ≡ Some m → (b : Bool) → is_branch d name n ≡ b
         → Follows (n ∷ ns) d name m
-    follows d name m h false e = (m, ap (λ (b : Bool). cond b (Some n) (branch_in ns d name)) e ∙ h, refl, refl)
+    follows d name m h false e = (m, cc, refl, refl)
     follows d name m h true e = let first = ap (λ (b : Bool). cond b (Some n) (branch_in ns d name)) e in
         let here = is_here ns d name m h in
         let same = only_branch (n ∷ ns) tree d name n m first (inr here.0) here.1 in
-        (n, first, ap (λ (x : Node). x.uid) same, ap (λ (x : Node). x.directory) same)
+        (n, first, cc, cc)
 
     other : (m : Node) → node_in ns u ≡ Some m → eqb n.uid u ≡ false
     other m h = elim (eqb_tells n.uid u) [
-      | inl e ↦ absurd (let less = uid_below n.uid ns u m (joined_below ns n.superior n tree.0) h in
-          let same = e.1 in omega (arith, less, same))
+      | inl e ↦ absurd (omega (arith, uid_below n.uid ns u m (joined_below ns n.superior n tree.0) h))
       | inr o ↦ o.0
     ]
 
@@ -151,60 +139,49 @@ has_above [] m s tree here is = absurd here
 has_above (n ∷ ns) m s tree here is = by here (λ e. has_above ns m s tree.1 e is)
   where
     below : (v : ℕ) (xs : List Node) → AreBelow v xs → has_directory xs s ≡ true → s < v
-    below v [] b e = absurd (not_both e refl)
+    below v [] b e = cc
     below v (x ∷ xs) b e = elim (eqb_tells x.uid s) [
-      | inl i ↦ subst (λ (y : ℕ). y < v) i.1 b.0
-      | inr o ↦ below v xs b.1 (sym (ap (λ (y : Bool). cond y x.directory (has_directory xs s)) o.0) ∙ e)
+      | inl i ↦ rw (← i.1) b.0
+      | inr o ↦ below v xs b.1 (cc)
     ]
 
     past : has_directory ns s ≡ true → has_directory (n ∷ ns) s ≡ true
     past e = elim (eqb_tells n.uid s) [
-      | inl i ↦ absurd (let less = below n.uid ns (joined_below ns n.superior n tree.0) e in
-          let same = i.1 in omega (arith, less, same))
+      | inl i ↦ absurd (omega (arith, below n.uid ns (joined_below ns n.superior n tree.0) e))
       | inr o ↦ ap (λ (y : Bool). cond y n.directory (has_directory ns s)) o.0 ∙ e
     ]
 
     first : (o : Option ℕ) → Joins ns o n → o ≡ Some s → (has_directory (n ∷ ns) s ≡ true) × (s < n.uid)
-    first None j e = absurd (none_some e)
+    first None j e = cc
     first (Some x) j e = let same : x ≡ s = cc in let dir = subst (λ (y : ℕ). has_directory ns y ≡ true) same j.below in
         (past dir, below n.uid ns j.later dir)
 
     by : (m ≡ n) ⊎ IsMember m ns → (IsMember m ns → (has_directory ns s ≡ true) × (s < m.uid))
         → (has_directory (n ∷ ns) s ≡ true) × (s < m.uid)
-    by (inl e) rest = let at = first n.superior tree.0 (ap (λ (x : Node). x.superior) (sym e) ∙ is) in
-        (at.0, subst (λ (x : Node). s < x.uid) (sym e) at.1)
+    by (inl e) rest = let at = first n.superior tree.0 (cc) in
+        (at.0, rw e at.1)
     by (inr e) rest = let at = rest e in (past at.0, at.1)
 
 member_left : (ns : List Node) (v : ℕ) (m : Node) → IsMember m ns → m.uid ≢ v → IsMember m (without_node ns v)
 member_left [] v m here other = absurd here
-member_left (n ∷ ns) v m here other = by (eqb n.uid v) refl here (λ e. member_left ns v m e other)
-  where
-    by : (b : Bool) → eqb n.uid v ≡ b → (m ≡ n) ⊎ IsMember m ns → (IsMember m ns → IsMember m (without_node ns v))
-        → IsMember m (cond (not b) (n ∷ without_node ns v) (without_node ns v))
-    by false e (inl i) rest = inl i
-    by false e (inr i) rest = inr (rest i)
-    by true e (inl i) rest = absurd (elim (eqb_tells n.uid v) [
-      | inl same ↦ other (ap (λ (x : Node). x.uid) i ∙ same.1)
-      | inr o ↦ not_both e o.0
-    ])
-    by true e (inr i) rest = rest i
+member_left (n ∷ ns) v m (inl e) other = rw (ne_eqb n.uid v (λ i. other (ap (λ (x : Node). x.uid) e ∙ i))) (inl e)
+member_left (n ∷ ns) v m (inr e) other = elim (cases_Bool (eqb n.uid v)) [
+  | inl i ↦ rw i (member_left ns v m e other)
+  | inr i ↦ rw i (inr (member_left ns v m e other))
+]
 
 branch_left : (ns : List Node) (v d : ℕ) (name : List ℕ) (m : Node) → branch_in ns d name ≡ Some m → m.uid ≢ v
     → branch_in (without_node ns v) d name ≡ Some m
-branch_left [] v d name m h other = absurd (none_some h)
-branch_left (n ∷ ns) v d name m h other = by (eqb n.uid v) (is_branch d name n) refl refl h
-    (λ e. branch_left ns v d name m e other)
-  where
-    by : (a b : Bool) → eqb n.uid v ≡ a → is_branch d name n ≡ b → cond b (Some n) (branch_in ns d name) ≡ Some m
-        → (branch_in ns d name ≡ Some m → branch_in (without_node ns v) d name ≡ Some m)
-        → branch_in (cond (not a) (n ∷ without_node ns v) (without_node ns v)) d name ≡ Some m
-    by false true e i x rest = ap (λ (b : Bool). cond b (Some n) (branch_in (without_node ns v) d name)) i ∙ x
-    by false false e i x rest = ap (λ (b : Bool). cond b (Some n) (branch_in (without_node ns v) d name)) i ∙ rest x
-    by true false e i x rest = rest x
-    by true true e i x rest = absurd (elim (eqb_tells n.uid v) [
-      | inl same ↦ other (sym (ap (λ (y : Node). y.uid) (let is : n ≡ m = cc in is)) ∙ same.1)
-      | inr o ↦ not_both e o.0
-    ])
+branch_left [] v d name m h other = cc
+branch_left (n ∷ ns) v d name m h other = elim (cases_Bool (is_branch d name n)) [
+  | inl i ↦ (let is : n ≡ m = same_Some n m (rw i at h) in
+      let stays = ne_eqb n.uid v (λ e. other (ap (λ (x : Node). x.uid) (sym is) ∙ e)) in
+      rw (stays, i) (ap (λ (x : Node). Some x) is))
+  | inr i ↦ elim (cases_Bool (eqb n.uid v)) [
+    | inl e ↦ rw e (branch_left ns v d name m (rw i at h) other)
+    | inr e ↦ rw (e, i) (branch_left ns v d name m (rw i at h) other)
+  ]
+]
 
 -- Another node is gone, and what is left is a tree.
 pub paths_less : (ns : List Node) (v u : ℕ) → IsTree ns → IsTree (without_node ns v) → u ≢ v

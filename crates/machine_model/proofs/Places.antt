@@ -37,12 +37,10 @@ put_map g f i x j = by (eqb j i)
 -- a function that differs at one place alone
 pub one_place : {A : Type 0} (old new : ℕ → A) (i : ℕ) (x : A) → new i ≡ x → ((j : ℕ) → j ≢ i → new j ≡ old j)
     → (j : ℕ) → new j ≡ at_put old i x j
-one_place old new i x here other j = by_place (λ y. new j ≡ y) old i x j
-    (λ e. subst (λ (k : ℕ). new k ≡ x) (sym e) here) (λ n. other j n)
+one_place old new i x here other j = by_place (λ y. new j ≡ y) old i x j (λ e. rw e here) (λ n. other j n)
 
 pub one_place_of_two : {A : Type 0} (old new : ℕ → ℕ → A) (k n : ℕ) (x : A) → new k n ≡ x
-    → ((i j : ℕ) → (i ≡ k → j ≡ n → ⊥) → new i j ≡ old i j)
-    → (i j : ℕ) → new i j ≡ at_put_two old k n x i j
+    → ((i j : ℕ) → (i ≡ k → j ≡ n → ⊥) → new i j ≡ old i j) → (i j : ℕ) → new i j ≡ at_put_two old k n x i j
 one_place_of_two old new k n x here other i j =
     by_places (λ y. new i j ≡ y) old k n x i j (λ e d. rw (e, d) here) (λ m. other i j m)
 

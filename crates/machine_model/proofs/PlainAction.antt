@@ -46,7 +46,7 @@ module _ (s : State) (c : ℕ) where
       (act.come_to s p.cpu k (next_command s k)) IsPlainly (λ had. tt) (λ going. come_plain k (next_command s k))
 
   look_plain : (k : ℕ) (cmd : Command) (a : act.Action) → LookFinds s k cmd a → IsPlainly a
-  look_plain k cmd (act.Answer r) h = ap is_device h.reply ∙ command_plain s.plan (flat_of s) k cmd
+  look_plain k cmd (act.Answer r) h = cc (command_plain s.plan (flat_of s) k cmd)
   look_plain k cmd (act.Plain r) h = absurd h
   look_plain k cmd _ h = tt
 

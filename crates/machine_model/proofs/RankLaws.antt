@@ -2,39 +2,31 @@
 use Rattle.machine_model.proofs.Prelude.{◌≤◌, ◌<◌, arith, Parts, IsSmall, rank_of}
 
 pub falls_reading : (p q : Parts) → IsSmall q → q.reading < p.reading → rank_of q < rank_of p
-falls_reading p q small less =
-    omega (arith, small.idle, small.off, small.link, small.room, small.frame, small.stage, small.due, less)
+falls_reading p q small less = omega arith
 
 pub falls_idle : (p q : Parts) → IsSmall q → q.reading ≤ p.reading → q.idle < p.idle → rank_of q < rank_of p
-falls_idle p q small reading less =
-    omega (arith, small.off, small.link, small.room, small.frame, small.stage, small.due, reading, less)
+falls_idle p q small reading less = omega arith
 
 pub falls_off : (p q : Parts) → IsSmall q → q.reading ≤ p.reading → q.idle ≤ p.idle → q.off < p.off
     → rank_of q < rank_of p
-falls_off p q small reading idle less =
-    omega (arith, small.link, small.room, small.frame, small.stage, small.due, reading, idle, less)
+falls_off p q small reading idle less = omega arith
 
 pub falls_link : (p q : Parts) → IsSmall q → q.reading ≤ p.reading → q.idle ≤ p.idle → q.off ≤ p.off → q.link < p.link
     → rank_of q < rank_of p
-falls_link p q small reading idle off less =
-    omega (arith, small.room, small.frame, small.stage, small.due, reading, idle, off, less)
+falls_link p q small reading idle off less = omega arith
 
 pub falls_room : (p q : Parts) → IsSmall q → q.reading ≤ p.reading → q.idle ≤ p.idle → q.off ≤ p.off → q.link ≤ p.link
     → q.room < p.room → rank_of q < rank_of p
-falls_room p q small reading idle off link less =
-    omega (arith, small.frame, small.stage, small.due, reading, idle, off, link, less)
+falls_room p q small reading idle off link less = omega arith
 
 pub falls_frame : (p q : Parts) → IsSmall q → q.reading ≤ p.reading → q.idle ≤ p.idle → q.off ≤ p.off → q.link ≤ p.link
     → q.room ≤ p.room → q.frame < p.frame → rank_of q < rank_of p
-falls_frame p q small reading idle off link room less =
-    omega (arith, small.stage, small.due, reading, idle, off, link, room, less)
+falls_frame p q small reading idle off link room less = omega arith
 
 pub falls_stage : (p q : Parts) → IsSmall q → q.reading ≤ p.reading → q.idle ≤ p.idle → q.off ≤ p.off → q.link ≤ p.link
     → q.room ≤ p.room → q.frame ≤ p.frame → q.stage < p.stage → rank_of q < rank_of p
-falls_stage p q small reading idle off link room frame less =
-    omega (arith, small.due, reading, idle, off, link, room, frame, less)
+falls_stage p q small reading idle off link room frame less = omega arith
 
 pub falls_due : (p q : Parts) → q.reading ≤ p.reading → q.idle ≤ p.idle → q.off ≤ p.off → q.link ≤ p.link
     → q.room ≤ p.room → q.frame ≤ p.frame → q.stage ≤ p.stage → q.due < p.due → rank_of q < rank_of p
-falls_due p q reading idle off link room frame stage less =
-    omega (arith, reading, idle, off, link, room, frame, stage, less)
+falls_due p q reading idle off link room frame stage less = omega arith

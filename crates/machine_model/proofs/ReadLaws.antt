@@ -18,13 +18,12 @@ unfolding rule_of
 reads_rule s d r k none reading =
     let online = k.tied.runners_online d (k.tied.readers_run d r reading) in
     let due = none_due s.runners d (inside s.runners d online) none in
-    let busy : is_some (runner_at s.runners d).reading ≡ true = ap (λ (o : Option Transfer). is_some o) reading in
-    rw (online, due, busy) refl
+    rw (online, due, (ap (λ (o : Option Transfer). is_some o) reading)) refl
 
 -- a frame that a page is read into is of no page
 not_of : (s : Outline) (d : ℕ) (r : Transfer) → IsKept s → (runner_at s.runners d).reading ≡ Some r → (uid page : ℕ)
     → is_of uid page (frame_in s.frames r.frame) ≡ false
-not_of s d r k reading uid page = ap (is_of uid page) (k.tied.read d r reading).0
+not_of s d r k reading uid page = cc ((k.tied.read d r reading).0)
 
 -- the measure falls where a transfer ends, and the owner goes on with its look
 ended_falls : (s t : Outline) (c d : ℕ) (x : Runner) → IsKept s → IsKept t → IsIn s c Look → t.owner ≡ s.owner
@@ -33,29 +32,25 @@ ended_falls : (s t : Outline) (c d : ℕ) (x : Runner) → IsKept s → IsKept t
     → ((w : Want) (q : Option Transfer) → wanted_fits s w q ≡ true → wanted_fits t w q ≡ true)
     → (job_rank t < job_rank s) × IsUnderWay s t c
 ended_falls s t c d x k l look owner idle r reading runners over all fits =
-    let online = k.tied.runners_online d (k.tied.readers_run d r reading) in
-    let within = inside s.runners d online in
-    let apart : c ≢ d = other_than s c d (λ y. is_some y.reading) (ap (λ (o : Option Transfer). is_some o) idle)
-    (ap (λ (o : Option Transfer). is_some o) reading) in
+    let within = inside s.runners d (k.tied.runners_online d (k.tied.readers_run d r reading)) in
+    let apart : c ≢ d = other_than s c d (λ y. is_some y.reading) (cc) (cc) in
     let same : runner_at t.runners c ≡ runner_at s.runners c =
     ap (λ (xs : List Runner). runner_at xs c) runners ∙ get_or-set_other s.runners d c x no_runner apart in
     let count = readers_set s.runners d x within in
-    let was : cond {A = ℕ} (is_some (runner_at s.runners d).reading) 1 0 ≡ 1 =
-    ap (λ (o : Option Transfer). cond {A = ℕ} (is_some o) 1 0) reading in
-    let now : cond {A = ℕ} (is_some x.reading) 1 0 ≡ 0 =
-    ap (λ (o : Option Transfer). cond {A = ℕ} (is_some o) 1 0) over in
-    let list : readers t.runners ≡ readers (set s.runners d x) = ap readers runners in
-    let looks : IsIn t c Look = owner ∙ look in
+    let was = ap (λ (o : Option Transfer). cond {A = ℕ} (is_some o) 1 0) reading in
+    let now = ap (λ (o : Option Transfer). cond {A = ℕ} (is_some o) 1 0) over in
+    let list = ap readers runners in
+    let looks = owner ∙ look in
     let rank_s = ranked s c Look look in
     let rank_t = ranked t c Look looks in
     let less = falls_reading (parts_of s (runner_at s.runners c) Look) (parts_of t (runner_at t.runners c) Look)
-    (small_of t c Look l looks) (omega (arith, count, was, now, list)) in (
-      omega (arith, rank_s, rank_t, less),
+    (small_of t c Look l looks) (omega arith) in (
+      omega arith,
       record {
         stage = Look;
         in_job = looks;
         same = same_command _ same refl refl refl all;
-        lack = subst (λ (y : Runner). lack t y ≤ lack_at s c) (sym same) (lack_le s t (want_at s c)
+        lack = rw same (lack_le s t (want_at s c)
             (runner_at s.runners c).linked (runner_at s.runners c).linked (runner_at s.runners c).reading
             (runner_at s.runners c).reading (λ h. h) (λ h. fits (want_at s c) (runner_at s.runners c).reading h));
       },
@@ -63,19 +58,15 @@ ended_falls s t c d x k l look owner idle r reading runners over all fits =
 
 bound_falls : (s : Outline) (c d : ℕ) (r : Transfer) (used modified : Bool) → IsKept s
     → IsKept (not_reading (with_bound s r used modified) d) → IsIn s c Look → (runner_at s.runners c).reading ≡ None
-    → (runner_at s.runners d).reading ≡ Some r
-    → (job_rank (not_reading (with_bound s r used modified) d) < job_rank s)
+    → (runner_at s.runners d).reading ≡ Some r → (job_rank (not_reading (with_bound s r used modified) d) < job_rank s)
     × IsUnderWay s (not_reading (with_bound s r used modified) d) c
 bound_falls s c d r used modified k l look idle reading =
-    let online = k.tied.runners_online d (k.tied.readers_run d r reading) in
-    let within = inside s.runners d online in
+    let within = inside s.runners d (k.tied.runners_online d (k.tied.readers_run d r reading)) in
     let t : Outline = not_reading (with_bound s r used modified) d in
     ended_falls s (not_reading (with_bound s r used modified) d) c d (record (runner_at s.runners d) { reading = None })
     k l look refl idle r reading refl refl
     (all_set s (not_reading (with_bound s r used modified) d) d (record (runner_at s.runners d) { reading = None })
-    within
-    refl refl refl refl refl)
-    (λ w q h. wanted_more s (not_reading (with_bound s r used modified) d) w q q
+    within refl refl refl refl refl) (λ w q h. wanted_more s (not_reading (with_bound s r used modified) d) w q q
     (λ uid page makes there. here_more s.frames r.frame uid page (frame.Bound r.uid r.page used modified)
     (k.tied.read d r reading).1 (not_of s d r k reading uid page) there) (λ uid page there. inr there)
     (λ uid page out. out) h)
@@ -89,8 +80,7 @@ lost_falls : (s : Outline) (c d : ℕ) (r : Transfer) (x : Runner) (left : ℕ) 
 lost_falls s c d r x left k l look idle reading lost fewer =
     let all = all_fewer s (record (with_runner (with_frame s r.frame frame.Free) d x) { left = left }) l.sizes fewer in
     ended_falls s (record (with_runner (with_frame s r.frame frame.Free) d x) { left = left }) c d x k l look refl
-    idle r
-    reading refl lost.reading (omega (arith, all))
+    idle r reading refl lost.reading (omega arith)
     (λ w q h. wanted_more s (record (with_runner (with_frame s r.frame frame.Free) d x) { left = left }) w q q
     (λ uid page makes there. here_same s.frames r.frame uid page frame.Free (k.tied.read d r reading).1
     (not_of s d r k reading uid page) refl ∙ there) (λ uid page there. inr there) (λ uid page out. out) h)
@@ -104,7 +94,7 @@ reads_only {s = s} {c = c} {d = d} k awaits reader h =
 pub read_step : (s : Outline) (c f d : ℕ) (turn : Turn) (t : Outline) → IsKept s → IsKept t → AwaitsTransfer s c f
     → IsReader s f d → Step s d turn t → (job_rank t < job_rank s) × IsUnderWay s t c
 read_step s c f d turn t k l awaits reader (ends ended) =
-    absurd (not_both (k.job.at_work c Look awaits.look).running (ended.running c))
+    cc ((k.job.at_work c Look awaits.look).running, ended.running c)
 read_step s c f d turn t k l awaits reader (comes h) = let no = reads_only k awaits reader h in absurd cc
 read_step s c f d turn t k l awaits reader (clears x h cleared) = let no = reads_only k awaits reader h in absurd cc
 read_step s c f d turn t k l awaits reader (reads r used modified h is) =

@@ -32,11 +32,11 @@ module _ (s : State) (keeps : Keeps s) where
 
       word : (page : ℕ × ℕ) (w : Ptw) → names w ≡ Some f → is_going_frame (bound_use page w) ≡ true → w ≡ ptw.Leaving f
       word page (ptw.Leaving g) n h = cc
-      word page _ n h = absurd (not_both h refl)
+      word page _ n h = cc
 
       by : (x : Option (ℕ × ℕ)) → (seen s).bound f ≡ x
           → is_going_frame (frame_use (seen s).words x ((seen s).reads f)) ≡ true → HasGoing f
-      by None e h = absurd (not_both h (read ((seen s).reads f)))
+      by None e h = cc (read ((seen s).reads f))
       by (Some page) e h = record {
         uid = page.0;
         page = page.1;
@@ -52,14 +52,13 @@ module _ (s : State) (keeps : Keeps s) where
   leaving_listed u q f h = cc (keeps.book.going_owned.frames f, keeps.book.tied.back f u q (ap names h))
 
   -- a descriptor that leads somewhere leads to an active segment
-  leads_none : (j n : ℕ) → ((v : ℕ) → (seen s).linked j n ≡ Some v → ⊥)
-      → leads_at s.store.links.descriptors j n ≡ None
+  leads_none : (j n : ℕ) → ((v : ℕ) → (seen s).linked j n ≡ Some v → ⊥) → leads_at s.store.links.descriptors j n ≡ None
   leads_none j n none = by (descriptor_of s.store.links j n) refl
     where
       by : (x : Sdw) → descriptor_of s.store.links j n ≡ x → leads_at s.store.links.descriptors j n ≡ None
       by sdw.Fault e = ap leads e
       by (sdw.Present aste m pages) e = let at = keeps.store.kept.linked.known j n aste (ap leads e) in
-          absurd (none at.uid (ap (led_to s.store.ast.entries) e ∙ at.active))
+          absurd (none at.uid (cc))
 
   is_cut : (u : ℕ) → ((j n : ℕ) → (seen s).linked j n ≡ Some u → ⊥) → IsCut s.store.ast.entries s.store.links u
   is_cut u none = record {
@@ -70,8 +69,7 @@ module _ (s : State) (keeps : Keeps s) where
           ≡ Some place → uid_at s.store.ast.entries place ≡ Some u → ⊥
       by j n place sdw.Fault e i at = none_some (sym (ap leads e) ∙ i)
       by j n place (sdw.Present aste m pages) e i at = none j n (ap (led_to s.store.ast.entries) e
-          ∙ (ap (uid_at s.store.ast.entries) (let one : Some aste ≡ Some place = sym (ap leads e) ∙ i in
-          some_same aste place one) ∙ at))
+          ∙ (ap (uid_at s.store.ast.entries) (some_same aste place (cc)) ∙ at))
         where
           some_same : (a b : ℕ) → Some a ≡ Some b → a ≡ b
           some_same a b h = cc
@@ -79,17 +77,18 @@ module _ (s : State) (keeps : Keeps s) where
   -- a page that is on its way out is one of its segment's length
   page_inside : (u q f : ℕ) → word_of s.store.ast u q ≡ ptw.Leaving f → q < pages_in s.store.accounts.nodes u
   unfolding is_filed
-  page_inside u q f h = keeps.store.counted.counted.inside u q
-      (keeps.store.counted.active.there active.0 u active.1)
-      (second (is_there s.store.accounts.nodes u) (sym (keeps.faithful.pages.stored u q)
-      ∙ (stored_is s keeps u (active_at s.store.ast active.0 u active.1) q ∙ ap has_record h)))
+  page_inside u q f h = keeps.store.counted.counted.inside u q (keeps.store.counted.active.there active.0 u active.1)
+      (second (is_there s.store.accounts.nodes u) (cc (
+        keeps.faithful.pages.stored u q,
+        stored_is s keeps u (active_at s.store.ast active.0 u active.1) q,
+      )))
     where
       active : IsActive s.store.ast.entries u
       active = keeps.store.kept.paged.bound f u q (keeps.book.tied.back f u q (ap names h))
 
       second : (a : Bool) {b : Bool} → (a && b) ≡ true → b ≡ true
       second true e = e
-      second false e = absurd (let none : false ≡ true = e in cc)
+      second false e = cc
 
 -- ---- what a command takes
 
@@ -126,14 +125,13 @@ module _ (s : State) (k : ℕ) (cmd : Command) (keeps : Keeps s) (h : IsTakenFor
           (cc (keeps.book.tied.unbound f u q reads, reads)) page
         where
           reads : (seen s).reads f ≡ Some (u, q)
-          reads = map_list started_page s.store.pages.core.frames f core_frame.Free ∙ ap started_page e
+          reads = cc (map_list started_page s.store.pages.core.frames f core_frame.Free)
 
   -- the frames that the owner took
   owned_page : (f : ℕ) (g : HasGoing s keeps f) → is_going_frame ((holding s).frame f) ≡ true
       → TakesPage cmd u g.uid g.page
   owned_page f g going = h.just.its_pages f g.uid g.page
-      (ap (λ (x : Option (ℕ × ℕ)). page_of (frame_use (seen s).words x ((seen s).reads f))) g.bound
-      ∙ page_bound (seen s).words (g.uid, g.page) ((seen s).reads f)) going
+      (cc (page_bound (seen s).words (g.uid, g.page) ((seen s).reads f))) going
 
   none_owned : ((v q : ℕ) → TakesPage cmd u v q → ⊥) → frames_of_owner s.owner ≡ []
   none_owned none = none_listed (frames_of_owner s.owner) (λ f e. (let g = listed_has s keeps f e in
@@ -156,16 +154,16 @@ module _ (s : State) (k : ℕ) (keeps : Keeps s) where
   branch_uid path n e = ap uid_of_node (branch_found s.store.accounts.nodes path n e).0
 
   not_out : (w : Ptw) → is_out w ≡ false → is_out_word w ≡ false
-  not_out (ptw.Out r) h = absurd (not_both refl h)
+  not_out (ptw.Out r) h = cc
   not_out _ h = refl
 
   truncate_past : (path : List (List ℕ)) (words : ℕ) → IsTakenFor s k (command.Truncate path words)
       → IsTakenPast s.store (uid_of_command s.store k (command.Truncate path words)) words
   truncate_past path words h = record {
-    active = let at = active_place s.store.ast _ h.brought.0 in (place_of s.store.ast.entries _, at.1);
+    active = (place_of s.store.ast.entries _, (active_place s.store.ast _ h.brought.0).1);
     past = taken_from s k (command.Truncate path words) keeps h (words / 1024) (λ q le. (refl, le));
     cut = λ some. not_out _ (h.brought.1 (elim (eqb_tells (words % 1024) 0) [
-      | inl e ↦ absurd (let zero_is = e.1 in omega (arith, zero_is, some))
+      | inl e ↦ absurd (omega arith)
       | inr n ↦ n.0
     ]));
   }
@@ -181,7 +179,7 @@ module _ (s : State) (k : ℕ) (keeps : Keeps s) where
           takes.1,
           sym (map_list bound_page s.store.pages.core.frames g core_frame.Free)
               ∙ (its.bound ∙ (λ i. Some (takes.0 i, its.page))),
-          ap (λ (v : ℕ). word_of s.store.ast v its.page) (sym takes.0) ∙ its.leaving,
+          cc,
         ));
   }
 
@@ -217,17 +215,17 @@ module _ (s : State) (k : ℕ) (keeps : Keeps s) where
   ready_by (command.Length path pages) h out = (
     λ n e. record {
       nowhere = λ place at. not_both (active_at s.store.ast place n.uid at)
-          (ap (is_active s.store.ast) (sym (segment_uid path n e)) ∙ out path pages refl);
+          (cc (segment_uid path n e, out path pages refl));
     },
     none_owned s k (command.Length path pages) keeps h (λ v q t. t),
   )
   ready_by (command.Truncate path words) h out = (
-    λ n e. subst (λ (v : ℕ). IsTakenPast s.store v words) (segment_uid path n e) (truncate_past path words h),
+    λ n e. rw (← (segment_uid path n e)) (truncate_past path words h),
     λ n e. (rw (segment_uid path n e) at (truncate_owns path words h)),
   )
   ready_by (command.Delete path) h out = (
-    λ n e. subst (IsRemovable s.store) (branch_uid path n e) (delete_removable path h),
-    λ n e. subst (λ (v : ℕ). OwnsAll s.store v (frames_of_owner s.owner)) (branch_uid path n e) (delete_owns path h),
+    λ n e. rw (← (branch_uid path n e)) (delete_removable path h),
+    λ n e. rw (← (branch_uid path n e)) (delete_owns path h),
   )
   ready_by command.End h out = (
     λ n. leads_none s keeps k n (λ v e. unlinked s k command.End keeps h k n v refl e),

@@ -19,7 +19,7 @@ set_either (x ∷ xs) zero y (suc j) d = inl refl
 set_either (x ∷ xs) (suc i) y zero d = inl refl
 set_either (x ∷ xs) (suc i) y (suc j) d = elim (set_either xs i y j d) [
   | inl e ↦ inl e
-  | inr e ↦ inr (ap (λ (n : ℕ). suc n) e.0, e.1)
+  | inr e ↦ inr (cc, e.1)
 ]
 
 -- ---- file maps
@@ -37,16 +37,14 @@ module _ (vtocs : List (List (Option Entry))) (home : Home) (p : ℕ) where
     | inr is ↦ absurd (n is.0)
   ]
 
-  table_other : (e q : ℕ) → (e ≡ home.entry → q ≢ p)
-      → record_at (set (vtoc_in vtocs home.volume) home.entry
+  table_other : (e q : ℕ) → (e ≡ home.entry → q ≢ p) → record_at (set (vtoc_in vtocs home.volume) home.entry
       (with_record (entry_at (vtoc_in vtocs home.volume) home.entry) p None)) e q
       ≡ record_at (vtoc_in vtocs home.volume) e q
   table_other e q n = elim (set_either (vtoc_in vtocs home.volume) home.entry
       (with_record (entry_at (vtoc_in vtocs home.volume) home.entry) p None) e None) [
         | inl same ↦ ap (λ (x : Option Entry). get_or (records_in x) q None) same
         | inr is ↦ ap (λ (x : Option Entry). get_or (records_in x) q None) is.1
-            ∙ (entry_other (entry_at (vtoc_in vtocs home.volume) home.entry) q (n is.0)
-            ∙ ap (λ (i : ℕ). get_or (records_in (entry_at (vtoc_in vtocs home.volume) i)) q None) (sym is.0))
+            ∙ (cc (entry_other (entry_at (vtoc_in vtocs home.volume) home.entry) q (n is.0)))
       ]
 
   filed_other : (at : Home) (q : ℕ) → (at.volume ≡ home.volume → at.entry ≡ home.entry → q ≢ p)
@@ -56,8 +54,7 @@ module _ (vtocs : List (List (Option Entry))) (home : Home) (p : ℕ) where
       (with_record (entry_at (vtoc_in vtocs home.volume) home.entry) p None)) at.volume []) [
         | inl same ↦ ap (λ (t : List (Option Entry)). is_some (record_at t at.entry q)) same
         | inr is ↦ ap (λ (t : List (Option Entry)). is_some (record_at t at.entry q)) is.1
-            ∙ (ap (λ (x : Option ℕ). is_some x) (table_other at.entry q (n is.0))
-            ∙ ap (λ (v : ℕ). is_some (record_at (vtoc_in vtocs v) at.entry q)) (sym is.0))
+            ∙ (cc (table_other at.entry q (n is.0)))
       ]
 
 -- ---- records
@@ -67,13 +64,10 @@ count_less : (flags : List Bool) (r : ℕ) → count_by (λ flag. flag) (set fla
 count_less [] r = le_refl _
 count_less (x ∷ xs) zero =
     let one = sum_by-cons (λ flag. cond {A = ℕ} flag 1 0) false xs in
-    let two = sum_by-cons (λ flag. cond {A = ℕ} flag 1 0) x xs in
-    omega (arith, one, two)
+    omega (arith, (sum_by-cons (λ flag. cond {A = ℕ} flag 1 0) x xs))
 count_less (x ∷ xs) (suc r) =
     let one = sum_by-cons (λ flag. cond {A = ℕ} flag 1 0) x (set xs r false) in
-    let two = sum_by-cons (λ flag. cond {A = ℕ} flag 1 0) x xs in
-    let rest = count_less xs r in
-    omega (arith, one, two, rest)
+    omega (arith, count_less xs r, (sum_by-cons (λ flag. cond {A = ℕ} flag 1 0) x xs))
 
 all_in_use : (flags : List Bool) (r : ℕ)
     → eqb (count_by (λ flag. flag) (set flags r false)) (length (set flags r false)) ≡ true
@@ -102,8 +96,7 @@ given_full : (records : List (List Bool)) (v r w : ℕ)
     → is_full (set records v (set (flags_in records v) r false)) w ≡ true → is_full records w ≡ true
 given_full records v r w h = elim (set_either records v (set (flags_in records v) r false) w []) [
   | inl same ↦ ap (λ (fs : List Bool). eqb (count_by (λ flag. flag) fs) (length fs)) (sym same) ∙ h
-  | inr is ↦ ap (λ (i : ℕ). is_full records i) is.0 ∙ all_in_use (flags_in records v) r
-      (ap (λ (fs : List Bool). eqb (count_by (λ flag. flag) fs) (length fs)) (sym is.1) ∙ h)
+  | inr is ↦ ap (λ (i : ℕ). is_full records i) is.0 ∙ all_in_use (flags_in records v) r (cc)
 ]
 
 -- ---- a page
@@ -126,9 +119,8 @@ module _ (s : State) (k : Keeps s) (f u p : ℕ) (here : page_in s.store f ≡ (
         where
           same : (home_of s.store.accounts v).volume ≡ (home_in s.store u).volume
               → (home_of s.store.accounts v).entry ≡ (home_in s.store u).entry → v ≡ u
-          same a b = let mine = k.store.counted.housed.homes v e in
-              let its = k.store.counted.housed.homes u there in
-              let one : Some v ≡ Some u = sym mine
+          same a b = let its = k.store.counted.housed.homes u there in
+              let one : Some v ≡ Some u = sym (k.store.counted.housed.homes v e)
               ∙ (λ i. uid_at s.store.pages.vtocs (record { volume = a i; entry = b i })) ∙ its in cc
 
   full_less : (how : Left) (page : ℕ × ℕ) (v : ℕ)
@@ -167,7 +159,6 @@ leaves_may s k o f fs mine frames = by ((seen s).bound f) refl going
     by : (x : Option (ℕ × ℕ)) → (seen s).bound f ≡ x
         → is_going_frame (frame_use (seen s).words x ((seen s).reads f)) ≡ true
         → MayRelease (outline_of s) f (stored_then s f) (full_then s f)
-    by None e h = absurd (not_both h (read ((seen s).reads f)))
-    by (Some page) e h = releases s k f page.0 page.1 (ap page_or_zero (sym (map_list bound_page
-        s.store.pages.core.frames f frame.Free) ∙ e)) (bound_is_there s k f page.0 page.1 e)
-        (bound_outlined s f ∙ e)
+    by None e h = cc (read ((seen s).reads f))
+    by (Some page) e h = releases s k f page.0 page.1 (cc (map_list bound_page s.store.pages.core.frames f frame.Free))
+        (bound_is_there s k f page.0 page.1 e) (bound_outlined s f ∙ e)

@@ -31,17 +31,17 @@ AllLeave st (f ∷ fs) = Leaves st f × AllLeave st fs
 
 pub bound_is : (x : Frame) (page : ℕ × ℕ) → bound_page x ≡ Some page → is_bound x ≡ true
 bound_is (frame.Bound u p used modified) page e = refl
-bound_is _ page e = absurd (none_some e)
+bound_is _ page e = cc
 
 leaving_is : (st : Storage) (f : ℕ) → Leaves st f → IsLeaving st f
-leaving_is st f h = record {
-  bound = bound_is (frame_at st.pages.core f) h.page h.bound;
-  leaving = ap (λ (page : ℕ × ℕ). word_of st.ast page.0 page.1) (ap page_or_zero h.bound) ∙ h.word;
-}
+leaving_is st f h = assumption (
+  bound_is (frame_at st.pages.core f) h.page h.bound,
+  ap (λ (page : ℕ × ℕ). word_of st.ast page.0 page.1) (ap page_or_zero h.bound) ∙ h.word,
+)
 
 here_is : (st : Storage) (f : ℕ) (page : ℕ × ℕ) → bound_page (frame_in st.pages f) ≡ Some page
     → with_here st f ≡ here_if st f (Some page)
-here_is st f page e = ap (here_if st f) e
+here_is st f page e = cc
 
 -- the others still leave once the page of one frame is back
 others_leave : (st : Storage) (f : ℕ) (fs : List ℕ) → length st.ast.tables ≡ length st.ast.entries
@@ -53,8 +53,7 @@ others_leave st f (g ∷ gs) tables h once all = (
 )
   where
     other : all.0.page.0 ≡ h.page.0 → all.0.page.1 ≡ h.page.1 → ⊥
-    other a b = let both : ptw.Leaving g ≡ ptw.Leaving f = sym all.0.word
-        ∙ (ap (λ (x : ℕ). word_of st.ast x all.0.page.1) a ∙ (ap (λ (x : ℕ). word_of st.ast h.page.0 x) b ∙ h.word)) in
+    other a b = let both : ptw.Leaving g ≡ ptw.Leaving f = sym all.0.word ∙ (cc) in
         let same : g ≡ f = cc in not_both (subst (λ (x : ℕ). has (g ∷ gs) x ≡ true) same (has_head g gs)) once
 
     still : word_of (here_if st f (Some h.page)).ast all.0.page.0 all.0.page.1 ≡ ptw.Leaving g
@@ -99,10 +98,7 @@ others_relink st d (e ∷ es) outer inner apart all = (
     still = ap leads (descriptors_put st.links (with_relink st d).links.trailers d.process d.number word outer inner
         e.process e.number)
         ∙ by_places (λ (x : Sdw). leads x ≡ None) (λ a b. descriptor_of st.links a b) d.process d.number word
-        e.process e.number
-        (λ a b. absurd (not_both (ap (λ (x : ℕ). is_cut_at x d.number e) (sym a)
-        ∙ (ap (λ (y : ℕ). is_cut_at e.process y e) (sym b) ∙ cut_at_same e)) parts.0))
-        (λ m. all.0.cut)
+        e.process e.number (λ a b. cc (cut_at_same e)) (λ m. all.0.cut)
 
 all_relink : (st : Storage) (ds : List CutDescriptor) → AreApart ds → AreThere st ds → AllRelinkable st ds
     → MayRelink st ds
@@ -128,8 +124,7 @@ all_here_tables : (st : Storage) (fs : List ℕ) → (tables : List (List Ptw))
 all_here_tables st [] = (st.ast.tables, refl)
 all_here_tables st (f ∷ fs) = let rest = all_here_tables (with_here st f) fs in (
   rest.0,
-  rest.1 ∙ ap (λ (x : Storage). with_tables x rest.0)
-      (here_tables st f (bound_page (frame_in st.pages f))).1,
+  cc ((here_tables st f (bound_page (frame_in st.pages f))).1),
 )
 
 relink_tables : (st : Storage) (tables : List (List Ptw)) (ds : List CutDescriptor) → AllRelinkable st ds
@@ -174,9 +169,7 @@ module _ (s : State) (keeps : Keeps s) where
     where
       by : (x : Option ℕ) → (seen s).linked k n ≡ x → x ≡ None
       by None e = refl
-      by (Some u) e = let going = keeps.book.going_owned.cuts k n ∙ h in
-          absurd (let no : false ≡ true = sym (ap (λ (o : Option ℕ). is_going_descriptor (descriptor_use o
-          (cut_uid (cut_of_owner s.owner) k n))) e) ∙ going in cc)
+      by (Some u) e = absurd (let no : false ≡ true = sym (cc) ∙ (keeps.book.going_owned.cuts k n ∙ h) in cc)
 
   -- and to no place
   leads_nowhere : (k n : ℕ) → (seen s).linked k n ≡ None → leads_at s.store.links.descriptors k n ≡ None
@@ -185,7 +178,7 @@ module _ (s : State) (keeps : Keeps s) where
       by : (x : Sdw) → descriptor_of s.store.links k n ≡ x → leads x ≡ None
       by sdw.Fault e = refl
       by (sdw.Present aste mode pages) e = let at = keeps.store.kept.linked.known k n aste (ap leads e) in
-          absurd (none_some (sym (sym (ap (led_to s.store.ast.entries) e) ∙ h) ∙ at.active))
+          cc
 
   relinkable : (ds : List CutDescriptor) → AreThere s.store ds
       → HadRights s.store.accounts.nodes s.store.whos ds → AreNumbered s.store.links.known ds
@@ -193,19 +186,16 @@ module _ (s : State) (keeps : Keeps s) where
   relinkable [] there rights numbered none = tt
   relinkable (d ∷ ds) there rights numbered none = (
     record {
-      process = subst (λ (n : ℕ). d.process < n) keeps.store.kept.linked.lists.processes there.0.0;
+      process = rw (← keeps.store.kept.linked.lists.processes) there.0.0;
       active = (place_of s.store.ast.entries d.uid, (active_place s.store.ast d.uid there.0.2).1);
       known = numbered.0;
-      cut = leads_nowhere d.process d.number (none d.process d.number
-          (ap (λ (b : Bool). b || has_cut ds d.process d.number) (cut_at_same d)));
+      cut = leads_nowhere d.process d.number (none d.process d.number (cc (cut_at_same d)));
       right = record { mode_is = λ n h. rights.modes 0 d n refl h; pages_are = λ n h. rights.lengths 0 d n refl h };
     },
-    relinkable ds there.1
-        (record {
-          modes = λ i e n at h. rights.modes (suc i) e n at h;
-          lengths = λ i e n at h. rights.lengths (suc i) e n at h;
-        })
-        numbered.1 (λ k n h. none k n (or_right (is_cut_at k n d) (has_cut ds k n) h)),
+    relinkable ds there.1 (record {
+      modes = λ i e n at h. rights.modes (suc i) e n at h;
+      lengths = λ i e n at h. rights.lengths (suc i) e n at h;
+    }) numbered.1 (λ k n h. none k n (or_right (is_cut_at k n d) (has_cut ds k n) h)),
   )
 
   -- The descriptors that it cut may come back after them.
@@ -216,6 +206,5 @@ module _ (s : State) (keeps : Keeps s) where
       (relink_tables s.store here.0 (cut_of_owner s.owner) (relinkable (cut_of_owner s.owner) keeps.cut keeps.rights
       working.numbered unlinked)))
     where
-      here : (tables : List (List Ptw)) × (with_all_here s.store (frames_of_owner s.owner)
-          ≡ with_tables s.store tables)
+      here : (tables : List (List Ptw)) × (with_all_here s.store (frames_of_owner s.owner) ≡ with_tables s.store tables)
       here = all_here_tables s.store (frames_of_owner s.owner)

@@ -29,5 +29,5 @@ pub tells : (s : Outline) (c : ℕ) (rule : Rule) → rule_of s c ≡ rule
     (owns s.owner c) (runner_at s.runners c).running (is_over (runner_at s.runners c) && nat_lt 0 s.ready)
 unfolding rule_of
 tells s c rule h =
-    let x : Runner = runner_at s.runners c in
+    let x = runner_at s.runners c in
     rw h at (told x.online x.due (is_some x.reading) (owns s.owner c) x.running (is_over x && nat_lt 0 s.ready))

@@ -30,11 +30,11 @@ pick_move s c o r true x y f g = f
 pick_move s c o r false x y f g = g
 
 pub some_again : (x : Option ℕ) (u : ℕ) → x ≡ Some u → x ≡ Some (or_zero x)
-some_again x u h = h ∙ ap (λ (y : Option ℕ). Some (or_zero y)) (sym h)
+some_again x u h = cc
 
 page_none : (x : Option HeldPage) → option_map (λ e. e.frame) x ≡ None → x ≡ None
 page_none None h = refl
-page_none (Some e) h = absurd (let no : Some e.frame ≡ None = h in cc)
+page_none (Some e) h = cc
 
 -- ---- a processor that runs its process by itself
 
@@ -53,27 +53,24 @@ module _ (s : State) (c : ℕ) (o : Outcome) (k : Keeps s) (there : c < length s
     fill_can none sdw.Fault e asks = take_can s.owner refl asks
     fill_can none (sdw.Present aste m pages) e asks = record {
       process = n;
-      number = ap (λ (x : HeldSeg). x.number) hold;
-      can = subst (CanFillSeg (seen s) c n) (sym hold) (record {
-        online = works.online;
-        process = its;
-        linked = ap (led_to s.store.ast.entries) e ∙ some_again (uid_at s.store.ast.entries aste) known.0 known.1;
-        new = number_new (cpu_at s.processors c).assoc.segs r.number none;
-      });
+      number = cc;
+      can = rw hold (assumption (
+        ap (led_to s.store.ast.entries) e ∙ some_again (uid_at s.store.ast.entries aste) known.0 known.1,
+        number_new (cpu_at s.processors c).assoc.segs r.number none,
+      ));
       other = other;
     }
       where
         its_descriptor : descriptor_of s.store.links (process_at s c) r.number ≡ sdw.Present aste m pages
-        its_descriptor = ap (λ (j : ℕ). descriptor_of s.store.links j r.number) (ap or_zero its) ∙ e
+        its_descriptor = cc
 
         hold : to_hold s c r.number ≡ record {
           number = r.number;
-          uid = or_zero
-              (uid_at s.store.ast.entries aste);
+          uid = or_zero (uid_at s.store.ast.entries aste);
           mode = m;
           pages = pages;
         }
-        hold = ap (held_seg s.store r.number) its_descriptor
+        hold = cc
 
         known : (u : ℕ) × (uid_at s.store.ast.entries aste ≡ Some u)
         known = let at = k.store.kept.linked.known n r.number aste (ap leads e) in (at.uid, at.active)
@@ -89,19 +86,18 @@ module _ (s : State) (c : ℕ) (o : Outcome) (k : Keeps s) (there : c < length s
     word_can h seg none (ptw.Leaving x) e = take_can s.owner refl
     word_can h seg none (ptw.Here f) e = λ asks. (
       subst (CanFillPage (seen s) c) (sym hold) (record {
-        inside = subst (λ (i : ℕ). c < i) k.sizes.processors there;
+        inside = rw (← k.sizes.processors) there;
         online = works.online;
         word = e;
         new = page_new (seen s).bound (cpu_at s.processors c).assoc.pages f h.uid (r.offset / 1024)
-            (k.book.holding_right c).pages
-            (k.book.tied.back f h.uid (r.offset / 1024) (ap names e))
+            (k.book.holding_right c).pages (k.book.tied.back f h.uid (r.offset / 1024) (ap names e))
             (page_none (page_of (cpu_at s.processors c).assoc h.uid (r.offset / 1024)) none);
       }),
       other,
     )
       where
         hold : held_page (cpu_at s.processors c) f r ≡ record { uid = h.uid; page = r.offset / 1024; frame = f }
-        hold = ap (λ (x : Option HeldSeg). record { uid = uid_of_held x; page = r.offset / 1024; frame = f }) seg
+        hold = cc
 
     page_can_move : (h : HeldSeg) → seg_of (cpu_at s.processors c).assoc r.number ≡ Some h → (x : Option ℕ)
         → frame_of (cpu_at s.processors c).assoc h.uid (r.offset / 1024) ≡ x
@@ -139,17 +135,17 @@ module _ (s : State) (c : ℕ) (o : Outcome) (k : Keeps s) (there : c < length s
   load_can : p.cpu.online ≡ true → p.cpu.process ≡ None → (x : List ℕ) → s.ready ≡ x → Asks s c o (load_or_idle s x)
       → CanDo s c o (load_or_idle s x)
   load_can on none [] e asks = tt
-  load_can on none (n ∷ ns) e asks = (on, none, subst (λ (xs : List ℕ). IsFront xs n) (sym e) refl)
+  load_can on none (n ∷ ns) e asks = (on, none, rw e refl)
 
   turn_of : (nat_le 16 p.count || p.tried) ≡ true → HasHadItsTurn ((shown (seen s)).seat c)
   turn_of h = elim (leb_tells 16 p.count) [
     | inl e ↦ inl e.1
-    | inr m ↦ inr (sym (ap (λ (b : Bool). b || p.tried) m.0) ∙ h)
+    | inr m ↦ inr (cc)
   ]
 
   not_empty : (xs : List ℕ) → not (is_empty xs) ≡ true → xs ≢ []
-  not_empty [] h e = absurd (let no : false ≡ true = h in cc)
-  not_empty (x ∷ xs) h e = let no : x ∷ xs ≡ [] = e in cc
+  not_empty [] h e = cc
+  not_empty (x ∷ xs) h e = let no = e in cc
 
   leave_can : IsNoOwner s c → (n : ℕ) → p.cpu.process ≡ Some n → (has_had_its_turn p && not (is_empty s.ready)) ≡ true
       → CanLeave s c
@@ -157,19 +153,15 @@ module _ (s : State) (c : ℕ) (o : Outcome) (k : Keeps s) (there : c < length s
     process = n;
     its = its;
     other = other;
-    may = subst (λ (x : Option ℕ). IsSomeAnd x (MayGo (flat_of s) (shown (seen s)) ((shown (seen s)).seat c))) (sym its)
-        (inr (not_empty s.ready parts.1, turn_of parts.0));
+    may = rw its (inr (not_empty s.ready parts.1, turn_of parts.0));
   }
 
   run_can : IsNoOwner s c → p.cpu.online ≡ true → p.cpu.due ≡ None → p.cpu.transfer ≡ None → (x : Option ℕ)
-      → p.cpu.process ≡ x
-      → Asks s c o (run_process s p x) → CanDo s c o (run_process s p x)
+      → p.cpu.process ≡ x → Asks s c o (run_process s p x) → CanDo s c o (run_process s p x)
   run_can other on due idle None e = load_can on e s.ready refl
   run_can other on due idle (Some n) e =
-      cond_both (has_had_its_turn p && not (is_empty s.ready)) act.Leave _ (Can s c o)
-      (λ h asks. leave_can other n e h)
-      (λ h. command_can s c o k there other (record { online = on; busy = ap is_some e; clear = due; idle = idle }) n e
-      (next_command s n))
+      cond_both (has_had_its_turn p && not (is_empty s.ready)) act.Leave _ (Can s c o) (λ h asks. leave_can other n e h)
+      (λ h. command_can s c o k there other (assumption (ap is_some e)) n e (next_command s n))
 
   phase_can : (m : IsMine s c) (x : Phase) → m.owner.phase ≡ x → Asks s c o (go_on_with s (process_at s c) m.owner x)
       → CanDo s c o (go_on_with s (process_at s c) m.owner x)
@@ -190,7 +182,7 @@ module _ (s : State) (c : ℕ) (o : Outcome) (k : Keeps s) (there : c < length s
 
   owner_can : p.cpu.online ≡ true → p.cpu.due ≡ None → p.cpu.transfer ≡ None → (x : Option Owner) → s.owner ≡ x
       → Asks s c o (own_or_run s c p x) → CanDo s c o (own_or_run s c p x)
-  owner_can on due idle None e = run_can (λ q h. absurd (none_some (sym e ∙ h))) on due idle p.cpu.process refl
+  owner_can on due idle None e = run_can (λ q h. cc) on due idle p.cpu.process refl
   owner_can on due idle (Some q) e = cond_both (q.cpu == c) _ _ (Can s c o)
       (λ same. phase_can (record { owner = q; mine = e; same = eqb_is q.cpu c same }) q.phase refl)
       (λ differ. run_can (λ x h y. eqb_isnt q.cpu c differ
@@ -200,14 +192,14 @@ module _ (s : State) (c : ℕ) (o : Outcome) (k : Keeps s) (there : c < length s
       owner_is x y h = cc
 
       eqb_is : (a b : ℕ) → eqb a b ≡ true → a ≡ b
-      eqb_is a b h = elim (eqb_tells a b) [ inl y ↦ y.1 | inr m ↦ absurd (let no : true ≡ false = sym h ∙ m.0 in cc) ]
+      eqb_is a b h = elim (eqb_tells a b) [ inl y ↦ y.1 | inr m ↦ absurd (let no = sym h ∙ m.0 in cc) ]
 
       eqb_isnt : (a b : ℕ) → eqb a b ≡ false → a ≢ b
-      eqb_isnt a b h = elim (eqb_tells a b) [ inl y ↦ absurd (let no : true ≡ false = sym y.0 ∙ h in cc) | inr m ↦ m.1 ]
+      eqb_isnt a b h = elim (eqb_tells a b) [ inl y ↦ absurd (let no = sym y.0 ∙ h in cc) | inr m ↦ m.1 ]
 
   transfer_can : p.cpu.online ≡ true → p.cpu.due ≡ None → (x : Option Transfer) → p.cpu.transfer ≡ x
       → Asks s c o (transfer_or s c p x) → CanDo s c o (transfer_or s c p x)
-  transfer_can on due (Some t) e asks = record { mine = e; well = asks.well; ill = asks.ill }
+  transfer_can on due (Some t) e asks = assumption
   transfer_can on due None e asks = owner_can on due e s.owner refl asks
 
   clear_can : p.cpu.online ≡ true → (x : Option What) → p.cpu.due ≡ x → Asks s c o (clear_or s c p x)

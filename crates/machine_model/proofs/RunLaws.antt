@@ -10,8 +10,7 @@ ended = record { place = 0; tries = 0; ended = true; faulted = false }
 put_progress : (ps : List Progress) (k : ℕ) (q : Progress) (j : ℕ) → k < length ps
     → get_or (set ps k q) j ended ≡ at_put (λ i. get_or ps i ended) k q j
 put_progress ps k q j within = by_place (λ (x : Progress). get_or (set ps k q) j ended ≡ x)
-    (λ i. get_or ps i ended) k q j
-    (λ e. ap (λ (i : ℕ). get_or (set ps k q) i ended) e ∙ get_or-set_same ps k q ended within)
+    (λ i. get_or ps i ended) k q j (λ e. cc (get_or-set_same ps k q ended within))
     (λ n. get_or-set_other ps k j q ended n)
 
 -- a command was answered
@@ -20,8 +19,7 @@ pub runs_answered : (p : Plan) (s : Store) (k : ℕ) (c : Command) (r : Reply) (
     → IsRun (gone_on (progress_of s k) c r) run → ((j : ℕ) → IsRun (progress_of s j) (runs j)) → (j : ℕ)
     → IsRun (progress_of (after_command p s k c r) j) (at_put runs k run j)
 unfolding after_command
-runs_answered p s k c r run runs going is others j =
-    subst (λ (q : Progress). IsRun q (at_put runs k run j)) (sym moved_to) cases
+runs_answered p s k c r run runs going is others j = rw moved_to cases
   where
     base : Store
     base = if takes_effect r then effect_of p s k c else s
@@ -32,9 +30,10 @@ runs_answered p s k c r run runs going is others j =
 
     moved_to : progress_of (with_progress base k (gone_on (progress_of s k) c r)) j
         ≡ at_put (progress_of s) k (gone_on (progress_of s k) c r) j
-    moved_to = ap (λ (ps : List Progress). get_or (set ps k (gone_on (progress_of s k) c r)) j ended)
-        (base_is (takes_effect r))
-        ∙ put_progress s.processes k (gone_on (progress_of s k) c r) j (going_within s k going)
+    moved_to = cc (
+      base_is (takes_effect r),
+      put_progress s.processes k (gone_on (progress_of s k) c r) j (going_within s k going),
+    )
 
     cases : IsRun (at_put (progress_of s) k (gone_on (progress_of s k) c r) j) (at_put runs k run j)
     cases = elim (eqb_tells j k) [ inl e ↦ rw e.0 is | inr n ↦ rw n.0 (others j) ]
@@ -42,24 +41,24 @@ runs_answered p s k c r run runs going is others j =
 set_past : (ps : List Progress) (k : ℕ) (q : Progress) → length ps ≤ k → set ps k q ≡ ps
 set_past [] k q h = refl
 set_past (x ∷ xs) zero q h = absurd (omega arith)
-set_past (x ∷ xs) (suc k) q h = ap (λ (t : List Progress). x ∷ t) (set_past xs k q (omega arith))
+set_past (x ∷ xs) (suc k) q h = cc (set_past xs k q (omega arith))
 
 -- a drive's failure was told
 pub runs_failed : (s : Store) (o : Option ℕ) (runs : ℕ → Run) → ((j : ℕ) → IsRun (progress_of s j) (runs j)) → (j : ℕ)
     → IsRun (progress_of (after_fault s o) j) (runs j)
 runs_failed s None runs others j = others j
 runs_failed s (Some k) runs others j = elim (leb_tells (length s.processes) k) [
-  | inl e ↦ subst (λ (q : Progress). IsRun q (runs j)) (sym (past e.1)) (others j)
-  | inr n ↦ subst (λ (q : Progress). IsRun q (runs j)) (sym (put_progress s.processes k _ j n.1)) (cases)
+  | inl e ↦ rw (past e.1) (others j)
+  | inr n ↦ rw (put_progress s.processes k _ j n.1) (cases)
 ]
   where
     told : Progress
     told = record (progress_of s k) { faulted = true }
 
     past : length s.processes ≤ k → get_or (set s.processes k told) j ended ≡ progress_of s j
-    past h = ap (λ (ps : List Progress). get_or ps j ended) (set_past s.processes k told h)
+    past h = cc (set_past s.processes k told h)
 
     cases : IsRun (at_put (progress_of s) k told j) (runs j)
     cases = by_place (λ (q : Progress). IsRun q (runs j)) (progress_of s) k told j
         (λ e. (let was = subst (λ (i : ℕ). IsRun (progress_of s i) (runs j)) e (others j) in
-        record { place = was.place; tries = was.tries; ended = was.ended })) (λ n. others j)
+        assumption)) (λ n. others j)

@@ -1,5 +1,5 @@
 -- What the store says after each action, by what its calls say of it.
-use Rattle.machine_model.proofs.Prelude.{◌≡◌, ◌<◌, ℕ, ◌+◌, ◌*◌, Bool, true, false, cond, eqb, List, [], ◌∷◌, ◌++◌, map, length, set, sum, Option, Some, None, refl, sym, ap, subst, ◌∙◌, arith, ◌/◌, ◌%◌, length-set, Who, Plan, reference_of, Command, RefKind, Reference, Entry, Reply, Node, Frame, is_idle, passed_over, round_frames, unmarked, bound_page, Left, Home, evicted, referred, word_put, Plain, frame_in_pages, words_in, Transfer, Sdw, sdws_at, effect_by, effect_of, takes_effect, after_entry, store_after, store_after-push, alters, new_word, word_reply, written, written_by, Store, known_uid, Outcome, after, emptied, entries_left, eviction_begun, eviction_done, here_if, leaving_if, left_of, page_back, page_done, page_in, pages_back, seg_back, seg_gone, segs_back, segs_gone, with_choice, without_first_frame, write_failed, AreThere, HadRights, IsConserved, IsFaithful, Keeps, StoreKept, StoreSays, cut_of_owner, flat_of, frames_of_owner, home_in, is_active, next_command, process_at, run_at, Says, left_page, shown_after, through, with_made_page, without_left, CutDescriptor, Owner, State, Storage, activated_at, connected_to, fault_told, frame_lost, old_word, page_created, pages_after, started, told, told_by, transfer_failed, transferred, went_through, with_faults, append_assoc}
+use Rattle.machine_model.proofs.Prelude.{cond_both, ◌≡◌, ℕ, ◌+◌, ◌*◌, true, false, eqb, List, [], ◌∷◌, ◌++◌, map, length, set, sum, Option, Some, None, refl, sym, ap, subst, ◌∙◌, arith, ◌/◌, ◌%◌, length-set, Who, Plan, reference_of, Command, RefKind, Reference, Entry, Reply, Node, Frame, is_idle, passed_over, round_frames, unmarked, bound_page, Left, Home, evicted, referred, Plain, frame_in_pages, words_in, Transfer, effect_of, takes_effect, after_entry, store_after, store_after-push, alters, new_word, word_reply, written, written_by, Store, known_uid, Outcome, after, emptied, entries_left, eviction_begun, eviction_done, here_if, leaving_if, left_of, page_back, page_done, page_in, pages_back, seg_back, seg_gone, segs_back, segs_gone, with_choice, without_first_frame, write_failed, AreThere, HadRights, IsConserved, IsFaithful, Keeps, StoreKept, StoreSays, cut_of_owner, flat_of, frames_of_owner, home_in, is_active, next_command, process_at, run_at, Says, left_page, shown_after, through, with_made_page, without_left, CutDescriptor, Owner, State, Storage, activated_at, connected_to, fault_told, frame_lost, old_word, page_created, pages_after, started, told, told_by, transfer_failed, transferred, went_through, with_faults, append_assoc}
 use Rattle.script.specs.declared.commands.RefKind.TheVariants as kind
 use Rattle.book.specs.declared.entries.Entry.TheVariants as entry
 use Rattle.book.specs.declared.replies.Reply.TheVariants as reply
@@ -8,7 +8,6 @@ use Rattle.page_control.specs.declared.Left.TheVariants as left
 use Rattle.flat_model.specs.References.{after_reference}
 use Rattle.machine_model.specs.Actions as act
 use Rattle.machine_model.proofs.FlatAlike.{IsAlike, alike, alike_by, alike_on, alike_shown, conserved_by, done_alike, fault_alike, is_still, one_still, refused_alike}
-use Rattle.machine_model.proofs.TieLaws.{none_some}
 use Rattle.machine_model.proofs.OutlineEnd.{left_nodes as account_nodes}
 
 -- the quotas of a flat store together
@@ -19,24 +18,22 @@ quotas t = sum (map (λ n. n.quota) t.nodes)
 
 pub no_rights : (nodes : List Node) (whos : List Who) → HadRights nodes whos []
 no_rights nodes whos = record {
-  modes = λ i d n h. absurd (none_some h);
-  lengths = λ i d n h. absurd (none_some h);
+  modes = λ i d n h. cc;
+  lengths = λ i d n h. cc;
 }
 
 pub same_rights : (old now : Storage) (ds es : List CutDescriptor) → now.accounts.nodes ≡ old.accounts.nodes
     → now.whos ≡ old.whos → es ≡ ds → HadRights old.accounts.nodes old.whos ds
     → HadRights now.accounts.nodes now.whos es
-same_rights old now ds es nodes whos same h =
-    rw nodes (subst (λ (ws : List Who). HadRights old.accounts.nodes ws es) (sym whos)
-    (subst (HadRights old.accounts.nodes old.whos) (sym same) h))
+same_rights old now ds es nodes whos same h = rw nodes (rw (whos, same) h)
 
 pub there_still : (old now : Storage) (ds : List CutDescriptor) → now.links.descriptors ≡ old.links.descriptors
     → ((u : ℕ) → is_active old.ast u ≡ true → is_active now.ast u ≡ true) → AreThere old ds → AreThere now ds
 there_still old now [] links active h = tt
 there_still old now (d ∷ ds) links active h = (
   (
-    subst (λ (x : List (List Sdw)). d.process < length x) (sym links) h.0.0,
-    subst (λ (x : List (List Sdw)). d.number < length (sdws_at x d.process)) (sym links) h.0.1,
+    rw links h.0.0,
+    rw links h.0.1,
     active d.uid h.0.2,
   ),
   there_still old now ds links active h.1,
@@ -75,8 +72,7 @@ same_rest s now k same = record {
   frames = same.frames;
   rights = same_rights s.store now.store (cut_of_owner s.owner) (cut_of_owner now.owner) same.nodes same.whos same.cut
       k.rights;
-  cut = subst (AreThere now.store) (sym same.cut)
-      (there_still s.store now.store (cut_of_owner s.owner) same.descriptors same.active k.cut);
+  cut = rw same.cut (there_still s.store now.store (cut_of_owner s.owner) same.descriptors same.active k.cut);
 }
 
 -- the job has cut nothing, or is over
@@ -85,32 +81,26 @@ pub none_rest : (s now : State) → now.plan ≡ s.plan
 none_rest s now plan frames cut = record {
   plan = plan;
   frames = frames;
-  rights = subst (HadRights now.store.accounts.nodes now.store.whos) (sym cut)
-      (no_rights now.store.accounts.nodes now.store.whos);
-  cut = subst (AreThere now.store) (sym cut) tt;
+  rights = rw cut (no_rights now.store.accounts.nodes now.store.whos);
+  cut = rw cut tt;
 }
 
 pub says_by : (s now : State) (t : Store) → Keeps s → StoreKept now.store → IsFaithful s.plan t now.store
     → IsAlike t (flat_of now) → quotas t ≡ s.plan.quota → Rest s now → StoreSays now
-says_by s now t k kept shown like total rest = assumption (
-  subst (λ (p : Plan). IsFaithful p (flat_of now) now.store)
-      (sym rest.plan) faithful,
-  subst (λ (p : Plan). IsConserved p (flat_of now)) (sym rest.plan)
-      (conserved_by s.plan (flat_of now) now.store faithful kept.accounts
-      (ap (λ (ns : List Node). sum (map (λ n. n.quota) ns)) like.nodes ∙ total)),
-  rest.frames ∙ (k.sizes.frames ∙ ap (λ (p : Plan). p.frames) (sym rest.plan)),
-)
-  where
-    faithful : IsFaithful s.plan (flat_of now) now.store
-    faithful = alike_shown s.plan t (flat_of now) now.store like shown
+says_by s now t k kept shown like total rest =
+    let faithful = alike_shown s.plan t (flat_of now) now.store like shown in assumption (
+      subst (λ (p : Plan). IsFaithful p (flat_of now) now.store) (sym rest.plan) faithful,
+      subst (λ (p : Plan). IsConserved p (flat_of now)) (sym rest.plan)
+          (conserved_by s.plan (flat_of now) now.store faithful kept.accounts (cc)),
+      rest.frames ∙ (k.sizes.frames ∙ ap (λ (p : Plan). p.frames) (sym rest.plan)),
+    )
 
 -- by what the calls of an action say, where this is the machine after it
 pub says_is : (s : State) (c : ℕ) (o : Outcome) (a : act.Action) (now : State) → Keeps s → Says s c o a
     → after s c a o ≡ now → IsAlike (shown_after s c o a (flat_of s)) (flat_of now)
     → quotas (shown_after s c o a (flat_of s)) ≡ s.plan.quota → Rest s now → StoreSays now
 says_is s c o a now k says is like total rest = says_by s now (shown_after s c o a (flat_of s)) k
-    (subst (λ (x : State). StoreKept x.store) is says.store) (rw is at (says.shown (flat_of s) k.faithful)) like total
-    rest
+    (rw (← is) says.store) (rw is at (says.shown (flat_of s) k.faithful)) like total rest
 
 -- ---- where the store is as before
 
@@ -123,9 +113,6 @@ refused_says s c k f r keeps h = says_by s (told_by s c k f r) (flat_of s) keeps
 
 -- ---- references
 
-euclid : (n : ℕ) → 1024 * (n / 1024) + n % 1024 ≡ n
-euclid n = omega arith
-
 -- a word that is written through its frame
 through_is : (s : State) (f k u : ℕ) (r : Reference) (t : Store) → known_uid t k r.number ≡ Some u
     → page_in s.store f ≡ (u, r.offset / 1024) → old_word s.store.pages f r ≡ t.words u r.offset
@@ -134,7 +121,7 @@ unfolding after_reference
 through_is s f k u r t known page old = cc same
   where
     offset : 1024 * (page_in s.store f).1 + r.offset % 1024 ≡ r.offset
-    offset = ap (λ (x : ℕ × ℕ). 1024 * x.1 + r.offset % 1024) page ∙ euclid r.offset
+    offset = let whole : 1024 * (r.offset / 1024) + r.offset % 1024 ≡ r.offset = omega arith in cc
 
     same : written t u r.offset (new_word (t.words u r.offset) r.kind)
         ≡ written t (page_in s.store f).0 (1024 * (page_in s.store f).1 + r.offset % 1024)
@@ -142,12 +129,7 @@ through_is s f k u r t known page old = cc same
     same = λ i. written t (ap (λ (x : ℕ × ℕ). x.0) (sym page) i) (sym offset i) (new_word (sym old i) r.kind)
 
 nodes_through : (s : State) (f : ℕ) (r : Reference) (t : Store) → (through s f r t).nodes ≡ t.nodes
-nodes_through s f r t = by (alters r.kind)
-  where
-    by : (b : Bool) → (cond b (written t (page_in s.store f).0 (1024 * (page_in s.store f).1 + r.offset % 1024)
-        (new_word (old_word s.store.pages f r) r.kind)) t).nodes ≡ t.nodes
-    by true = refl
-    by false = refl
+nodes_through s f r t = cond_both (alters r.kind) _ t (λ x. x.nodes ≡ t.nodes) (λ h. refl) (λ h. refl)
 
 word_done : (w : ℕ) (how : RefKind) → takes_effect (word_reply w how) ≡ true
 word_done w kind.Read = refl
@@ -156,16 +138,13 @@ word_done w (kind.Add v) = refl
 
 effect_is : (p : Plan) (t : Store) (k : ℕ) (cmd : Command) (r : Reference) → reference_of cmd ≡ Some r
     → effect_of p t k cmd ≡ after_reference t k r
-effect_is p t k cmd r h = ap (effect_by p t k cmd) h
+effect_is p t k cmd r h = cc
 
 pages_count : (pages : Plain) (f : ℕ) (r : Reference) → length (pages_after pages f r).core.frames
     ≡ length pages.core.frames
-pages_count pages f r = by (alters r.kind)
-  where
-    by : (b : Bool) → length (cond b (word_put pages f (r.offset % 1024) (new_word (old_word pages f r) r.kind))
-        (referred pages f false)).core.frames ≡ length pages.core.frames
-    by true = length-set pages.core.frames f _
-    by false = length-set pages.core.frames f _
+pages_count pages f r = cond_both (alters r.kind) _ (referred pages f false)
+    (λ x. length x.core.frames ≡ length pages.core.frames) (λ h. length-set pages.core.frames f _)
+    (λ h. length-set pages.core.frames f _)
 
 -- a reference goes through a frame that has its page
 pub through_says : (s : State) (c : ℕ) (o : Outcome) (f u : ℕ) (r : Reference) (cmd : Command) → Keeps s
@@ -177,9 +156,8 @@ through_says s c o f u r cmd k says next is known page old = says_is s c o (act.
     says refl (rw (effect_is s.plan (flat_of s) (process_at s c) cmd r is
     ∙ sym (through_is s f (process_at s c) u r (flat_of s) known page old)) at (done_alike s.plan s.entries
     (process_at s c) (run_at s.runs (process_at s c)).place c (Some f) (word_reply (old_word s.store.pages f r) r.kind)
-    cmd next (word_done (old_word s.store.pages f r) r.kind))) (ap (λ (ns : List Node). sum (map (λ n. n.quota) ns))
-    (nodes_through s f r (flat_of s)) ∙ k.conserved.total) (same_rest s (went_through s c f r) k
-    (is_same refl (pages_count s.store.pages f r) refl refl refl (λ v e. e) refl))
+    cmd next (word_done (old_word s.store.pages f r) r.kind))) (cc (nodes_through s f r (flat_of s)))
+    (same_rest s (went_through s c f r) k (is_same refl (pages_count s.store.pages f r) refl refl refl (λ v e. e) refl))
 
 -- a page that isn't stored is read, or 0 is written to it, where it is: the flat store is as it was
 pub plain_says : (s : State) (c : ℕ) (r : Reference) (cmd : Command) → Keeps s
@@ -198,7 +176,7 @@ made_by : (t : Store) (u offset : ℕ) (how : RefKind) → t.words u offset ≡ 
     → written t u offset (new_word 0 how) ≡ written_by t offset how (Some u)
 made_by t u offset kind.Read zero h = absurd (let no : true ≡ false = h in cc)
 made_by t u offset (kind.Write w) zero h = refl
-made_by t u offset (kind.Add w) zero h = ap (λ (x : ℕ). written t u offset (new_word x (kind.Add w))) (sym zero)
+made_by t u offset (kind.Add w) zero h = cc
 
 -- a page that is all zeros is made by a reference to it
 pub made_is : (s : State) (c u : ℕ) (r : Reference) (t : Store) → known_uid t (process_at s c) r.number ≡ Some u
@@ -224,15 +202,16 @@ created_says s c o f u v p r cmd k says next is known zero word =
     says_is s c o (act.Create f u p r) (page_created s c f u p r) k says refl
     (rw effect at (done_alike s.plan (s.entries ++ entry.Here f u p ∷ []) (process_at s c)
     (run_at s.runs (process_at s c)).place c None (word_reply 0 r.kind) cmd next (word_done 0 r.kind)))
-    (ap (λ (ns : List Node). sum (map (λ n. n.quota) ns)) (nodes_made s c r (flat_of s)) ∙ k.conserved.total)
+    (cc (nodes_made s c r (flat_of s)))
     (none_rest s (page_created s c f u p r) refl (length-set s.store.pages.core.frames f _) refl)
   where
     effect : effect_of s.plan (store_after s.plan (s.entries ++ entry.Here f u p ∷ [])) (process_at s c) cmd
         ≡ with_made_page s c r (flat_of s)
-    effect = ap (λ (t : Store). effect_of s.plan t (process_at s c) cmd)
-        (one_still s.plan s.entries (entry.Here f u p) refl)
-        ∙ (effect_is s.plan (flat_of s) (process_at s c) cmd r is
-        ∙ sym (made_is s c v r (flat_of s) known zero word))
+    effect = cc (
+      one_still s.plan s.entries (entry.Here f u p) refl,
+      effect_is s.plan (flat_of s) (process_at s c) cmd r is,
+      made_is s c v r (flat_of s) known zero word,
+    )
 
 -- ---- looks that bring a segment or a page nearer
 
@@ -244,8 +223,7 @@ pub activated_says : (s : State) (c : ℕ) (o : Outcome) (u place : ℕ) → Kee
     → cut_of_owner s.owner ≡ [] → StoreSays (activated_at s u place)
 unfolding after
 activated_says s c o u place k says none = says_is s c o (act.Activate u place) (activated_at s u place) k says refl
-    (still_alike s (entry.Activate u) refl) k.conserved.total
-    (none_rest s (activated_at s u place) refl refl none)
+    (still_alike s (entry.Activate u) refl) k.conserved.total (none_rest s (activated_at s u place) refl refl none)
 
 pub connected_says : (s : State) (c : ℕ) (o : Outcome) (n u : ℕ) → Keeps s → Says s c o (act.Connect n u)
     → cut_of_owner s.owner ≡ [] → StoreSays (connected_to s c n u)
@@ -266,14 +244,9 @@ started_says s c o f u p k says = says_is s c o (act.Start f u p) (started s c f
 over_count : (frames : List Frame) (fs : List ℕ) → length (passed_over frames fs) ≡ length frames
 unfolding passed_over
 over_count frames [] = refl
-over_count frames (f ∷ fs) = by (is_idle (frame_in frames f))
-    (over_count (set frames f (unmarked (frame_in frames f))) fs)
-  where
-    by : (b : Bool) → length (passed_over (set frames f (unmarked (frame_in frames f))) fs)
-        ≡ length (set frames f (unmarked (frame_in frames f)))
-        → length (cond b frames (passed_over (set frames f (unmarked (frame_in frames f))) fs)) ≡ length frames
-    by true rest = refl
-    by false rest = rest ∙ length-set frames f _
+over_count frames (f ∷ fs) = cond_both (is_idle (frame_in frames f)) frames
+    (passed_over (set frames f (unmarked (frame_in frames f))) fs) (λ x. length x ≡ length frames) (λ h. refl)
+    (λ h. over_count (set frames f (unmarked (frame_in frames f))) fs ∙ length-set frames f _)
 
 pub leaving_pages : (st : Storage) (f : ℕ) (x : Option (ℕ × ℕ)) → (leaving_if st f x).pages ≡ st.pages
 leaving_pages st f None = refl
@@ -283,8 +256,7 @@ pub evicting_says : (s : State) (c : ℕ) (o : Outcome) (f : ℕ) → Keeps s �
     → cut_of_owner s.owner ≡ [] → StoreSays (eviction_begun s c f)
 unfolding after
 evicting_says s c o f k says none = says_is s c o (act.Evict f) (eviction_begun s c f) k says refl
-    (still_alike s (entry.Take f) refl) k.conserved.total
-    (none_rest s (eviction_begun s c f) refl
+    (still_alike s (entry.Take f) refl) k.conserved.total (none_rest s (eviction_begun s c f) refl
     (ap (λ (pages : Plain). length pages.core.frames) (leaving_pages (with_choice s.store f) f _)
     ∙ over_count s.store.pages.core.frames (round_frames s.store.pages.core)) none)
 
@@ -293,39 +265,32 @@ evicting_says s c o f k says none = says_is s c o (act.Evict f) (eviction_begun 
 module _ (s : State) (c : ℕ) (o : Outcome) (t : Transfer) (k : Keeps s) (says : Says s c o (act.EndTransfer t)) where
   pub read_says : o.failed ≡ false → StoreSays (transferred (with_faults s o.faults) c t)
   unfolding after
-  read_says h = says_is s c o (act.EndTransfer t) now k says
-      (ap (λ (b : Bool). cond b (transfer_failed s c t o.faults) now) h)
+  read_says h = let now = transferred (with_faults s o.faults) c t in
+      says_is s c o (act.EndTransfer t) now k says (cc)
       (still_alike s (entry.Here t.frame t.uid t.page) refl) k.conserved.total
       (same_rest s now k (is_same refl (length-set s.store.pages.core.frames t.frame _) refl refl refl (λ u e. e) refl))
-    where
-      now : State
-      now = transferred (with_faults s o.faults) c t
 
   pub failed_says : o.failed ≡ true → StoreSays (transfer_failed s c t o.faults)
   unfolding after
-  failed_says h = says_is s c o (act.EndTransfer t) now k says
-      (ap (λ (b : Bool). cond b now (transferred (with_faults s o.faults) c t)) h)
-      (alike_on (still_alike s (entry.Lose t.frame) refl) (alike_on
+  failed_says h =
+      let now = transfer_failed s c t o.faults in
+      let told_process = process_at (fault_told (frame_lost s c t) (Some (process_at s c)) o.faults) c in
+      says_is s c o (act.EndTransfer t) now k says (cc) (alike_on (still_alike s (entry.Lose t.frame) refl) (alike_on
       (fault_alike s.plan (s.entries ++ entry.Lose t.frame ∷ []) (Some (process_at s c)))
       (refused_alike s.plan ((s.entries ++ entry.Lose t.frame ∷ []) ++ entry.Fault (Some (process_at s c)) ∷ [])
       told_process (run_at s.runs told_process).place c None reply.Device refl))) k.conserved.total
       (same_rest s now k (is_same refl (length-set s.store.pages.core.frames t.frame _) refl refl refl (λ u e. e) refl))
-    where
-      now : State
-      now = transfer_failed s c t o.faults
-
-      told_process : ℕ
-      told_process = process_at (fault_told (frame_lost s c t) (Some (process_at s c)) o.faults) c
 
 -- ---- a page leaves its frame
 
 pub left_flat : (p : Plan) (es : List Entry) (f : ℕ) (how : Left) (page : ℕ × ℕ)
     → store_after p (es ++ entries_left f how page) ≡ without_left how page (store_after p es)
 unfolding after_entry
-left_flat p es f left.Released page = ap (store_after p)
-    (sym (append_assoc es (entry.GonePage f ∷ []) (entry.Release page.0 page.1 ∷ [])))
-    ∙ (store_after-push p (es ++ entry.GonePage f ∷ []) (entry.Release page.0 page.1)
-    ∙ ap (without_left left.Released page) (one_still p es (entry.GonePage f) refl))
+left_flat p es f left.Released page = cc (
+  append_assoc es (entry.GonePage f ∷ []) (entry.Release page.0 page.1 ∷ []),
+  store_after-push p (es ++ entry.GonePage f ∷ []) (entry.Release page.0 page.1),
+  one_still p es (entry.GonePage f) refl,
+)
 left_flat p es f left.Kept page = one_still p es (entry.GonePage f) refl
 
 pub left_nodes : (how : Left) (page : ℕ × ℕ) (t : Store) → (without_left how page t).nodes ≡ t.nodes
@@ -355,30 +320,19 @@ module _ (s : State) (c : ℕ) (o : Outcome) (f : ℕ) (k : Keeps s) where
   pub evicted_says : Says s c o (act.FinishEviction f) → o.failed ≡ false
       → StoreSays (eviction_done (with_faults s o.faults) c f)
   unfolding after
-  evicted_says says h = says_is s c o (act.FinishEviction f) now k says
-      (ap (λ (b : Bool). cond b (write_failed s c o.faults) now) h)
-      (subst (λ (b : Bool). IsAlike (cond b (flat_of s) (left_page s f (flat_of s))) (flat_of now)) (sym h) left_alike)
-      (subst (λ (b : Bool). quotas (cond b (flat_of s) (left_page s f (flat_of s))) ≡ s.plan.quota) (sym h) left_total)
+  evicted_says says h = let now = eviction_done (with_faults s o.faults) c f in
+      says_is s c o (act.FinishEviction f) now k says (cc) (rw h left_alike) (rw h left_total)
       (none_rest s now refl (left_count s.store.pages (home_in s.store (page_in s.store f).0)
-      (page_in s.store f).1 f how)
-      refl)
-    where
-      now : State
-      now = eviction_done (with_faults s o.faults) c f
+      (page_in s.store f).1 f how) refl)
 
   pub page_left_says : Says s c o (act.FinishPage f) → o.failed ≡ false
       → StoreSays (page_done (with_faults s o.faults) f)
   unfolding after
-  page_left_says says h = says_is s c o (act.FinishPage f) now k says
-      (ap (λ (b : Bool). cond b (write_failed s c o.faults) now) h)
-      (subst (λ (b : Bool). IsAlike (cond b (flat_of s) (left_page s f (flat_of s))) (flat_of now)) (sym h) left_alike)
-      (subst (λ (b : Bool). quotas (cond b (flat_of s) (left_page s f (flat_of s))) ≡ s.plan.quota) (sym h) left_total)
+  page_left_says says h = let now = page_done (with_faults s o.faults) f in
+      says_is s c o (act.FinishPage f) now k says (cc) (rw h left_alike) (rw h left_total)
       (same_rest s now k (is_same refl
       (left_count s.store.pages (home_in s.store (page_in s.store f).0) (page_in s.store f).1 f how)
       (account_nodes s.store.accounts (page_in s.store f).0 how) refl refl (λ u e. e) (cut_less s.owner)))
-    where
-      now : State
-      now = page_done (with_faults s o.faults) f
 
 -- ---- a write failed
 
@@ -390,24 +344,22 @@ pub record IsBack (s now : State) : Type 0 where
 
 back_by : {s now : State} → now.plan ≡ s.plan → now.store.pages ≡ s.store.pages
     → store_after now.plan now.entries ≡ store_after s.plan s.entries → IsBack s now
-back_by plan pages flat = record { plan = plan; pages = pages; flat = flat }
+back_by plan pages flat = assumption
 
 pub back_on : {s t u : State} → IsBack s t → IsBack t u → IsBack s u
-back_on a b = record { plan = b.plan ∙ a.plan; pages = b.pages ∙ a.pages; flat = b.flat ∙ a.flat }
+back_on a b = assumption (b.plan ∙ a.plan, b.pages ∙ a.pages, b.flat ∙ a.flat)
 
 here_pages : (st : Storage) (f : ℕ) (x : Option (ℕ × ℕ)) → (here_if st f x).pages ≡ st.pages
 here_pages st f None = refl
 here_pages st f (Some page) = refl
 
 pub pages_are_back : (s : State) (fs : List ℕ) → IsBack s (pages_back s fs)
-pages_are_back s [] = record { plan = refl; pages = refl; flat = refl }
-pages_are_back s (f ∷ fs) = back_on
-    (back_by refl (here_pages s.store f (bound_page (frame_in_pages s.store.pages f)))
-    (one_still s.plan s.entries (entry.BackPage f) refl))
-    (pages_are_back (page_back s f) fs)
+pages_are_back s [] = assumption
+pages_are_back s (f ∷ fs) = back_on (back_by refl (here_pages s.store f (bound_page (frame_in_pages s.store.pages f)))
+    (one_still s.plan s.entries (entry.BackPage f) refl)) (pages_are_back (page_back s f) fs)
 
 pub segs_are_back : (s : State) (ds : List CutDescriptor) → IsBack s (segs_back s ds)
-segs_are_back s [] = record { plan = refl; pages = refl; flat = refl }
+segs_are_back s [] = assumption
 segs_are_back s (d ∷ ds) = back_on
     (back_by refl refl (one_still s.plan s.entries (entry.BackSeg d.process d.number) refl))
     (segs_are_back (seg_back s d) ds)
@@ -429,40 +381,34 @@ module _ (s : State) (c : ℕ) (faults : ℕ) where
       (run_at back_state.runs (process_at back_state c)).place c None reply.Device refl)
 
   pub failed_rest : Rest s (write_failed s c faults)
-  failed_rest = none_rest s (write_failed s c faults) back_is.plan
-      (ap (λ (pages : Plain). length pages.core.frames) back_is.pages) refl
+  failed_rest = none_rest s (write_failed s c faults) back_is.plan (cc (back_is.pages)) refl
 
 module _ (s : State) (c : ℕ) (o : Outcome) (f : ℕ) (k : Keeps s) (h : o.failed ≡ true) where
   pub eviction_failed_says : Says s c o (act.FinishEviction f) → StoreSays (write_failed s c o.faults)
   unfolding after
-  eviction_failed_says says = says_is s c o (act.FinishEviction f) (write_failed s c o.faults) k says
-      (ap (λ (b : Bool). cond b (write_failed s c o.faults) (eviction_done (with_faults s o.faults) c f)) h)
+  eviction_failed_says says = says_is s c o (act.FinishEviction f) (write_failed s c o.faults) k says (cc)
       (rw h (failed_alike s c o.faults)) (rw h k.conserved.total) (failed_rest s c o.faults)
 
   pub page_failed_says : Says s c o (act.FinishPage f) → StoreSays (write_failed s c o.faults)
   unfolding after
-  page_failed_says says = says_is s c o (act.FinishPage f) (write_failed s c o.faults) k says
-      (ap (λ (b : Bool). cond b (write_failed s c o.faults) (page_done (with_faults s o.faults) f)) h)
+  page_failed_says says = says_is s c o (act.FinishPage f) (write_failed s c o.faults) k says (cc)
       (rw h (failed_alike s c o.faults)) (rw h k.conserved.total) (failed_rest s c o.faults)
 
 -- ---- a segment is active no more
 
 pub gone_is : (s : State) (ds : List CutDescriptor) → IsBack s (segs_gone s ds)
-gone_is s [] = record { plan = refl; pages = refl; flat = refl }
+gone_is s [] = assumption
 gone_is s (d ∷ ds) = back_on (back_by refl refl (one_still s.plan s.entries (entry.GoneSeg d.process d.number) refl))
     (gone_is (seg_gone s d) ds)
 
 pub emptied_says : (s : State) (c u : ℕ) (st : Storage) → Keeps s → StoreKept st
     → IsFaithful s.plan (flat_of s) st → (emptied s c u).store ≡ st → StoreSays (emptied s c u)
-emptied_says s c u st k kept shown is = says_by s (emptied s c u) (flat_of s) k (subst StoreKept (sym is) kept)
-    (subst (IsFaithful s.plan (flat_of s)) (sym is) shown)
-    (alike_by (alike (flat_of s)) (one_still gone.plan gone.entries (entry.Deactivate u) refl
+emptied_says s c u st k kept shown is = let gone = segs_gone s (cut_of_owner s.owner) in
+    says_by s (emptied s c u) (flat_of s) k (subst StoreKept (sym is) kept)
+    (rw is shown) (alike_by (alike (flat_of s)) (one_still gone.plan gone.entries (entry.Deactivate u) refl
     ∙ (gone_is s (cut_of_owner s.owner)).flat)) k.conserved.total
     (none_rest s (emptied s c u) (gone_is s (cut_of_owner s.owner)).plan
-    (ap (λ (pages : Plain). length pages.core.frames) (gone_is s (cut_of_owner s.owner)).pages) refl)
-  where
-    gone : State
-    gone = segs_gone s (cut_of_owner s.owner)
+    (cc ((gone_is s (cut_of_owner s.owner)).pages)) refl)
 
 pub deactivated_says : (s : State) (c : ℕ) (o : Outcome) (u : ℕ) → Keeps s → Says s c o (act.Deactivate u)
     → StoreSays (emptied s c u)

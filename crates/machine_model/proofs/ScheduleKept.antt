@@ -19,15 +19,13 @@ pub record Sits (s t : State) : Type 0 where
 
 pub still : {s t : State} → t.plan ≡ s.plan → t.runs ≡ s.runs → t.ready ≡ s.ready → t.processors ≡ s.processors
     → Sits s t
-still a b c d = record { plan = a; runs = b; ready = c; processors = d }
+still a b c d = assumption
 
 pub sits_on : {s t u : State} → Sits s t → Sits t u → Sits s u
 sits_on a b = assumption (b.plan ∙ a.plan, b.runs ∙ a.runs, b.ready ∙ a.ready, b.processors ∙ a.processors)
 
 sits_kept : (s t : State) → Sits s t → IsScheduled s → IsScheduled t
-sits_kept s t same h = rw same.plan (subst (λ (r : List Run). AreScheduled s.plan r t.ready t.processors)
-    (sym same.runs) (subst (λ (q : List ℕ). AreScheduled s.plan s.runs q t.processors) (sym same.ready)
-    (subst (λ (ps : List Processor). AreScheduled s.plan s.runs s.ready ps) (sym same.processors) h)))
+sits_kept s t same h = rw same.plan (rw (same.runs, same.ready, same.processors) h)
 
 taken : (s : State) (c : ℕ) (a : Aim) (w : What) (fs : List ℕ) → Sits s (take_all s c a w fs)
 taken s c a w [] = still refl refl refl refl
@@ -85,13 +83,12 @@ nobody_released p k (Some c) more = by (is_end c) more
   where
     by : (b : Bool) → b ≡ false → cond (b && (p.initializer && eqb k 0)) (range 1 (length p.processes - 1)) [] ≡ []
     by false e = refl
-    by true e = absurd (let none : true ≡ false = e in cc)
+    by true e = cc
 
 told_kept : (s : State) (c k : ℕ) (f : Option ℕ) (r : Reply) → IsScheduled s → c < length s.processors
     → (cpu_at s.processors c).process ≡ Some k → k < length s.runs → is_its_end (next_command s k) ≡ false
     → IsScheduled (told_by s c k f r)
-told_kept s c k f r h there its known more =
-    rw (← (sym (append-nil s.ready) ∙ ap (λ (q : List ℕ). s.ready ++ q)
+told_kept s c k f r h there its known more = rw (← (sym (append-nil s.ready) ∙ ap (λ (q : List ℕ). s.ready ++ q)
     (sym (nobody_released s.plan k (next_command s k) more))))
     (runs_kept s.plan s.runs (set s.runs k (run_after (run_at s.runs k) (next_command s k) r)) s.ready _
     (one_run s.runs k (run_after (run_at s.runs k) (next_command s k) r) known (h.running c k its).going
@@ -102,12 +99,10 @@ told_kept s c k f r h there its known more =
 told_after : (s b : State) (c : ℕ) (f : Option ℕ) (r : Reply) → Sits s b → IsScheduled s → c < length s.processors
     → IsAnswering s c → IsScheduled (told b c f r)
 told_after s b c f r same h there a = rw (ap or_zero its) (told_kept b c a.process f r (sits_kept s b same h)
-    (subst (λ (ps : List Processor). c < length ps) (sym same.processors) there) its
-    (subst (λ (rs : List Run). a.process < length rs) (sym same.runs) a.known)
-    (ap (λ (x : Option Command). is_its_end x) next ∙ a.more))
+    (rw same.processors there) its (rw same.runs a.known) (cc))
   where
     its : (cpu_at b.processors c).process ≡ Some a.process
-    its = ap (λ (ps : List Processor). (cpu_at ps c).process) same.processors ∙ a.its
+    its = cc
 
     next : next_command b a.process ≡ next_command s a.process
     next = λ i. next_command (record s { plan = same.plan i; runs = same.runs i }) a.process
@@ -127,7 +122,7 @@ module _ (b : State) (c k : ℕ) (r : Reply) (h : IsScheduled b) (there : c < le
   now = processor_at (left_at (told_by b c k None r) c).processors c
 
   over : run.ended ≡ true
-  over = ap (λ (x : Option Command). (run_after (run_at b.runs k) x r).ended) next
+  over = cc
 
   seats : SameSeats b.processors ps
   seats = one_seat b.processors c _ there refl (λ e. e)
@@ -144,7 +139,7 @@ module _ (b : State) (c k : ℕ) (r : Reply) (h : IsScheduled b) (there : c < le
 
   pub ended_kept : IsScheduled (left_at (told_by b c k None r) c)
   ended_kept = rw ready_is (end_kept b.plan b.runs b.ready ps c k _ run
-      (subst (λ (n : ℕ). c < n) (sym (length-set b.processors c _)) there) known (seats_kept b.plan b.runs b.ready
+      (rw (length-set b.processors c _) there) known (seats_kept b.plan b.runs b.ready
       b.processors ps seats h) its_still refl over)
 
 -- ---- each action
@@ -194,9 +189,8 @@ module _ (s : State) (c : ℕ) (o : Outcome) (h : IsScheduled s) (there : c < le
       → next_command s k ≡ Some cmd
       → IsScheduled (told (effected s (process_at s c) cmd) c None (reply_of s (process_at s c) cmd))
   plain cmd more k its known next = told_after s (effected s (process_at s c) cmd) c None
-      (reply_of s (process_at s c) cmd)
-      (still refl refl refl refl) h there
-      (record { process = k; its = its; known = known; more = ap (λ (x : Option Command). is_its_end x) next ∙ more })
+      (reply_of s (process_at s c) cmd) (still refl refl refl refl) h there
+      (record { process = k; its = its; known = known; more = cc })
 
   command_kept : (x : Option Command) → (k : ℕ) → (cpu_at s.processors c).process ≡ Some k → k < length s.runs
       → next_command s k ≡ x → IsScheduled (committed_at s c x)
@@ -249,25 +243,22 @@ module _ (s : State) (c : ℕ) (o : Outcome) (h : IsScheduled s) (there : c < le
         more = (may failed).more;
       }))
   schedule_kept (act.Load n) may = load_kept s.plan s.runs s.processors c _ there n (drop 1 s.ready)
-      (subst (λ (q : List ℕ). AreScheduled s.plan s.runs q s.processors) (front_is s n s.ready refl may.2) h) may.1 refl
-      may.0
+      (rw (← (front_is s n s.ready refl may.2)) h) may.1 refl may.0
   schedule_kept act.Leave may = leaves (run_at s.runs (process_at s c)).ended refl
     where
       goes : (run_at s.runs (process_at s c)).ended ≡ false
-      goes = subst (λ (j : ℕ). (run_at s.runs j).ended ≡ false) (sym (ap or_zero may.1)) (h.running c may.0 may.1).going
+      goes = subst (λ (j : ℕ). (run_at s.runs j).ended ≡ false) (cc) (h.running c may.0 may.1).going
 
       leaves : (b : Bool) → (run_at s.runs (process_at s c)).ended ≡ b
-          → AreScheduled s.plan s.runs (cond b s.ready (s.ready ++ process_at s c ∷ []))
-          (left_at s c).processors
-      leaves true e = absurd (let none : true ≡ false = sym e ∙ goes in cc)
+          → AreScheduled s.plan s.runs (cond b s.ready (s.ready ++ process_at s c ∷ [])) (left_at s c).processors
+      leaves true e = cc (sym e ∙ goes)
       leaves false e = subst (λ (j : ℕ). AreScheduled s.plan s.runs (s.ready ++ j ∷ []) (left_at s c).processors)
-          (sym (ap or_zero may.1)) (leave_kept s.plan s.runs s.processors c _ there may.0 s.ready h may.1 refl)
+          (cc) (leave_kept s.plan s.runs s.processors c _ there may.0 s.ready h may.1 refl)
   schedule_kept (act.FillSeg n) may = one_changed _ refl (λ e. e)
   schedule_kept (act.FillPage f r) may = one_changed _ refl (λ e. e)
   schedule_kept (act.Through f r) may = told_after s
       (with_store s (with_pages s.store (pages_after s.store.pages f r))) c (Some f)
-      (word_reply (old_word s.store.pages f r) r.kind)
-      (still refl refl refl refl) h there may
+      (word_reply (old_word s.store.pages f r) r.kind) (still refl refl refl refl) h there may
   schedule_kept (act.Plain r) may = told_after s s c None r (still refl refl refl refl) h there may
   schedule_kept act.TakeSupervisor may = h
   schedule_kept (act.Answer r) may = told_after s s c None r (still refl refl refl refl) h there may
@@ -296,5 +287,4 @@ module _ (s : State) (c : ℕ) (o : Outcome) (h : IsScheduled s) (there : c < le
       (may failed))
   schedule_kept (act.FinishPage f) may = by_end o _ (write_failed s c o.faults) h (λ failed. failed_kept (may failed))
   schedule_kept (act.Deactivate u) may = sits_kept s _ (is_emptied s c u) h
-  schedule_kept act.Commit may = command_kept (next_command s (process_at s c)) may.0 may.1 may.2
-      (ap (next_command s) (sym (ap or_zero may.1)))
+  schedule_kept act.Commit may = command_kept (next_command s (process_at s c)) may.0 may.1 may.2 (cc)

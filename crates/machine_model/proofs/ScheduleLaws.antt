@@ -30,12 +30,14 @@ pub one_seat : (ps : List Processor) (c : ℕ) (p : Processor) → c < length ps
     → p.cpu.process ≡ (cpu_at ps c).process → ((cpu_at ps c).online ≡ true → p.cpu.online ≡ true)
     → SameSeats ps (set ps c p)
 one_seat ps c p there process online = record {
-  process = λ d. ap (λ (x : Processor). x.cpu.process) (put_list ps c p no_processor d there)
-      ∙ by_place (λ (x : Processor). x.cpu.process ≡ (cpu_at ps d).process) (processor_at ps) c p d
-      (λ e. process ∙ ap (λ (i : ℕ). (cpu_at ps i).process) (sym e)) (λ n. refl);
-  online = λ d h. ap (λ (x : Processor). x.cpu.online) (put_list ps c p no_processor d there)
-      ∙ by_place (λ (x : Processor). x.cpu.online ≡ true) (processor_at ps) c p d
-      (λ e. online (ap (λ (i : ℕ). (cpu_at ps i).online) (sym e) ∙ h)) (λ n. h);
+  process = λ d. cc (
+    put_list ps c p no_processor d there,
+    by_place (λ (x : Processor). x.cpu.process ≡ (cpu_at ps d).process) (processor_at ps) c p d (λ e. cc) (λ n. refl),
+  );
+  online = λ d h. cc (
+    put_list ps c p no_processor d there,
+    by_place (λ (x : Processor). x.cpu.online ≡ true) (processor_at ps) c p d (λ e. online (cc)) (λ n. h),
+  );
 }
 
 -- ---- how far processes have come
@@ -69,9 +71,10 @@ runs_kept p old now ready ps same h = record {
 pub one_run : (runs : List Run) (k : ℕ) (run : Run) → k < length runs → (run_at runs k).ended ≡ false
     → run.ended ≡ false → SameRuns runs (set runs k run)
 one_run runs k run there was now = record {
-  same = λ j. ap (λ (x : Run). x.ended) (put_list runs k run no_run j there)
-      ∙ by_place (λ (x : Run). x.ended ≡ (run_at runs j).ended) (run_at runs) k run j
-      (λ e. now ∙ sym (ap (λ (i : ℕ). (run_at runs i).ended) e ∙ was)) (λ n. refl);
+  same = λ j. cc (
+    put_list runs k run no_run j there,
+    by_place (λ (x : Run). x.ended ≡ (run_at runs j).ended) (run_at runs) k run j (λ e. cc) (λ n. refl),
+  );
 }
 
 -- ---- a processor loads a process, and gives it up
@@ -81,7 +84,7 @@ put_seen : {A : Type 0} (see : Processor → A) (ps : List Processor) (c : ℕ) 
     → (d ≡ c → see (processor_at (set ps c p) d) ≡ see p)
     × (d ≢ c → see (processor_at (set ps c p) d) ≡ see (processor_at ps d))
 put_seen see ps c p there d = (
-  (λ e. ap (λ (i : ℕ). see (processor_at (set ps c p) i)) e ∙ ap see (get_or-set_same ps c p no_processor there)),
+  (λ e. cc (get_or-set_same ps c p no_processor there)),
   (λ n. ap see (get_or-set_other ps c d p no_processor n)),
 )
 
@@ -104,7 +107,7 @@ module _ (p : Plan) (runs : List Run) (ps : List Processor) (c : ℕ) (now : Pro
       → now.cpu.process ≡ Some k → now.cpu.online ≡ true → AreScheduled p runs ready (set ps c now)
   load_kept k ready h none its on = record {
     running = λ d j e. elim (either d c) [
-      | inl same ↦ subst (λ (i : ℕ). MayRun p runs i) (mine d j same e) (h.waiting k front)
+      | inl same ↦ rw (← (mine d j same e)) (h.waiting k front)
       | inr other ↦ h.running d j (sym ((put_process ps c now there d).1 other) ∙ e)
     ];
     online = λ d j e. elim (either d c) [
@@ -126,13 +129,13 @@ module _ (p : Plan) (runs : List Run) (ps : List Processor) (c : ℕ) (now : Pro
     waiting = λ j e. h.waiting j (later j e);
     once = h.once.1;
     apart = λ d j e. elim (either d c) [
-      | inl same ↦ subst (λ (i : ℕ). has ready i ≡ false) (mine d j same e) h.once.0
+      | inl same ↦ rw (← (mine d j same e)) h.once.0
       | inr other ↦ (or_parts (eqb k j) (has ready j)
           (h.apart d j (sym ((put_process ps c now there d).1 other) ∙ e))).1
     ];
     back = h.back;
     placed = λ j m. elim (either j k) [
-      | inl same ↦ inr (c, (put_process ps c now there c).0 refl ∙ (its ∙ ap (λ (i : ℕ). Some i) (sym same)))
+      | inl same ↦ inr (c, cc ((put_process ps c now there c).0 refl))
       | inr other ↦ elim (h.placed j m) [
         | inl r ↦ inl (still_ready j other r)
         | inr x ↦ elim (either x.0 c) [
@@ -144,12 +147,12 @@ module _ (p : Plan) (runs : List Run) (ps : List Processor) (c : ℕ) (now : Pro
   }
     where
       front : has (k ∷ ready) k ≡ true
-      front = ap (λ (b : Bool). b || has ready k) (eqb_self k)
+      front = cc (eqb_self k)
 
       still_ready : (j : ℕ) → j ≢ k → has (k ∷ ready) j ≡ true → has ready j ≡ true
       still_ready j other e = elim (eqb_tells k j) [
         | inl i ↦ absurd (other (sym i.1))
-        | inr n ↦ sym (ap (λ (b : Bool). b || has ready j) n.0) ∙ e
+        | inr n ↦ sym (cc) ∙ e
       ]
 
       later : (j : ℕ) → has ready j ≡ true → has (k ∷ ready) j ≡ true
@@ -160,7 +163,7 @@ module _ (p : Plan) (runs : List Run) (ps : List Processor) (c : ℕ) (now : Pro
           or_right false i = i
 
       mine : (d j : ℕ) → d ≡ c → (cpu_at (set ps c now) d).process ≡ Some j → k ≡ j
-      mine d j same e = some_same k j (sym its ∙ (sym ((put_process ps c now there d).0 same) ∙ e))
+      mine d j same e = some_same k j (cc ((put_process ps c now there d).0 same))
 
       not_here : (d j : ℕ) → d ≢ c → (cpu_at (set ps c now) d).process ≡ Some j → k ≡ j → ⊥
       not_here d j other e same = not_both (subst (λ (i : ℕ). has (k ∷ ready) i ≡ true) same front)
@@ -196,7 +199,7 @@ module _ (p : Plan) (runs : List Run) (ps : List Processor) (c : ℕ) (now : Pro
     online = gone.online;
     alone = gone.alone;
     waiting = λ j e. elim (either j k) [
-      | inl same ↦ subst (λ (i : ℕ). MayRun p runs i) (sym same) (h.running c k its)
+      | inl same ↦ rw same (h.running c k its)
       | inr other ↦ h.waiting j (sym (push_other ready k j other) ∙ e)
     ];
     once = distinct_push ready k h.once (h.apart c k its);
@@ -206,11 +209,11 @@ module _ (p : Plan) (runs : List Run) (ps : List Processor) (c : ℕ) (now : Pro
     ];
     back = h.back;
     placed = λ j m. elim (either j k) [
-      | inl same ↦ inl (ap (λ (i : ℕ). has (ready ++ k ∷ []) i) same ∙ push_same ready k)
+      | inl same ↦ inl (cc (push_same ready k))
       | inr other ↦ elim (h.placed j m) [
         | inl r ↦ inl (push_other ready k j other ∙ r)
         | inr x ↦ elim (either x.0 c) [
-          | inl same ↦ absurd (other (some_same j k (sym x.1 ∙ (ap (λ (i : ℕ). (cpu_at ps i).process) same ∙ its))))
+          | inl same ↦ absurd (other (some_same j k (cc)))
           | inr away ↦ inr (x.0, (put_process ps c now there x.0).1 away ∙ x.1)
         ]
       ]
@@ -218,9 +221,8 @@ module _ (p : Plan) (runs : List Run) (ps : List Processor) (c : ℕ) (now : Pro
   }
     where
       not_there : (d j : ℕ) → (cpu_at (set ps c now) d).process ≡ Some j → j ≡ k → ⊥
-      not_there d j e same = let here : d ≡ c = h.alone d c k
-          (sym ((put_process ps c now there d).1 (elsewhere d j e)) ∙ (e ∙ ap (λ (i : ℕ). Some i) same)) its in
-          elsewhere d j e here
+      not_there d j e same = elsewhere d j e (h.alone d c k (cc ((put_process ps c now there d).1 (elsewhere d j e)))
+          its)
         where
           elsewhere : (i m : ℕ) → (cpu_at (set ps c now) i).process ≡ Some m → i ≢ c
           elsewhere i m x y = none_some (sym none ∙ (sym ((put_process ps c now there i).0 y) ∙ x))
@@ -229,11 +231,11 @@ module _ (p : Plan) (runs : List Run) (ps : List Processor) (c : ℕ) (now : Pro
 
 -- the numbers from one on
 pub in_range : (from n j : ℕ) → has (range from n) j ≡ true → (from ≤ j) × (j < from + n)
-in_range from zero j h = absurd (let no : false ≡ true = h in cc)
+in_range from zero j h = cc
 in_range from (suc n) j h = elim (eqb_tells from j) [
-  | inl e ↦ (let same = e.1 in (omega (arith, same), omega (arith, same)))
-  | inr m ↦ (let rest = in_range (from + 1) n j (sym (ap (λ (b : Bool). b || has (range (from + 1) n) j) m.0) ∙ h) in
-      let a = rest.0 in let b = rest.1 in (omega (arith, a), omega (arith, b)))
+  | inl e ↦ (let same = e.1 in (omega arith, omega arith))
+  | inr m ↦ (let rest = in_range (from + 1) n j (cc) in
+      let a = rest.0 in let b = rest.1 in (omega arith, omega arith))
 ]
 
 not_before : (from n j : ℕ) → j < from → has (range from n) j ≡ false
@@ -241,14 +243,13 @@ not_before from n j h = by (has (range from n) j) refl
   where
     by : (b : Bool) → has (range from n) j ≡ b → b ≡ false
     by false e = refl
-    by true e = let at = (in_range from n j e).0 in absurd (omega (arith, at, h))
+    by true e = let at = (in_range from n j e).0 in absurd (omega arith)
 
 pub range_has : (from n j : ℕ) → from ≤ j → j < from + n → has (range from n) j ≡ true
-range_has from zero j a b = absurd (omega (arith, a, b))
+range_has from zero j a b = absurd (omega arith)
 range_has from (suc n) j a b = elim (eqb_tells from j) [
   | inl e ↦ ap (λ (x : Bool). x || has (range (from + 1) n) j) e.0
-  | inr m ↦ (let other = m.1 in ap (λ (x : Bool). x || has (range (from + 1) n) j) m.0
-      ∙ range_has (from + 1) n j (omega (arith, a, other)) (omega (arith, b)))
+  | inr m ↦ (cc (range_has (from + 1) n j (omega arith) (omega arith)))
 ]
 
 pub range_once : (from n : ℕ) → AreDistinct (range from n)
@@ -257,16 +258,16 @@ range_once from (suc n) = (not_before (from + 1) n from (omega arith), range_onc
 
 nothing_in : (xs : List ℕ) → ((j : ℕ) → has xs j ≡ false) → xs ≡ []
 nothing_in [] h = refl
-nothing_in (x ∷ xs) h = absurd (not_both (ap (λ (b : Bool). b || has xs x) (eqb_self x)) (h x))
+nothing_in (x ∷ xs) h = cc (eqb_self x, h x)
 
 module _ (p : Plan) (runs : List Run) (ready : List ℕ) (ps : List Processor) (c k : ℕ) (now : Processor) (run : Run)
     (there : c < length ps) (known : k < length runs) (h : AreScheduled p runs ready ps)
     (its : (cpu_at ps c).process ≡ Some k) (none : now.cpu.process ≡ None) (over : run.ended ≡ true) where
   others : (j : ℕ) → j ≢ k → (run_at (set runs k run) j).ended ≡ (run_at runs j).ended
-  others j other = ap (λ (x : Run). x.ended) (get_or-set_other runs k j run no_run other)
+  others j other = cc (get_or-set_other runs k j run no_run other)
 
   ended_now : (run_at (set runs k run) k).ended ≡ true
-  ended_now = ap (λ (x : Run). x.ended) (get_or-set_same runs k run no_run known) ∙ over
+  ended_now = cc (get_or-set_same runs k run no_run known)
 
   gone : OthersRun p runs ps c now there ready
   gone = gone_kept p runs ps c now there k ready h none
@@ -280,7 +281,7 @@ module _ (p : Plan) (runs : List Run) (ready : List ℕ) (ps : List Processor) (
   ]))
 
   may_still : (j : ℕ) → j ≢ k → MayRun p runs j → MayRun p (set runs k run) j
-  may_still j other m = record { planned = m.planned; going = others j other ∙ m.going; turn = turn_still j m.turn }
+  may_still j other m = assumption (others j other ∙ m.going, turn_still j m.turn)
 
   not_its : (d j : ℕ) → (cpu_at (set ps c now) d).process ≡ Some j → j ≢ k
   not_its d j e same = none_some (sym none ∙ (sym ((put_process ps c now there d).0 here) ∙ e))
@@ -288,11 +289,11 @@ module _ (p : Plan) (runs : List Run) (ready : List ℕ) (ps : List Processor) (
       here : d ≡ c
       here = elim (either d c) [
         | inl x ↦ x
-        | inr y ↦ h.alone d c k (sym ((put_process ps c now there d).1 y) ∙ (e ∙ ap (λ (i : ℕ). Some i) same)) its
+        | inr y ↦ h.alone d c k (cc ((put_process ps c now there d).1 y)) its
       ]
 
   not_ready : (j : ℕ) → has ready j ≡ true → j ≢ k
-  not_ready j e same = not_both (subst (λ (i : ℕ). has ready i ≡ true) same e) (h.apart c k its)
+  not_ready j e same = not_both (rw (← same) e) (h.apart c k its)
 
   back_still : p.initializer ≡ true → (run_at (set runs k run) 0).ended ≡ false → (j : ℕ) → j < length p.processes
       → (run_at (set runs k run) j).ended ≡ false
@@ -307,14 +308,15 @@ module _ (p : Plan) (runs : List Run) (ready : List ℕ) (ps : List Processor) (
       ended_first : (run_at (set runs k run) 0).ended ≡ true
       ended_first = elim (either 0 k) [
         | inl same ↦ ap (λ (x : ℕ). (run_at (set runs k run) x).ended) same ∙ ended_now
-        | inr other ↦ (let was : (run_at runs 0).ended ≡ true = elim (h.running c k its).turn [
+        | inr other ↦ (others 0 other ∙ (elim (h.running c k its).turn [
           | inl off ↦ absurd (not_both i off)
-          | inr on ↦ elim on [ inl first ↦ absurd (other (sym first)) | inr ended ↦ ended ]
-        ] in others 0 other ∙ was)
+          | inr on ↦
+              elim on [ inl first ↦ absurd (other (sym first)) | inr ended ↦ ended ]
+        ]))
       ]
 
   not_over : (j : ℕ) → MayRun p (set runs k run) j → j ≢ k
-  not_over j m same = not_both (ap (λ (i : ℕ). (run_at (set runs k run) i).ended) same ∙ ended_now) m.going
+  not_over j m same = not_both (cc (same, ended_now)) m.going
 
   -- whatever may run could before, where no other process becomes ready by it
   may_before : (p.initializer ≡ true → k ≢ 0) → (j : ℕ) → MayRun p (set runs k run) j → MayRun p runs j
@@ -372,18 +374,17 @@ module _ (p : Plan) (runs : List Run) (ready : List ℕ) (ps : List Processor) (
       online = gone.online;
       alone = gone.alone;
       waiting = λ j e. (let at = in_range 1 (length p.processes - 1) j e in let low = at.0 in let high = at.1 in
-          let planned : j < length p.processes = omega (arith, low, high) in
-          let other : j ≢ k = (λ same. (let zero_is : j ≡ 0 = same ∙ first in omega (arith, low, zero_is))) in
+          let planned : j < length p.processes = omega arith in
           record {
             planned = planned;
-            going = others j other ∙ h.back initial not_ended j planned;
+            going = others j (λ same. (omega (arith, same ∙ first))) ∙ h.back initial not_ended j planned;
             turn = inr (inr (subst (λ (i : ℕ). (run_at (set runs k run) i).ended ≡ true) first ended_now));
           });
       once = range_once 1 (length p.processes - 1);
       apart = λ d j e. absurd (nobody_runs d j e);
       back = back_still;
-      placed = λ j m. inl (let planned = m.planned in let other = (λ (z : j ≡ 0). not_over j m (z ∙ sym first)) in
-          range_has 1 (length p.processes - 1) j (positive j other) (omega (arith, planned)));
+      placed = λ j m. inl (let planned = m.planned in range_has 1 (length p.processes - 1) j
+          (positive j (λ (z : j ≡ 0). not_over j m (cc))) (omega arith));
     }
       where
         positive : (j : ℕ) → j ≢ 0 → 1 ≤ j

@@ -37,7 +37,7 @@ reseat_keeps v c p ready e k lawful pending due transfer runs r =
           (λ i. r.right) (λ n. k.holding_right d);
       under_way = under_way_alike v.reads v.processors (at_put v.processors c p)
           (λ d. by_place (λ (x : Processor). x.cpu.transfer ≡ (v.processors d).cpu.transfer) v.processors c p d
-          (λ i. transfer ∙ ap (λ (j : ℕ). (v.processors j).cpu.transfer) (sym i)) (λ n. refl)) k.under_way;
+          (λ i. cc) (λ n. refl)) k.under_way;
       runs = runs;
     })
   where
@@ -57,8 +57,7 @@ right_empty v p process warned = record {
   pages = tt;
   segs = none process;
   few_pages = omega arith;
-  few_segs = omega
-      arith;
+  few_segs = omega arith;
   warned = warned;
 }
   where
@@ -71,15 +70,14 @@ pub online_keeps : (v : Seen) (c : ℕ) → KeepsBook v → c < v.plan.processor
 unfolding IsLawful after_entry custody_next
 online_keeps v c k inside off = reseat_keeps v c (taking_part (v.processors c)) v.ready (entry.Online c) k tt refl refl
     refl k.runs (record {
-      allowed = record { processor = inside; offline = off };
+      allowed = assumption;
       online = tt;
       next = refl;
       right = right_like (v.processors c) (taking_part (v.processors c)) (k.holding_right c) refl refl (λ w h. refl);
     })
 
 pub load_keeps : (v : Seen) (c n : ℕ) → KeepsBook v → (v.processors c).cpu.online ≡ true
-    → (v.processors c).cpu.process ≡ None
-    → IsFront v.ready n → KeepsBook (loaded v c n)
+    → (v.processors c).cpu.process ≡ None → IsFront v.ready n → KeepsBook (loaded v c n)
 unfolding IsLawful after_entry custody_next
 load_keeps v c n k on none front = reseat_keeps v c (running (v.processors c) n) (drop 1 v.ready) (entry.Load c n) k
     tt refl refl refl k.runs (assumption (
@@ -124,13 +122,12 @@ fill_seg_keeps v c n e k can = reseat_keeps v c (with_held_seg (v.processors c) 
     right = k.holding_right c
 
     is : (shown v).descriptor n e.number ≡ descriptor.Current e.uid
-    is = ap (λ (o : Option ℕ). descriptor_use o (cut_uid (cut_of_owner v.owner) n e.number)) can.linked
+    is = cc
 
     may : (o : Option ℕ) → o ≡ Some n → IsSomeAnd o (λ j. MayTakeSeg (shown v) ((shown v).seat c) e.number j)
-    may None h = absurd (none_some h)
+    may None h = cc
     may (Some j) h = record {
-      current = let same : j ≡ n = cc in ap (λ (i : ℕ). is_current_descriptor ((shown v).descriptor i e.number)) same
-          ∙ ap is_current_descriptor is;
+      current = let same : j ≡ n = cc in cc;
       new = can.new;
     }
 

@@ -5,10 +5,10 @@ use Rattle.active_segs.specs.declared.Entry.{Entry}
 pub zeros_to : (ws : List ℕ) → AreZero ws → are_zeros ws ≡ true
 zeros_to [] h = refl
 zeros_to (w ∷ ws) h = elim (eqb_tells w 0) [
-  | inl e ↦ ap (λ (b : Bool). b && are_zeros ws) e.0 ∙ zeros_to ws (λ k d lt. h (suc k) d (omega (arith, lt)))
+  | inl e ↦ ap (λ (b : Bool). b && are_zeros ws) e.0 ∙ zeros_to ws (λ k d lt. h (suc k) d (omega arith))
   | inr n ↦ absurd (n.1 (h zero zero (omega arith)))
 ]
 
 pub some_not_none : (o : Option Entry) → IsSome o → is_none o ≡ false
-some_not_none None h = absurd (let no : false ≡ true = h in cc)
+some_not_none None h = cc
 some_not_none (Some e) h = refl

@@ -24,7 +24,7 @@ comes_next s c k m its = (may, known, m.come k known may.going)
     may = m.scheduled.running c k its
 
     known : k < length s.runs
-    known = subst (λ (n : ℕ). k < n) (sym m.keeps.sizes.processes) may.planned
+    known = rw m.keeps.sizes.processes may.planned
 
 -- a processor that has a process speaks for it
 pub speaks : (s : State) (c k : ℕ) → IsMachine s → c < length s.processors
@@ -38,21 +38,19 @@ speaks s c k m there its = let next = comes_next s c k m its in (
 pub speaks_of : (s : State) (c k : ℕ) (cmd : Command) → IsMachine s → c < length s.processors
     → (processor_at s.processors c).cpu.process ≡ Some k → next_command s k ≡ Some cmd → Speaks s c k cmd
 speaks_of s c k cmd m there its next = let one = speaks s c k m there its in
-    subst (Speaks s c k)
-    (let same : Some one.0 ≡ Some cmd = sym one.1.next ∙ next in let is : one.0 ≡ cmd = cc in is) one.1
+    rw (← (let same = sym one.1.next ∙ next in let is : one.0 ≡ cmd = cc in is)) one.1
 
 -- it speaks so where the processors, the processes and the script are the same, and the flat store goes on with them
 pub speaks_like : {s now : State} {c k : ℕ} {cmd : Command} → now.processors ≡ s.processors → now.runs ≡ s.runs
     → now.plan ≡ s.plan → ((j : ℕ) → IsRun (progress_of (flat_of now) j) (run_at now.runs j)) → Speaks s c k cmd
     → Speaks now c k cmd
 speaks_like {s = s} {now = now} {c = c} {k = k} processors runs plan go sp = record {
-  there = subst (λ (ps : List Processor). c < length ps) (sym processors) sp.there;
-  known = subst (λ (rs : List Run). k < length rs) (sym runs) sp.known;
-  its = ap (λ (ps : List Processor). (processor_at ps c).cpu.process) processors ∙ sp.its;
+  there = rw processors sp.there;
+  known = rw runs sp.known;
+  its = cc;
   next = (λ i. command_at (plan i) k (run_at (runs i) k).place) ∙ sp.next;
-  going = ap (λ (rs : List Run). (run_at rs k).ended) runs ∙ sp.going;
-  turn = subst (λ (p : Plan). HasTurn p now.runs k) (sym plan)
-      (subst (λ (rs : List Run). HasTurn s.plan rs k) (sym runs) sp.turn);
+  going = cc;
+  turn = rw (plan, runs) sp.turn;
   runs = go;
 }
 
@@ -65,9 +63,9 @@ turn_is s c k cmd h = by h.turn
     or_right false e = e
 
     by : HasTurn s.plan s.runs k → is_turn s.plan (flat_of s) k ≡ true
-    by (inl off) = ap (λ (b : Bool). not b || (eqb k 0 || (progress_of (flat_of s) 0).ended)) off
+    by (inl off) = cc
     by (inr (inl first)) = elim (eqb_tells k 0) [
-      | inl e ↦ or_right (not s.plan.initializer) (ap (λ (b : Bool). b || (progress_of (flat_of s) 0).ended) e.0)
+      | inl e ↦ or_right (not s.plan.initializer) (cc)
       | inr n ↦ absurd (n.1 first)
     ]
     by (inr (inr over)) = or_right (not s.plan.initializer) (or_right (eqb k 0) ((h.runs 0).ended ∙ over))
@@ -85,39 +83,36 @@ can_tell s c k cmd f r h answer may = record {
     turn = turn_is s c k cmd h;
     going = (h.runs k).ended ∙ h.going;
     next = (h.runs k).place;
-    answer = subst (λ (x : Option Command). IsAnswer s.plan (flat_of s) k x r) (sym h.next) answer;
+    answer = rw h.next answer;
   };
   allowed = record {
     process = h.its;
-    command = subst (λ (x : Option Command). IsSomeAnd x
-        (λ x. MayAnswerBy s.plan (flat_of s) (shown (seen s)) c k f x r (reference_of x)))
-        (sym (ap (command_at s.plan k) (h.runs k).place ∙ h.next)) may;
+    command = rw (ap (command_at s.plan k) (h.runs k).place ∙ h.next) may;
   };
 }
 
 -- ---- refusals
 
 pub refusal_quiet : (r : Reply) → is_refusal r ≡ true → (takes_effect r ≡ false) × (is_word_or_done r ≡ false)
-refusal_quiet (reply.Word w) h = absurd (let none : false ≡ true = h in cc)
-refusal_quiet reply.Done h = absurd (let none : false ≡ true = h in cc)
-refusal_quiet (reply.Made u) h = absurd (let none : false ≡ true = h in cc)
-refusal_quiet (reply.Known n) h = absurd (let none : false ≡ true = h in cc)
-refusal_quiet (reply.SegIs u l n) h = absurd (let none : false ≡ true = h in cc)
-refusal_quiet (reply.DirIs u q n) h = absurd (let none : false ≡ true = h in cc)
+refusal_quiet (reply.Word w) h = cc
+refusal_quiet reply.Done h = cc
+refusal_quiet (reply.Made u) h = cc
+refusal_quiet (reply.Known n) h = cc
+refusal_quiet (reply.SegIs u l n) h = cc
+refusal_quiet (reply.DirIs u q n) h = cc
 refusal_quiet _ h = (refl, refl)
 
 -- what refuses a command may be told at once
 pub can_refuse : (s : State) (c k : ℕ) (cmd : Command) (r : Reply) → Speaks s c k cmd
     → r ≡ reply_to_command s.plan (flat_of s) k cmd → is_refusal r ≡ true → CanTell s c k None r
 can_refuse s c k cmd r h is refuses = can_tell s c k cmd None r h
-    (inl (assumption (refused_free s.plan (flat_of s) k cmd (ap takes_effect (sym is) ∙ quiet.0))))
-    (by (reference_of cmd))
+    (inl (assumption (refused_free s.plan (flat_of s) k cmd (cc (is, quiet.0))))) (by (reference_of cmd))
   where
     quiet : (takes_effect r ≡ false) × (is_word_or_done r ≡ false)
     quiet = refusal_quiet r refuses
 
     no_and : {b : Bool} → b ≡ true → b ≡ false → ⊥
-    no_and t e = let none : true ≡ false = sym t ∙ e in cc
+    no_and t e = let none = sym t ∙ e in cc
 
     and_first : (a b : Bool) → (a && b) ≡ true → a ≡ true
     and_first true b e = refl
@@ -128,5 +123,5 @@ can_refuse s c k cmd r h is refuses = can_tell s c k cmd None r h
     by None = record {
       without = refl;
       out = λ e. absurd (no_and (and_first (takes_effect (reply_to_command s.plan (flat_of s) k cmd)) _ e)
-          (ap takes_effect (sym is) ∙ quiet.0));
+          (cc (is, quiet.0)));
     }

@@ -21,20 +21,17 @@ module _ (s now : State) (keeps : Keeps s) (kept : Keeps now)
     (nodes : now.store.accounts.nodes ≡ s.store.accounts.nodes) (known : now.store.links.known ≡ s.store.links.known)
   where
     same_nodes : (flat_of now).nodes ≡ (flat_of s).nodes
-    same_nodes = kept.faithful.tree.nodes ∙ (nodes ∙ sym keeps.faithful.tree.nodes)
+    same_nodes = cc
 
     same_numbers : (flat_of now).known ≡ (flat_of s).known
-    same_numbers = kept.faithful.known ∙ (known ∙ sym keeps.faithful.known)
+    same_numbers = cc
 
     pub stands_on : (k : ℕ) (c : Command) → TakesSome (Some c) → refusal_of s k c ≡ None → refusal_of now k c ≡ None
     unfolding refusal_of acl_reply terminate_reply truncate_reply delete_reply
-    stands_on k (command.Acl path row m) some h =
-        ap (λ (ns : List Node). refusal (acl_of row (segment_at ns path))) same_nodes ∙ h
+    stands_on k (command.Acl path row m) some h = cc
     stands_on k (command.Terminate n) some h = cc same_numbers
-    stands_on k (command.Truncate path words) some h =
-        ap (λ (ns : List Node). refusal (done_at (segment_at ns path))) same_nodes ∙ h
-    stands_on k (command.Delete path) some h =
-        ap (λ (ns : List Node). refusal (delete_of ns (branch_at ns path))) same_nodes ∙ h
+    stands_on k (command.Truncate path words) some h = cc
+    stands_on k (command.Delete path) some h = cc
     stands_on k command.End some h = refl
     stands_on k _ some h = absurd some
 

@@ -1,6 +1,6 @@
 -- What a step asks, along the rules in their order, follows from the whole promise and from what the calls of the store
 -- say.
-use Rattle.machine_model.proofs.Prelude.{◌≡◌, ◌<◌, ℕ, ◌+◌, ◌*◌, Bool, true, false, not, ◌&&◌, cond, eqb, List, [], ◌∷◌, get_or, length, position, Option, Some, None, inl, inr, refl, sym, ap, subst, ◌∙◌, arith, zero, suc, ◌/◌, ◌%◌, nat_le, cond_both, eqb_tells, Rose, reference_of, Command, Reference, HeldSeg, What, frame_of, seg_of, Ptw, Sdw, words_in, has_record, by_descriptor, by_held, by_page, by_seg, by_word, Transfer, MayMove, word_reply, Mover, IsMovedFor, is_active, sdws_at, word_of, table_of, next_out, MayRelease, new_word, permits, words_zero, Aim, Phase, Processor, action_of, by_move, clear_or, come_to, finish_of, go_on_with, has_had_its_turn, is_empty, load_or_idle, look_of, move_of, once_cleared, own_or_run, refer_or_take, run_process, take_or_wait, transfer_or, copy_or_commit, Outcome, page_at, names, IsEntitledToAll, seen, are_zeros, left_of, Keeps, IsMachine, IsReading, Wants, cpu_at, cut_of_owner, descriptor_of, flat_of, frames_of_owner, is_due, next_command, or_zero, process_at, processor_at, Says, Owner, State, Node, node_in, superior_in, Store, write_failed, StoreSays, aimed_at, goes_in, going_for, IsTakenBy, TakenIn, FailsBy, FailsIn, IsLeaf, IsWorking, MayFailBy, TakesSome, is_its_end, has_head}
+use Rattle.machine_model.proofs.Prelude.{cases_Bool, inl, inr, eqb-true, and_parts, not-true, not-false, Move, [], ◌≡◌, ◌<◌, ℕ, ◌+◌, ◌*◌, true, false, not, ◌&&◌, eqb, List, ◌∷◌, get_or, length, position, Option, Some, None, refl, sym, ap, subst, ◌∙◌, arith, zero, suc, ◌/◌, ◌%◌, nat_le, cond_both, Rose, reference_of, Command, Reference, HeldSeg, What, frame_of, seg_of, Ptw, Sdw, words_in, by_descriptor, by_held, by_page, by_seg, by_word, Transfer, MayMove, word_reply, Mover, IsMovedFor, is_active, sdws_at, word_of, table_of, next_out, MayRelease, new_word, permits, words_zero, Aim, Phase, Processor, action_of, by_move, clear_or, come_to, finish_of, go_on_with, has_had_its_turn, is_empty, load_or_idle, look_of, move_of, once_cleared, own_or_run, refer_or_take, run_process, take_or_wait, transfer_or, copy_or_commit, Outcome, page_at, IsEntitledToAll, seen, are_zeros, left_of, Keeps, IsMachine, IsReading, cpu_at, cut_of_owner, descriptor_of, flat_of, frames_of_owner, is_due, next_command, or_zero, process_at, processor_at, Says, Owner, State, write_failed, StoreSays, aimed_at, going_for, IsTakenBy, TakenIn, FailsBy, FailsIn, IsWorking, MayFailBy, TakesSome, has_head}
 use Rattle.assoc_mem.specs.declared.What.TheVariants as what
 use Rattle.page_table.specs.declared.Ptw.TheVariants as ptw
 use Rattle.descriptor_seg.specs.declared.Sdw.TheVariants as sdw
@@ -11,31 +11,30 @@ use Rattle.machine_model.specs.declared.Aim.TheVariants as aim
 use Rattle.machine_model.specs.declared.Phase.TheVariants as phase
 use Rattle.machine_model.specs.Actions as act
 use Rattle.machine_model.proofs.ActionCases.{action_by}
-use Rattle.machine_model.proofs.ChainLaws.{going_word, GoesOn}
+use Rattle.machine_model.proofs.DeleteKept.{taken_bound}
 use Rattle.machine_model.proofs.EmptyAsks.{length_asks, victim_asks}
 use Rattle.machine_model.proofs.LackingLaws.{may_move, may_rehome}
 use Rattle.machine_model.proofs.LookAsks.{activate_asks, answer_asks, connect_asks, create_asks}
 use Rattle.machine_model.proofs.LookFacts.{LookFinds, look_finds}
-use Rattle.machine_model.proofs.MoveAsks.{length_asks as too_long_asks, no_access_asks, through_asks, zero_asks}
+use Rattle.machine_model.proofs.MoveAsks.{bound_stored, length_asks as too_long_asks, no_access_asks, through_asks, zero_asks}
 use Rattle.machine_model.proofs.MovingSays.{copied_says, copy_failed_says, moved_says, begun_says}
 use Rattle.machine_model.proofs.OwnedLaws.{IsIdle}
-use Rattle.machine_model.proofs.PageShown.{bound_word, stored_is}
-use Rattle.machine_model.proofs.RuleKept.{Asks, AsksCommit, IsLooking, look_idle, look_still, process_here, HasWaited, wait_goes, wait_shape, IsMoving}
+use Rattle.machine_model.proofs.PageShown.{bound_word}
+use Rattle.machine_model.proofs.RuleKept.{Asks, AsksCommit, IsLooking, look_idle, look_still, process_here, HasWaited, IsMoving}
 use Rattle.machine_model.proofs.SaysLaws.{deactivated_says, eviction_failed_says, evicted_says, evicting_says, page_failed_says, page_left_says, read_says, started_says, failed_says, gone_is}
 use Rattle.machine_model.proofs.ReadKept.{read_fails}
 use Rattle.machine_model.proofs.ScheduleKept.{IsAnswering}
 use Rattle.machine_model.proofs.ActiveKept.{segs_are_gone}
 use Rattle.machine_model.proofs.CommandRests.{commit_rests}
-use Rattle.machine_model.proofs.CommitAsks.{commit_asks, look_plainly, taken_plainly}
+use Rattle.machine_model.proofs.CommitAsks.{commit_asks, look_rests, taken_rests}
 use Rattle.machine_model.proofs.JobAsks.{read_asks, write_asks, copy_asks}
 use Rattle.machine_model.proofs.JustTaken.{look_taken}
 use Rattle.machine_model.proofs.FailLaws.{fails_more}
 use Rattle.machine_model.proofs.WholeKept.{may_deactivate}
 use Rattle.machine_model.proofs.SpeakLaws.{Speaks, speaks, speaks_of}
-use Rattle.machine_model.proofs.StepKept.{CanFailWrite, IsMine}
+use Rattle.machine_model.proofs.StandLaws.{takes_tree}
+use Rattle.machine_model.proofs.StepKept.{CanFailWrite, IsMine, empties_goes}
 use Rattle.machine_model.proofs.TakeAsks.{take_asks, takes_none}
-use Rattle.machine_model.proofs.TookKept.{CanTook}
-use Rattle.machine_model.proofs.TieLaws.{none_some}
 use Rattle.machine_model.proofs.TransferKept.{active_at}
 use Rattle.machine_model.proofs.WorkStep.{moving_fails, moving_rests}
 use Rattle.machine_model.proofs.RulesKept.{some_again}
@@ -51,9 +50,8 @@ pub record ReadsFor (s : State) (c : ℕ) : Type 0 where
 pub reads_for : (s : State) (c : ℕ) (t : Transfer) → Keeps s → IsReading s
     → (cpu_at s.processors c).transfer ≡ Some t → ReadsFor s c
 reads_for s c t keeps reading mine = let r = reading.each c t mine in let same = ap or_zero r.its in record {
-  its = r.its ∙ ap (λ (x : ℕ). Some x) (sym same);
-  may = read_fails s c t keeps mine (process_at s c) (next_command s (process_at s c))
-      (subst (λ (j : ℕ). Wants s.store.accounts.nodes s.store.links.known j t (next_command s j)) (sym same) r.wants);
+  its = cc;
+  may = read_fails s c t keeps mine (process_at s c) (next_command s (process_at s c)) (rw same r.wants);
 }
 
 pub reads_answering : (s : State) (c : ℕ) → IsMachine s → c < length s.processors → ReadsFor s c → IsAnswering s c
@@ -61,9 +59,8 @@ reads_answering s c m there r = let one = speaks s c (process_at s c) m there r.
   process = process_at s c;
   its = r.its;
   known = one.1.known;
-  more = ap (λ (x : Option Command). is_its_end x) one.1.next
-      ∙ fails_more s (process_at s c) (flat_of s) m.keeps.faithful
-      one.0 (subst (MayFailBy s.store (process_at s c)) one.1.next r.may);
+  more = cc (fails_more s (process_at s c) (flat_of s) m.keeps.faithful one.0
+      (subst (MayFailBy s.store (process_at s c)) one.1.next r.may));
 }
 
 abbrev Follows : State → ℕ → Outcome → act.Action → Type 0
@@ -72,38 +69,26 @@ Follows s c o a = Says s c o a → Asks s c o a
 -- a page of zeros that is in a frame may be given up
 zeros_at : (ws : List ℕ) (i : ℕ) → are_zeros ws ≡ true → get_or ws i 0 ≡ 0
 zeros_at [] i h = refl
-zeros_at (w ∷ ws) zero h = elim (eqb_tells w 0) [
-  | inl e ↦ e.1
-  | inr n ↦ absurd (let none : false ≡ true = sym (ap (λ (b : Bool). b && are_zeros ws) n.0) ∙ h in cc)
-]
-zeros_at (w ∷ ws) (suc i) h = zeros_at ws i (later (eqb w 0) h)
-  where
-    later : (b : Bool) → (b && are_zeros ws) ≡ true → are_zeros ws ≡ true
-    later true e = e
-    later false e = absurd (let none : false ≡ true = e in cc)
+zeros_at (w ∷ ws) zero h = eqb-true w 0 (and_parts (eqb w 0) (are_zeros ws) h).0
+zeros_at (w ∷ ws) (suc i) h = zeros_at ws i (and_parts (eqb w 0) (are_zeros ws) h).1
 
 pub release_may : (s : State) (f u p : ℕ) → Keeps s → (seen s).bound f ≡ Some (u, p)
     → left_of (words_in s.store.pages f) ≡ left.Released → MayRelease (flat_of s) u p
 release_may s f u p k bound released = record {
-  there = stored_is s k u active p ∙ recorded (word_of s.store.ast u p) (k.book.tied.named f u p bound);
-  zeros = words_zero (flat_of s).words u p (λ i less. (let page : (1024 * p + i) / 1024 ≡ p = omega (arith, less) in
-      bound_word s k u active f (1024 * p + i) (bound ∙ ap (λ (q : ℕ). Some (u, q)) (sym page))
-      ∙ zeros_at (words_in s.store.pages f) ((1024 * p + i) % 1024) (zeros (are_zeros (words_in s.store.pages f))
-      refl released)));
+  there = bound_stored s k f u p active bound;
+  zeros = words_zero (flat_of s).words u p (λ i less. (let page : (1024 * p + i) / 1024 ≡ p = omega arith in
+      bound_word s k u active f (1024 * p + i) (cc)
+      ∙ zeros_at (words_in s.store.pages f) ((1024 * p + i) % 1024) zeros));
 }
   where
     active : is_active s.store.ast u ≡ true
     active = (let at = k.store.kept.paged.bound f u p bound in active_at s.store.ast at.0 u at.1)
 
-    recorded : (w : Ptw) → names w ≡ Some f → has_record w ≡ true
-    recorded (ptw.Here g) e = refl
-    recorded (ptw.Leaving g) e = refl
-    recorded _ e = absurd (none_some e)
-
-    zeros : (b : Bool) → are_zeros (words_in s.store.pages f) ≡ b → cond b left.Released left.Kept ≡ left.Released
-        → are_zeros (words_in s.store.pages f) ≡ true
-    zeros true e i = e
-    zeros false e i = absurd (let none : left.Kept ≡ left.Released = i in cc)
+    zeros : are_zeros (words_in s.store.pages f) ≡ true
+    zeros = elim (cases_Bool (are_zeros (words_in s.store.pages f))) [
+      | inl e ↦ e
+      | inr e ↦ absurd (let none : left.Kept ≡ left.Released = rw e at released in cc)
+    ]
 
 module _ (s : State) (c : ℕ) (o : Outcome) (m : IsMachine s) (there : c < length s.processors)
     (entitled : IsEntitledToAll s) (reading : IsReading s) (working : IsWorking s) where
@@ -126,42 +111,30 @@ module _ (s : State) (c : ℕ) (o : Outcome) (m : IsMachine s) (there : c < leng
 
     held_follows : (h : HeldSeg) → seg_of p.cpu.assoc r.number ≡ Some h
         → Follows s c o (by_move s.owner r (by_held p.cpu.assoc (λ u q. word_of s.store.ast u q) r h))
-    held_follows h held = permit (permits h.mode r.kind) refl
+    held_follows h held = cond_both (not (permits h.mode r.kind)) (move.Plain reply.NoAccess) _ Goes
+        (λ off says. no_access_asks s c m.keeps entitled cmd sp r is h held (not-true (permits h.mode r.kind) off))
+        (λ on. cond_both (nat_le (1024 * h.pages) r.offset) (move.Plain reply.Length) _ Goes
+        (λ long says. too_long_asks s c m.keeps entitled cmd sp r is h held (not-false (permits h.mode r.kind) on) long)
+        (λ short. page_follows (not-false (permits h.mode r.kind) on) short
+        (frame_of p.cpu.assoc h.uid (r.offset / 1024)) refl))
       where
+        Goes : Move → Type 0
+        Goes x = Follows s c o (by_move s.owner r x)
+
         word_follows : permits h.mode r.kind ≡ true → nat_le (1024 * h.pages) r.offset ≡ false → (w : Ptw)
-            → word_of s.store.ast h.uid (r.offset / 1024) ≡ w
-            → Follows s c o (by_move s.owner r (by_word w r.kind))
-        word_follows on short ptw.Null e = by (eqb (new_word 0 r.kind) 0) refl
-          where
-            by : (b : Bool) → eqb (new_word 0 r.kind) 0 ≡ b
-                → Follows s c o (by_move s.owner r (cond b (move.Plain (word_reply 0 r.kind)) move.Fault))
-            by true i = λ says. zero_asks s c m.keeps entitled cmd sp r is h held on short e i
-            by false i = take_follows s.owner
+            → word_of s.store.ast h.uid (r.offset / 1024) ≡ w → Goes (by_word w r.kind)
+        word_follows on short ptw.Null e = cond_both (eqb (new_word 0 r.kind) 0) (move.Plain (word_reply 0 r.kind))
+            move.Fault Goes (λ i says. zero_asks s c m.keeps entitled cmd sp r is h held on short e i)
+            (λ i. take_follows s.owner)
         word_follows on short (ptw.Here f) e = λ says. tt
         word_follows on short _ e = take_follows s.owner
 
         page_follows : permits h.mode r.kind ≡ true → nat_le (1024 * h.pages) r.offset ≡ false → (x : Option ℕ)
             → frame_of p.cpu.assoc h.uid (r.offset / 1024) ≡ x
-            → Follows s c o (by_move s.owner r
-            (by_page x (word_of s.store.ast h.uid (r.offset / 1024)) r.kind))
+            → Goes (by_page x (word_of s.store.ast h.uid (r.offset / 1024)) r.kind)
         page_follows on short (Some f) e = λ says.
             through_asks s c m.keeps entitled cmd sp r is h held on short o f e says
         page_follows on short None e = word_follows on short (word_of s.store.ast h.uid (r.offset / 1024)) refl
-
-        length_follows : permits h.mode r.kind ≡ true → (b : Bool) → nat_le (1024 * h.pages) r.offset ≡ b
-            → Follows s c o (by_move s.owner r (cond b (move.Plain reply.Length)
-            (by_page (frame_of p.cpu.assoc h.uid (r.offset / 1024))
-            (word_of s.store.ast h.uid (r.offset / 1024)) r.kind)))
-        length_follows on true e = λ says. too_long_asks s c m.keeps entitled cmd sp r is h held on e
-        length_follows on false e = page_follows on e (frame_of p.cpu.assoc h.uid (r.offset / 1024)) refl
-
-        permit : (b : Bool) → permits h.mode r.kind ≡ b
-            → Follows s c o (by_move s.owner r (cond (not b) (move.Plain reply.NoAccess)
-            (cond (nat_le (1024 * h.pages) r.offset) (move.Plain reply.Length)
-            (by_page (frame_of p.cpu.assoc h.uid (r.offset / 1024))
-            (word_of s.store.ast h.uid (r.offset / 1024)) r.kind))))
-        permit false e = λ says. no_access_asks s c m.keeps entitled cmd sp r is h held e
-        permit true e = length_follows e (nat_le (1024 * h.pages) r.offset) refl
 
     refer_follows : Follows s c o (by_move s.owner r (move_of s p.cpu k r))
     refer_follows = by (seg_of p.cpu.assoc r.number) refl
@@ -200,10 +173,6 @@ module _ (s : State) (c : ℕ) (o : Outcome) (m : IsMachine s) (there : c < leng
     idle : IsIdle s.owner
     idle = look_idle s c o m.keeps there l
 
-    -- a look that finds nothing to take takes nothing
-    takes_nothing : CanTook s aim.Committing what.All [] []
-    takes_nothing = takes_none s k m.keeps idle what.All
-
     look_follows : (a : act.Action) → LookFinds s k cmd a → Follows s c o a
     look_follows (act.Answer r) h says = answer_asks s c o m idle cmd sp r h
     look_follows (act.Activate u place) h says = activate_asks s c o m idle cmd sp u place h says
@@ -211,33 +180,25 @@ module _ (s : State) (c : ℕ) (o : Outcome) (m : IsMachine s) (there : c < leng
     look_follows (act.Create f u q r) h says = create_asks s c o m idle cmd sp f u q r h says
     look_follows (act.Start f u q) h says = started_says s c o f u q m.keeps says
     look_follows (act.Evict f) h says = evicting_says s c o f m.keeps says idle.cut
-    look_follows (act.Empty u) h says =
-        length_asks s c o k u cmd m.keeps idle (look_still s c o m.keeps there l) h says
+    look_follows (act.Empty u) h says = length_asks s c o k u cmd m.keeps idle (look_still s c o m.keeps there l) h says
     look_follows (act.EmptyVictim pool chain u) h says =
         victim_asks s c o k pool chain u cmd m.keeps idle (look_still s c o m.keeps there l) h says
-    look_follows (act.TakeAway fs pairs w) h says =
-        take_asks s k m.keeps idle c o cmd w fs pairs h.0 h.1 says
-    look_follows act.Commit h says = subst (AsksCommit s c k) (sym sp.next)
-        (commit_asks s c o m.keeps cmd sp (look_plainly s c m.keeps idle.frames cmd h) says
-        (commit_rests s c m.keeps cmd (look_taken s c k cmd what.All [] [] m.keeps idle h takes_nothing)))
-    look_follows (act.EndTransfer t) h says = absurd h
-    look_follows (act.Through f r) h says = absurd h
-    look_follows (act.Plain r) h says = absurd h
-    look_follows (act.FinishEviction f) h says = absurd h
-    look_follows (act.FinishPage f) h says = absurd h
-    look_follows (act.Deactivate u) h says = absurd h
+    look_follows (act.TakeAway fs pairs w) h says = take_asks s k m.keeps idle c o cmd w fs pairs h.0 h.1 says
+    look_follows act.Commit h says = subst (AsksCommit s c) (sym sp.next) (commit_asks s c o m.keeps cmd sp h.tree says
+        (look_rests s c m.keeps idle.frames cmd h
+        (commit_rests s c m.keeps cmd (look_taken s c k cmd what.All [] [] m.keeps idle h
+        (takes_none s k m.keeps idle what.All)))))
     look_follows (act.BeginMove u volume) h says = begun_says s c o m.keeps u volume says
-    look_follows (act.CopyPage x n) h says = absurd h
-    look_follows (act.CommitMove x) h says = absurd h
-    look_follows _ h says = tt
+    look_follows (act.Waits (act.ForTransfer f)) h says = tt
+    look_follows act.GiveUp h says = tt
+    look_follows _ h says = absurd h
 
   -- ---- what was taken goes
 
   -- the first frame that the owner took has a page
   frame_bound : (f : ℕ) (fs : List ℕ) → frames_of_owner s.owner ≡ f ∷ fs
       → (seen s).bound f ≡ Some ((page_at (seen s) f).0, (page_at (seen s) f).1)
-  frame_bound f fs e = m.keeps.book.tied.back f (page_at (seen s) f).0 (page_at (seen s) f).1
-      (ap names (going_word (seen s) f m.keeps.book (cc (m.keeps.book.going_owned.frames f, has_head f fs))))
+  frame_bound f fs e = taken_bound s m.keeps f (rw e (has_head f fs))
 
   -- a drive's failure may be told of the owner's command
   fails_by : (a : Aim) (w : What) (x : HasWaited s c a w) → FailsBy a s.store k (next_command s k)
@@ -253,14 +214,12 @@ module _ (s : State) (c : ℕ) (o : Outcome) (m : IsMachine s) (there : c < leng
       → o.failed ≡ true → Rose s.faults o.faults → StoreSays (write_failed s c o.faults)
       → CanFailWrite s c o × IsAnswering s c
   write_follows None e its may h rose says = absurd may
-  write_follows (Some cmd) e its may h rose says = write_asks s c o cmd m.keeps sp may rose says
-    where
-      sp : Speaks s c k cmd
-      sp = speaks_of s c k cmd m there its e
+  write_follows (Some cmd) e its may h rose says = let sp = speaks_of s c k cmd m there its e in
+      write_asks s c o cmd m.keeps sp may rose says
 
   -- what goes of the segment of a deactivation is all of it
   aim_of : (a : Aim) (w : What) → HasWaited s c a w → going_for s.owner ≡ aimed_at a
-  aim_of a w x = ap going_for x.owner.mine ∙ ap goes_in x.waits
+  aim_of a w x = cc
 
   finish_follows : (a : Aim) (w : What) (x : HasWaited s c a w) → p.cpu.process ≡ Some k → (fs : List ℕ)
       → x.owner.owner.frames ≡ fs → Follows s c o (finish_of a fs)
@@ -268,41 +227,33 @@ module _ (s : State) (c : ℕ) (o : Outcome) (m : IsMachine s) (there : c < leng
   finish_follows aim.Evicting w x its (f ∷ fs) e says = record {
     well = λ h. (
       says.never_less,
-      release_may s f (page_at (seen s) f).0 (page_at (seen s) f).1 m.keeps
-          (frame_bound f fs (ap frames_of_owner x.owner.mine ∙ e)),
+      release_may s f (page_at (seen s) f).0 (page_at (seen s) f).1 m.keeps (frame_bound f fs (cc)),
       evicted_says s c o f m.keeps says h,
     );
     ill = λ h. (write_follows (next_command s k) refl its (fails_by aim.Evicting w x) h (says.counted h)
         (eviction_failed_says s c o f m.keeps h says)).0;
   }
-  finish_follows (aim.Deactivating u) w x its [] e says = assumption (
-    may_deactivate s u m.keeps working.whole
-        (aim_of (aim.Deactivating u) w x) (ap frames_of_owner x.owner.mine ∙ e) (segs_are_gone s (cut_of_owner s.owner)
-        m.keeps.book (subst (λ (gs : List ℕ). GoesOn (seen s) gs (cut_of_owner s.owner))
-        (ap frames_of_owner x.owner.mine ∙ e) (wait_goes s c o m.keeps there (aim.Deactivating u) w x
-        (λ gs ds. wait_shape s c o m.keeps there (aim.Deactivating u) w x))))
-        leaf.active (λ v active h. leaf.inferiors v active
-        (ap (λ (ns : List Node). superior_in (node_in ns v))
-        (sym (ap (λ (t : Store). t.nodes) (gone_is s (cut_of_owner s.owner)).flat ∙ m.keeps.faithful.tree.nodes)) ∙ h)),
-    deactivated_says s c o u m.keeps says,
-  )
-    where
-      leaf : IsLeaf s.store u
-      leaf = working.leaf u (aim_of (aim.Deactivating u) w x)
+  finish_follows (aim.Deactivating u) w x its [] e says =
+      let leaf = working.leaf u (aim_of (aim.Deactivating u) w x) in assumption (
+        may_deactivate s u m.keeps working.whole
+            (aim_of (aim.Deactivating u) w x) (cc) (segs_are_gone s (cut_of_owner s.owner)
+            m.keeps.book (empties_goes s c o m.keeps there u w [] x e)) leaf.active
+            (λ v active h. leaf.inferiors v active (cc ((gone_is s (cut_of_owner s.owner)).flat))),
+        deactivated_says s c o u m.keeps says,
+      )
   finish_follows (aim.Deactivating u) w x its (f ∷ fs) e says = record {
     well = λ h. (
       says.never_less,
-      release_may s f (page_at (seen s) f).0 (page_at (seen s) f).1 m.keeps
-          (frame_bound f fs (ap frames_of_owner x.owner.mine ∙ e)),
+      release_may s f (page_at (seen s) f).0 (page_at (seen s) f).1 m.keeps (frame_bound f fs (cc)),
       page_left_says s c o f m.keeps says h,
     );
     ill = λ h. (write_follows (next_command s k) refl its (fails_by (aim.Deactivating u) w x) h (says.counted h)
         (page_failed_says s c o f m.keeps h says)).0;
   }
   finish_follows aim.Committing w x its fs e says = let one = speaks s c k m there its in
-      subst (AsksCommit s c k) (sym one.1.next) (commit_asks s c o m.keeps one.0 one.1
-      (taken_plainly s c one.0 (subst TakesSome one.1.next (fails_by aim.Committing w x))) says
-      (commit_rests s c m.keeps one.0 (subst (IsTakenBy s k) one.1.next (taken_by w x))))
+      let some : TakesSome (Some one.0) = subst TakesSome one.1.next (fails_by aim.Committing w x) in
+      subst (AsksCommit s c) (sym one.1.next) (commit_asks s c o m.keeps one.0 one.1 (takes_tree one.0 some) says
+      (taken_rests s c one.0 some (commit_rests s c m.keeps one.0 (subst (IsTakenBy s k) one.1.next (taken_by w x)))))
 
   -- a segment moves
   move_follows : (x : Mover) → IsMoving s c x → p.cpu.process ≡ Some k → (next : Option ℕ)
@@ -345,14 +296,8 @@ module _ (s : State) (c : ℕ) (o : Outcome) (m : IsMachine s) (there : c < leng
   owner_follows : (x : Option Owner) → s.owner ≡ x → Follows s c o (own_or_run s c p x)
   owner_follows None e = run_follows p.cpu.process refl
   owner_follows (Some q) e = cond_both (eqb q.cpu c) (go_on_with s k q q.phase) (run_process s p p.cpu.process)
-      (Follows s c o) (λ h. mine (same h)) (λ h. run_follows p.cpu.process refl)
+      (Follows s c o) (λ h. mine (eqb-true q.cpu c h)) (λ h. run_follows p.cpu.process refl)
     where
-      same : eqb q.cpu c ≡ true → q.cpu ≡ c
-      same h = elim (eqb_tells q.cpu c) [
-        | inl y ↦ y.1
-        | inr n ↦ absurd (let none : true ≡ false = sym h ∙ n.0 in cc)
-      ]
-
       mine : q.cpu ≡ c → Follows s c o (go_on_with s k q q.phase)
       mine is = phase_follows (record { owner = q; mine = e; same = is })
           (process_here s c o m.keeps there (record { owner = q; mine = e; same = is })) q.phase refl
@@ -372,5 +317,4 @@ module _ (s : State) (c : ℕ) (o : Outcome) (m : IsMachine s) (there : c < leng
 
   -- What a step asks follows.
   pub step_asks : Follows s c o (action_of s c)
-  step_asks = action_by (Follows s c o) s c (λ says. tt) (λ says. tt) (λ off says. tt)
-      (λ on. clear_follows p.cpu.due)
+  step_asks = action_by (Follows s c o) s c (λ says. tt) (λ says. tt) (λ off says. tt) (λ on. clear_follows p.cpu.due)

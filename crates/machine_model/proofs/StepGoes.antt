@@ -17,12 +17,11 @@ use Rattle.machine_model.proofs.SpeakLaws.{comes_next}
 
 -- a processor that has a process may answer its next command
 pub may_answer : (s : State) (c k : ℕ) → IsMachine s → c < length s.processors
-    → (cpu_at s.processors c).process ≡ Some k
-    → MayAnswer s c
+    → (cpu_at s.processors c).process ≡ Some k → MayAnswer s c
 may_answer s c k m there its = let next = comes_next s c k m its in record {
   process = k;
   command = next.2.command;
-  can = record { within = there; process = its; there = next.1; planned = next.0.planned; on = next.2.on };
+  can = assumption;
 }
 
 answering : (s : State) (c : ℕ) → AnswersOne s c → IsAnswering s c
@@ -30,15 +29,18 @@ answering s c a = record {
   process = process_at s c;
   its = a.speaks.its;
   known = a.speaks.known;
-  more = ap is_its_end a.speaks.next ∙ a.more;
+  more = cc;
 }
 
 -- what a look takes is few
 pub few_taken : (s : State) (k : ℕ) (cmd : Command) (fs : List ℕ) (pairs : List (ℕ × ℕ)) → Keeps s
     → FindsTaken s k cmd fs pairs → length fs + length pairs ≤ 288
 few_taken s k cmd fs pairs keeps finds = let a = ap (λ (x : List ℕ). length x) finds.frames in
-    let b = ap (λ (x : List (ℕ × ℕ)). length x) finds.descriptors in
-    let few = command_few s k (uid_of_command s.store k cmd) cmd keeps in omega (arith, a, b, few)
+    omega (
+      arith,
+      command_few s k (uid_of_command s.store k cmd) cmd keeps,
+      (ap (λ (x : List (ℕ × ℕ)). length x) finds.descriptors),
+    )
 
 module _ (s : State) (c : ℕ) (o : Outcome) (m : IsMachine s) (there : c < length s.processors) (reading : IsReading s)
   where
@@ -90,8 +92,8 @@ module _ (s : State) (c : ℕ) (o : Outcome) (m : IsMachine s) (there : c < leng
       knows.2,
       knows.3,
       can.can.pairs_are,
-      subst (IsTakenBy (took s c aim.Committing w fs pairs) (process_at s c)) (sym knows.4.next)
-          (look_taken s c (process_at s c) knows.4.command w fs pairs m.keeps knows.1 knows.4.finds can.can),
+      rw knows.4.next (look_taken s c (process_at s c) knows.4.command w fs pairs m.keeps knows.1 knows.4.finds
+          can.can),
       few_taken s (process_at s c) knows.4.command fs pairs m.keeps knows.4.finds,
     )
     may_work (act.BeginMove u volume) can knows = knows
@@ -111,7 +113,7 @@ module _ (s : State) (c : ℕ) (o : Outcome) (m : IsMachine s) (there : c < leng
         by false e = come_same s (transferred (with_faults s o.faults) c t) refl refl m.come
 
     quiet : (a : act.Action) → tells a ≡ false → AllCome (after s c a o)
-    quiet a off = all_come s c a o m.script m.come (λ h. absurd (let none : true ≡ false = sym h ∙ off in cc))
+    quiet a off = all_come s c a o m.script m.come (λ h. cc)
 
     -- so each process still comes to a command
     pub comes : (a : act.Action) → CanDo s c o a → Knows s c a → AllCome (after s c a o)

@@ -1,12 +1,11 @@
 -- What the rules know where they choose an action: who owns the supervisor, and whose command it is.
-use Rattle.machine_model.proofs.Prelude.{◌≡◌, ◌≢◌, ◌<◌, ℕ, true, false, not, ◌&&◌, eqb, List, [], ◌∷◌, length, position, Option, Some, None, inl, inr, refl, sym, ap, subst, ◌∙◌, ◌⊎◌, ◌/◌, cond_both, eqb_tells, reference_of, Command, Reference, What, Mover, table_of, next_out, IsMovedFor, IsTakenBy, IsTakenFor, TakenIn, Transfer, Aim, Phase, Processor, action_of, by_move, clear_or, come_to, finish_of, go_on_with, has_had_its_turn, is_empty, load_or_idle, look_of, move_of, once_cleared, own_or_run, refer_or_take, run_process, take_or_wait, transfer_or, copy_or_commit, Outcome, IsMachine, flat_of, is_due, next_command, or_zero, process_at, processor_at, Owner, State, FailsIn, IsWorking, MayFailBy, TakesSome, Reply, is_end, reply_to_command, is_refusal, Move}
+use Rattle.machine_model.proofs.Prelude.{eqb_self, not_both, eqb-true, ◌≡◌, ◌≢◌, ◌<◌, ℕ, true, false, not, ◌&&◌, eqb, List, [], ◌∷◌, length, position, Option, Some, None, inl, inr, refl, sym, ap, subst, ◌∙◌, ◌⊎◌, ◌/◌, cond_both, reference_of, Command, Reference, What, Mover, table_of, next_out, IsMovedFor, IsTakenBy, IsTakenFor, TakenIn, Transfer, Aim, Phase, Processor, action_of, by_move, clear_or, come_to, finish_of, go_on_with, has_had_its_turn, is_empty, load_or_idle, look_of, move_of, once_cleared, own_or_run, refer_or_take, run_process, take_or_wait, transfer_or, copy_or_commit, Outcome, IsMachine, flat_of, is_due, next_command, or_zero, process_at, processor_at, Owner, State, FailsIn, IsWorking, MayFailBy, TakesSome, Reply, is_end, reply_to_command, is_refusal, Move}
 use Rattle.assoc_mem.specs.declared.What.TheVariants as what
 use Rattle.machine_model.proofs.ActionCases.{action_by}
 use Rattle.machine_model.proofs.JustTaken.{look_taken}
 use Rattle.machine_model.proofs.LookAsks.{page_active}
 use Rattle.machine_model.proofs.MoveFound.{move_found}
 use Rattle.machine_model.proofs.ReadyLaws.{IsOutOfUse}
-use Rattle.machine_model.proofs.TookKept.{CanTook}
 use Rattle.processor.specs.declared.Move.TheVariants as move
 use Rattle.machine_model.specs.declared.Aim.TheVariants as aim
 use Rattle.machine_model.specs.declared.Phase.TheVariants as phase
@@ -17,7 +16,6 @@ use Rattle.machine_model.proofs.RuleKept.{IsLooking, look_idle, process_here, Is
 use Rattle.machine_model.proofs.SpeakLaws.{Speaks, speaks, speaks_of}
 use Rattle.machine_model.proofs.StandLaws.{takes_tree}
 use Rattle.machine_model.proofs.StepKept.{IsMine}
-use Rattle.machine_model.proofs.TieLaws.{none_some}
 use Rattle.script.specs.declared.commands.Command.TheVariants as command
 use Rattle.machine_model.proofs.FailLaws.{fails_more}
 use Rattle.machine_model.proofs.KeepLaws.{IsNoOwner}
@@ -86,13 +84,9 @@ Knows s c (act.CommitMove m) = EndsMove s c m
 Knows s c act.Commit = Commits s c
 Knows s c _ = Unit {0}
 
-nothing : (fs : List ℕ) (pairs : List (ℕ × ℕ)) → fs ≡ [] → pairs ≡ [] → (fs ≢ []) ⊎ (pairs ≢ []) → ⊥
-nothing fs pairs a b (inl n) = n a
-nothing fs pairs a b (inr n) = n b
-
 -- a command with a reference isn't an end
 reference_more : (cmd : Command) (r : Reference) → reference_of cmd ≡ Some r → is_end cmd ≡ false
-reference_more command.End r h = absurd (none_some h)
+reference_more command.End r h = cc
 reference_more cmd r h = refl
 
 module _ (s : State) (c : ℕ) (o : Outcome) (m : IsMachine s) (there : c < length s.processors) (working : IsWorking s)
@@ -117,7 +111,7 @@ module _ (s : State) (c : ℕ) (o : Outcome) (m : IsMachine s) (there : c < leng
     takes_some (command.Truncate path words) fs pairs h some = tt
     takes_some (command.Delete path) fs pairs h some = tt
     takes_some command.End fs pairs h some = tt
-    takes_some _ fs pairs h some = nothing fs pairs h.frames h.descriptors some
+    takes_some _ fs pairs h some = elim some [ inl n ↦ n h.frames | inr n ↦ n h.descriptors ]
 
     -- the command of the process that is here
     its_command : p.cpu.process ≡ Some k → (x : Command) × Speaks s c k x
@@ -167,10 +161,6 @@ module _ (s : State) (c : ℕ) (o : Outcome) (m : IsMachine s) (there : c < leng
       abbrev looks : {Finds : Command → Type 0} → Finds cmd → Looks s c Finds
       looks h = record { looking = l; idle = idle; command = cmd; next = sp.next; finds = h }
 
-      -- a look that finds nothing to take takes nothing
-      takes_nothing : CanTook s aim.Committing what.All [] []
-      takes_nothing = takes_none s k m.keeps idle what.All
-
       look_knows : (a : act.Action) → LookFinds s k cmd a → Knows s c a
       look_knows (act.Answer r) h =
           record { command = cmd; speaks = sp; more = refused_more cmd r h.reply h.refuses }
@@ -185,8 +175,7 @@ module _ (s : State) (c : ℕ) (o : Outcome) (m : IsMachine s) (there : c < leng
         l,
         idle,
         h.2,
-        subst TakesSome (sym sp.next)
-            (takes_some cmd fs pairs h.0 h.2),
+        subst TakesSome (sym sp.next) (takes_some cmd fs pairs h.0 h.2),
         record { command = cmd; next = sp.next; finds = h.0 },
       )
       look_knows act.Commit h = record {
@@ -194,25 +183,20 @@ module _ (s : State) (c : ℕ) (o : Outcome) (m : IsMachine s) (there : c < leng
         command = cmd;
         speaks = sp;
         tree = h.tree;
-        taken = look_taken s c k cmd what.All [] [] m.keeps idle h takes_nothing;
+        taken = look_taken s c k cmd what.All [] [] m.keeps idle h (takes_none s k m.keeps idle what.All);
         out = h.inactive;
       }
-      look_knows (act.Through f r) h = absurd h
-      look_knows (act.Plain r) h = absurd h
-      look_knows (act.FinishEviction f) h = absurd h
-      look_knows (act.FinishPage f) h = absurd h
       look_knows (act.Start f u q) h = (cmd, sp, h)
       look_knows (act.BeginMove u volume) h = record {
         looking = l;
-        fails = subst (MayFailBy s.store k) (sym sp.next)
-            (page_fails s k cmd m.keeps u (h.reference.offset / 1024) (inl (h.reference, h.finds)));
+        fails = rw sp.next (page_fails s k cmd m.keeps u (h.reference.offset / 1024) (inl (h.reference, h.finds)));
         moves = move_found s k cmd m.keeps u volume h
             (page_active s c o m idle cmd sp h.reference u (h.reference.offset / 1024) h.finds)
             (next_command s k) sp.next;
       }
-      look_knows (act.CopyPage x q) h = absurd h
-      look_knows (act.CommitMove x) h = absurd h
-      look_knows _ h = tt
+      look_knows (act.Waits (act.ForTransfer f)) h = tt
+      look_knows act.GiveUp h = tt
+      look_knows _ h = absurd h
 
     -- ---- what was taken goes
 
@@ -222,9 +206,8 @@ module _ (s : State) (c : ℕ) (o : Outcome) (m : IsMachine s) (there : c < leng
     fails_knows q its may = let one = its_command its in record {
       command = one.0;
       speaks = one.1;
-      more = fails_more s k (flat_of s) m.keeps.faithful one.0
-          (subst (MayFailBy s.store k) one.1.next
-          (subst (λ (d : ℕ). MayFailBy s.store (process_at s d) (next_command s (process_at s d))) q.same may));
+      more = fails_more s k (flat_of s) m.keeps.faithful one.0 (subst (MayFailBy s.store k) one.1.next
+          (rw (← q.same) may));
     }
 
     finish_knows : (q : IsMine s c) → p.cpu.process ≡ Some k → (a : Aim) (w : What) → q.owner.phase ≡ phase.Waiting a w
@@ -234,8 +217,7 @@ module _ (s : State) (c : ℕ) (o : Outcome) (m : IsMachine s) (there : c < leng
     finish_knows q its (aim.Deactivating u) w e [] = tt
     finish_knows q its (aim.Deactivating u) w e (f ∷ fs) = (
       record { owner = q; uid = u; what = w; waits = e },
-      fails_knows q its
-          (rw e at (working.fails q.owner q.mine)),
+      fails_knows q its (rw e at (working.fails q.owner q.mine)),
     )
     finish_knows q its aim.Committing w e fs =
         let one = its_command its in
@@ -280,24 +262,12 @@ module _ (s : State) (c : ℕ) (o : Outcome) (m : IsMachine s) (there : c < leng
     -- ---- the rules in their order
 
     owner_knows : (x : Option Owner) → s.owner ≡ x → Knows s c (own_or_run s c p x)
-    owner_knows None e = run_knows (λ q h. absurd (none_some (sym e ∙ h))) p.cpu.process refl
+    owner_knows None e = run_knows (λ q h. cc) p.cpu.process refl
     owner_knows (Some q) e = cond_both (eqb q.cpu c) (go_on_with s k q q.phase) (run_process s p p.cpu.process)
-        (Knows s c) (λ h. mine (is h)) (λ h. run_knows (others h) p.cpu.process refl)
+        (Knows s c) (λ h. mine (eqb-true q.cpu c h)) (λ h. run_knows (others h) p.cpu.process refl)
       where
-        is : eqb q.cpu c ≡ true → q.cpu ≡ c
-        is h = elim (eqb_tells q.cpu c) [
-          | inl y ↦ y.1
-          | inr n ↦ absurd (let none : true ≡ false = sym h ∙ n.0 in cc)
-        ]
-
-        owner_is : (x y : Owner) → Some x ≡ Some y → x ≡ y
-        owner_is x y h = cc
-
         others : eqb q.cpu c ≡ false → IsNoOwner s c
-        others h x g y = elim (eqb_tells q.cpu c) [
-          | inl a ↦ (let none : true ≡ false = sym a.0 ∙ h in cc)
-          | inr n ↦ n.1 (ap (λ (z : Owner). z.cpu) (owner_is q x (sym e ∙ g)) ∙ y)
-        ]
+        others h x g y = let is : q ≡ x = cc in not_both (rw (ap (λ (z : Owner). z.cpu) is ∙ y) (eqb_self c)) h
 
         mine : q.cpu ≡ c → Knows s c (go_on_with s k q q.phase)
         mine same = phase_knows (record { owner = q; mine = e; same = same })

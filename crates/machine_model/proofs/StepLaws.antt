@@ -12,9 +12,9 @@ use Rattle.machine_model.proofs.GoesLaws.{goes, all_set}
 
 -- a processor that takes part is there
 pub inside : (xs : List Runner) (c : ℕ) → (runner_at xs c).online ≡ true → c < length xs
-inside [] c h = let no : false ≡ true = h in absurd cc
+inside [] c h = let no = h in absurd cc
 inside (x ∷ xs) zero h = omega arith
-inside (x ∷ xs) (suc c) h = let rest = inside xs c h in omega (arith, rest)
+inside (x ∷ xs) (suc c) h = omega (arith, (inside xs c h))
 
 -- where nothing is due, it is so at each processor
 pub none_due : (xs : List Runner) (d : ℕ) → d < length xs → dues xs ≡ 0 → (runner_at xs d).due ≡ false
@@ -23,9 +23,8 @@ none_due xs d lt none = by (runner_at xs d).due refl
     by : (b : Bool) → (runner_at xs d).due ≡ b → b ≡ false
     by false h = refl
     by true h =
-        let count = dues_set xs d no_runner lt in
         let one : cond {A = ℕ} (runner_at xs d).due 1 0 ≡ 1 = ap (λ (b : Bool). cond {A = ℕ} b 1 0) h in
-        absurd (omega (arith, count, one, none))
+        absurd (omega (arith, (dues_set xs d no_runner lt), one, none))
 
 -- ---- the owner
 
@@ -34,10 +33,9 @@ pub works_rule : (s : Outline) (c : ℕ) (stage : Stage) → IsKept s → IsIn s
 unfolding rule_of
 works_rule s c stage k owner =
     let work = k.job.at_work c stage owner in
-    let online = k.tied.runners_online c work.running in
     let idle : is_some (runner_at s.runners c).reading ≡ false = ap (λ (o : Option Transfer). is_some o) work.idle in
     let own : owns s.owner c ≡ true = ap (λ (o : Option Keeper). owns o c) owner ∙ own_self c in
-    rw (online, work.clear, idle, own) refl
+    rw ((k.tied.runners_online c work.running), work.clear, idle, own) refl
   where
     own_self : (i : ℕ) → eqb i i ≡ true
     own_self i = elim (eqb_tells i i) [ inl x ↦ x.0 | inr x ↦ absurd (x.1 refl) ]
@@ -48,8 +46,7 @@ works_only {s = s} {c = c} {stage = stage} k owner h = sym (works_rule s c stage
 
 pub owner_step : (s : Outline) (c : ℕ) (stage : Stage) (turn : Turn) (t : Outline) → IsKept s → IsKept t
     → IsIn s c stage → Step s c turn t → OwnerStep turn s t c
-owner_step s c stage turn t k l owner (ends ended) =
-    not_both (k.job.at_work c stage owner).running (ended.running c)
+owner_step s c stage turn t k l owner (ends ended) = not_both (k.job.at_work c stage owner).running (ended.running c)
 owner_step s c stage turn t k l owner (comes h) = let no = works_only k owner h in absurd cc
 owner_step s c stage turn t k l owner (clears x h cleared) = let no = works_only k owner h in absurd cc
 owner_step s c stage turn t k l owner (reads r used modified h is) = let no = works_only k owner h in absurd cc
@@ -88,13 +85,10 @@ cleared_falls : (s : Outline) (c d : ℕ) (x : Runner) → IsKept s → AwaitsCl
     → IsCleared (runner_at s.runners d) x
     → (job_rank (with_runner s d x) < job_rank s) × IsUnderWay s (with_runner s d x) c
 cleared_falls s c d x k awaits cleared =
-    let stage : Stage = Waiting awaits.work in
-    let work = k.job.at_work c stage awaits.waiting in
+    let stage = Waiting awaits.work in
     let within = inside s.runners d awaits.online in
-    let apart = other_than s c d (λ r. r.due) work.clear awaits.due in
-    let same : runner_at (with_runner s d x).runners c ≡ runner_at s.runners c =
-    get_or-set_other s.runners d c x no_runner apart in
-    let count = dues_set s.runners d x within in
+    let apart = other_than s c d (λ r. r.due) (k.job.at_work c stage awaits.waiting).clear awaits.due in
+    let same = get_or-set_other s.runners d c x no_runner apart in
     let was : cond {A = ℕ} (runner_at s.runners d).due 1 0 ≡ 1 = ap (λ (b : Bool). cond {A = ℕ} b 1 0) awaits.due in
     let now : cond {A = ℕ} x.due 1 0 ≡ 0 = ap (λ (b : Bool). cond {A = ℕ} b 1 0) cleared.due in
     let read = readers_set s.runners d x within in
@@ -106,7 +100,7 @@ cleared_falls s c d x k awaits cleared =
     < rank_of (parts_of s (runner_at s.runners c) stage) =
     (rw same (falls_due (parts_of s (runner_at s.runners c) stage) (parts_of (with_runner s d x) (runner_at s.runners c)
     stage) (omega (arith, read, read_same)) (le_refl _) (le_refl _) (le_refl _) (le_refl _) (le_refl _) (le_refl _)
-    (omega (arith, count, was, now)))) in (
+    (omega (arith, (dues_set s.runners d x within), was, now)))) in (
       omega (arith, rank_s, rank_t, less),
       record {
         stage = stage;

@@ -18,9 +18,9 @@ module _ (s : State) (k : ℕ) (keeps : Keeps s) (idle : IsIdle s.owner) where
   -- where no page is taken
   pub no_pages : (w : What) → CanTakeAll (seen s) aim.Committing w []
   no_pages w = record {
-    here = λ f h. absurd (let none : false ≡ true = h in cc);
+    here = λ f h. cc;
     once = tt;
-    named = λ f h. absurd (let none : false ≡ true = h in cc);
+    named = λ f h. cc;
     others = idle_names (shown (seen s)) s.owner w keeps.book.going_owned idle.frames idle.cut;
     still = idle.waits;
     aimed = λ gs ds. tt;
@@ -30,7 +30,7 @@ module _ (s : State) (k : ℕ) (keeps : Keeps s) (idle : IsIdle s.owner) where
   pub takes_none : (w : What) → CanTook s aim.Committing w [] []
   takes_none w = record {
     pages = no_pages w;
-    bound = λ f h. absurd (let none : false ≡ true = h in cc);
+    bound = λ f h. cc;
     pairs_are = tt;
   }
 
@@ -41,10 +41,10 @@ module _ (s : State) (k : ℕ) (keeps : Keeps s) (idle : IsIdle s.owner) where
     where
       by : (x : Sdw) → descriptor_of s.store.links k n ≡ x → is_connected x ≡ true
           → (u : ℕ) × ((seen s).linked k n ≡ Some u) × (uid_of_number s.store k n ≡ u)
-      by sdw.Fault e i = absurd (let none : false ≡ true = i in cc)
+      by sdw.Fault e i = cc
       by (sdw.Present aste m pages) e i = (
         at.uid,
-        ap (led_to s.store.ast.entries) e ∙ at.active,
+        cc (e, at.active),
         ap or_zero at.known_as,
       )
         where
@@ -56,7 +56,7 @@ module _ (s : State) (k : ℕ) (keeps : Keeps s) (idle : IsIdle s.owner) where
       → ArePairs (seen s).linked (what.Seg (uid_of_number s.store k n)) (cond b ((k, n) ∷ []) [])
   one_taken n false e = tt
   one_taken n true e = let leads_there = connected_leads n e in (
-    (leads_there.0, leads_there.1, ap (λ (u : ℕ). eqb leads_there.0 u) leads_there.2 ∙ eqb_self leads_there.0),
+    (leads_there.0, leads_there.1, cc (eqb_self leads_there.0)),
     refl,
     tt,
   )
@@ -66,7 +66,7 @@ module _ (s : State) (k : ℕ) (keeps : Keeps s) (idle : IsIdle s.owner) where
       is_connected (descriptor_of s.store.links k i)) (range_with_len from n))) k j ≡ false
   later_none from zero j less = refl
   later_none from (suc n) j less = by (is_connected (descriptor_of s.store.links k from))
-      (later_none (from + 1) n j (omega (arith, less)))
+      (later_none (from + 1) n j (omega arith))
     where
       rest : List (ℕ × ℕ)
       rest = map (λ i. (k, i)) (filter (λ i. is_connected (descriptor_of s.store.links k i)) (range_with_len
@@ -74,7 +74,7 @@ module _ (s : State) (k : ℕ) (keeps : Keeps s) (idle : IsIdle s.owner) where
 
       other : is_pair k j (k, from) ≡ false
       other = elim (eqb_tells from j) [
-        | inl e ↦ (let same = e.1 in absurd (omega (arith, same, less)))
+        | inl e ↦ (let same = e.1 in absurd (omega arith))
         | inr m ↦ ap (λ (b : Bool). eqb k k && b) m.0 ∙ and-false (eqb k k)
       ]
 
@@ -83,7 +83,7 @@ module _ (s : State) (k : ℕ) (keeps : Keeps s) (idle : IsIdle s.owner) where
           → has_pair (map (λ i. (k, i)) (cond b (from ∷ filter (λ i. is_connected (descriptor_of s.store.links k i))
           (range_with_len (from + 1) n)) (filter (λ i. is_connected (descriptor_of s.store.links k i))
           (range_with_len (from + 1) n)))) k j ≡ false
-      by true h = ap (λ (b : Bool). b || has_pair rest k j) other ∙ h
+      by true h = cc (other, h)
       by false h = h
 
   all_taken : (from n : ℕ) → ArePairs (seen s).linked what.All (map (λ i. (k, i)) (filter (λ i.
@@ -107,7 +107,7 @@ module _ (s : State) (k : ℕ) (keeps : Keeps s) (idle : IsIdle s.owner) where
       (descriptors_taken s.store k (uid_of_command s.store k cmd) cmd)
   command_takes (command.Acl path row m) = let u = uid_of_command s.store k (command.Acl path row m) in record {
     pages = no_pages (what.Seg u);
-    bound = λ f h. absurd (let none : false ≡ true = h in cc);
+    bound = λ f h. cc;
     pairs_are = trailers_taken s (what.Seg u) u keeps (eqb_self u);
   }
   command_takes (command.Delete path) = let u = uid_of_command s.store k (command.Delete path) in record {
@@ -123,12 +123,12 @@ module _ (s : State) (k : ℕ) (keeps : Keeps s) (idle : IsIdle s.owner) where
       }
   command_takes (command.Terminate n) = record {
     pages = no_pages (what.Seg (uid_of_number s.store k n));
-    bound = λ f h. absurd (let none : false ≡ true = h in cc);
+    bound = λ f h. cc;
     pairs_are = one_taken n (is_connected (descriptor_of s.store.links k n)) refl;
   }
   command_takes command.End = record {
     pages = no_pages what.All;
-    bound = λ f h. absurd (let none : false ≡ true = h in cc);
+    bound = λ f h. cc;
     pairs_are = all_taken 0 256;
   }
   command_takes cmd = takes_none (what.Seg (uid_of_command s.store k cmd))
@@ -143,8 +143,4 @@ module _ (s : State) (k : ℕ) (keeps : Keeps s) (idle : IsIdle s.owner) where
   )
     where
       can : CanTook s aim.Committing w fs pairs
-      can = rw named (subst (λ (x : List ℕ). CanTook s aim.Committing (what_taken (uid_of_command s.store k cmd) cmd) x
-          pairs) (sym finds.frames)
-          (subst (λ (x : List (ℕ × ℕ)). CanTook s aim.Committing (what_taken (uid_of_command s.store k cmd) cmd)
-          (frames_taken s.store (uid_of_command s.store k cmd) (first_taken cmd)) x) (sym finds.descriptors)
-          (command_takes cmd)))
+      can = rw named (rw (finds.frames, finds.descriptors) (command_takes cmd))

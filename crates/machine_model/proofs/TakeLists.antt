@@ -15,20 +15,19 @@ use Rattle.machine_model.proofs.TookKept.{ArePairs, CanTook, has_pair}
 
 -- a word that is here
 here_word : (w : Ptw) (f : ℕ) → has (here_in w) f ≡ true → w ≡ ptw.Here f
-here_word ptw.Null f h = absurd (let no : false ≡ true = h in cc)
-here_word (ptw.Out r) f h = absurd (let no : false ≡ true = h in cc)
-here_word (ptw.Leaving g) f h = absurd (let no : false ≡ true = h in cc)
+here_word ptw.Null f h = cc
+here_word (ptw.Out r) f h = cc
+here_word (ptw.Leaving g) f h = cc
 here_word (ptw.Here g) f h = elim (eqb_tells g f) [
   | inl e ↦ ap (λ (x : ℕ). ptw.Here x) e.1
-  | inr n ↦ absurd (let no : true ≡ false = sym h ∙ ap (λ (b : Bool). b || false) n.0 in cc)
+  | inr n ↦ cc
 ]
 
 -- each frame of the list has a word
 pub frame_word : (ws : List Ptw) (f : ℕ) → has (frames_in ws) f ≡ true → (q : ℕ) × (get_or ws q ptw.Null ≡ ptw.Here f)
-frame_word [] f h = absurd (let no : false ≡ true = h in cc)
+frame_word [] f h = cc
 frame_word (w ∷ ws) f h = by (or_cases (has (here_in w) f) (has (frames_in ws) f)
-    (sym (list_any-append (λ y. eqb y f) (here_in w) (frames_in ws)) ∙ h))
-    (frame_word ws f)
+    (sym (list_any-append (λ y. eqb y f) (here_in w) (frames_in ws)) ∙ h)) (frame_word ws f)
   where
     by : (has (here_in w) f ≡ true) ⊎ (has (frames_in ws) f ≡ true)
         → (has (frames_in ws) f ≡ true → (q : ℕ) × (get_or ws q ptw.Null ≡ ptw.Here f))
@@ -40,35 +39,31 @@ frame_word (w ∷ ws) f h = by (or_cases (has (here_in w) f) (has (frames_in ws)
 frames_once : (ws : List Ptw) → ((q r f : ℕ) → get_or ws q ptw.Null ≡ ptw.Here f → get_or ws r ptw.Null ≡ ptw.Here f
     → q ≡ r) → AreDistinct (frames_in ws)
 frames_once [] one = tt
-frames_once (ptw.Null ∷ ws) one = frames_once ws
-    (λ q r f a b. (let s = one (suc q) (suc r) f a b in let same : q ≡ r = cc in same))
-frames_once (ptw.Out x ∷ ws) one = frames_once ws
-    (λ q r f a b. (let s = one (suc q) (suc r) f a b in let same : q ≡ r = cc in same))
-frames_once (ptw.Leaving x ∷ ws) one = frames_once ws
-    (λ q r f a b. (let s = one (suc q) (suc r) f a b in let same : q ≡ r = cc in same))
+frames_once (ptw.Null ∷ ws) one = frames_once ws (λ q r f a b. (let s = one (suc q) (suc r) f a b in cc))
+frames_once (ptw.Out x ∷ ws) one = frames_once ws (λ q r f a b. (let s = one (suc q) (suc r) f a b in cc))
+frames_once (ptw.Leaving x ∷ ws) one = frames_once ws (λ q r f a b. (let s = one (suc q) (suc r) f a b in cc))
 frames_once (ptw.Here g ∷ ws) one = (
   by (has (frames_in ws) g) refl,
-  frames_once ws (λ q r f a b. (let s = one (suc q) (suc r) f a b in let same : q ≡ r = cc in same)),
+  frames_once ws (λ q r f a b. (let s = one (suc q) (suc r) f a b in cc)),
 )
   where
     by : (b : Bool) → has (frames_in ws) g ≡ b → b ≡ false
     by false e = refl
     by true e = let at = frame_word ws g e in
-        absurd (let no : zero ≡ suc at.0 = one zero (suc at.0) g refl at.1 in omega (arith, no))
+        absurd (omega (arith, one zero (suc at.0) g refl at.1))
 
 -- the word of a page from a number on
 pub dropped_word : (ws : List Ptw) (low q : ℕ) → get_or (drop low ws) q ptw.Null ≡ get_or ws (low + q) ptw.Null
-dropped_word ws zero q = let same : q ≡ 0 + q = omega arith in ap (λ (i : ℕ). get_or ws i ptw.Null) same
+dropped_word ws zero q = let same : q ≡ 0 + q = omega arith in cc
 dropped_word [] (suc low) q = refl
-dropped_word (w ∷ ws) (suc low) q = dropped_word ws low q
-    ∙ (let same : suc (low + q) ≡ suc low + q = omega arith in ap (λ (i : ℕ). get_or (w ∷ ws) i ptw.Null) same)
+dropped_word (w ∷ ws) (suc low) q = dropped_word ws low q ∙ (let same : suc (low + q) ≡ suc low + q = omega arith in cc)
 
 -- the frames of a segment's pages from a number on may be taken
 pub pages_taken : (s : State) (a : Aim) (w : What) (u low : ℕ) → Keeps s → IsIdle s.owner → names_uid w u ≡ true
     → ((gs : List ℕ) (cs : List CutDescriptor) → IsAimed a w gs cs)
     → CanTakeAll (seen s) a w (frames_from s.store.ast u low)
 pages_taken s a w u low k idle named aimed = record {
-  here = λ f h. (let at = word_at f h in rw (bound_at f h) at.1);
+  here = λ f h. (rw (bound_at f h) (word_at f h).1);
   once = frames_once (drop low (table_of s.store.ast u)) (λ q r f a b. once q r f a b);
   named = λ f h. frame_named w named f h;
   others = idle_names (shown (seen s)) s.owner w k.book.going_owned idle.frames idle.cut;
@@ -85,15 +80,14 @@ pages_taken s a w u low k idle named aimed = record {
 
     once : (q r f : ℕ) → get_or (drop low (table_of s.store.ast u)) q ptw.Null ≡ ptw.Here f
         → get_or (drop low (table_of s.store.ast u)) r ptw.Null ≡ ptw.Here f → q ≡ r
-    once q r f a b = let one = k.book.tied.back f u (low + q)
-        (ap names (sym (dropped_word (table_of s.store.ast u) low q) ∙ a)) in
-        let two = k.book.tied.back f u (low + r) (ap names (sym (dropped_word (table_of s.store.ast u) low r) ∙ b)) in
-        let same = (page_is u (low + q) u (low + r) (sym one ∙ two)).1 in omega (arith, same)
+    once q r f a b = let one = k.book.tied.back f u (low + q) (cc (dropped_word (table_of s.store.ast u) low q)) in
+        let two = k.book.tied.back f u (low + r) (cc (dropped_word (table_of s.store.ast u) low r)) in
+        omega (arith, ((page_is u (low + q) u (low + r) (cc)).1))
 
     frame_named : (x : What) → names_uid x u ≡ true → (f : ℕ) → has (frames_from s.store.ast u low) f ≡ true
         → names_frame (shown (seen s)) x f ≡ true
     frame_named what.All e f h = refl
-    frame_named (what.Page g) e f h = absurd (let no : false ≡ true = e in cc)
+    frame_named (what.Page g) e f h = cc
     frame_named (what.Seg v) e f h = cc (bound_shown (seen s) f, bound_at f h)
 
 -- a frame that is listed has a page of the segment
@@ -101,7 +95,7 @@ pub listed_bound : (s : State) (u low : ℕ) → Keeps s → (f : ℕ) → has (
     → (q : ℕ) × ((seen s).bound f ≡ Some (u, q))
 listed_bound s u low k f h = (
   low + at.0,
-  k.book.tied.back f u (low + at.0) (ap names (sym (dropped_word (table_of s.store.ast u) low at.0) ∙ at.1)),
+  k.book.tied.back f u (low + at.0) (cc (dropped_word (table_of s.store.ast u) low at.0, at.1)),
 )
   where
     at : (q : ℕ) × (get_or (drop low (table_of s.store.ast u)) q ptw.Null ≡ ptw.Here f)
@@ -110,7 +104,7 @@ listed_bound s u low k f h = (
 pub pages_bound : (s : State) (u low : ℕ) → Keeps s → (f : ℕ) → has (frames_from s.store.ast u low) f ≡ true
     → (seen s).bound f ≡ Some (page_at (seen s) f)
 pages_bound s u low k f h = let is = (listed_bound s u low k f h).1 in
-    is ∙ ap (λ (x : Option (ℕ × ℕ)). Some (page_or_zero x)) (sym is)
+    cc
 
 -- ---- descriptors
 
@@ -129,9 +123,8 @@ no_pair (x ∷ xs) k n h = by (is_trailer k n x) refl (no_pair xs k n)
 
     by : (b : Bool) → is_trailer k n x ≡ b → (count_by (is_trailer k n) xs ≤ 0 → has_pair xs k n ≡ false)
         → (b || has_pair xs k n) ≡ false
-    by true e rest = absurd (let one : tally (is_trailer k n x) ≡ 1 = ap tally e in let all = sum in
-        omega (arith, one, all, h))
-    by false e rest = rest (let all = sum in omega (arith, all, h))
+    by true e rest = absurd (omega (arith, (ap tally e), h, sum))
+    by false e rest = rest (omega (arith, h, sum))
 
 own_trailer : (x : ℕ × ℕ) → is_trailer x.0 x.1 x ≡ true
 own_trailer x = rw (own x.0, own x.1) refl
@@ -147,10 +140,14 @@ pairs_of : (s : State) (w : What) (u place : ℕ) → uid_at s.store.ast.entries
 pairs_of s w u place active named [] few = tt
 pairs_of s w u place active named (x ∷ xs) few = (
   (u, linked (descriptor_of s.store.links x.0 x.1) refl, named),
-  no_pair xs x.0 x.1 (let a = few x.0 x.1 in let b = times_few (leads_at s.store.links.descriptors x.0 x.1) place in
-      let c = sum x.0 x.1 in let d = one in
-      omega (arith, a, b, c, d)),
-  pairs_of s w u place active named xs (λ k n. (let a = few k n in let c = sum k n in omega (arith, a, c))),
+  no_pair xs x.0 x.1 (omega (
+    arith,
+    few x.0 x.1,
+    times_few (leads_at s.store.links.descriptors x.0 x.1) place,
+    sum x.0 x.1,
+    one,
+  )),
+  pairs_of s w u place active named xs (λ k n. (let c = sum k n in omega (arith, (few k n), c))),
 )
   where
     sum : (k n : ℕ) → count_by (is_trailer k n) (x ∷ xs) ≡ tally (is_trailer k n x) + count_by (is_trailer k n) xs
@@ -161,12 +158,12 @@ pairs_of s w u place active named (x ∷ xs) few = (
 
     leads_there : leads_at s.store.links.descriptors x.0 x.1 ≡ Some place
     leads_there = times_one (leads_at s.store.links.descriptors x.0 x.1) place
-        (let a = few x.0 x.1 in let c = sum x.0 x.1 in let d = one in omega (arith, a, c, d))
+        (let c = sum x.0 x.1 in let d = one in omega (arith, (few x.0 x.1), c, d))
 
     linked : (y : Sdw) → descriptor_of s.store.links x.0 x.1 ≡ y → led_to s.store.ast.entries y ≡ Some u
-    linked sdw.Fault e = absurd (none_some (sym (ap leads e) ∙ leads_there))
-    linked (sdw.Present aste m pages) e = let same : Some aste ≡ Some place = sym (ap leads e) ∙ leads_there in
-        let is : aste ≡ place = cc in ap (uid_at s.store.ast.entries) is ∙ active
+    linked sdw.Fault e = cc (e, leads_there)
+    linked (sdw.Present aste m pages) e = let same = sym (ap leads e) ∙ leads_there in
+        let is : aste ≡ place = cc in cc
 
 pub trailers_taken : (s : State) (w : What) (u : ℕ) → Keeps s → names_uid w u ≡ true
     → ArePairs (seen s).linked w (trailers_in s.store u)
@@ -177,14 +174,14 @@ trailers_taken s w u k named = by (is_active s.store.ast u) refl
     by false e = tt
     by true e = pairs_of s w u (place_of s.store.ast.entries u) (active_place s.store.ast u e).1 named
         (trailers_of s.store.links.trailers (place_of s.store.ast.entries u))
-        (λ j n. (let exact = k.store.kept.linked.exact (place_of s.store.ast.entries u) j n in omega (arith, exact)))
+        (λ j n. (omega (arith, k.store.kept.linked.exact (place_of s.store.ast.entries u) j n)))
 
 -- What a job takes of a segment: its pages that are here, from a number on, and its descriptors.
 pub segment_takes : (s : State) (a : Aim) (w : What) (u low : ℕ) → Keeps s → IsIdle s.owner → names_uid w u ≡ true
     → ((gs : List ℕ) (cs : List CutDescriptor) → IsAimed a w gs cs)
     → CanTook s a w (frames_from s.store.ast u low) (trailers_in s.store u)
-segment_takes s a w u low k idle named aimed = record {
-  pages = pages_taken s a w u low k idle named aimed;
-  bound = pages_bound s u low k;
-  pairs_are = trailers_taken s w u k named;
-}
+segment_takes s a w u low k idle named aimed = assumption (
+  pages_taken s a w u low k idle named aimed,
+  pages_bound s u low k,
+  trailers_taken s w u k named,
+)

@@ -25,19 +25,15 @@ pub words_put : (ast : ActiveSegs) (u p : ℕ) (w : Ptw) → length ast.tables �
     → word_of ast u p ≢ ptw.Null → (v q : ℕ)
     → word_of (worded ast u p w) v q ≡ at_put_two (λ x y. word_of ast x y) u p w v q
 words_put ast u p w tables some = let within = word_within ast u p some in
-    word_put ast u p w (subst (λ (n : ℕ). place_of ast.entries u < n) tables within.0) within.0 within.1
+    word_put ast u p w (rw (← tables) within.0) within.0 within.1
 
 pub not_null : (w x : Ptw) (f : ℕ) → w ≡ x → (x ≡ ptw.Here f) ⊎ (x ≡ ptw.Leaving f) → w ≢ ptw.Null
-not_null w x f e (inl h) n = let no : ptw.Here f ≡ ptw.Null = sym h ∙ (sym e ∙ n) in cc
-not_null w x f e (inr h) n = let no : ptw.Leaving f ≡ ptw.Null = sym h ∙ (sym e ∙ n) in cc
+not_null w x f e (inl h) n = let no = sym h ∙ (sym e ∙ n) in cc
+not_null w x f e (inr h) n = let no = sym h ∙ (sym e ∙ n) in cc
 
 pub take_one_seen : (s : State) (c : ℕ) (a : Aim) (w : What) (f u p : ℕ) → HasTables s → (seen s).bound f ≡ Some (u, p)
     → (seen s).words u p ≡ ptw.Here f → seen (take_one s c a w f) ≡ taken (seen s) c a w f u p
-take_one_seen s c a w f u p tables bound here = ap (λ (o : Option (ℕ × ℕ)). seen (record s {
-  store = leaving_if s.store f o;
-  owner = with_frame_taken s.owner c a w f;
-  entries = s.entries ++ entry.Take f ∷ [];
-})) (sym (binding_is s f) ∙ bound) ∙ words
+take_one_seen s c a w f u p tables bound here = cc (binding_is s f, bound, words)
   where
     words : seen (record s {
       store = with_word s.store u p (ptw.Leaving f);
@@ -60,9 +56,11 @@ pub take_all_seen : (s : State) (c : ℕ) (a : Aim) (w : What) (fs : List ℕ) �
     → ((f : ℕ) → has fs f ≡ true → (seen s).bound f ≡ Some (page_at (seen s) f))
     → AreDistinct fs → seen (take_all s c a w fs) ≡ takes (seen s) c a w fs
 take_all_seen s c a w [] tables here bound once = refl
-take_all_seen s c a w (f ∷ fs) tables here bound once = take_all_seen now c a w fs
-    (tables_kept s f (bound_page (frame_in s.store.pages f)) tables) here_still bound_still once.1
-    ∙ ap (λ (v : Seen). takes v c a w fs) one
+take_all_seen s c a w (f ∷ fs) tables here bound once = cc (
+  take_all_seen now c a w fs
+      (tables_kept s f (bound_page (frame_in s.store.pages f)) tables) here_still bound_still once.1,
+  one,
+)
   where
     now : State
     now = take_one s c a w f
@@ -88,7 +86,7 @@ take_all_seen s c a w (f ∷ fs) tables here bound once = take_all_seen now c a 
 
 -- the place that a descriptor leads to, where it leads to a segment
 pub led_place : (s : State) (k n u : ℕ) → (seen s).linked k n ≡ Some u → descriptor_of s.store.links k n ≢ sdw.Fault
-led_place s k n u h e = none_some (sym (ap (led_to s.store.ast.entries) e) ∙ h)
+led_place s k n u h e = none_some (sym (cc) ∙ h)
 
 -- a descriptor that leads somewhere is in its lists
 pub linked_within : (links : Links) (k n : ℕ) → descriptor_of links k n ≢ sdw.Fault
@@ -101,36 +99,28 @@ linked_within links k n h = (
     within_by_words : (dss : List (List Sdw)) (i j : ℕ) → get_or (get_or dss i []) j sdw.Fault ≢ sdw.Fault
         → i < length dss
     within_by_words dss i j x = elim (leb_tells (length dss) i) [
-      | inl e ↦ absurd (x (ap (λ (ds : List Sdw). get_or ds j sdw.Fault) (get_or_past dss i [] e.1)))
+      | inl e ↦ absurd (x (cc (get_or_past dss i [] e.1)))
       | inr m ↦ m.1
     ]
 
 -- one descriptor of one process is otherwise
 pub descriptors_put : (links : Links) (trailers : List (List (ℕ × ℕ))) (k n : ℕ) (x : Sdw)
-    → k < length links.descriptors
-    → n < length (sdws_at links.descriptors k) → (i j : ℕ)
+    → k < length links.descriptors → n < length (sdws_at links.descriptors k) → (i j : ℕ)
     → descriptor_of (record links {
       trailers = trailers;
-      descriptors = set links.descriptors k
-          (set (sdws_at links.descriptors k) n x);
-    }) i j
-    ≡ at_put_two (λ a b. descriptor_of links a b) k n x i j
+      descriptors = set links.descriptors k (set (sdws_at links.descriptors k) n x);
+    }) i j ≡ at_put_two (λ a b. descriptor_of links a b) k n x i j
 descriptors_put links trailers k n x outer inner i j = put_lists links.descriptors k n x sdw.Fault i j outer inner
 
 pub cut_one_seen : (s : State) (c : ℕ) (a : Aim) (w : What) (pair : ℕ × ℕ) (u : ℕ)
-    → (seen s).linked pair.0 pair.1 ≡ Some u
-    → seen (cut_one s c a w pair) ≡ cut (seen s) c a w
+    → (seen s).linked pair.0 pair.1 ≡ Some u → seen (cut_one s c a w pair) ≡ cut (seen s) c a w
     (note_of s.store pair.0 pair.1 (descriptor_of s.store.links pair.0 pair.1))
 cut_one_seen s c a w pair u linked = by (descriptor_of s.store.links pair.0 pair.1) refl
   where
     by : (x : Sdw) → descriptor_of s.store.links pair.0 pair.1 ≡ x
         → seen (cut_one s c a w pair) ≡ cut (seen s) c a w (note_of s.store pair.0 pair.1 x)
     by sdw.Fault e = absurd (led_place s pair.0 pair.1 u linked e)
-    by (sdw.Present aste m pages) e = ap (λ (y : Sdw). seen (record s {
-      store = record s.store { links = unlinked s.store.links pair.0 pair.1 (leads y) };
-      owner = with_descriptor_cut s.owner c a w (note_of s.store pair.0 pair.1 y);
-      entries = s.entries ++ entry.Cut pair.0 pair.1 ∷ [];
-    })) e ∙ links
+    by (sdw.Present aste m pages) e = cc (e, links)
       where
         links : seen (record s {
           store = record s.store { links = unlinked s.store.links pair.0 pair.1 (Some aste) };
@@ -140,8 +130,7 @@ cut_one_seen s c a w pair u linked = by (descriptor_of s.store.links pair.0 pair
         links = λ i. record (cut (seen s) c a w (note_of s.store pair.0 pair.1 (sdw.Present aste m pages))) {
           linked = λ j n. (ap (led_to s.store.ast.entries)
               (descriptors_put s.store.links (unlinked s.store.links pair.0 pair.1 (Some aste)).trailers
-              pair.0 pair.1 sdw.Fault within.0 within.1 j n)
-              ∙ put_two_map (led_to s.store.ast.entries)
+              pair.0 pair.1 sdw.Fault within.0 within.1 j n) ∙ put_two_map (led_to s.store.ast.entries)
               (λ x y. descriptor_of s.store.links x y) pair.0 pair.1 sdw.Fault j n) i;
         }
           where

@@ -16,16 +16,19 @@ use Rattle.machine_model.proofs.WholeLaws.{whole_idle}
 
 -- the frame of a page that is here is listed
 pub frame_listed : (ws : List Ptw) (q f : ℕ) → get_or ws q ptw.Null ≡ ptw.Here f → has (frames_in ws) f ≡ true
-frame_listed [] q f h = absurd (let no : ptw.Null ≡ ptw.Here f = h in cc)
+frame_listed [] q f h = cc
 frame_listed (w ∷ ws) zero f h = cc (list_any-append (λ y. eqb y f) (here_in w) (frames_in ws), eqb_self f)
-frame_listed (w ∷ ws) (suc q) f h = list_any-append (λ y. eqb y f) (here_in w) (frames_in ws)
-    ∙ (ap (λ (b : Bool). has (here_in w) f || b) (frame_listed ws q f h) ∙ or_true (has (here_in w) f))
+frame_listed (w ∷ ws) (suc q) f h = cc (
+  list_any-append (λ y. eqb y f) (here_in w) (frames_in ws),
+  frame_listed ws q f h,
+  or_true (has (here_in w) f),
+)
 
 abbrev tally : Bool → ℕ
 tally b = cond b 1 0
 
 some_pair : (xs : List (ℕ × ℕ)) (k n : ℕ) → 1 ≤ count_by (is_trailer k n) xs → has_pair xs k n ≡ true
-some_pair [] k n h = absurd (omega (arith, h))
+some_pair [] k n h = absurd (omega arith)
 some_pair (x ∷ xs) k n h = by (is_trailer k n x) refl (some_pair xs k n)
   where
     sum : count_by (is_trailer k n) (x ∷ xs) ≡ tally (is_trailer k n x) + count_by (is_trailer k n) xs
@@ -34,27 +37,25 @@ some_pair (x ∷ xs) k n h = by (is_trailer k n x) refl (some_pair xs k n)
     by : (b : Bool) → is_trailer k n x ≡ b → (1 ≤ count_by (is_trailer k n) xs → has_pair xs k n ≡ true)
         → (b || has_pair xs k n) ≡ true
     by true e rest = refl
-    by false e rest = rest (let none : tally (is_trailer k n x) ≡ 0 = ap tally e in
-        let all = sum in omega (arith, none, all, h))
+    by false e rest = rest (omega (arith, (ap tally e), h, sum))
 
 -- each descriptor that leads to a segment is one of its trailers
 pub trailer_listed : (s : State) (u k n : ℕ) → Keeps s → is_active s.store.ast u ≡ true → (seen s).linked k n ≡ Some u
     → has_pair (trailers_in s.store u) k n ≡ true
-trailer_listed s u k n keeps active linked = ap (λ (xs : List (ℕ × ℕ)). has_pair xs k n) listed
-    ∙ some_pair (trailers_of s.store.links.trailers place) k n
-    (let exact = keeps.store.kept.linked.exact place k n in let one = once in omega (arith, exact, one))
+trailer_listed s u k n keeps active linked = cc (some_pair (trailers_of s.store.links.trailers place) k n
+    (omega (arith, (keeps.store.kept.linked.exact place k n), once)))
   where
     place : ℕ
     place = place_of s.store.ast.entries u
 
     listed : trailers_in s.store u ≡ trailers_of s.store.links.trailers place
-    listed = ap (λ (b : Bool). cond b (trailers_of s.store.links.trailers place) []) active
+    listed = cc
 
     by : (y : Sdw) → descriptor_of s.store.links k n ≡ y → led_to s.store.ast.entries y ≡ Some u
         → leads_at s.store.links.descriptors k n ≡ Some place
-    by sdw.Fault e h = absurd (none_some h)
-    by (sdw.Present aste m pages) e h = ap leads e ∙ ap (λ (x : ℕ). Some x)
-        (keeps.store.kept.tree.once aste place u h (active_place s.store.ast u active).1)
+    by sdw.Fault e h = cc
+    by (sdw.Present aste m pages) e h = cc (keeps.store.kept.tree.once aste place u h
+        (active_place s.store.ast u active).1)
 
     once : times (leads_at s.store.links.descriptors k n) place ≡ 1
     once = cc (by (descriptor_of s.store.links k n) refl linked, eqb_self place)
@@ -65,7 +66,7 @@ take_has : (s : State) (c : ℕ) (a : Aim) (w : What) (fs : List ℕ) (g : ℕ)
     → (has (frames_of_owner s.owner) g ≡ true) ⊎ (has fs g ≡ true)
     → has (frames_of_owner (take_all s c a w fs).owner) g ≡ true
 take_has s c a w [] g (inl h) = h
-take_has s c a w [] g (inr h) = absurd (let no : false ≡ true = h in cc)
+take_has s c a w [] g (inr h) = cc
 take_has s c a w (f ∷ fs) g h = take_has (take_one s c a w f) c a w fs g (by h)
   where
     parts : has (frames_of_owner (take_one s c a w f).owner) g ≡ (has (frames_of_owner s.owner) g || (eqb f g || false))
@@ -73,7 +74,7 @@ take_has s c a w (f ∷ fs) g h = take_has (take_one s c a w f) c a w fs g (by h
 
     by : (has (frames_of_owner s.owner) g ≡ true) ⊎ (has (f ∷ fs) g ≡ true)
         → (has (frames_of_owner (take_one s c a w f).owner) g ≡ true) ⊎ (has fs g ≡ true)
-    by (inl e) = inl (parts ∙ ap (λ (b : Bool). b || (eqb f g || false)) e)
+    by (inl e) = inl (cc (parts, e))
     by (inr e) = elim (or_cases (eqb f g) (has fs g) e) [
       | inl d ↦ inl (cc (parts, d, or_true (has (frames_of_owner s.owner) g)))
       | inr d ↦ inr d
@@ -87,7 +88,7 @@ cut_has : (s : State) (c : ℕ) (a : Aim) (w : What) (xs : List (ℕ × ℕ)) (k
     → (has_cut (cut_of_owner s.owner) k n ≡ true) ⊎ (has_pair xs k n ≡ true)
     → has_cut (cut_of_owner (cut_all s c a w xs).owner) k n ≡ true
 cut_has s c a w [] k n (inl h) = h
-cut_has s c a w [] k n (inr h) = absurd (let no : false ≡ true = h in cc)
+cut_has s c a w [] k n (inr h) = cc
 cut_has s c a w (x ∷ xs) k n h = cut_has (cut_one s c a w x) c a w xs k n (by h)
   where
     d : CutDescriptor
@@ -99,11 +100,14 @@ cut_has s c a w (x ∷ xs) k n h = cut_has (cut_one s c a w x) c a w xs k n (by 
 
     by : (has_cut (cut_of_owner s.owner) k n ≡ true) ⊎ (has_pair (x ∷ xs) k n ≡ true)
         → (has_cut (cut_of_owner (cut_one s c a w x).owner) k n ≡ true) ⊎ (has_pair xs k n ≡ true)
-    by (inl e) = inl (parts ∙ ap (λ (b : Bool). b || (is_cut_at k n d || false)) e)
+    by (inl e) = inl (cc (parts, e))
     by (inr e) = elim (or_cases (is_pair k n x) (has_pair xs k n) e) [
-      | inl i ↦ inl (parts ∙ (ap (λ (b : Bool). has_cut (cut_of_owner s.owner) k n || (b || false))
-          (note_at s k n x (descriptor_of s.store.links x.0 x.1) ∙ i)
-          ∙ or_true (has_cut (cut_of_owner s.owner) k n)))
+      | inl i ↦ inl (cc (
+        parts,
+        note_at s k n x (descriptor_of s.store.links x.0 x.1),
+        i,
+        or_true (has_cut (cut_of_owner s.owner) k n),
+      ))
       | inr i ↦ inr i
     ]
 
@@ -122,7 +126,7 @@ pub take_rest : (s : State) (c : ℕ) (a : Aim) (w : What) (fs : List ℕ) → R
 take_rest s c a w [] = (refl, refl, refl)
 take_rest s c a w (f ∷ fs) = let rest = take_rest (take_one s c a w f) c a w fs in
     let one = leaving_rest s.store f (bound_page (frame_in s.store.pages f)) in
-    (rest.0 ∙ one.0, rest.1 ∙ one.1, rest.2 ∙ one.2)
+    (cc, cc, cc)
 
 pub cut_pages : (s : State) (c : ℕ) (a : Aim) (w : What) (xs : List (ℕ × ℕ))
     → (cut_all s c a w xs).store.pages ≡ s.store.pages
@@ -151,8 +155,7 @@ pub took_linked : (s : State) (c : ℕ) (a : Aim) (w : What) (fs : List ℕ) (xs
     → ArePairs (seen s).linked w xs → (k n u : ℕ) → (seen (took s c a w fs xs)).linked k n ≡ Some u
     → (seen s).linked k n ≡ Some u
 took_linked s c a w fs xs are k n u h = let mid = sym (take_linked s c a w fs) in
-    ap (λ (l : ℕ → ℕ → Option ℕ). l k n) mid ∙ cut_linked (take_all s c a w fs) c a w xs
-    (subst (λ (l : ℕ → ℕ → Option ℕ). ArePairs l w xs) mid are) k n u h
+    cc (cut_linked (take_all s c a w fs) c a w xs (rw (← mid) are) k n u h)
 
 -- ---- it is taken whole
 
@@ -191,7 +194,7 @@ took_whole s c u k idle active unread = record { pages = pages; descriptors = de
         → has fs f ≡ true
     frame_here f p (ptw.Here g) b e h = frame_listed (table_of s.store.ast u) p f
         (e ∙ ap (λ (x : ℕ). ptw.Here x) (some_same g f h))
-    frame_here f p (ptw.Leaving g) b e h = absurd (let no : true ≡ false =
+    frame_here f p (ptw.Leaving g) b e h = absurd (let no =
         sym (ap (λ (x : Option (ℕ × ℕ)). is_going_frame (frame_use (seen s).words x ((seen s).reads f))) b
         ∙ ap (λ (x : Ptw). is_going_frame (bound_use (u, p) x)) e)
         ∙ (k.book.going_owned.frames f ∙ ap (λ (gs : List ℕ). has gs f) idle.frames) in cc)
@@ -202,8 +205,7 @@ took_whole s c u k idle active unread = record { pages = pages; descriptors = de
     pages f h = book.going_owned.frames f ∙ (ap (λ (gs : List ℕ). has gs f) (cut_frames mid c a w xs)
         ∙ take_has s c a w fs f (inr (by ((seen s).bound f) ((seen s).reads f) refl refl
         (subst (λ (p : Plain). uid_of_page (page_of (frame_use (seen now).words (binding_at (bindings p.core) f)
-        (read_at (reads_of p.core) f))) ≡ Some u)
-        (cut_pages mid c a w xs ∙ (take_rest s c a w fs).0) h))))
+        (read_at (reads_of p.core) f))) ≡ Some u) (cut_pages mid c a w xs ∙ (take_rest s c a w fs).0) h))))
       where
         by : (x y : Option (ℕ × ℕ)) → (seen s).bound f ≡ x → (seen s).reads f ≡ y
             → uid_of_page (page_of (frame_use (seen now).words x y)) ≡ Some u → has fs f ≡ true
@@ -230,8 +232,7 @@ took_whole s c u k idle active unread = record { pages = pages; descriptors = de
 pub nothing_whole : (s : State) (c u : ℕ) → Keeps s → IsIdle s.owner → is_active s.store.ast u ≡ true
     → ((f p : ℕ) → (seen s).reads f ≢ Some (u, p)) → frames_from s.store.ast u 0 ≡ [] → trailers_in s.store u ≡ []
     → IsWhole (shown (seen s)) u
-nothing_whole s c u k idle active unread frames trailers =
-    rw trailers at (subst
+nothing_whole s c u k idle active unread frames trailers = rw trailers at (subst
     (λ (fs : List ℕ). IsWhole (shown (seen (took s c (aim.Deactivating u) (what.Seg u) fs (trailers_in s.store u))))
     u) frames (took_whole s c u k idle active unread))
 
@@ -265,7 +266,7 @@ begun_whole s c u k idle none active unread = by (frames_from s.store.ast u 0) (
     goes : (going_for now.owner ≡ None) ⊎ (going_for now.owner ≡ Some u)
     goes = elim (cut_goes (take_all s c a w (frames_from s.store.ast u 0)) c a w (trailers_in s.store u)) [
       | inl e ↦ elim (take_goes s c a w (frames_from s.store.ast u 0)) [
-        | inl d ↦ inl (e ∙ (d ∙ none))
+        | inl d ↦ inl (cc)
         | inr d ↦
             inr (e ∙ d)
       ]

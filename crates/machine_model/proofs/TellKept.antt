@@ -16,8 +16,7 @@ tries_alike q r (command.Await number offset word tries) (reply.Word w) same = r
 tries_alike q r _ _ same = refl
 
 pub tries_of_run : (q : Progress) (run : Run) (c : Option Command) (x : Reply) → IsRun q run → (s : Store) (k : ℕ)
-    → progress_of s k ≡ q
-    → is_try s k c x ≡ goes_on run c x
+    → progress_of s k ≡ q → is_try s k c x ≡ goes_on run c x
 tries_of_run q run None x is s k e = refl
 tries_of_run q run (Some c) x is s k e = cc (tries_alike q (progress_of_run run) c x is.tries)
 
@@ -25,14 +24,13 @@ pub run_is : (q : Progress) (run : Run) (c : Command) (x : Reply) → IsRun q ru
     → IsRun (gone_on q c x) (run_after run (Some c) x)
 run_is q run c x is = by (tries_on q c x) (goes_on run (Some c) x) (tries_alike q (progress_of_run run) c x is.tries)
   where
-    by : (a b : Bool) → a ≡ b
-        → IsRun (cond a (record q { tries = q.tries + 1; faulted = false })
+    by : (a b : Bool) → a ≡ b → IsRun (cond a (record q { tries = q.tries + 1; faulted = false })
         (record { place = q.place + 1; tries = 0; ended = is_end c; faulted = false }))
         (cond b (record run { tries = run.tries + 1 }) (record { place = run.place + 1; tries = 0; ended = is_end c }))
-    by true true e = record { place = is.place; tries = ap (λ (n : ℕ). n + 1) is.tries; ended = is.ended }
-    by false false e = record { place = ap (λ (n : ℕ). n + 1) is.place; tries = refl; ended = refl }
-    by true false e = absurd (let no : true ≡ false = e in cc)
-    by false true e = absurd (let no : false ≡ true = e in cc)
+    by true true e = assumption (ap (λ (n : ℕ). n + 1) is.tries)
+    by false false e = assumption (ap (λ (n : ℕ). n + 1) is.place)
+    by true false e = absurd (let no = e in cc)
+    by false true e = absurd (let no = e in cc)
 
 -- ---- what custody sees of an answer
 
@@ -42,7 +40,7 @@ module _ (s : State) (c k : ℕ) (f : Option ℕ) (r : Reply) (book : KeepsBook 
 
   -- the next command by the runs is that by the flat store
   pub next_same : next_of s.plan (flat_of s) k ≡ next_command s k
-  next_same = ap (command_at s.plan k) (book.runs k).place
+  next_same = cc ((book.runs k).place)
 
   pub told_seen : c < length s.processors → k < length s.runs
       → seen (told_by s c k f r) ≡ answered (seen s) c k place f r (run_after (run_at s.runs k) (next_command s k) r)
@@ -59,9 +57,11 @@ module _ (s : State) (c k : ℕ) (f : Option ℕ) (r : Reply) (book : KeepsBook 
       now = counted (processor_at s.processors c) (goes_on (run_at s.runs k) (next_command s k) r)
 
       tried : is_try (flat_of s) k (next_of s.plan (flat_of s) k) r ≡ goes_on (run_at s.runs k) (next_command s k) r
-      tried = ap (λ (o : Option Command). is_try (flat_of s) k o r) next_same
-          ∙ tries_of_run (progress_of (flat_of s) k) (run_at s.runs k) (next_command s k) r (book.runs k)
-          (flat_of s) k refl
+      tried = cc (
+        next_same,
+        tries_of_run (progress_of (flat_of s) k) (run_at s.runs k) (next_command s k) r
+            (book.runs k) (flat_of s) k refl,
+      )
 
 -- The next command of a process may be answered so at a processor: the flat store and custody allow it.
 pub record CanTell (s : State) (c k : ℕ) (f : Option ℕ) (r : Reply) : Type 0 where
@@ -81,24 +81,21 @@ told_keeps s c k f r book can = subst KeepsBook (sym (told_seen s c k f r book c
       there = can.next;
       lawful = can.lawful;
       allowed = can.allowed;
-      come = subst (λ (o : Option Command). IsRun (gone_on (progress_of (flat_of s) k) can.command r)
-          (run_after (run_at s.runs k) o r)) (sym can.next)
-          (run_is (progress_of (flat_of s) k) (run_at s.runs k) can.command r (book.runs k));
+      come = rw can.next (run_is (progress_of (flat_of s) k) (run_at s.runs k) can.command r (book.runs k));
     }))
 
 -- ---- the whole promise, after an answer
 
 -- counting a command leaves a processor at work
 counted_works : (p : Processor) (tried : Bool) → IsAtWork p → IsAtWork (counted p tried)
-counted_works p tried w = record { online = w.online; busy = w.busy; clear = w.clear; idle = w.idle }
+counted_works p tried w = assumption
 
 -- one processor has counted a command, the others are as they were
 pub works_counted : (ps : List Processor) (c : ℕ) (tried : Bool) (d : ℕ) → c < length ps → IsAtWork (processor_at ps d)
     → IsAtWork (processor_at (set ps c (counted (processor_at ps c) tried)) d)
 works_counted ps c tried d there w = subst IsAtWork
-    (sym (put_list ps c (counted (processor_at ps c) tried) no_processor d there))
-    (elim (eqb_tells d c) [
-      | inl e ↦ rw e.0 (counted_works (processor_at ps c) tried (subst (λ (i : ℕ). IsAtWork (processor_at ps i)) e.1 w))
+    (sym (put_list ps c (counted (processor_at ps c) tried) no_processor d there)) (elim (eqb_tells d c) [
+      | inl e ↦ rw e.0 (counted_works (processor_at ps c) tried (rw (← e.1) w))
       | inr n ↦ rw n.0 w
     ])
 
@@ -111,8 +108,7 @@ tell_kept s c k f r keeps can says = record {
   rights = says.rights;
   cut = says.cut;
   conserved = says.conserved;
-  few_faults = let count = faults_push s.entries (entry.Do k (run_at s.runs k).place c f r) in let few =
-      keeps.few_faults in omega (arith, count, few);
+  few_faults = omega (arith, faults_push s.entries (entry.Do k (run_at s.runs k).place c f r));
   sizes = record {
     frames = says.frames;
     processors = length-set s.processors c _ ∙ keeps.sizes.processors;
@@ -139,10 +135,10 @@ owner_kept s owner k was now pending works = record {
   cut = rw now.cut tt;
   conserved = k.conserved;
   few_faults = k.few_faults;
-  sizes = record { frames = k.sizes.frames; processors = k.sizes.processors; processes = k.sizes.processes };
+  sizes = assumption;
   at_work = works;
 }
   where
     same : (i : ℕ) (d : CutDescriptor) → slice_get (cut_of_owner owner) i ≡ Some d
         → slice_get (cut_of_owner s.owner) i ≡ Some d
-    same i d at = ap (λ (ds : List CutDescriptor). slice_get ds i) (was.cut ∙ sym now.cut) ∙ at
+    same i d at = ap (λ (ds : List CutDescriptor). slice_get ds i) (cc) ∙ at

@@ -11,8 +11,8 @@ pub not_there : (f : ℕ) → None ≡ Some f → ⊥
 not_there f h = cc
 
 pub out_none : (w : Ptw) → is_out w ≡ true → names w ≡ None
-out_none (ptw.Here f) h = absurd (let no : false ≡ true = h in cc)
-out_none (ptw.Leaving f) h = absurd (let no : false ≡ true = h in cc)
+out_none (ptw.Here f) h = cc
+out_none (ptw.Leaving f) h = cc
 out_none _ h = refl
 
 out_names : (w : Ptw) (f : ℕ) → is_out w ≡ true → names w ≡ Some f → ⊥
@@ -47,16 +47,13 @@ module _ (bound reads : ℕ → Option (ℕ × ℕ)) (words : ℕ → ℕ → Pt
       → IsTied (at_put bound f None) reads (at_put_two words u p w)
   tied_gone w was now = record {
     named = λ g v q. by_place (λ (y : Option (ℕ × ℕ)). y ≡ Some (v, q)
-        → names (at_put_two words u p w v q) ≡ Some g) bound f None g
-        (λ i h. absurd (none_some h))
+        → names (at_put_two words u p w v q) ≡ Some g) bound f None g (λ i h. cc)
         (λ n h. by_places (λ (x : Ptw). names x ≡ Some g) words u p w v q
         (λ i j. absurd (n (let its = t.named g v q h in cc))) (λ m. t.named g v q h));
     back = λ g v q. by_places (λ (x : Ptw). names x ≡ Some g → at_put bound f None g ≡ Some (v, q)) words u p w v q
-        (λ i j h. absurd (none_some (sym now ∙ h)))
-        (λ n h. by_place (λ (y : Option (ℕ × ℕ)). y ≡ Some (v, q)) bound f None g
-        (λ i. absurd (let same = page_is v q u p (sym (t.back g v q h) ∙ (ap bound i ∙ t.back f u p was)) in
-        n same.0 same.1))
-        (λ m. t.back g v q h));
+        (λ i j h. cc) (λ n h. by_place (λ (y : Option (ℕ × ℕ)). y ≡ Some (v, q)) bound f None g
+        (λ i. absurd (let same = page_is v q u p (cc (t.back g v q h, t.back f u p was)) in
+        n same.0 same.1)) (λ m. t.back g v q h));
     out = λ g v q h. by_places (λ (x : Ptw). is_out x ≡ true) words u p w v q
         (λ i j. absurd (out_names (words v q) f (t.out g v q h) (let same = was in cc))) (λ n. t.out g v q h);
     alone = t.alone;
@@ -79,10 +76,9 @@ module _ (bound reads : ℕ → Option (ℕ × ℕ)) (words : ℕ → ℕ → Pt
         (λ i a. by_place (λ (y : Option (ℕ × ℕ)). y ≡ Some (v, q) → g ≡ h) reads f (Some (u, p)) h (λ j b. i ∙ sym j)
         (λ m b. absurd (none h (b ∙ sym a))))
         (λ n a. by_place (λ (y : Option (ℕ × ℕ)). y ≡ Some (v, q) → g ≡ h) reads f (Some (u, p)) h
-        (λ j b. absurd (none g (a ∙ sym b)))
-        (λ m b. t.alone g h v q a b));
+        (λ j b. absurd (none g (a ∙ sym b))) (λ m b. t.alone g h v q a b));
     unbound = λ g v q. by_place (λ (y : Option (ℕ × ℕ)). y ≡ Some (v, q) → bound g ≡ None) reads f (Some (u, p)) g
-        (λ i h. ap bound i ∙ free) (λ n h. t.unbound g v q h);
+        (λ i h. cc) (λ n h. t.unbound g v q h);
   }
 
   -- it isn't any more
@@ -91,14 +87,13 @@ module _ (bound reads : ℕ → Option (ℕ × ℕ)) (words : ℕ → ℕ → Pt
     named = t.named;
     back = t.back;
     out = λ g v q. by_place (λ (y : Option (ℕ × ℕ)). y ≡ Some (v, q) → is_out (words v q) ≡ true) reads f None g
-        (λ i h. absurd (none_some h)) (λ n h. t.out g v q h);
+        (λ i h. cc) (λ n h. t.out g v q h);
     alone = λ g h v q. by_place (λ (y : Option (ℕ × ℕ)). y ≡ Some (v, q) → at_put reads f None h ≡ Some (v, q)
-        → g ≡ h) reads f None g
-        (λ i a. absurd (none_some a))
-        (λ n a. by_place (λ (y : Option (ℕ × ℕ)). y ≡ Some (v, q) → g ≡ h) reads f None h (λ j b. absurd (none_some b))
+        → g ≡ h) reads f None g (λ i a. cc)
+        (λ n a. by_place (λ (y : Option (ℕ × ℕ)). y ≡ Some (v, q) → g ≡ h) reads f None h (λ j b. cc)
         (λ m b. t.alone g h v q a b));
     unbound = λ g v q. by_place (λ (y : Option (ℕ × ℕ)). y ≡ Some (v, q) → bound g ≡ None) reads f None g
-        (λ i h. absurd (none_some h)) (λ n h. t.unbound g v q h);
+        (λ i h. cc) (λ n h. t.unbound g v q h);
   }
 
   -- a page that was in no frame is in one
@@ -107,26 +102,23 @@ module _ (bound reads : ℕ → Option (ℕ × ℕ)) (words : ℕ → ℕ → Pt
   tied_here free none others = record {
     named = λ g v q. by_place (λ (y : Option (ℕ × ℕ)). y ≡ Some (v, q)
         → names (at_put_two words u p (ptw.Here f) v q) ≡ Some g) bound f (Some (u, p)) g
-        (λ i h. by_places (λ (x : Ptw). names x ≡ Some g) words u p (ptw.Here f) v q (λ a b. ap (λ x. Some x) (sym i))
+        (λ i h. by_places (λ (x : Ptw). names x ≡ Some g) words u p (ptw.Here f) v q (λ a b. cc)
         (λ n. absurd (let same = page_is u p v q h in n (sym same.0) (sym same.1))))
         (λ n h. by_places (λ (x : Ptw). names x ≡ Some g) words u p (ptw.Here f) v q
         (λ a b. absurd (not_there g (let its = t.named g v q h in let is = none in cc))) (λ m. t.named g v q h));
     back = λ g v q. by_places (λ (x : Ptw). names x ≡ Some g → at_put bound f (Some (u, p)) g ≡ Some (v, q)) words u p
-        (ptw.Here f) v q
-        (λ a b h. by_place (λ (y : Option (ℕ × ℕ)). y ≡ Some (v, q)) bound f (Some (u, p)) g
-        (λ i. ap (λ (x : ℕ). Some (x, p)) (sym a) ∙ ap (λ (x : ℕ). Some (v, x)) (sym b)) (λ n. absurd (n (cc))))
+        (ptw.Here f) v q (λ a b h. by_place (λ (y : Option (ℕ × ℕ)). y ≡ Some (v, q)) bound f (Some (u, p)) g
+        (λ i. cc) (λ n. absurd (n (cc))))
         (λ n h. by_place (λ (y : Option (ℕ × ℕ)). y ≡ Some (v, q)) bound f (Some (u, p)) g
-        (λ i. absurd (none_some (sym free ∙ (ap bound (sym i) ∙ t.back g v q h)))) (λ m. t.back g v q h));
+        (λ i. cc (t.back g v q h)) (λ m. t.back g v q h));
     out = λ g v q. by_place (λ (y : Option (ℕ × ℕ)). y ≡ Some (v, q)
-        → is_out (at_put_two words u p (ptw.Here f) v q) ≡ true) reads f None g
-        (λ i h. absurd (none_some h))
-        (λ n h. by_places (λ (x : Ptw). is_out x ≡ true) words u p (ptw.Here f) v q
-        (λ a b. absurd (others g n (h ∙ (ap (λ (x : ℕ). Some (x, q)) a ∙ ap (λ (x : ℕ). Some (u, x)) b))))
+        → is_out (at_put_two words u p (ptw.Here f) v q) ≡ true) reads f None g (λ i h. cc)
+        (λ n h. by_places (λ (x : Ptw). is_out x ≡ true) words u p (ptw.Here f) v q (λ a b. absurd (others g n (cc)))
         (λ m. t.out g v q h));
     alone = (tied_lost).alone;
     unbound = λ g v q. by_place (λ (y : Option (ℕ × ℕ)). y ≡ Some (v, q)
         → at_put bound f (Some (u, p)) g ≡ None) reads f None g
-        (λ i h. absurd (none_some h)) (λ n h. put_other bound f (Some (u, p)) g n ∙ t.unbound g v q h);
+        (λ i h. cc) (λ n h. put_other bound f (Some (u, p)) g n ∙ t.unbound g v q h);
   }
 
   -- ---- what frames are used for
@@ -134,7 +126,7 @@ module _ (bound reads : ℕ → Option (ℕ × ℕ)) (words : ℕ → ℕ → Pt
   -- a frame that is bound to a page, by the word of that
   pub use_bound : (w : Ptw) → bound f ≡ Some (u, p) → words u p ≡ w
       → frame_use words (bound f) (reads f) ≡ bound_use (u, p) w
-  use_bound w is word = ap (λ (o : Option (ℕ × ℕ)). frame_use words o (reads f)) is ∙ ap (bound_use (u, p)) word
+  use_bound w is word = cc
 
   -- a frame is used as before where the word of a page changes that isn't the frame's
   use_elsewhere : (w : Ptw) (g : ℕ) → ((v q : ℕ) → bound g ≡ Some (v, q) → v ≡ u → q ≡ p → ⊥)

@@ -32,15 +32,13 @@ pair_same x k n a b = elim (eqb_tells x.0 k) [
 ]
 
 pub pairs_kept : (linked : ℕ → ℕ → Option ℕ) (w : What) (k n : ℕ) (xs : List (ℕ × ℕ)) → has_pair xs k n ≡ false
-    → ArePairs linked w xs
-    → ArePairs (at_put_two linked k n None) w xs
+    → ArePairs linked w xs → ArePairs (at_put_two linked k n None) w xs
 pairs_kept linked w k n [] none are = tt
 pairs_kept linked w k n (x ∷ xs) none are = (
   (
     are.0.0,
     by_places (λ (o : Option ℕ). o ≡ Some are.0.0) linked k n None x.0 x.1
-        (λ a b. absurd (not_both (pair_same x k n a b) (or_parts (is_pair k n x) (has_pair xs k n) none).0))
-        (λ m. are.0.1),
+        (λ a b. cc (pair_same x k n a b, (or_parts (is_pair k n x) (has_pair xs k n) none).0)) (λ m. are.0.1),
     are.0.2,
   ),
   are.1,
@@ -50,7 +48,7 @@ pairs_kept linked w k n (x ∷ xs) none are = (
 -- what is remembered of a descriptor that leads to a segment
 pub note_is : (s : State) (k n u : ℕ) (x : Sdw) → led_to s.store.ast.entries x ≡ Some u
     → ((note_of s.store k n x).process ≡ k) × ((note_of s.store k n x).number ≡ n) × ((note_of s.store k n x).uid ≡ u)
-note_is s k n u sdw.Fault h = absurd (none_some h)
+note_is s k n u sdw.Fault h = cc
 note_is s k n u (sdw.Present aste m pages) h = (refl, refl, ap or_zero h)
 
 -- the descriptor that is remembered where a pair is cut
@@ -65,14 +63,14 @@ note_of_pair s x u led = note_is s x.0 x.1 u (descriptor_of s.store.links x.0 x.
 pub noted_has : (f : ℕ → ℕ → Option ℕ) (s : State) (x : ℕ × ℕ) (u : ℕ) → (seen s).linked x.0 x.1 ≡ Some u
     → f x.0 x.1 ≡ Some u → f (noted s x).process (noted s x).number ≡ Some (noted s x).uid
 noted_has f s x u led h = let note = note_of_pair s x u led in
-    (λ i. f (note.0 i) (note.1 i)) ∙ (h ∙ ap (λ (v : ℕ). Some v) (sym note.2))
+    (λ i. f (note.0 i) (note.1 i)) ∙ (cc)
 
 -- once a pair is cut, a descriptor that still leads to a segment led there before
 pub linked_before : (s : State) (c : ℕ) (a : Aim) (w : What) (x : ℕ × ℕ) (u : ℕ) → (seen s).linked x.0 x.1 ≡ Some u
     → (k n v : ℕ) → (seen (cut_one s c a w x)).linked k n ≡ Some v → (seen s).linked k n ≡ Some v
 linked_before s c a w x u led k n v h = by_places (λ (o : Option ℕ). o ≡ Some v → (seen s).linked k n ≡ Some v)
-    (seen s).linked (noted s x).process (noted s x).number None k n (λ e i g. absurd (none_some g)) (λ m g. g)
-    (sym (ap (λ (y : Seen). y.linked k n) (cut_one_seen s c a w x u led)) ∙ h)
+    (seen s).linked (noted s x).process (noted s x).number None k n (λ e i g. cc) (λ m g. g)
+    (cc (cut_one_seen s c a w x u led))
 
 -- and the pairs after it lead where they led
 pub pairs_left : (s : State) (c : ℕ) (a : Aim) (w : What) (x : ℕ × ℕ) (xs : List (ℕ × ℕ))
@@ -86,9 +84,8 @@ pairs_left s c a w x xs are = let note = note_of_pair s x are.0.0 are.0.1 in
 pub cut_all_keeps : (s : State) (c : ℕ) (a : Aim) (w : What) (pairs : List (ℕ × ℕ)) → KeepsBook (seen s)
     → NamesAllGoing (shown (seen s)) w
     → waits_for s.owner ≡ None → ((gs : List ℕ) (cs : List CutDescriptor) → IsAimed a w gs cs)
-    → ArePairs (seen s).linked w pairs
-    → HasTaken (seen (cut_all s c a w pairs)) w
-cut_all_keeps s c a w [] k others still aimed are = record { book = k; others = others; still = still }
+    → ArePairs (seen s).linked w pairs → HasTaken (seen (cut_all s c a w pairs)) w
+cut_all_keeps s c a w [] k others still aimed are = assumption
 cut_all_keeps s c a w (x ∷ xs) k others still aimed are =
     cut_all_keeps (cut_one s c a w x) c a w xs book (book.going_owned.says w refl).1 refl aimed
     (pairs_left s c a w x xs are)
@@ -104,8 +101,7 @@ cut_all_keeps s c a w (x ∷ xs) k others still aimed are =
       linked = linked;
       still = still;
       others = others;
-      this = names_linked (seen s) w d.process d.number d.uid linked
-          ∙ (ap (names_uid w) (note_of_pair s x are.0.0 are.0.1).2 ∙ are.0.2);
+      this = cc (names_linked (seen s) w d.process d.number d.uid linked, (note_of_pair s x are.0.0 are.0.1).2);
       aimed = aimed (frames_of_owner s.owner) (cut_of_owner s.owner ++ d ∷ []);
     }))
 
@@ -122,8 +118,7 @@ pub record CanTook (s : State) (a : Aim) (w : What) (fs : List ℕ) (pairs : Lis
   pub pairs_are : ArePairs (seen s).linked w pairs
 
 pub took_keeps : (s : State) (c : ℕ) (a : Aim) (w : What) (fs : List ℕ) (pairs : List (ℕ × ℕ)) → HasTables s
-    → KeepsBook (seen s) → CanTook s a w fs pairs
-    → HasTaken (seen (took s c a w fs pairs)) w
+    → KeepsBook (seen s) → CanTook s a w fs pairs → HasTaken (seen (took s c a w fs pairs)) w
 took_keeps s c a w fs pairs tables k can = cut_all_keeps
     (take_all s c a w fs) c a w pairs first.book first.others first.still can.pages.aimed
     (rw (ap (λ (v : Seen). v.linked) taken_is ∙ takes_linked (seen s) c a w fs) can.pairs_are)
@@ -132,7 +127,7 @@ took_keeps s c a w fs pairs tables k can = cut_all_keeps
     taken_is = take_all_seen s c a w fs tables can.pages.here can.bound can.pages.once
 
     first : HasTaken (seen (take_all s c a w fs)) w
-    first = subst (λ (v : Seen). HasTaken v w) (sym taken_is) (takes_keep (seen s) c a w fs k can.pages)
+    first = rw taken_is (takes_keep (seen s) c a w fs k can.pages)
 
 -- taking changes the store, the owner and the book alone
 record IsRest (s now : State) : Type 0 where
@@ -144,12 +139,10 @@ record IsRest (s now : State) : Type 0 where
 
 rest_by : {s now : State} → now.processors ≡ s.processors → now.runs ≡ s.runs → now.plan ≡ s.plan
     → now.faults ≡ s.faults → count_by is_fault now.entries ≡ count_by is_fault s.entries → IsRest s now
-rest_by processors runs plan faults count =
-    record { processors = processors; runs = runs; plan = plan; faults = faults; count = count }
+rest_by processors runs plan faults count = assumption
 
 rest_on : {s t u : State} → IsRest s t → IsRest t u → IsRest s u
-rest_on one two = rest_by (two.processors ∙ one.processors) (two.runs ∙ one.runs) (two.plan ∙ one.plan)
-    (two.faults ∙ one.faults) (two.count ∙ one.count)
+rest_on one two = rest_by (cc) (cc) (cc) (cc) (cc)
 
 take_rest : (s : State) (c : ℕ) (a : Aim) (w : What) (fs : List ℕ) → IsRest s (take_all s c a w fs)
 take_rest s c a w [] = rest_by refl refl refl refl refl
@@ -181,7 +174,7 @@ pub took_kept : (s : State) (c : ℕ) (a : Aim) (w : What) (fs : List ℕ) (pair
     → IsAtWork (processor_at s.processors c) → StoreSays (took s c a w fs pairs) → Keeps (took s c a w fs pairs)
 took_kept s c a w fs pairs k can own works says = kept_with (took s c a w fs pairs)
     (took_keeps s c a w fs pairs k.store.kept.places k.book can).book says
-    (let count = rest.count in let faults = rest.faults in let few = k.few_faults in omega (arith, count, faults, few))
+    (let faults = rest.faults in let few = k.few_faults in omega (arith, rest.count, faults, few))
     (ap length rest.processors ∙ (k.sizes.processors ∙ ap (λ (p : Plan). p.processors) (sym rest.plan)))
     (ap length rest.runs ∙ (k.sizes.processes ∙ ap (λ (p : Plan). length p.processes) (sym rest.plan)))
     (λ o h. (rw rest.processors (subst (λ (d : ℕ). IsAtWork (processor_at s.processors d))

@@ -17,9 +17,8 @@ use Rattle.machine_model.proofs.TransferLaws.{CanStart, end_keeps, lose_keeps, s
 -- the book tells no failure more
 pub quiet_faults : (s : State) (e : Entry) (faults : ℕ) → Keeps s → is_fault e ≡ false → s.faults ≤ faults
     → min (count_by is_fault (s.entries ++ e ∷ [])) (2 ^ 63) ≤ faults
-quiet_faults s e faults k quiet rose = let count = faults_push s.entries e in let none =
-    ap {B = ℕ} (λ (b : Bool). cond b 1 0) quiet in
-    let few = k.few_faults in omega (arith, count, none, few, rose)
+quiet_faults s e faults k quiet rose = let none = ap {B = ℕ} (λ (b : Bool). cond b 1 0) quiet in
+    omega (arith, (faults_push s.entries e))
 
 -- a machine that keeps what its book says, with what the store says of it, keeps the whole promise
 pub kept_with : (now : State) → KeepsBook (seen now) → StoreSays now
@@ -41,8 +40,8 @@ pub active_at : (ast : ActiveSegs) (place u : ℕ) → uid_at ast.entries place 
 active_at ast place u h = any_at (is_for u) ast.entries place None (by (entry_at ast.entries place) h) refl
   where
     by : (o : Option Segment) → uid_in o ≡ Some u → is_for u o ≡ true
-    by None e = absurd (none_some e)
-    by (Some e) i = elim (eqb_tells e.uid u) [ inl a ↦ a.0 | inr n ↦ absurd (n.1 (let same : e.uid ≡ u = cc in same)) ]
+    by None e = cc
+    by (Some e) i = elim (eqb_tells e.uid u) [ inl a ↦ a.0 | inr n ↦ absurd (n.1 (cc)) ]
 
 module _ (s : State) (c : ℕ) (t : Transfer) (k : Keeps s)
     (mine : (processor_at s.processors c).cpu.transfer ≡ Some t) where
@@ -59,7 +58,7 @@ module _ (s : State) (c : ℕ) (t : Transfer) (k : Keeps s)
   read_frame = k.book.under_way.reading c t mine
 
   pub read_within : t.frame < length s.store.pages.core.frames
-  read_within = subst (λ (n : ℕ). t.frame < n) (map_length started_page s.store.pages.core.frames)
+  read_within = rw (← (map_length started_page s.store.pages.core.frames))
       (within_by (map started_page s.store.pages.core.frames) t.frame None (λ e. none_some (sym e ∙ read_frame)))
 
   pub read_active : (seen s).active t.uid ≡ true
@@ -70,8 +69,7 @@ module _ (s : State) (c : ℕ) (t : Transfer) (k : Keeps s)
       → Keeps (transferred (with_faults s faults) c t)
   transferred_kept faults rose says = kept_with (transferred (with_faults s faults) c t)
       (subst KeepsBook (sym (brought_seen s c t k.store.kept.places reader_there read_within
-      (k.book.tied.out t.frame t.uid t.page read_frame)))
-      (end_keeps (seen s) c t k.book mine read_active)) says
+      (k.book.tied.out t.frame t.uid t.page read_frame))) (end_keeps (seen s) c t k.book mine read_active)) says
       (quiet_faults s (entry.Here t.frame t.uid t.page) faults k refl rose)
       (length-set s.processors c _ ∙ k.sizes.processors) k.sizes.processes (works_elsewhere s c _ k reader_no_owner)
 
@@ -86,8 +84,7 @@ module _ (s : State) (c : ℕ) (t : Transfer) (k : Keeps s)
       (told_keeps (lost_state faults) c (process_at (lost_state faults) c) None reply.Device
       (fault_keeps (seen (frame_lost s c t)) (Some (process_at s c))
       (subst KeepsBook (sym (lose_seen s c t reader_there read_within
-      (k.book.tied.unbound t.frame t.uid t.page read_frame)))
-      (lose_keeps (seen s) c t k.book mine)) may) can) says
+      (k.book.tied.unbound t.frame t.uid t.page read_frame))) (lose_keeps (seen s) c t k.book mine)) may) can) says
       few (length-set lost_ps c _ ∙ (length-set s.processors c _ ∙ k.sizes.processors))
       (length-set s.runs (process_at (lost_state faults) c) _ ∙ k.sizes.processes)
       (λ o h. works_counted lost_ps c _ o.cpu can.there (works_elsewhere s c _ k reader_no_owner o h))
@@ -98,12 +95,14 @@ module _ (s : State) (c : ℕ) (t : Transfer) (k : Keeps s)
       few : min (count_by is_fault (((s.entries ++ entry.Lose t.frame ∷ []) ++ entry.Fault (Some (process_at s c)) ∷ [])
           ++ entry.Do (process_at (lost_state faults) c)
           (run_at s.runs (process_at (lost_state faults) c)).place c None reply.Device ∷ [])) (2 ^ 63) ≤ faults
-      few = let one = faults_push s.entries (entry.Lose t.frame) in
-          let two = faults_push (s.entries ++ entry.Lose t.frame ∷ []) (entry.Fault (Some (process_at s c))) in
-          let three = faults_push ((s.entries ++ entry.Lose t.frame ∷ []) ++ entry.Fault (Some (process_at s c)) ∷ [])
-          (entry.Do (process_at (lost_state faults) c)
-          (run_at s.runs (process_at (lost_state faults) c)).place c None reply.Device) in
-          let was = k.few_faults in omega (arith, one, two, three, was, rose)
+      few = omega (
+        arith,
+        faults_push s.entries (entry.Lose t.frame),
+        faults_push (s.entries ++ entry.Lose t.frame ∷ []) (entry.Fault (Some (process_at s c))),
+        faults_push ((s.entries ++ entry.Lose t.frame ∷ []) ++ entry.Fault
+            (Some (process_at s c)) ∷ []) (entry.Do (process_at (lost_state faults) c)
+            (run_at s.runs (process_at (lost_state faults) c)).place c None reply.Device),
+      )
 
 -- ---- a transfer begins
 
@@ -115,5 +114,4 @@ started_kept s c f u p k there within can idle still says = kept_with (started s
     (owner_keeps _ None (start_keeps (seen s) c
     (record { frame = f; uid = u; page = p }) k.book can) idle nobody still)) says
     (quiet_faults s (entry.Start f u p) s.faults k refl (omega arith))
-    (length-set s.processors c _ ∙ k.sizes.processors) k.sizes.processes
-    (λ o h. absurd (none_some h))
+    (length-set s.processors c _ ∙ k.sizes.processors) k.sizes.processes (λ o h. cc)

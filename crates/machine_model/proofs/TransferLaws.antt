@@ -18,16 +18,13 @@ use Rattle.machine_model.proofs.TieLaws.{none_some, out_none, tied_start, tied_l
 transfer_seat : (v : Seen) (c : ℕ) (t : Option Transfer) (d : ℕ)
     → seat_of (at_put v.processors c (with_transfer (v.processors c) t) d) ≡ (shown v).seat d
 transfer_seat v c t d = by_place (λ (p : Processor). seat_of p ≡ (shown v).seat d) v.processors c
-    (with_transfer (v.processors c) t) d
-    (λ i. ap (λ (j : ℕ). seat_of (v.processors j)) (sym i)) (λ n. refl)
+    (with_transfer (v.processors c) t) d (λ i. cc) (λ n. refl)
 
 transfer_right : (bound : ℕ → Option (ℕ × ℕ)) (descriptor : ℕ → ℕ → DescriptorUse) (processors : ℕ → Processor) (c : ℕ)
-    (t : Option Transfer)
-    → ((d : ℕ) → HoldsRight bound descriptor (processors d)) → (d : ℕ)
+    (t : Option Transfer) → ((d : ℕ) → HoldsRight bound descriptor (processors d)) → (d : ℕ)
     → HoldsRight bound descriptor (at_put processors c (with_transfer (processors c) t) d)
 transfer_right bound descriptor processors c t right d =
-    by_place (λ (p : Processor). HoldsRight bound descriptor p) processors c
-    (with_transfer (processors c) t) d
+    by_place (λ (p : Processor). HoldsRight bound descriptor p) processors c (with_transfer (processors c) t) d
     (λ i. right_like (processors c) (with_transfer (processors c) t) (right c) refl refl (right c).warned)
     (λ n. right d)
 
@@ -37,8 +34,7 @@ transfer_of processors c t = rw (put_here processors c (with_transfer (processor
 
 -- a processor begins to read into a frame into which none reads
 under_way_more : (reads : ℕ → Option (ℕ × ℕ)) (processors : ℕ → Processor) (c : ℕ) (t : Transfer)
-    → AreUnderWay reads processors
-    → (processors c).cpu.transfer ≡ None → reads t.frame ≡ None
+    → AreUnderWay reads processors → (processors c).cpu.transfer ≡ None → reads t.frame ≡ None
     → AreUnderWay (at_put reads t.frame (Some (t.uid, t.page)))
     (at_put processors c (with_transfer (processors c) (Some t)))
 under_way_more reads processors c t k idle unread = record {
@@ -47,73 +43,53 @@ under_way_more reads processors c t k idle unread = record {
       processors c (with_transfer (processors c) (Some t)) d
       (λ i h. (let same : t ≡ x = cc in rw (← same) (put_here reads t.frame (Some (t.uid, t.page)))))
       (λ n h. by_place (λ (o : Option (ℕ × ℕ)). o ≡ Some (x.uid, x.page)) reads t.frame (Some (t.uid, t.page)) x.frame
-      (λ i. absurd (none_some (sym unread ∙ (ap reads (sym i) ∙ k.reading d x h)))) (λ m. k.reading d x h));
+      (λ i. cc (k.reading d x h)) (λ m. k.reading d x h));
   reader = λ f u p. by_place (λ (o : Option (ℕ × ℕ)). o ≡ Some (u, p)
       → (d : ℕ) × ((at_put processors c (with_transfer (processors c) (Some t)) d).cpu.transfer
-      ≡ Some (record { frame = f; uid = u; page = p })))
-      reads t.frame (Some (t.uid, t.page)) f
-      (λ i h. (
+      ≡ Some (record { frame = f; uid = u; page = p }))) reads t.frame (Some (t.uid, t.page)) f (λ i h. (
         c,
         transfer_of processors c (Some t) ∙ (let same = page_is t.uid t.page u p h in
             λ j. Some (record { frame = sym i j; uid = same.0 j; page = same.1 j })),
-      ))
-      (λ n h. (let r = k.reader f u p h in (
+      )) (λ n h. (let r = k.reader f u p h in (
         r.0,
         by_place (λ (x : Processor). x.cpu.transfer ≡ Some (record { frame = f; uid = u; page = p }))
-            processors c (with_transfer (processors c) (Some t)) r.0
-            (λ i. absurd (none_some (sym idle ∙ (ap (λ (j : ℕ). (processors j).cpu.transfer) (sym i) ∙ r.1))))
-            (λ m. r.1),
+            processors c (with_transfer (processors c) (Some t)) r.0 (λ i. cc) (λ m. r.1),
       )));
   alone = λ d e x y. by_place (λ (p : Processor). p.cpu.transfer ≡ Some x
       → (at_put processors c (with_transfer (processors c) (Some t)) e).cpu.transfer ≡ Some y → x.frame ≡ y.frame
-      → d ≡ e)
-      processors c (with_transfer (processors c) (Some t)) d
+      → d ≡ e) processors c (with_transfer (processors c) (Some t)) d
       (λ i a. by_place (λ (p : Processor). p.cpu.transfer ≡ Some y → x.frame ≡ y.frame → d ≡ e) processors c
-      (with_transfer (processors c) (Some t)) e
-      (λ j b s. i ∙ sym j)
-      (λ m b s. absurd (none_some (sym unread
-      ∙ (ap reads (let same : t ≡ x = cc in ap (λ (z : Transfer). z.frame) same ∙ s) ∙ k.reading e y b)))))
+      (with_transfer (processors c) (Some t)) e (λ j b s. i ∙ sym j) (λ m b s. absurd (none_some (sym unread
+      ∙ (ap reads (let same : t ≡ x = cc in cc) ∙ k.reading e y b)))))
       (λ n a. by_place (λ (p : Processor). p.cpu.transfer ≡ Some y → x.frame ≡ y.frame → d ≡ e) processors c
-      (with_transfer (processors c) (Some t)) e
-      (λ j b s. absurd (none_some (sym unread
-      ∙ (ap reads (let same : t ≡ y = cc in ap (λ (z : Transfer). z.frame) same ∙ sym s) ∙ k.reading d x a))))
-      (λ m b s. k.alone d e x y a b s));
+      (with_transfer (processors c) (Some t)) e (λ j b s. absurd (none_some (sym unread
+      ∙ (ap reads (let same : t ≡ y = cc in cc) ∙ k.reading d x a)))) (λ m b s. k.alone d e x y a b s));
 }
 
 -- a processor's transfer is over
 under_way_less : (reads : ℕ → Option (ℕ × ℕ)) (processors : ℕ → Processor) (c : ℕ) (t : Transfer)
-    → AreUnderWay reads processors
-    → (processors c).cpu.transfer ≡ Some t → AreUnderWay (at_put reads t.frame None)
+    → AreUnderWay reads processors → (processors c).cpu.transfer ≡ Some t → AreUnderWay (at_put reads t.frame None)
     (at_put processors c (with_transfer (processors c) None))
 under_way_less reads processors c t k mine = record {
   reading = λ d x. by_place (λ (p : Processor). p.cpu.transfer ≡ Some x
-      → at_put reads t.frame None x.frame ≡ Some (x.uid, x.page))
-      processors c (with_transfer (processors c) None) d
-      (λ i h. absurd (none_some h))
-      (λ n h. by_place (λ (o : Option (ℕ × ℕ)). o ≡ Some (x.uid, x.page)) reads t.frame None x.frame
+      → at_put reads t.frame None x.frame ≡ Some (x.uid, x.page)) processors c (with_transfer (processors c) None) d
+      (λ i h. cc) (λ n h. by_place (λ (o : Option (ℕ × ℕ)). o ≡ Some (x.uid, x.page)) reads t.frame None x.frame
       (λ i. absurd (n (k.alone d c x t h mine i))) (λ m. k.reading d x h));
   reader = λ f u p. by_place (λ (o : Option (ℕ × ℕ)). o ≡ Some (u, p)
       → (d : ℕ) × ((at_put processors c (with_transfer (processors c) None) d).cpu.transfer
-      ≡ Some (record { frame = f; uid = u; page = p })))
-      reads t.frame None f
-      (λ i h. absurd (none_some h))
+      ≡ Some (record { frame = f; uid = u; page = p }))) reads t.frame None f (λ i h. cc)
       (λ n h. (let r = k.reader f u p h in (
         r.0,
         by_place (λ (x : Processor). x.cpu.transfer ≡ Some (record { frame = f; uid = u; page = p }))
             processors c (with_transfer (processors c) None) r.0
-            (λ i. absurd (n (let its : (processors c).cpu.transfer ≡ Some (record { frame = f; uid = u; page = p }) =
-            ap (λ (j : ℕ). (processors j).cpu.transfer) (sym i) ∙ r.1 in
-            let same : ◌≡◌ {A = Transfer} (record { frame = f; uid = u; page = p }) t =
-            cc (sym its ∙ mine) in ap (λ (z : Transfer). z.frame) same)))
-            (λ m. r.1),
+            (λ i. absurd (n (let same : ◌≡◌ {A = Transfer} (record { frame = f; uid = u; page = p }) t = cc
+            (sym (ap (λ (j : ℕ). (processors j).cpu.transfer) (sym i) ∙ r.1) ∙ mine) in cc))) (λ m. r.1),
       )));
   alone = λ d e x y. by_place (λ (p : Processor). p.cpu.transfer ≡ Some x
       → (at_put processors c (with_transfer (processors c) None) e).cpu.transfer ≡ Some y → x.frame ≡ y.frame → d ≡ e)
-      processors c (with_transfer (processors c) None) d
-      (λ i a. absurd (none_some a))
+      processors c (with_transfer (processors c) None) d (λ i a. cc)
       (λ n a. by_place (λ (p : Processor). p.cpu.transfer ≡ Some y → x.frame ≡ y.frame → d ≡ e) processors c
-      (with_transfer (processors c) None) e
-      (λ j b s. absurd (none_some b)) (λ m b s. k.alone d e x y a b s));
+      (with_transfer (processors c) None) e (λ j b s. cc) (λ m b s. k.alone d e x y a b s));
 }
 
 -- the frames once a page that was nowhere is in one
@@ -132,10 +108,11 @@ frames_here v f u p k nowhere = one_place (shown v).frame
 
     other : (h : ℕ) → h ≢ f → frame_use words (at_put v.bound f (Some (u, p)) h) (at_put v.reads f None h)
         ≡ (shown v).frame h
-    other h n = ap (λ (o : Option (ℕ × ℕ)). frame_use words o (at_put v.reads f None h))
-        (put_other v.bound f (Some (u, p)) h n)
-        ∙ (ap (frame_use words (v.bound h)) (put_other v.reads f None h n)
-        ∙ other_use_here v.bound v.reads v.words k.tied f u p (ptw.Here f) nowhere h)
+    other h n = cc (
+      put_other v.bound f (Some (u, p)) h n,
+      put_other v.reads f None h n,
+      other_use_here v.bound v.reads v.words k.tied f u p (ptw.Here f) nowhere h,
+    )
 
 -- ---- started
 
@@ -150,7 +127,7 @@ pub record CanStart (v : Seen) (c : ℕ) (t : Transfer) : Type 0 where
   pub active : v.active t.uid ≡ true
 
 free_is : (v : Seen) (f : ℕ) → v.bound f ≡ None → v.reads f ≡ None → (shown v).frame f ≡ frame.Free
-free_is v f a b = ap (λ (o : Option (ℕ × ℕ)). frame_use v.words o (v.reads f)) a ∙ ap read_use b
+free_is v f a b = cc
 
 pub start_keeps : (v : Seen) (c : ℕ) (t : Transfer) → KeepsBook v → CanStart v c t → KeepsBook (started v c t)
 unfolding IsLawful after_entry custody_next
@@ -183,7 +160,7 @@ start_keeps v c t k can = book_next v (entry.Start t.frame t.uid t.page) (starte
     here = cc (put_here v.reads t.frame (Some (t.uid, t.page)))
 
     other : (h : ℕ) → h ≢ t.frame → frame_use v.words (v.bound h) (reads h) ≡ (shown v).frame h
-    other h n = ap (frame_use v.words (v.bound h)) (put_other v.reads t.frame (Some (t.uid, t.page)) h n)
+    other h n = cc (put_other v.reads t.frame (Some (t.uid, t.page)) h n)
 
 -- ---- over
 
@@ -195,7 +172,7 @@ module _ (v : Seen) (c : ℕ) (t : Transfer) (k : KeepsBook v) (mine : (v.proces
   read_unbound = k.tied.unbound t.frame t.uid t.page being_read
 
   started_is : (shown v).frame t.frame ≡ frame.Started t.uid t.page
-  started_is = ap (λ (o : Option (ℕ × ℕ)). frame_use v.words o (v.reads t.frame)) read_unbound ∙ ap read_use being_read
+  started_is = cc (read_unbound, being_read)
 
   started_nobody : NobodyHoldsPage (shown v) t.frame
   started_nobody = nobody_holds_page (shown v) (is_pending v.owner) t.frame k.stale_due
@@ -211,9 +188,7 @@ module _ (v : Seen) (c : ℕ) (t : Transfer) (k : KeepsBook v) (mine : (v.proces
     next = λ i. record (shown v) {
       frame = λ g. one_place (shown v).frame
           (λ h. frame_use v.words (v.bound h) (at_put v.reads t.frame None h)) t.frame frame.Free
-          (ap (λ (o : Option (ℕ × ℕ)). frame_use v.words o (at_put v.reads t.frame None t.frame)) read_unbound
-          ∙ ap read_use (put_here v.reads t.frame None))
-          (λ h n. ap (frame_use v.words (v.bound h)) (put_other v.reads t.frame None h n)) g i;
+          (cc (read_unbound, put_here v.reads t.frame None)) (λ h n. cc (put_other v.reads t.frame None h n)) g i;
       seat = λ d. transfer_seat v c None d i;
     };
     pending = refl;
@@ -285,7 +260,7 @@ here_keeps v f u p k can = book_next v (entry.Here f u p) (here v f u p) refl re
     nowhere = ap names can.null
 
     none : (g : ℕ) → v.reads g ≢ Some (u, p)
-    none g h = let no : false ≡ true = sym (ap is_out can.null) ∙ k.tied.out g u p h in cc
+    none g h = let no = sym (ap is_out can.null) ∙ k.tied.out g u p h in cc
 
     free : (shown v).frame f ≡ frame.Free
     free = free_is v f can.unbound can.unread
@@ -297,11 +272,10 @@ here_keeps v f u p k can = book_next v (entry.Here f u p) (here v f u p) refl re
     reading : (d : ℕ) (t : Transfer) → (v.processors d).cpu.transfer ≡ Some t
         → at_put v.reads f None t.frame ≡ Some (t.uid, t.page)
     reading d t h = by_place (λ (o : Option (ℕ × ℕ)). o ≡ Some (t.uid, t.page)) v.reads f None t.frame
-        (λ i. absurd (none_some (sym can.unread ∙ (ap v.reads (sym i) ∙ k.under_way.reading d t h))))
-        (λ n. k.under_way.reading d t h)
+        (λ i. cc (k.under_way.reading d t h)) (λ n. k.under_way.reading d t h)
 
     reader : (g x y : ℕ) → at_put v.reads f None g ≡ Some (x, y)
         → (d : ℕ) × ((v.processors d).cpu.transfer ≡ Some (record { frame = g; uid = x; page = y }))
     reader g x y = by_place (λ (o : Option (ℕ × ℕ)). o ≡ Some (x, y)
         → (d : ℕ) × ((v.processors d).cpu.transfer ≡ Some (record { frame = g; uid = x; page = y }))) v.reads f None g
-        (λ i h. absurd (none_some h)) (λ n h. k.under_way.reader g x y h)
+        (λ i h. cc) (λ n h. k.under_way.reader g x y h)

@@ -1,18 +1,17 @@
 -- The machine keeps its promise where a `truncate` takes effect: the pages that are cut off have left their frames, and
 -- a page that keeps a word is here again.
-use Rattle.machine_model.proofs.Prelude.{◌≡◌, ◌≢◌, ℕ, Bool, true, false, if◌then◌else◌, count_by, List, [], ◌∷◌, ◌++◌, map, Option, Some, None, ◌⊎◌, inl, inr, refl, sym, ap, subst, ◌∙◌, arith, length-set, Path, Entry, Ptw, binding_at, bindings, reads_of, list_any, Segment, is_for, word_of, read_at, Custody, Fine, page_at, back, gone, committed, cut_entry, gone_entries, stays, with_truncated, IsOwned, IsTied, KeepsBook, is_out, is_pending, names, led_to, seen, Keeps, StoreSays, is_fault, cut_of_owner, descriptor_of, frames_of_owner, process_at, run_at, reply_of, uid_of_command, Seen, bound_use, frame_use, shown, CutDescriptor, State, Storage, with_owner, without_first_frame, append-nil, append_assoc}
+use Rattle.machine_model.proofs.Prelude.{[], ◌≡◌, ◌≢◌, ℕ, Bool, true, false, if◌then◌else◌, List, ◌∷◌, ◌++◌, map, Option, Some, None, ◌⊎◌, inl, inr, refl, sym, ap, subst, ◌∙◌, Path, Entry, Ptw, binding_at, bindings, reads_of, list_any, Segment, is_for, word_of, read_at, Custody, Fine, page_at, back, gone, committed, gone_entries, stays, with_truncated, IsOwned, IsTied, KeepsBook, is_out, is_pending, names, led_to, seen, Keeps, StoreSays, cut_of_owner, descriptor_of, frames_of_owner, process_at, reply_of, uid_of_command, Seen, frame_use, shown, CutDescriptor, State, Storage, with_owner, without_first_frame, append-nil, append_assoc}
 use Rattle.script.specs.declared.commands.Command.TheVariants as command
 use Rattle.book.specs.declared.entries.Entry.TheVariants as entry
 use Rattle.page_table.specs.declared.Ptw.TheVariants as ptw
 use Rattle.machine_model.proofs.ChainLaws.{GoesOn, HasGone, IsDone, gone_done, idle_done, back_on, first_finish, LeavesRest, goes_with}
 use Rattle.machine_model.proofs.CommitKept.{effected}
 use Rattle.machine_model.proofs.FrameLaws.{back_keeps, gone_keeps}
-use Rattle.machine_model.proofs.KeepLaws.{faults_push, quiet_push}
+use Rattle.machine_model.proofs.DeleteKept.{told_commit}
 use Rattle.machine_model.proofs.OwnedLaws.{IsIdle, nobody}
 use Rattle.machine_model.proofs.OwnerLaws.{job_over}
-use Rattle.machine_model.proofs.TellKept.{CanTell, told_keeps}
-use Rattle.machine_model.proofs.TieLaws.{none_some, not_there}
-use Rattle.machine_model.proofs.TransferKept.{kept_with}
+use Rattle.machine_model.proofs.TellKept.{CanTell}
+use Rattle.machine_model.proofs.TieLaws.{not_there}
 
 -- ---- words that custody doesn't see
 
@@ -32,7 +31,7 @@ module _ (v : Seen) (words : ℕ → ℕ → Ptw) (k : KeepsBook v) (quiet : Qui
   quiet_tied = record {
     named = λ f w q h. ap names (bound_same f w q h) ∙ k.tied.named f w q h;
     back = λ f w q h. elim (quiet.each w q) [
-      | inl e ↦ k.tied.back f w q (sym (ap names e) ∙ h)
+      | inl e ↦ k.tied.back f w q (cc)
       | inr n ↦ absurd (not_there f (sym n.1 ∙ h))
     ];
     out = λ f w q h. elim (quiet.each w q) [
@@ -51,13 +50,12 @@ module _ (v : Seen) (words : ℕ → ℕ → Ptw) (k : KeepsBook v) (quiet : Qui
         where
           by : (x : Option (ℕ × ℕ)) → v.bound f ≡ x → frame_use v.words x (v.reads f) ≡ frame_use words x (v.reads f)
           by None e = refl
-          by (Some page) e = ap (bound_use page) (sym (bound_same f page.0 page.1 e))
+          by (Some page) e = cc (bound_same f page.0 page.1 e)
 
   pub quiet_keeps : KeepsBook (record v { words = words })
   quiet_keeps = assumption (
     sym quiet_shown ∙ k.held,
-    subst (λ (c : Custody). Fine c (is_pending v.owner)) quiet_shown
-        k.stale_due,
+    subst (λ (c : Custody). Fine c (is_pending v.owner)) quiet_shown k.stale_due,
     subst (λ (c : Custody). IsOwned c v.owner) quiet_shown k.going_owned,
     quiet_tied,
   )
@@ -75,10 +73,10 @@ leaves v test (f ∷ fs) = leaves (leaf v f (test f)) test fs
 
 leaf_keeps : (v : Seen) (f : ℕ) (fs : List ℕ) (ds : List CutDescriptor) (b : Bool) → KeepsBook v → GoesOn v (f ∷ fs) ds
     → HasGone (leaf v f b) fs ds
-leaf_keeps v f fs ds true k on = record {
-  book = back_keeps v f (page_at v f).0 (page_at v f).1 (without_first_frame v.owner) k (first_finish v f fs ds k on);
-  on = back_on v f fs ds on;
-}
+leaf_keeps v f fs ds true k on = assumption (
+  back_keeps v f (page_at v f).0 (page_at v f).1 (without_first_frame v.owner) k (first_finish v f fs ds k on),
+  back_on v f fs ds on,
+)
 leaf_keeps v f fs ds false k on = let back = back_on v f fs ds on in record {
   book = gone_keeps v f (page_at v f).0 (page_at v f).1 (without_first_frame v.owner) k
       (first_finish v f fs ds k on) ptw.Null refl;
@@ -87,7 +85,7 @@ leaf_keeps v f fs ds false k on = let back = back_on v f fs ds on in record {
 
 pub leaves_keep : (v : Seen) (test : ℕ → Bool) (fs : List ℕ) (ds : List CutDescriptor) → KeepsBook v → GoesOn v fs ds
     → HasGone (leaves v test fs) [] ds
-leaves_keep v test [] ds k on = record { book = k; on = on }
+leaves_keep v test [] ds k on = assumption
 leaves_keep v test (f ∷ fs) ds k on = let first =
     leaf_keeps v f fs ds (test f) k on in leaves_keep (leaf v f (test f)) test fs ds first.book first.on
 
@@ -102,21 +100,11 @@ leaf_entries v f false = refl
 leaves_entries : (v : Seen) (test : ℕ → Bool) (fs : List ℕ)
     → (leaves v test fs).entries ≡ v.entries ++ map (leaf_entry test) fs
 leaves_entries v test [] = sym (append-nil v.entries)
-leaves_entries v test (f ∷ fs) = leaves_entries (leaf v f (test f)) test fs
-    ∙ (ap (λ (es : List Entry). es ++ map (leaf_entry test) fs) (leaf_entries v f (test f))
-    ∙ append_assoc v.entries (leaf_entry test f ∷ []) (map (leaf_entry test) fs))
-
-leaf_faults : (es : List Entry) (f : ℕ) (b : Bool)
-    → count_by is_fault (es ++ (if b then entry.BackPage f else entry.GonePage f) ∷ []) ≡ count_by is_fault es
-leaf_faults es f true = quiet_push es (entry.BackPage f) refl
-leaf_faults es f false = quiet_push es (entry.GonePage f) refl
-
-leaves_faults : (es : List Entry) (test : ℕ → Bool) (fs : List ℕ)
-    → count_by is_fault (es ++ map (leaf_entry test) fs) ≡ count_by is_fault es
-leaves_faults es test [] = ap (count_by is_fault) (append-nil es)
-leaves_faults es test (f ∷ fs) = ap (count_by is_fault)
-    (sym (append_assoc es (leaf_entry test f ∷ []) (map (leaf_entry test) fs)))
-    ∙ (leaves_faults (es ++ leaf_entry test f ∷ []) test fs ∙ leaf_faults es f (test f))
+leaves_entries v test (f ∷ fs) = cc (
+  leaves_entries (leaf v f (test f)) test fs,
+  leaf_entries v f (test f),
+  append_assoc v.entries (leaf_entry test f ∷ []) (map (leaf_entry test) fs),
+)
 
 leaf_leaves : (v : Seen) (f : ℕ) (b : Bool) → LeavesRest v (leaf v f b)
 leaf_leaves v f true = refl
@@ -138,8 +126,7 @@ pub leaves_done : (s : State) (test : ℕ → Bool) → KeepsBook (seen s)
     → GoesOn (seen s) (frames_of_owner s.owner) (cut_of_owner s.owner)
     → cut_of_owner s.owner ≡ [] → IsDone (leaves (seen s) test (frames_of_owner s.owner))
 leaves_done s test k on cut = gone_done (leaves (seen s) test (frames_of_owner s.owner))
-    (subst (HasGone (leaves (seen s) test (frames_of_owner s.owner)) []) cut
-    (leaves_keep (seen s) test (frames_of_owner s.owner) (cut_of_owner s.owner) k on))
+    (rw (← cut) (leaves_keep (seen s) test (frames_of_owner s.owner) (cut_of_owner s.owner) k on))
 
 pub leaves_idle : (s : State) (test : ℕ → Bool) → KeepsBook (seen s) → IsIdle s.owner → is_pending s.owner ≡ false
     → IsDone (leaves (seen s) test (frames_of_owner s.owner))
@@ -171,42 +158,34 @@ module _ (s : State) (c k : ℕ) (path : Path) (size : ℕ) where
     pub places : cut_store.ast.entries ≡ s.store.ast.entries
     pub links : cut_store.links ≡ s.store.links
 
-  pub record CanTruncate : Type 0 where
-    pub done : IsDone all_left
-    pub left : LeavesCut
-    pub tell : CanTell (with_owner (effected s k (command.Truncate path size)) None) c (process_at s c) None
-        (reply_of s k (command.Truncate path size))
-    pub says : StoreSays (committed s c k (command.Truncate path size))
-
-  module _ (keeps : Keeps s) (can : CanTruncate) where
+  module _ (keeps : Keeps s) (left : LeavesCut) (done : IsDone all_left) where
     rest : LeavesRest (seen s) all_left
     rest = leaves_rest (seen s) (stays s.store size) fs
 
     cut_book : KeepsBook (record all_left { words = λ w q. word_of cut_store.ast w q })
-    cut_book = quiet_keeps all_left (λ w q. word_of cut_store.ast w q) can.done.book can.left.words
+    cut_book = quiet_keeps all_left (λ w q. word_of cut_store.ast w q) done.book left.words
 
     over : KeepsBook (record all_left { words = λ w q. word_of cut_store.ast w q; owner = None })
-    over = job_over (record all_left { words = λ w q. word_of cut_store.ast w q }) None cut_book can.done.frames
-        can.done.cut can.done.none can.done.still
-        nobody refl
+    over = job_over (record all_left { words = λ w q. word_of cut_store.ast w q }) None cut_book done.frames
+        done.cut done.none done.still nobody refl
 
     entries_are : s.entries ++ gone_entries s segment (command.Truncate path size) ≡ all_left.entries
-    entries_are = ap (λ (ds : List CutDescriptor). s.entries ++
-        (map (leaf_entry (stays s.store size)) fs ++ (map cut_entry ds ++ []))) can.left.cut
-        ∙ (ap (λ (es : List Entry). s.entries ++ es) (append-nil (map (leaf_entry (stays s.store size)) fs))
-        ∙ sym (leaves_entries (seen s) (stays s.store size) fs))
+    entries_are = cc (
+      append-nil (map (leaf_entry (stays s.store size)) fs),
+      leaves_entries (seen s) (stays s.store size) fs,
+    )
 
     truncated_seen : seen (with_owner (effected s k (command.Truncate path size)) None)
         ≡ record all_left { words = λ w q. word_of cut_store.ast w q; owner = None }
     truncated_seen = λ i. record {
       plan = (sym rest i).plan;
       entries = entries_are i;
-      bound = λ g. can.left.bound g i;
-      reads = λ g. (can.left.reads g ∙ ap (λ (x : Seen). x.reads g) (sym rest)) i;
+      bound = λ g. left.bound g i;
+      reads = λ g. (left.reads g ∙ ap (λ (x : Seen). x.reads g) (sym rest)) i;
       words = λ w q. word_of cut_store.ast w q;
-      active = λ u. (ap (λ (es : List (Option Segment)). list_any (is_for u) es) can.left.places
+      active = λ u. (ap (λ (es : List (Option Segment)). list_any (is_for u) es) left.places
           ∙ ap (λ (x : Seen). x.active u) (sym rest)) i;
-      linked = λ j n. ((λ t. led_to (can.left.places t) (descriptor_of (can.left.links t) j n))
+      linked = λ j n. ((λ t. led_to (left.places t) (descriptor_of (left.links t) j n))
           ∙ ap (λ (x : Seen). x.linked j n) (sym rest)) i;
       ready = (sym rest i).ready;
       processors = (sym rest i).processors;
@@ -214,17 +193,8 @@ module _ (s : State) (c k : ℕ) (path : Path) (size : ℕ) where
       runs = (sym rest i).runs;
     }
 
-    pub truncate_kept : Keeps (committed s c k (command.Truncate path size))
-    truncate_kept = kept_with (committed s c k (command.Truncate path size))
-        (told_keeps (with_owner (effected s k (command.Truncate path size)) None) c (process_at s c) None
-        (reply_of s k (command.Truncate path size))
-        (subst KeepsBook (sym truncated_seen) over) can.tell) can.says
-        (let a = faults_push (s.entries ++ gone_entries s segment (command.Truncate path size))
-        (entry.Do (process_at s c) (run_at s.runs (process_at s c)).place c None
-        (reply_of s k (command.Truncate path size))) in
-        let b = ap (count_by is_fault) entries_are in
-        let d = ap (count_by is_fault) (leaves_entries (seen s) (stays s.store size) fs) in
-        let e = leaves_faults s.entries (stays s.store size) fs in
-        let few = keeps.few_faults in omega (arith, a, b, d, e, few))
-        (length-set s.processors c _ ∙ keeps.sizes.processors)
-        (length-set s.runs (process_at s c) _ ∙ keeps.sizes.processes) (λ o h. absurd (none_some h))
+    pub truncate_kept : CanTell (with_owner (effected s k (command.Truncate path size)) None) c (process_at s c) None
+        (reply_of s k (command.Truncate path size)) → StoreSays (committed s c k (command.Truncate path size))
+        → Keeps (committed s c k (command.Truncate path size))
+    truncate_kept tell says = told_commit s c k (command.Truncate path size) keeps
+        (subst KeepsBook (sym truncated_seen) over) tell says

@@ -1,20 +1,23 @@
 -- What a `truncate` must have out of use is so where it takes effect: the pages that it cuts off are those that its job
 -- took, and the one that keeps a word is here again.
-use Rattle.machine_model.proofs.Prelude.{◌≡◌, ◌≢◌, ◌<◌, ◌≤◌, ◌*◌, ℕ, zero, suc, ◌+◌, ◌-◌, ◌/◌, ◌%◌, Bool, true, false, not, ◌&&◌, ◌||◌, cond, eqb, List, [], ◌∷◌, ◌++◌, length, take, replicate, get_or, set, Option, Some, None, ◌⊎◌, inl, inr, refl, sym, ap, subst, ◌∙◌, arith, nat_le, nat_lt, Result, Ok, Err, range_with_len, eqb_tells, leb_tells, get_or-set_same, get_or_past, length-set, Path, Reply, Node, after_reference, bound_page, started_page, Ptw, frame_in, words_in, place_of, table_of, node_at, segment_at, is_zero_page, without_words, is_lost, zero_words, has, is_going_frame, page_of, LosesNoPage, OfNode, at_put_two, page_at, page_or_zero, first_past, pages_past, stays, with_cut, without_page, AreDistinct, names, seen, are_zeros, here_if, page_in, with_here, Keeps, cut_of_owner, flat_of, frames_of_owner, is_active, process_at, Seen, shown, use_of, State, Storage, with_owner, with_pages, IsTakenFor, only_found, and-false, binding_at, read_at, has_head, has_tail, not_both, page_is, map_kept}
+use Rattle.machine_model.proofs.Prelude.{cond_both, not-false, cases_Bool, not-true, nat_tests, eqb_self, ne_eqb, [], ◌≡◌, ◌≢◌, ◌<◌, ◌≤◌, ◌*◌, ℕ, zero, suc, ◌+◌, ◌-◌, ◌/◌, ◌%◌, Bool, true, false, not, ◌&&◌, cond, eqb, List, ◌∷◌, ◌++◌, length, take, replicate, get_or, set, Option, Some, None, ◌⊎◌, inl, inr, refl, sym, ap, subst, ◌∙◌, arith, nat_le, nat_lt, Result, Ok, Err, eqb_tells, leb_tells, get_or-set_same, get_or_past, length-set, Path, Reply, Node, after_reference, bound_page, started_page, Ptw, frame_in, words_in, place_of, table_of, node_at, segment_at, is_zero_page, without_words, is_lost, zero_words, has, is_going_frame, page_of, LosesNoPage, OfNode, at_put_two, page_at, page_or_zero, first_past, pages_past, stays, with_cut, without_page, AreDistinct, names, seen, are_zeros, here_if, page_in, with_here, Keeps, cut_of_owner, flat_of, frames_of_owner, is_active, process_at, Seen, shown, use_of, State, Storage, with_owner, with_pages, IsTakenFor, only_found, and-false, binding_at, read_at, has_head, has_tail, not_both, page_is, map_kept}
 use Rattle.script.specs.declared.commands.Command.TheVariants as command
 use Rattle.core_map.specs.declared.Frame.TheVariants as frame
 use Rattle.page_table.specs.declared.Ptw.TheVariants as ptw
 use Rattle.page_control.specs.Effects.{cut}
 use Rattle.custody_model.specs.declared.FrameUse.TheVariants as frame_use
 use Rattle.machine_model.proofs.ChainLaws.{going_word}
-use Rattle.machine_model.proofs.CommitAsks.{IsOut, RestsTruncate}
+use Rattle.machine_model.proofs.CommitAsks.{IsOut, Rests}
 use Rattle.machine_model.proofs.CommitKept.{effected}
 use Rattle.machine_model.proofs.CommitRests.{cut_led, none_cut, page_bound, path_uid}
+use Rattle.machine_model.proofs.DeleteKept.{bound_unread, taken_word}
 use Rattle.machine_model.proofs.FinishKept.{bound_within}
 use Rattle.machine_model.proofs.ListLaws.{map_list}
-use Rattle.machine_model.proofs.PagesCut.{AreCutOff, HasPlaces, IsCutOff, bound_in, cut_places, page_cut_off, pages_cut_off, read_in, word_in}
+use Rattle.machine_model.proofs.PagesCut.{put_two_other, AreCutOff, HasPlaces, IsCutOff, bound_in, cut_places, page_cut_off, pages_cut_off, read_in, word_in}
 use Rattle.machine_model.proofs.PageShown.{bound_word}
-use Rattle.machine_model.proofs.Places.{by_place, by_places}
+use Rattle.machine_model.proofs.PoolRoom.{range_has}
+use Rattle.machine_model.proofs.VictimLaws.{in_range_is, link_member, member_link}
+use Rattle.machine_model.proofs.Places.{put_here, put_other, put_two_here, by_places}
 use Rattle.machine_model.proofs.TakeSeen.{binding_is, words_put}
 use Rattle.machine_model.proofs.TieLaws.{none_some}
 use Rattle.machine_model.proofs.TruncateKept.{QuietWords, all_left, cut_store, leaf, leaves, segment}
@@ -22,28 +25,6 @@ use Rattle.machine_model.proofs.TransferKept.{active_at}
 use Rattle.machine_model.proofs.WordLaws.{word_within}
 use Rattle.machine_model.proofs.ActiveKept.{started_after}
 use Rattle.page_control.proofs.Facts.{page_referred}
-
--- ---- numbers in a row
-
-range_has : (from n q : ℕ) → from ≤ q → q < from + n → has (range_with_len from n) q ≡ true
-range_has from zero q low high = absurd (omega (arith, low, high))
-range_has from (suc n) q low high = by (eqb_tells from q) (λ a b. range_has (from + 1) n q a b)
-  where
-    by : ((eqb from q ≡ true) × (from ≡ q)) ⊎ ((eqb from q ≡ false) × (from ≢ q))
-        → (from + 1 ≤ q → q < from + 1 + n → has (range_with_len (from + 1) n) q ≡ true)
-        → (eqb from q || has (range_with_len (from + 1) n) q) ≡ true
-    by (inl e) rest = ap (λ (b : Bool). b || has (range_with_len (from + 1) n) q) e.0
-    by (inr m) rest = cc (rest (let ne = m.1 in omega (arith, low, ne)) (omega (arith, high)))
-
-has_range : (from n q : ℕ) → has (range_with_len from n) q ≡ true → from ≤ q
-has_range from zero q h = absurd (not_both h refl)
-has_range from (suc n) q h = by (eqb_tells from q) (λ a. has_range (from + 1) n q a)
-  where
-    by : ((eqb from q ≡ true) × (from ≡ q)) ⊎ ((eqb from q ≡ false) × (from ≢ q))
-        → (has (range_with_len (from + 1) n) q ≡ true → from + 1 ≤ q) → from ≤ q
-    by (inl e) rest = let same = e.1 in omega (arith, same)
-    by (inr m) rest = let more = rest (sym (ap (λ (b : Bool). b || has (range_with_len (from + 1) n) q) m.0) ∙ h) in
-        omega (arith, more)
 
 -- ---- the page that the words cut
 
@@ -59,6 +40,18 @@ record IsBegun (st now : Storage) (u p : ℕ) : Type 0 where
 
 begun_same : (st : Storage) (u p : ℕ) → HasPlaces st → IsBegun st st u p
 begun_same st u p h = assumption
+
+-- the page that the words cut: as it was where no frame has it, stored no more, or here again
+record IsCut (st now : Storage) (u p at : ℕ) : Type 0 where
+  begun : IsBegun st now u p
+  quiet : ((f : ℕ) → word_in st u p ≢ ptw.Leaving f) → word_in now u p ≡ word_in st u p
+  zeros : (f : ℕ) → word_in st u p ≡ ptw.Leaving f → are_zeros (words_in (cut st.pages f at) f) ≡ true
+      → (word_in now u p ≡ ptw.Null) × (bound_in now f ≡ None)
+  kept : (f : ℕ) → word_in st u p ≡ ptw.Leaving f → are_zeros (words_in (cut st.pages f at) f) ≡ false
+      → (word_in now u p ≡ ptw.Here f) × (bound_in now f ≡ bound_in st f)
+
+leaving_same : (f g : ℕ) → ptw.Leaving f ≡ ptw.Leaving g → f ≡ g
+leaving_same f g e = cc
 
 module _ (st : Storage) (u p at f : ℕ) (h : HasPlaces st) (leaving : word_in st u p ≡ ptw.Leaving f)
     (tie : bound_in st f ≡ Some (u, p)) where
@@ -79,7 +72,7 @@ module _ (st : Storage) (u p at f : ℕ) (h : HasPlaces st) (leaving : word_in s
   places_now : HasPlaces now
   places_now = record {
     tables = h.tables;
-    within = λ v q g e. subst (λ (n : ℕ). g < n) (sym (length-set st.pages.core.frames f _)) (h.within v q g e);
+    within = λ v q g e. rw (length-set st.pages.core.frames f _) (h.within v q g e);
   }
 
   -- it is stored no more
@@ -89,38 +82,25 @@ module _ (st : Storage) (u p at f : ℕ) (h : HasPlaces st) (leaving : word_in s
   gone : IsCutOff now gone_store u p (ptw.Leaving f)
   gone = page_cut_off now u p (ptw.Leaving f) places_now leaving
 
+  gone_null : word_in gone_store u p ≡ ptw.Null
+  gone_null = gone.words u p ∙ put_two_here (λ x y. word_in st x y) u p ptw.Null
+
   gone_begun : IsBegun st gone_store u p
   gone_begun = record {
-    words = λ v q n. gone.words v q ∙ by_places (λ (x : Ptw). x ≡ word_in st v q) (λ x y. word_in st x y) u p ptw.Null
-        v q (λ a b. absurd (n a b)) (λ m. refl);
-    bound = λ g n. gone.bound g ∙ (elim (eqb_tells g f) [
-      | inl e ↦ absurd (n (leaving ∙ ap (λ (x : ℕ). ptw.Leaving x) (sym e.1)))
-      | inr m ↦ ap (λ (b : Bool). cond b None (bound_in now g)) m.0 ∙ bound_same g
-    ]);
+    words = λ v q n. gone.words v q ∙ put_two_other (λ x y. word_in st x y) u p ptw.Null v q n;
+    bound = λ g n. gone.bound g ∙ rw (ne_eqb g f (λ e. n (cc))) (bound_same g);
     reads = λ g i. gone.reads g ∙ (elim (eqb_tells g f) [
-      | inl e ↦ ap (λ (b : Bool). cond b None (read_in now g)) e.0
-          ∙ sym (i (leaving ∙ ap (λ (x : ℕ). ptw.Leaving x) (sym e.1)))
-      | inr m ↦ ap (λ (b : Bool). cond b None (read_in now g)) m.0 ∙ reads_same g
+      | inl e ↦ rw e.0 (sym (i (cc)))
+      | inr m ↦ rw m.0 (reads_same g)
     ]);
-    leaving = λ g e. absurd (let no : ptw.Null ≡ ptw.Leaving g = sym gone_word ∙ e in cc);
+    leaving = λ g e. absurd (let no : ptw.Null ≡ ptw.Leaving g = sym gone_null ∙ e in cc);
     places = gone.places;
     links = gone.links;
     has_places = cut_places now gone_store u p (ptw.Leaving f) places_now gone;
   }
-    where
-      gone_word : word_in gone_store u p ≡ ptw.Null
-      gone_word = gone.words u p ∙ by_places (λ (x : Ptw). x ≡ ptw.Null) (λ x y. word_in st x y) u p ptw.Null u p
-          (λ a b. refl) (λ m. absurd (m refl refl))
-
-  gone_null : word_in gone_store u p ≡ ptw.Null
-  gone_null = gone.words u p ∙ by_places (λ (x : Ptw). x ≡ ptw.Null) (λ x y. word_in st x y) u p ptw.Null u p
-      (λ a b. refl) (λ m. absurd (m refl refl))
 
   gone_free : bound_in gone_store f ≡ None
-  gone_free = gone.bound f ∙ elim (eqb_tells f f) [
-    | inl e ↦ ap (λ (b : Bool). cond b None (bound_in now f)) e.0
-    | inr m ↦ absurd (m.1 refl)
-  ]
+  gone_free = cc (gone.bound f, eqb_self f)
 
   -- it is here again
   here_word : (v q : ℕ) → word_in (here_if now f (Some (u, p))) v q
@@ -129,41 +109,45 @@ module _ (st : Storage) (u p at f : ℕ) (h : HasPlaces st) (leaving : word_in s
       (λ i. (let no : ptw.Leaving f ≡ ptw.Null = sym leaving ∙ i in cc))
 
   here_is : with_here now f ≡ here_if now f (Some (u, p))
-  here_is = ap (here_if now f) (sym (map_list bound_page now.pages.core.frames f frame.Free) ∙ (bound_same f ∙ tie))
+  here_is = cc (map_list bound_page now.pages.core.frames f frame.Free, bound_same f)
 
   here_this : word_in (here_if now f (Some (u, p))) u p ≡ ptw.Here f
-  here_this = here_word u p ∙ by_places (λ (x : Ptw). x ≡ ptw.Here f) (λ x y. word_in st x y) u p (ptw.Here f) u p
-      (λ a b. refl) (λ m. absurd (m refl refl))
+  here_this = here_word u p ∙ put_two_here (λ x y. word_in st x y) u p (ptw.Here f)
 
   here_begun : IsBegun st (here_if now f (Some (u, p))) u p
   here_begun = record {
-    words = λ v q n. here_word v q ∙ by_places (λ (x : Ptw). x ≡ word_in st v q) (λ x y. word_in st x y) u p
-        (ptw.Here f) v q (λ a b. absurd (n a b)) (λ m. refl);
+    words = λ v q n. here_word v q ∙ put_two_other (λ x y. word_in st x y) u p (ptw.Here f) v q n;
     bound = λ g n. bound_same g;
     reads = λ g i. reads_same g;
-    leaving = λ g e. absurd (let no : ptw.Here f ≡ ptw.Leaving g = sym here_this ∙ e in cc);
+    leaving = λ g e. cc (sym here_this ∙ e);
     places = refl;
     links = refl;
     has_places = record {
       tables = length-set st.ast.tables (place_of st.ast.entries u) _ ∙ h.tables;
       within = λ v q g e. subst (λ (n : ℕ). g < n) (sym (length-set st.pages.core.frames f _))
           (by_places (λ (x : Ptw). x ≡ ptw.Leaving g → g < length st.pages.core.frames) (λ x y. word_in st x y) u p
-          (ptw.Here f) v q (λ a b i. absurd (let no : ptw.Here f ≡ ptw.Leaving g = i in cc)) (λ m i. h.within v q g i)
-          (sym (here_word v q) ∙ e));
+          (ptw.Here f) v q (λ a b i. cc) (λ m i. h.within v q g i) (sym (here_word v q) ∙ e));
     };
   }
 
--- the page that the words cut: as it was where no frame has it, stored no more, or here again
-record IsCut (st now : Storage) (u p at : ℕ) : Type 0 where
-  begun : IsBegun st now u p
-  quiet : ((f : ℕ) → word_in st u p ≢ ptw.Leaving f) → word_in now u p ≡ word_in st u p
-  zeros : (f : ℕ) → word_in st u p ≡ ptw.Leaving f → are_zeros (words_in (cut st.pages f at) f) ≡ true
-      → (word_in now u p ≡ ptw.Null) × (bound_in now f ≡ None)
-  kept : (f : ℕ) → word_in st u p ≡ ptw.Leaving f → are_zeros (words_in (cut st.pages f at) f) ≡ false
-      → (word_in now u p ≡ ptw.Here f) × (bound_in now f ≡ bound_in st f)
+  its : (g : ℕ) → word_in st u p ≡ ptw.Leaving g → f ≡ g
+  its g i = leaving_same f g (cc)
 
-leaving_same : (f g : ℕ) → ptw.Leaving f ≡ ptw.Leaving g → f ≡ g
-leaving_same f g e = cc
+  gone_cut : are_zeros (words_in (cut st.pages f at) f) ≡ true → IsCut st gone_store u p at
+  gone_cut z = record {
+    begun = gone_begun;
+    quiet = λ n. absurd (n f leaving);
+    zeros = λ g i y. (gone_null, cc (its g i, gone_free));
+    kept = λ g i y. absurd (not_both (rw (its g i) at z) y);
+  }
+
+  here_cut : are_zeros (words_in (cut st.pages f at) f) ≡ false → IsCut st (with_here now f) u p at
+  here_cut z = subst (λ (x : Storage). IsCut st x u p at) (sym here_is) (record {
+    begun = here_begun;
+    quiet = λ n. absurd (n f leaving);
+    zeros = λ g i y. absurd (not_both y (rw (its g i) at z));
+    kept = λ g i y. (cc (here_this, its g i), bound_same g);
+  })
 
 page_cut : (st : Storage) (u p at : ℕ) → HasPlaces st
     → ((f : ℕ) → word_in st u p ≡ ptw.Leaving f → bound_in st f ≡ Some (u, p))
@@ -179,85 +163,37 @@ page_cut st u p at h tie = by (word_in st u p) refl
     }
 
     by : (w : Ptw) → word_in st u p ≡ w → IsCut st (with_cut st u p at w) u p at
-    by ptw.Null e = same ptw.Null e (λ f i. (let no : ptw.Null ≡ ptw.Leaving f = i in cc))
-    by (ptw.Out r) e = same (ptw.Out r) e (λ f i. (let no : ptw.Out r ≡ ptw.Leaving f = i in cc))
-    by (ptw.Here f) e = same (ptw.Here f) e (λ g i. (let no : ptw.Here f ≡ ptw.Leaving g = i in cc))
-    by (ptw.Leaving f) e = cases (are_zeros (words_in (cut st.pages f at) f)) refl
-      where
-        its : (g : ℕ) → word_in st u p ≡ ptw.Leaving g → f ≡ g
-        its g i = leaving_same f g (sym e ∙ i)
-
-        cases : (b : Bool) → are_zeros (words_in (cut st.pages f at) f) ≡ b
-            → IsCut st (cond b (without_page (with_pages st (cut st.pages f at)) u p (ptw.Leaving f))
-            (with_here (with_pages st (cut st.pages f at)) f)) u p at
-        cases true z = record {
-          begun = gone_begun st u p at f h e (tie f e);
-          quiet = λ n. absurd (n f e);
-          zeros = λ g i y. (
-            gone_null st u p at f h e (tie f e),
-            ap (bound_in (gone_store st u p at f h e (tie f e))) (sym (its g i)) ∙ gone_free st u p at f h e (tie f e),
-          );
-          kept = λ g i y. absurd (not_both
-              (ap (λ (x : ℕ). are_zeros (words_in (cut st.pages x at) x)) (sym (its g i)) ∙ z)
-              y);
-        }
-        cases false z = subst (λ (x : Storage). IsCut st x u p at) (sym (here_is st u p at f h e (tie f e))) (record {
-          begun = here_begun st u p at f h e (tie f e);
-          quiet = λ n. absurd (n f e);
-          zeros = λ g i y. absurd (not_both y
-              (ap (λ (x : ℕ). are_zeros (words_in (cut st.pages x at) x)) (sym (its g i))
-              ∙ z));
-          kept = λ g i y. (
-            here_this st u p at f h e (tie f e) ∙ ap (λ (x : ℕ). ptw.Here x) (its g i),
-            bound_same st u p at f h e (tie f e) g,
-          );
-        })
+    by (ptw.Leaving f) e = cond_both (are_zeros (words_in (cut st.pages f at) f)) _ _ (λ x. IsCut st x u p at)
+        (gone_cut st u p at f h e (tie f e)) (here_cut st u p at f h e (tie f e))
+    by w e = same w e (λ f i. (cc i))
 
 -- ---- the frames that the job took, as custody sees them go or come back
 
 -- a page that stays keeps its frame
 leaf_bound : (v : Seen) (f : ℕ) (b : Bool) (g : ℕ) → g ≢ f → (leaf v f b).bound g ≡ v.bound g
 leaf_bound v f true g n = refl
-leaf_bound v f false g n = by_place (λ (x : Option (ℕ × ℕ)). x ≡ v.bound g) v.bound f None g
-    (λ e. absurd (n e)) (λ m. refl)
-
-leaf_free : (v : Seen) (f : ℕ) → (leaf v f false).bound f ≡ None
-leaf_free v f = by_place (λ (x : Option (ℕ × ℕ)). x ≡ None) v.bound f None f (λ e. refl) (λ m. absurd (m refl))
+leaf_bound v f false g n = put_other v.bound f None g n
 
 left_bound : (v : Seen) (test : ℕ → Bool) (fs : List ℕ) (g : ℕ)
     → (leaves v test fs).bound g ≡ cond (has fs g && not (test g)) None (v.bound g)
 left_bound v test [] g = refl
-left_bound v test (f ∷ fs) g = left_bound (leaf v f (test f)) test fs g ∙ by (eqb_tells f g)
+left_bound v test (f ∷ fs) g = left_bound (leaf v f (test f)) test fs g ∙ (elim (eqb_tells f g) [
+  | inl e ↦ (λ i. cond (has fs g && not (test g)) None ((leaf v (e.1 i) (test (e.1 i))).bound g))
+      ∙ rw e.0 (here (test g) (has fs g))
+  | inr m ↦ rw (m.0, leaf_bound v f (test f) g (λ e. m.1 (sym e))) refl
+])
   where
-    stays_or_free : (b x : Bool) (y : Option (ℕ × ℕ)) → (b ≡ true → y ≡ v.bound g) → (b ≡ false → y ≡ None)
-        → cond (x && not b) None y ≡ cond (not b) None (v.bound g)
-    stays_or_free true true y a z = a refl
-    stays_or_free true false y a z = a refl
-    stays_or_free false true y a z = refl
-    stays_or_free false false y a z = z refl
-
-    leaf_kept : (b : Bool) → b ≡ true → (leaf v f b).bound g ≡ v.bound g
-    leaf_kept true e = refl
-    leaf_kept false e = absurd (not_both e refl)
-
-    leaf_gone : (b : Bool) → b ≡ false → f ≡ g → (leaf v f b).bound g ≡ None
-    leaf_gone true e i = absurd (not_both refl e)
-    leaf_gone false e i = ap (leaf v f false).bound (sym i) ∙ leaf_free v f
-
-    by : ((eqb f g ≡ true) × (f ≡ g)) ⊎ ((eqb f g ≡ false) × (f ≢ g))
-        → cond (has fs g && not (test g)) None ((leaf v f (test f)).bound g)
-        ≡ cond ((eqb f g || has fs g) && not (test g)) None (v.bound g)
-    by (inl e) = cc (stays_or_free (test g) (has fs g) ((leaf v f (test f)).bound g)
-        (λ i. leaf_kept (test f) (ap test e.1 ∙ i)) (λ i. leaf_gone (test f) (ap test e.1 ∙ i) e.1))
-    by (inr m) = cc (leaf_bound v f (test f) g (λ e. m.1 (sym e)))
+    here : (b x : Bool) → cond (x && not b) None ((leaf v g b).bound g) ≡ cond (not b) None (v.bound g)
+    here true true = refl
+    here true false = refl
+    here false true = refl
+    here false false = put_here v.bound g None
 
 -- the word of a page that no frame of theirs has
 leaf_word : (v : Seen) (f : ℕ) (b : Bool) (w q : ℕ) → (w ≡ (page_at v f).0 → q ≡ (page_at v f).1 → ⊥)
     → (leaf v f b).words w q ≡ v.words w q
-leaf_word v f true w q n = by_places (λ (x : Ptw). x ≡ v.words w q) v.words (page_at v f).0 (page_at v f).1 (ptw.Here f)
-    w q (λ a b. absurd (n a b)) (λ m. refl)
-leaf_word v f false w q n = by_places (λ (x : Ptw). x ≡ v.words w q) v.words (page_at v f).0 (page_at v f).1 ptw.Null
-    w q (λ a b. absurd (n a b)) (λ m. refl)
+leaf_word v f true w q n = put_two_other v.words (page_at v f).0 (page_at v f).1 (ptw.Here f) w q n
+leaf_word v f false w q n = put_two_other v.words (page_at v f).0 (page_at v f).1 ptw.Null w q n
 
 leaf_this : (v : Seen) (f : ℕ) (b : Bool) (w q : ℕ) → w ≡ (page_at v f).0 → q ≡ (page_at v f).1
     → (leaf v f b).words w q ≡ cond b (ptw.Here f) ptw.Null
@@ -276,46 +212,35 @@ next_pages : (v : Seen) (f : ℕ) (fs : List ℕ) (page : ℕ → ℕ × ℕ) (b
     → HavePages (leaf v f b) fs page
 next_pages v f fs page b h = record {
   once = h.once.1;
-  each = λ g i. ap page_or_zero (leaf_bound v f b g
-      (λ e. not_both (subst (λ (x : ℕ). has fs x ≡ true) e i) h.once.0)) ∙ h.each g (has_tail f fs g i);
+  each = λ g i. cc (
+    leaf_bound v f b g (λ e. not_both (subst (λ (x : ℕ). has fs x ≡ true) e i) h.once.0),
+    h.each g
+        (has_tail f fs g i),
+  );
   alone = λ g i x y. h.alone g i (has_tail f fs g x) (has_tail f fs i y);
 }
 
 left_other : (v : Seen) (test : ℕ → Bool) (fs : List ℕ) (page : ℕ → ℕ × ℕ) (w q : ℕ) → HavePages v fs page
     → ((f : ℕ) → has fs f ≡ true → (page f).0 ≡ w → (page f).1 ≡ q → ⊥) → (leaves v test fs).words w q ≡ v.words w q
 left_other v test [] page w q h n = refl
-left_other v test (f ∷ fs) page w q h n = left_other (leaf v f (test f)) test fs page w q (next_pages v f fs page
-    (test f) h) (λ g i. n g (has_tail f fs g i))
-    ∙ leaf_word v f (test f) w q (λ a b. n f (has_head f fs)
-    (ap (λ (x : ℕ × ℕ). x.0) (sym (h.each f (has_head f fs))) ∙ sym a)
-    (ap (λ (x : ℕ × ℕ). x.1) (sym (h.each f (has_head f fs))) ∙ sym b))
+left_other v test (f ∷ fs) page w q h n =
+    left_other (leaf v f (test f)) test fs page w q (next_pages v f fs page (test f) h) (λ g i. n g (has_tail f fs g i))
+    ∙ leaf_word v f (test f) w q (λ a b. n f (has_head f fs) (rw (h.each f (has_head f fs)) at (sym a))
+    (rw (h.each f (has_head f fs)) at (sym b)))
 
 left_this : (v : Seen) (test : ℕ → Bool) (fs : List ℕ) (page : ℕ → ℕ × ℕ) (f : ℕ) → HavePages v fs page
     → has fs f ≡ true → (leaves v test fs).words (page f).0 (page f).1 ≡ cond (test f) (ptw.Here f) ptw.Null
-left_this v test [] page f h i = absurd (not_both i refl)
-left_this v test (g ∷ gs) page f h i = by (eqb_tells g f)
-    (λ x. left_this (leaf v g (test g)) test gs page f (next_pages v g gs page (test g) h) x)
+left_this v test [] page f h i = cc
+left_this v test (g ∷ gs) page f h i = elim (eqb_tells g f) [
+  | inl e ↦ left_other (leaf v g (test g)) test gs page (page f).0 (page f).1 (next_pages v g gs page (test g) h)
+      (λ j x a b. not_both (rw (h.alone j f (has_tail g gs j x) i a b ∙ sym e.1) at x) h.once.0)
+      ∙ (cc (leaf_this v g (test g) (page f).0 (page f).1 (its e.1 (λ (x : ℕ × ℕ). x.0))
+      (its e.1 (λ (x : ℕ × ℕ). x.1))))
+  | inr m ↦ left_this (leaf v g (test g)) test gs page f (next_pages v g gs page (test g) h) (rw m.0 at i)
+]
   where
-    later : g ≢ f → has gs f ≡ true
-    later n = elim (eqb_tells g f) [
-      | inl e ↦ absurd (n e.1)
-      | inr m ↦ sym (ap (λ (b : Bool). b || has gs f) m.0) ∙ i
-    ]
-
-    by : ((eqb g f ≡ true) × (g ≡ f)) ⊎ ((eqb g f ≡ false) × (g ≢ f))
-        → (has gs f ≡ true → (leaves (leaf v g (test g)) test gs).words (page f).0 (page f).1
-        ≡ cond (test f) (ptw.Here f) ptw.Null)
-        → (leaves (leaf v g (test g)) test gs).words (page f).0 (page f).1 ≡ cond (test f) (ptw.Here f) ptw.Null
-    by (inr m) rest = rest (later m.1)
-    by (inl e) rest = left_other (leaf v g (test g)) test gs page (page f).0 (page f).1
-        (next_pages v g gs page (test g) h)
-        (λ j x a b. not_both (subst (λ (y : ℕ). has gs y ≡ true) (h.alone j f (has_tail g gs j x) i a b ∙ sym e.1) x)
-        h.once.0)
-        ∙ (leaf_this v g (test g) (page f).0 (page f).1 (its (λ (x : ℕ × ℕ). x.0)) (its (λ (x : ℕ × ℕ). x.1))
-        ∙ ap (λ (x : ℕ). cond (test x) (ptw.Here x) ptw.Null) e.1)
-      where
-        its : (part : ℕ × ℕ → ℕ) → part (page f) ≡ part (page_at v g)
-        its part = ap (λ (x : ℕ). part (page x)) (sym e.1) ∙ ap part (sym (h.each g (has_head g gs)))
+    its : g ≡ f → (part : ℕ × ℕ → ℕ) → part (page f) ≡ part (page_at v g)
+    its e part = cc (h.each g (has_head g gs))
 
 left_reads : (v : Seen) (test : ℕ → Bool) (fs : List ℕ) → (leaves v test fs).reads ≡ v.reads
 left_reads v test [] = refl
@@ -335,27 +260,19 @@ zeros_cut : (ws : List ℕ) (at n : ℕ) → ((i : ℕ) → i < at → get_or ws
     → are_zeros (take at ws ++ replicate n 0) ≡ true
 zeros_cut ws zero n zero_is = zeros_after n
 zeros_cut [] (suc at) n zero_is = zeros_after n
-zeros_cut (w ∷ ws) (suc at) n zero_is = ap (λ (x : ℕ). eqb x 0 && are_zeros (take at ws ++ replicate n 0))
-    (zero_is zero (omega arith))
-    ∙ zeros_cut ws at n (λ i less. zero_is (suc i) (omega (arith, less)))
+zeros_cut (w ∷ ws) (suc at) n zero_is = let first : w ≡ 0 = zero_is zero (omega arith) in
+    rw first (zeros_cut ws at n (λ i less. zero_is (suc i) (omega arith)))
 
 -- a page in a frame whose words before an offset are zeros is all zeros once it is cut there
 cut_zeros : (st : Storage) (f at : ℕ) → ((i : ℕ) → i < at → get_or (words_in st.pages f) i 0 ≡ 0)
     → are_zeros (words_in (cut st.pages f at) f) ≡ true
 cut_zeros st f at zero_is = elim (leb_tells (length st.pages.frames) f) [
-  | inl e ↦ ap are_zeros (get_or_past (set st.pages.frames f _) f []
-      (subst (λ (n : ℕ). n ≤ f) (sym (length-set st.pages.frames f _)) e.1))
+  | inl e ↦ ap are_zeros (get_or_past (set st.pages.frames f _) f [] (rw (length-set st.pages.frames f _) e.1))
   | inr m ↦ ap are_zeros (get_or-set_same st.pages.frames f _ [] m.1)
       ∙ zeros_cut (words_in st.pages f) at (1024 - at) zero_is
 ]
 
 -- ---- the command
-
-lt_tells : (a b : ℕ) → ((nat_lt a b ≡ true) × (a < b)) ⊎ ((nat_lt a b ≡ false) × (b ≤ a))
-lt_tells a b = elim (leb_tells (suc a) b) [
-  | inl e ↦ (let le = e.1 in inl (e.0, omega (arith, le)))
-  | inr m ↦ (let lt = m.1 in inr (m.0, omega (arith, lt)))
-]
 
 module _ (s : State) (c : ℕ) (path : Path) (size : ℕ) (keeps : Keeps s)
     (h : IsTakenFor s (process_at s c) (command.Truncate path size)) where
@@ -402,10 +319,8 @@ module _ (s : State) (c : ℕ) (path : Path) (size : ℕ) (keeps : Keeps s)
       going = cc (word_bound v q f e)
 
   frame_word : (f q : ℕ) → (seen s).bound f ≡ Some (u, q) → p ≤ q → word_in st u q ≡ ptw.Leaving f
-  frame_word f q e le = subst (λ (x : Option (ℕ × ℕ)). word_in st (page_or_zero x).0 (page_or_zero x).1 ≡ ptw.Leaving f)
-      e (going_word (seen s) f keeps.book (h.just.pages f u q
-      (ap (λ (x : Option (ℕ × ℕ)). page_of (use_of (seen s).words x ((seen s).reads f))) e
-      ∙ page_bound (seen s).words (u, q) ((seen s).reads f)) (refl, le)))
+  frame_word f q e le = rw e at (going_word (seen s) f keeps.book (h.just.pages f u q
+      (cc (e, page_bound (seen s).words (u, q) ((seen s).reads f))) (refl, le)))
 
   not_here : (f q : ℕ) → word_in st u q ≡ ptw.Here f → p ≤ q → ⊥
   not_here f q e le = let no : ptw.Here f ≡ ptw.Leaving f = sym e
@@ -426,28 +341,23 @@ module _ (s : State) (c : ℕ) (path : Path) (size : ℕ) (keeps : Keeps s)
     past : p ≤ page
 
   mine : (f : ℕ) → has fs f ≡ true → IsMine f
-  mine f e = record {
-    page = (page_at (seen s) f).1;
-    its = λ i. (taken.1 i, (page_at (seen s) f).1);
-    bound = word_bound (page_at (seen s) f).0 (page_at (seen s) f).1 f word
-        ∙ (λ i. Some (taken.1 i, (page_at (seen s) f).1));
-    word = ap (λ (x : ℕ). word_in st x (page_at (seen s) f).1) (sym taken.1) ∙ word;
-    past = taken.2;
-  }
-    where
-      word : word_in st (page_at (seen s) f).0 (page_at (seen s) f).1 ≡ ptw.Leaving f
-      word = going_word (seen s) f keeps.book (keeps.book.going_owned.frames f ∙ e)
-
-      taken : (has fs f ≡ true) × ((page_at (seen s) f).0 ≡ u) × (p ≤ (page_at (seen s) f).1)
-      taken = word_taken (page_at (seen s) f).0 (page_at (seen s) f).1 f word
+  mine f e =
+      let word = taken_word s keeps f e in
+      let taken = word_taken (page_at (seen s) f).0 (page_at (seen s) f).1 f word in record {
+        page = (page_at (seen s) f).1;
+        its = λ i. (taken.1 i, (page_at (seen s) f).1);
+        bound = word_bound (page_at (seen s) f).0 (page_at (seen s) f).1 f word
+            ∙ (λ i. Some (taken.1 i, (page_at (seen s) f).1));
+        word = cc;
+        past = taken.2;
+      }
 
   have_pages : HavePages (seen s) fs (λ f. page_at (seen s) f)
   have_pages = record {
     once = keeps.book.going_owned.once;
     each = λ f i. refl;
-    alone = λ f g i j a b. leaving_same f g (sym (going_word (seen s) f keeps.book
-        (keeps.book.going_owned.frames f ∙ i)) ∙ ((λ t. word_in st (a t) (b t))
-        ∙ going_word (seen s) g keeps.book (keeps.book.going_owned.frames g ∙ j)));
+    alone = λ f g i j a b. leaving_same f g (sym (taken_word s keeps f i) ∙ ((λ t. word_in st (a t) (b t))
+        ∙ taken_word s keeps g j));
   }
 
   has_places : HasPlaces st
@@ -463,68 +373,55 @@ module _ (s : State) (c : ℕ) (path : Path) (size : ℕ) (keeps : Keeps s)
 
   in_past : (q : ℕ) → first ≤ q → word_in st u q ≢ ptw.Null → has ps q ≡ true
   in_past q le n = let inner = (word_within st.ast u q n).1 in
-      range_has first (length (table_of st.ast u) - first) q le (omega (arith, inner, le))
+      member_link ps q (range_has first (length (table_of st.ast u) - first) q le (omega arith))
 
   past_in : (q : ℕ) → has ps q ≡ true → first ≤ q
-  past_in q i = has_range first (length (table_of st.ast u) - first) q i
+  past_in q i = (in_range_is first (length (table_of st.ast u) - first) q (link_member ps q i)).0
+
+  unpast : (q : ℕ) → q < first → has ps q ≡ false
+  unpast q lt = elim (cases_Bool (has ps q)) [
+    | inl i ↦ (let le = past_in q i in absurd (omega arith))
+    | inr i ↦ i
+  ]
 
   page_is_its : (f : ℕ) → has fs f ≡ true → (m : IsMine f) → (page_in st f).1 ≡ m.page
-  page_is_its f e m = ap (λ (x : Option (ℕ × ℕ)). (page_or_zero x).1) (sym (binding_is s f) ∙ m.bound)
+  page_is_its f e m = cc (binding_is s f)
 
   -- a page past the words doesn't stay; the one that they cut does where it has a word that isn't zero then
   test_past : (f : ℕ) → has fs f ≡ true → (m : IsMine f) → first ≤ m.page → test f ≡ false
-  test_past f e m le = rw (off (lt_tells (1024 * (page_in st f).1) size))
-    where
-      off : ((nat_lt (1024 * (page_in st f).1) size ≡ true) × (1024 * (page_in st f).1 < size))
-          ⊎ ((nat_lt (1024 * (page_in st f).1) size ≡ false) × (size ≤ 1024 * (page_in st f).1))
-          → nat_lt (1024 * (page_in st f).1) size ≡ false
-      off (inl x) = let lt = x.1 in let same = page_is_its f e m in absurd (omega (arith, lt, same, le))
-      off (inr x) = x.0
+  test_past f e m le = let same = page_is_its f e m in
+      let off : nat_lt (1024 * (page_in st f).1) size ≡ false = grind (arith, nat_tests) in rw off
 
   test_cut : (f : ℕ) → has fs f ≡ true → (m : IsMine f) → m.page ≡ p → at ≢ 0
       → test f ≡ not (are_zeros (words_in (cut st.pages f at) f))
-  test_cut f e m is n = rw (on (lt_tells (1024 * (page_in st f).1) size))
-    where
-      on : ((nat_lt (1024 * (page_in st f).1) size ≡ true) × (1024 * (page_in st f).1 < size))
-          ⊎ ((nat_lt (1024 * (page_in st f).1) size ≡ false) × (size ≤ 1024 * (page_in st f).1))
-          → nat_lt (1024 * (page_in st f).1) size ≡ true
-      on (inl x) = x.0
-      on (inr x) = let le = x.1 in let same = page_is_its f e m in absurd (n (omega (arith, le, same, is)))
+  test_cut f e m is n = let same = page_is_its f e m in
+      let on : nat_lt (1024 * (page_in st f).1) size ≡ true = grind (arith, nat_tests) in rw on
 
   -- ---- the store, once the page that the words cut is cut
 
   cut_in : at ≢ 0 → IsCut st mid u p at
-  cut_in n = rw is (page_cut st u p at has_places (λ f e. word_bound u p f e))
-    where
-      off : eqb at 0 ≡ false
-      off = elim (eqb_tells at 0) [ inl e ↦ absurd (n e.1) | inr m ↦ m.0 ]
-
-      is : mid ≡ with_cut st u p at (word_in st u p)
-      is = ap (λ (b : Bool). cond b st (with_cut st u p at (word_in st u p))) off
+  cut_in n = let is = ap (λ (b : Bool). cond b st (with_cut st u p at (word_in st u p))) (ne_eqb at 0 n) in
+      rw is (page_cut st u p at has_places (λ f e. word_bound u p f e))
 
   mid_same : at ≡ 0 → mid ≡ st
-  mid_same e = ap (λ (b : Bool). cond b st (with_cut st u p at (word_in st u p))) on
-    where
-      on : eqb at 0 ≡ true
-      on = elim (eqb_tells at 0) [ inl i ↦ i.0 | inr m ↦ absurd (m.1 e) ]
+  mid_same e = cc
 
   begun : IsBegun st mid u p
   begun = elim (eqb_tells at 0) [
-    | inl e ↦ subst (λ (x : Storage). IsBegun st x u p) (sym (mid_same e.1)) (begun_same st u p has_places)
+    | inl e ↦ rw (mid_same e.1) (begun_same st u p has_places)
     | inr m ↦ (cut_in m.1).begun
   ]
 
   mid_leaving : (q g : ℕ) → word_in mid u q ≡ ptw.Leaving g → word_in st u q ≡ ptw.Leaving g
   mid_leaving q g e = elim (eqb_tells q p) [
-    | inl i ↦ ap (λ (x : ℕ). word_in st u x) i.1
-        ∙ begun.leaving g (ap (λ (x : ℕ). word_in mid u x) (sym i.1) ∙ e)
+    | inl i ↦ ap (λ (x : ℕ). word_in st u x) i.1 ∙ begun.leaving g (cc)
     | inr m ↦ sym (begun.words u q (λ a b. m.1 b)) ∙ e
   ]
 
   -- a page past the words has the word that it had
   mid_past : (q : ℕ) → first ≤ q → word_in mid u q ≡ word_in st u q
   mid_past q le = elim (eqb_tells q p) [
-    | inl i ↦ ap (λ (x : Storage). word_in x u q) (mid_same (let same = i.1 in omega (arith, same, le)))
+    | inl i ↦ ap (λ (x : Storage). word_in x u q) (mid_same (omega arith))
     | inr m ↦ begun.words u q (λ a b. m.1 b)
   ]
 
@@ -536,25 +433,11 @@ module _ (s : State) (c : ℕ) (path : Path) (size : ℕ) (keeps : Keeps s)
   abbrev cut_off : Storage
   cut_off = cut_store s c (process_at s c) path size
 
-  unread : (f : ℕ) → word_in st u p ≡ ptw.Leaving f → read_in st f ≡ None
-  unread f e = not_started f u p (word_bound u p f e)
-    where
-      not_started : (f v q : ℕ) → (seen s).bound f ≡ Some (v, q) → read_in st f ≡ None
-      not_started f v q b = by (read_in st f) refl
-        where
-          by : (x : Option (ℕ × ℕ)) → read_in st f ≡ x → x ≡ None
-          by None i = refl
-          by (Some page) i = absurd (none_some (sym (keeps.book.tied.unbound f page.0 page.1 i) ∙ b))
-
   reads_now : (g : ℕ) → read_in cut_off g ≡ read_in st g
   reads_now g = over.reads g (λ q e. mid_read ∙ still q (mid_leaving q g e)) ∙ mid_read
     where
       still : (q : ℕ) → word_in st u q ≡ ptw.Leaving g → read_in st g ≡ None
-      still q e = by (read_in st g) refl
-        where
-          by : (x : Option (ℕ × ℕ)) → read_in st g ≡ x → x ≡ None
-          by None i = refl
-          by (Some page) i = absurd (none_some (sym (keeps.book.tied.unbound g page.0 page.1 i) ∙ word_bound u q g e))
+      still q e = bound_unread s keeps g (u, q) (word_bound u q g e)
 
       mid_read : read_in mid g ≡ read_in st g
       mid_read = begun.reads g (λ e. still p e)
@@ -565,20 +448,24 @@ module _ (s : State) (c : ℕ) (path : Path) (size : ℕ) (keeps : Keeps s)
     word : word_in cut_off u m.page ≡ cond (test f) (ptw.Here f) ptw.Null
 
   left_past : (f : ℕ) → has fs f ≡ true → (m : IsMine f) → first ≤ m.page → IsLeft f m
-  left_past f e m le = record {
-    bound = over.left f m.page listed (mid_past m.page le ∙ m.word)
-        ∙ ap (λ (b : Bool). cond (not b) None (bound_in st f)) (sym off);
-    word = over.nulls m.page listed ∙ ap (λ (b : Bool). cond b (ptw.Here f) ptw.Null) (sym off);
-  }
-    where
-      off : test f ≡ false
-      off = test_past f e m le
-
-      listed : has ps m.page ≡ true
-      listed = in_past m.page le (λ n. (let no : ptw.Leaving f ≡ ptw.Null = sym m.word ∙ n in cc))
+  left_past f e m le =
+      let off = test_past f e m le in
+      let listed = in_past m.page le (λ n. (let no : ptw.Leaving f ≡ ptw.Null = sym m.word ∙ n in cc)) in record {
+        bound = rw off (over.left f m.page listed (mid_past m.page le ∙ m.word));
+        word = rw off (over.nulls m.page listed);
+      }
 
   left_cut : (f : ℕ) → has fs f ≡ true → (m : IsMine f) → m.page < first → IsLeft f m
-  left_cut f e m lt = by (are_zeros (words_in (cut st.pages f at) f)) refl
+  left_cut f e m lt = elim (cases_Bool (are_zeros (words_in (cut st.pages f at) f))) [
+    | inl z ↦ record {
+      bound = rw (told ∙ ap not z) (over.free f (c_in.zeros f word z).1);
+      word = rw (told ∙ ap not z) (same_word ∙ (c_in.zeros f word z).0);
+    }
+    | inr z ↦ record {
+      bound = rw (told ∙ ap not z) (over.bound f stays_on ∙ (c_in.kept f word z).1);
+      word = rw (told ∙ ap not z) (same_word ∙ (c_in.kept f word z).0);
+    }
+  ]
     where
       some : at ≢ 0
       some z = let past = m.past in omega (arith, lt, past, z)
@@ -595,39 +482,13 @@ module _ (s : State) (c : ℕ) (path : Path) (size : ℕ) (keeps : Keeps s)
       told : test f ≡ not (are_zeros (words_in (cut st.pages f at) f))
       told = test_cut f e m is some
 
-      -- it isn't past the words
-      unlisted : has ps m.page ≡ false
-      unlisted = none (has ps m.page) refl
-        where
-          none : (b : Bool) → has ps m.page ≡ b → b ≡ false
-          none false i = refl
-          none true i = absurd (let le = past_in m.page i in omega (arith, le, lt))
-
       same_word : word_in cut_off u m.page ≡ word_in mid u p
-      same_word = over.words u m.page (λ i. unlisted) ∙ ap (λ (x : ℕ). word_in mid u x) is
+      same_word = over.words u m.page (λ i. unpast m.page lt) ∙ ap (λ (x : ℕ). word_in mid u x) is
 
-      by : (b : Bool) → are_zeros (words_in (cut st.pages f at) f) ≡ b → IsLeft f m
-      by true z = record {
-        bound = over.free f (c_in.zeros f word z).1
-            ∙ ap (λ (b : Bool). cond (not b) None (bound_in st f)) (sym off);
-        word = same_word ∙ ((c_in.zeros f word z).0 ∙ ap (λ (b : Bool). cond b (ptw.Here f) ptw.Null) (sym off));
-      }
-        where
-          off : test f ≡ false
-          off = told ∙ ap not z
-      by false z = record {
-        bound = over.bound f stays_on ∙ ((c_in.kept f word z).1
-            ∙ ap (λ (b : Bool). cond (not b) None (bound_in st f)) (sym on));
-        word = same_word ∙ ((c_in.kept f word z).0 ∙ ap (λ (b : Bool). cond b (ptw.Here f) ptw.Null) (sym on));
-      }
-        where
-          on : test f ≡ true
-          on = told ∙ ap not z
-
-          stays_on : (q : ℕ) → has ps q ≡ true → word_in mid u q ≢ ptw.Leaving f
-          stays_on q i w = let was = word_bound u q f (mid_leaving q f w) in
-              let same = (page_is u q u m.page (sym was ∙ m.bound)).1 in
-              let le = past_in q i in omega (arith, same, le, lt)
+      stays_on : (q : ℕ) → has ps q ≡ true → word_in mid u q ≢ ptw.Leaving f
+      stays_on q i w = let was = word_bound u q f (mid_leaving q f w) in
+          let same = (page_is u q u m.page (sym was ∙ m.bound)).1 in
+          let le = past_in q i in omega (arith, same, le, lt)
 
   is_left : (f : ℕ) → has fs f ≡ true → (m : IsMine f) → IsLeft f m
   is_left f e m = elim (leb_tells first m.page) [
@@ -636,14 +497,11 @@ module _ (s : State) (c : ℕ) (path : Path) (size : ℕ) (keeps : Keeps s)
   ]
 
   bound_now : (g : ℕ) → bound_in cut_off g ≡ (all_left s c (process_at s c) path size).bound g
-  bound_now g = by (has fs g) refl ∙ sym (left_bound (seen s) test fs g)
-    where
-      by : (b : Bool) → has fs g ≡ b → bound_in cut_off g ≡ cond (has fs g && not (test g)) None ((seen s).bound g)
-      by true e = (is_left g e (mine g e)).bound
-          ∙ ap (λ (b : Bool). cond (b && not (test g)) None ((seen s).bound g)) (sym e)
-      by false e = over.bound g (λ q i w. not_both (word_taken u q g (mid_leaving q g w)).0 e)
-          ∙ (begun.bound g (λ w. not_both (word_taken u p g w).0 e)
-          ∙ ap (λ (b : Bool). cond (b && not (test g)) None ((seen s).bound g)) (sym e))
+  bound_now g = rw (left_bound (seen s) test fs g) (elim (cases_Bool (has fs g)) [
+    | inl e ↦ rw e (is_left g e (mine g e)).bound
+    | inr e ↦ rw e (over.bound g (λ q i w. not_both (word_taken u q g (mid_leaving q g w)).0 e)
+        ∙ begun.bound g (λ w. not_both (word_taken u p g w).0 e))
+  ])
 
   -- ---- words
 
@@ -651,8 +509,7 @@ module _ (s : State) (c : ℕ) (path : Path) (size : ℕ) (keeps : Keeps s)
   left_same : (w q : ℕ) → ((f : ℕ) → word_in st w q ≢ ptw.Leaving f)
       → (all_left s c (process_at s c) path size).words w q ≡ word_in st w q
   left_same w q n = left_other (seen s) test fs (λ f. page_at (seen s) f) w q have_pages
-      (λ f i a b. n f ((λ t. word_in st (sym a t) (sym b t))
-      ∙ going_word (seen s) f keeps.book (keeps.book.going_owned.frames f ∙ i)))
+      (λ f i a b. n f (rw (← a, ← b) (taken_word s keeps f i)))
 
   left_its : (f : ℕ) → has fs f ≡ true → (m : IsMine f)
       → (all_left s c (process_at s c) path size).words u m.page ≡ cond (test f) (ptw.Here f) ptw.Null
@@ -660,36 +517,29 @@ module _ (s : State) (c : ℕ) (path : Path) (size : ℕ) (keeps : Keeps s)
       ∙ left_this (seen s) test fs (λ g. page_at (seen s) g) f have_pages e
 
   reads_none : (f q : ℕ) → p ≤ q → (all_left s c (process_at s c) path size).reads f ≡ Some (u, q) → ⊥
-  reads_none f q le e = not_read f q (ap (λ (x : ℕ → Option (ℕ × ℕ)). x f) (sym (left_reads (seen s) test fs)) ∙ e) le
+  reads_none f q le e = not_read f q (cc (left_reads (seen s) test fs)) le
 
   -- a page of another segment, or before the words, is as it was
   word_elsewhere : (w q : ℕ) → (w ≡ u → q < p) → word_in cut_off w q ≡ word_in st w q
-  word_elsewhere w q n = over.words w q (λ e. none (has ps q) refl (n e))
-      ∙ begun.words w q (λ a b. (let lt = n a in omega (arith, lt, b)))
-    where
-      none : (b : Bool) → has ps q ≡ b → q < p → b ≡ false
-      none false i lt = refl
-      none true i lt = absurd (let le = past_in q i in let low = first_low in omega (arith, le, low, lt))
+  word_elsewhere w q n = over.words w q (λ e. unpast q (omega (arith, n e)))
+      ∙ begun.words w q (λ a b. (omega (arith, n a)))
 
   -- a page of the segment that is in no frame
   quiet_word : (q : ℕ) → p ≤ q → ((f : ℕ) → word_in st u q ≢ ptw.Leaving f) → names (word_in st u q) ≡ None
       → (word_in cut_off u q ≡ word_in st u q) ⊎ (word_in cut_off u q ≡ ptw.Null)
-  quiet_word q le n none = by (has ps q) refl
+  quiet_word q le n none = elim (cases_Bool (has ps q)) [
+    | inl i ↦ inr (over.nulls q i)
+    | inr i ↦ inl (over.words u q (λ e. i) ∙ mid_word)
+  ]
     where
       mid_word : word_in mid u q ≡ word_in st u q
       mid_word = elim (eqb_tells q p) [
         | inl i ↦ elim (eqb_tells at 0) [
           | inl z ↦ ap (λ (x : Storage). word_in x u q) (mid_same z.1)
-          | inr m ↦ ap (λ (x : ℕ). word_in mid u x) i.1
-              ∙ ((cut_in m.1).quiet (λ f e. n f (ap (λ (x : ℕ). word_in st u x) i.1 ∙ e))
-              ∙ ap (λ (x : ℕ). word_in st u x) (sym i.1))
+          | inr m ↦ rw i.1 ((cut_in m.1).quiet (λ f e. n f (rw i.1 e)))
         ]
         | inr m ↦ begun.words u q (λ a b. m.1 b)
       ]
-
-      by : (b : Bool) → has ps q ≡ b → (word_in cut_off u q ≡ word_in st u q) ⊎ (word_in cut_off u q ≡ ptw.Null)
-      by true i = inr (over.nulls q i)
-      by false i = inl (over.words u q (λ e. i) ∙ mid_word)
 
   abbrev IsQuiet : ℕ → ℕ → Type 0
   IsQuiet w q = (word_in cut_off w q ≡ (all_left s c (process_at s c) path size).words w q)
@@ -697,20 +547,16 @@ module _ (s : State) (c : ℕ) (path : Path) (size : ℕ) (keeps : Keeps s)
       × ((f : ℕ) → (all_left s c (process_at s c) path size).reads f ≢ Some (w, q)))
 
   quiet_past : (q : ℕ) → p ≤ q → (x : Ptw) → word_in st u q ≡ x → IsQuiet u q
-  quiet_past q le ptw.Null e = elim (quiet_word q le none (ap names e)) [
-    | inl i ↦ inl (i ∙ sym (left_same u q none))
-    | inr i ↦ inl (i ∙ (sym e ∙ sym (left_same u q none)))
-  ]
-    where
-      none : (f : ℕ) → word_in st u q ≢ ptw.Leaving f
-      none f i = let no : ptw.Null ≡ ptw.Leaving f = sym e ∙ i in cc
-  quiet_past q le (ptw.Out r) e = elim (quiet_word q le none (ap names e)) [
-    | inl i ↦ inl (i ∙ sym (left_same u q none))
-    | inr i ↦ inr (ap names (left_same u q none ∙ e), ap names i, λ f. reads_none f q le)
-  ]
-    where
-      none : (f : ℕ) → word_in st u q ≢ ptw.Leaving f
-      none f i = let no : ptw.Out r ≡ ptw.Leaving f = sym e ∙ i in cc
+  quiet_past q le ptw.Null e = let none : (f : ℕ) → word_in st u q ≢ ptw.Leaving f = λ f i. cc in
+      inl (elim (quiet_word q le none (ap names e)) [
+        | inl i ↦ i ∙ sym (left_same u q none)
+        | inr i ↦ i ∙ (sym e ∙ sym (left_same u q none))
+      ])
+  quiet_past q le (ptw.Out r) e = let none : (f : ℕ) → word_in st u q ≢ ptw.Leaving f = λ f i. cc in
+      elim (quiet_word q le none (ap names e)) [
+        | inl i ↦ inl (i ∙ sym (left_same u q none))
+        | inr i ↦ inr (cc (left_same u q none), ap names i, λ f. reads_none f q le)
+      ]
   quiet_past q le (ptw.Here f) e = absurd (not_here f q e le)
   quiet_past q le (ptw.Leaving f) e = inl (rw same at ((is_left f listed (mine f listed)).word
       ∙ sym (left_its f listed (mine f listed))))
@@ -725,9 +571,9 @@ module _ (s : State) (c : ℕ) (path : Path) (size : ℕ) (keeps : Keeps s)
   quiet_now = record {
     each = λ w q. elim (eqb_tells w u) [
       | inl e ↦ elim (leb_tells p q) [
-        | inl x ↦ subst (λ (v : ℕ). IsQuiet v q) (sym e.1) (quiet_past q x.1 (word_in st u q) refl)
-        | inr x ↦ inl (word_elsewhere w q (λ i. x.1) ∙ sym (left_same w q (λ f i. (let lt = x.1 in
-            let le = (word_taken w q f i).2 in omega (arith, lt, le)))))
+        | inl x ↦ rw e.1 (quiet_past q x.1 (word_in st u q) refl)
+        | inr x ↦ inl (word_elsewhere w q (λ i. x.1) ∙ sym (left_same w q (λ f i.
+            (omega (arith, (word_taken w q f i).2)))))
       ]
       | inr m ↦ inl (word_elsewhere w q (λ i. absurd (m.1 i)) ∙ sym (left_same w q (λ f i. m.1 (word_taken w q f i).1)))
     ];
@@ -738,71 +584,53 @@ module _ (s : State) (c : ℕ) (path : Path) (size : ℕ) (keeps : Keeps s)
   abbrev words : ℕ → ℕ → ℕ
   words = without_words (flat_of s).words u size
 
-  lost_by : (q : ℕ) (a b z : Bool) → nat_le size (1024 * q) ≡ a → nat_lt size (1024 * q + 1024) ≡ b
-      → is_zero_page words u q ≡ z → (a || (b && z)) ≡ false → is_lost words u size q ≡ false
-  lost_by q a b z x y w e = (λ i. x i || (y i && w i)) ∙ e
-
   -- a page before the words is whole
   whole_before : (q : ℕ) → q < p → is_lost words u size q ≡ false
-  whole_before q less = lost_by q false false (is_zero_page words u q) (elim (leb_tells size (1024 * q)) [
-    | inl e ↦ (let le = e.1 in absurd (omega (arith, le, less)))
-    | inr m ↦ m.0
-  ]) (elim (lt_tells size (1024 * q + 1024)) [
-    | inl e ↦ (let lt = e.1 in absurd (omega (arith, lt, less)))
-    | inr m ↦ m.0
-  ]) refl refl
+  whole_before q less = let past : nat_le size (1024 * q) ≡ false = grind (arith, nat_tests) in
+      let in_it : nat_lt size (1024 * q + 1024) ≡ false = grind (arith, nat_tests) in rw (past, in_it) refl
 
   -- the page that the words cut keeps a word where it stays
   kept_word : (f : ℕ) → (seen s).bound f ≡ Some (u, p) → are_zeros (words_in (cut st.pages f at) f) ≡ false
       → is_zero_page words u p ≡ false
-  kept_word f bound nonzero = by (is_zero_page words u p) refl
+  kept_word f bound nonzero = elim (cases_Bool (is_zero_page words u p)) [
+    | inl e ↦ absurd (not_both (cut_zeros st f at (zero_before e)) nonzero)
+    | inr e ↦ e
+  ]
     where
       active : is_active st.ast u ≡ true
       active = let place = keeps.store.kept.paged.bound f u p bound in active_at st.ast place.0 u place.1
 
       zero_before : is_zero_page words u p ≡ true → (i : ℕ) → i < at → get_or (words_in st.pages f) i 0 ≡ 0
       zero_before z i less = ap (λ (x : ℕ). get_or (words_in st.pages f) x 0)
-          (let same : i ≡ (1024 * p + i) % 1024 = omega (arith, less) in same)
-          ∙ (sym (bound_word s keeps u active f (1024 * p + i)
-          (bound ∙ ap (λ (x : ℕ). Some (u, x)) (let same : p ≡ (1024 * p + i) / 1024 = omega (arith, less) in same)))
-          ∙ (sym (ap (λ (b : Bool). cond b 0 ((flat_of s).words u (1024 * p + i))) before)
-          ∙ zero_words words u p i z (omega (arith, less))))
+          (let same : i ≡ (1024 * p + i) % 1024 = omega arith in same)
+          ∙ (cc (
+            bound_word s keeps u active f (1024 * p + i) (bound ∙ ap (λ (x : ℕ). Some (u, x))
+                (let same : p ≡ (1024 * p + i) / 1024 = omega (arith, less) in same)),
+            before,
+            zero_words words u p i z
+                (omega (arith, less)),
+          ))
         where
           before : (eqb u u && nat_le size (1024 * p + i)) ≡ false
-          before = elim (leb_tells size (1024 * p + i)) [
-            | inl e ↦ (let le = e.1 in absurd (omega (arith, le, less)))
-            | inr m ↦ ap (λ (b : Bool). eqb u u && b) m.0 ∙ and-false (eqb u u)
-          ]
-
-      by : (b : Bool) → is_zero_page words u p ≡ b → b ≡ false
-      by false e = refl
-      by true e = absurd (not_both (cut_zeros st f at (zero_before e)) nonzero)
+          before = let past : nat_le size (1024 * p + i) ≡ false = grind (arith, nat_tests) in
+              rw past (and-false (eqb u u))
 
   -- a page that is in a frame then isn't lost
   stays_whole : (f q : ℕ) → has fs f ≡ true → (m : IsMine f) → m.page ≡ q → test f ≡ true
       → is_lost words u size q ≡ false
   stays_whole f q e m is on = elim (leb_tells first q) [
-    | inl x ↦ absurd (not_both on (test_past f e m (let le = x.1 in omega (arith, le, is))))
-    | inr x ↦ (let lt = x.1 in let past = m.past in let same : q ≡ p = omega (arith, lt, past, is) in
-        subst (λ (j : ℕ). is_lost words u size j ≡ false) (sym same)
-        (cut_whole (is ∙ same) (λ z. (omega (arith, lt, past, is, z)))))
+    | inl x ↦ absurd (not_both on (test_past f e m (omega arith)))
+    | inr x ↦ (let lt = x.1 in let past = m.past in let same : q ≡ p = omega arith in
+        rw same (cut_whole (is ∙ same) (λ z. (omega arith))))
   ]
     where
       cut_whole : m.page ≡ p → at ≢ 0 → is_lost words u size p ≡ false
-      cut_whole same some = lost_by p false true false (elim (leb_tells size (1024 * p)) [
-        | inl i ↦ (let le = i.1 in absurd (some (omega (arith, le))))
-        | inr i ↦ i.0
-      ]) (elim (lt_tells size (1024 * p + 1024)) [
-        | inl i ↦ i.0
-        | inr i ↦ (let le = i.1 in absurd (omega (arith, le)))
-      ]) (kept_word f (m.bound ∙ ap (λ (x : ℕ). Some (u, x)) same) nonzero) refl
+      cut_whole same some = let past : nat_le size (1024 * p) ≡ false = grind (arith, nat_tests) in
+          let in_it : nat_lt size (1024 * p + 1024) ≡ true = grind (arith, nat_tests) in
+          rw (past, in_it, kept_word f (cc) nonzero) refl
         where
           nonzero : are_zeros (words_in (cut st.pages f at) f) ≡ false
-          nonzero = by (are_zeros (words_in (cut st.pages f at) f)) refl
-            where
-              by : (b : Bool) → are_zeros (words_in (cut st.pages f at) f) ≡ b → b ≡ false
-              by false i = refl
-              by true i = absurd (not_both on (test_cut f e m same some ∙ ap not i))
+          nonzero = not-true (are_zeros (words_in (cut st.pages f at) f)) (sym (test_cut f e m same some) ∙ on)
 
   bound_whole : (f q : ℕ) → (seen s).bound f ≡ Some (u, q) → (has fs f ≡ true → test f ≡ true)
       → is_lost words u size q ≡ false
@@ -816,18 +644,11 @@ module _ (s : State) (c : ℕ) (path : Path) (size : ℕ) (keeps : Keeps s)
   -- a frame that is bound then was bound so, and isn't one that the job took and let go
   bound_was : (f q : ℕ) → bound_in cut_off f ≡ Some (u, q)
       → ((seen s).bound f ≡ Some (u, q)) × (has fs f ≡ true → test f ≡ true)
-  bound_was f q e = by (has fs f) (test f) refl refl (sym (bound_now f ∙ left_bound (seen s) test fs f) ∙ e)
-    where
-      by : (a b : Bool) → has fs f ≡ a → test f ≡ b
-          → cond (has fs f && not (test f)) None ((seen s).bound f) ≡ Some (u, q)
-          → ((seen s).bound f ≡ Some (u, q)) × (has fs f ≡ true → test f ≡ true)
-      by true true i j x = (sym (λ t. cond (i t && not (j t)) None ((seen s).bound f)) ∙ x, λ y. j)
-      by true false i j x =
-          absurd (none_some (sym (λ t. cond (i t && not (j t)) None ((seen s).bound f)) ∙ x))
-      by false b i j x = (
-        sym (ap (λ (y : Bool). cond (y && not (test f)) None ((seen s).bound f)) i) ∙ x,
-        λ y. absurd (not_both y i),
-      )
+  bound_was f q e = let now = sym (bound_now f ∙ left_bound (seen s) test fs f) ∙ e in
+      elim (cases_Bool (has fs f && not (test f))) [
+        | inl y ↦ absurd (none_some (rw y at now))
+        | inr n ↦ (rw n at now, λ listed. not-false (test f) (rw listed at n))
+      ]
 
   loses_none : LosesNoPage (flat_of s) (shown (seen (with_owner (effected s (process_at s c)
       (command.Truncate path size)) None))) u size
@@ -835,13 +656,12 @@ module _ (s : State) (c : ℕ) (path : Path) (size : ℕ) (keeps : Keeps s)
     where
       by : (x y : Option (ℕ × ℕ)) → bound_in cut_off f ≡ x → read_in cut_off f ≡ y
           → page_of (use_of (λ v r. word_in cut_off v r) x y) ≡ Some (u, q) → is_lost words u size q ≡ false
-      by None None b r i = absurd (none_some i)
+      by None None b r i = cc
       by None (Some page) b r i = elim (leb_tells p q) [
-        | inl x ↦ absurd (not_read f q (sym (reads_now f) ∙ (r ∙ i)) x.1)
+        | inl x ↦ absurd (not_read f q (cc (reads_now f)) x.1)
         | inr x ↦ whole_before q x.1
       ]
-      by (Some page) y b r i = let was = bound_was f q (b ∙ (sym (page_bound (λ v j. word_in cut_off v j) page y)
-          ∙ i)) in
+      by (Some page) y b r i = let was = bound_was f q (cc (page_bound (λ v j. word_in cut_off v j) page y)) in
           bound_whole f q was.0 was.1
 
   out : IsOut s c (command.Truncate path size)
@@ -854,9 +674,9 @@ module _ (s : State) (c : ℕ) (path : Path) (size : ℕ) (keeps : Keeps s)
       by (Ok n) e = rw (← (path_uid s path n keeps (only_found (node_at (flat_of s).nodes path) n e).0)) loses_none
 
   -- So a `truncate` may take effect.
-  pub truncate_rests : RestsTruncate s c path size
+  pub truncate_rests : Rests s c (command.Truncate path size)
   truncate_rests = record {
-    left = record {
+    settled = record {
       cut = none_cut (cut_of_owner s.owner) (λ j n e. (let led = cut_led s (process_at s c)
           (command.Truncate path size) keeps h j n e in h.just.its_descriptors j n led.0 led.1 led.2));
       bound = bound_now;

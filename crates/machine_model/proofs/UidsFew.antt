@@ -10,15 +10,13 @@ entry_reached p s (entry.Do k place cpu frame r) reached h = by (command_at p k 
     by : (x : Option Command) → command_at p k place ≡ x → IsAnswer p s k x r → IsReached p (after_do p s k x r)
     by None e i = absurd i
     by (Some c) e i = reached_on p s k place c r reached h.going h.next e
-entry_reached p s (entry.Release uid page) reached h =
-    record { plan = reached.plan; places = reached.places; uids = reached.uids }
+entry_reached p s (entry.Release uid page) reached h = assumption
 entry_reached p s (entry.Fault process) reached h = by process h
   where
     by : (x : Option ℕ) → MayFault s x → IsReached p (after_fault s x)
     by None i = reached
     by (Some k) i = reached_fault p s k reached i
-entry_reached p s (entry.Moved k uid volume) reached h =
-    record { plan = reached.plan; places = reached.places; uids = reached.uids }
+entry_reached p s (entry.Moved k uid volume) reached h = assumption
 entry_reached p s _ reached h = reached
 
 book_reached : (p : Plan) (s : Store) (es : List Entry) → IsReached p s → IsLegalFrom p s es
@@ -30,7 +28,8 @@ book_reached p s (e ∷ es) reached h = book_reached p (after_entry p s e) es (e
 -- The next uid is small, over every schedule.
 pub few_uids : (s : State) → KeepsAll s → s.store.accounts.next < 100003
 unfolding IsLegal store_after
-few_uids s all =
-    let few = few_reached s.plan (store_after s.plan s.entries) (book_reached s.plan (boot s.plan) s.entries
-    (reached_boot s.plan all.machine.script) all.machine.keeps.book.legal) in
-    let same = all.machine.keeps.faithful.tree.next in omega (arith, few, same)
+few_uids s all = omega (
+  arith,
+  few_reached s.plan (store_after s.plan s.entries) (book_reached s.plan (boot s.plan) s.entries
+      (reached_boot s.plan all.machine.script) all.machine.keeps.book.legal),
+)

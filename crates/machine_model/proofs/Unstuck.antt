@@ -7,9 +7,9 @@ use Rattle.machine_model.specs.Unstuck.{Goes}
 use Rattle.machine_model.proofs.OutlineGoes.{outline_goes}
 
 moves_by : (a : act.Action) → turn_of a ≡ Moved → moves a ≡ true
-moves_by act.IsStopped h = absurd (let no : Ended ≡ Moved = h in cc)
-moves_by act.HasEnded h = absurd (let no : Ended ≡ Moved = h in cc)
-moves_by (act.Waits why) h = absurd (let no : WaitsFor why ≡ Moved = h in cc)
+moves_by act.IsStopped h = cc
+moves_by act.HasEnded h = cc
+moves_by (act.Waits why) h = cc
 moves_by a h = refl
 
 -- the step of each processor, in which no call of a drive fails
@@ -26,13 +26,13 @@ unfolding all_steps action_of
 some_moves s keeps on more = (
   found.cpu,
   record {
-    there = subst (λ (n : ℕ). found.cpu < n) (long_outline s) found.there;
+    there = rw (← (long_outline s)) found.there;
     moves = moves_by (action_of s found.cpu) found.moves;
   },
 )
   where
     going : IsGoing s
-    going = record { keeps = keeps; on = on }
+    going = assumption
 
     found : Goes (outline_of s) (all_steps s going)
     found = outline_goes (outline_of s) (kept_of s keeps) (not_ended s keeps more) (all_steps s going)

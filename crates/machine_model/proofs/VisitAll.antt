@@ -40,15 +40,7 @@ pub record SameSeats (s t : State) : Type 0 where
 
 seated : {s t : State} → t.plan ≡ s.plan → t.runs ≡ s.runs → t.ready ≡ s.ready → t.processors ≡ s.processors
     → t.store.ast.sizes ≡ s.store.ast.sizes → t.stopped ≡ s.stopped → t.store.moving ≡ s.store.moving → SameSeats s t
-seated plan runs ready processors sizes stopped moving = record {
-  plan = plan;
-  runs = runs;
-  ready = ready;
-  processors = processors;
-  sizes = sizes;
-  stopped = stopped;
-  moving = moving;
-}
+seated plan runs ready processors sizes stopped moving = assumption
 
 module _ (s : State) (o : Outcome) where
   abbrev f : ℕ
@@ -134,10 +126,10 @@ module _ (s : State) (o : Outcome) (all : KeepsAll s) (over : is_over s ≡ true
 
   -- what left the place, as it was before the page was taken
   how_same : left_of (words_in before.store.pages place) ≡ left_of (words_in s.store.pages place)
-  how_same = ap (λ (x : Plain). left_of (words_in x place)) (taken_pages s o)
+  how_same = cc (taken_pages s o)
 
   page_same : page_in before.store place ≡ page_in s.store place
-  page_same = ap (λ (x : Plain). page_or_zero (bound_page (frame_in x place))) (taken_pages s o)
+  page_same = cc (taken_pages s o)
 
   gone_flat : flat_of (left_with false) ≡ left_page s place (flat_of s)
   gone_flat = left_flat s.plan (s.entries ++ entry.Take place ∷ []) place
@@ -160,12 +152,12 @@ module _ (s : State) (o : Outcome) (all : KeepsAll s) (over : is_over s ≡ true
       (subst (λ (x : State). IsFaithful s.plan (left_page s place (flat_of s)) x.store) same
       (says.gone well page bound (flat_of s) keeps.faithful))
       (alike_by (alike (left_page s place (flat_of s))) gone_flat)
-      (ap (λ (ns : List Node). sum (map (λ n. n.quota) ns))
-      (left_nodes (left_of (words_in s.store.pages place)) (page_in s.store place) (flat_of s)) ∙ keeps.conserved.total)
-      (none_rest s (left_with false) refl
-      (left_count before.store.pages (home_in before.store (page_in before.store place).0)
-      (page_in before.store place).1 place (left_of (words_in before.store.pages place))
-      ∙ ap (λ (x : Plain). length x.core.frames) (taken_pages s o)) (no_cut s.owner none))
+      (cc (left_nodes (left_of (words_in s.store.pages place)) (page_in s.store place) (flat_of s)))
+      (none_rest s (left_with false) refl (cc (
+        left_count before.store.pages (home_in before.store (page_in before.store place).0)
+            (page_in before.store place).1 place (left_of (words_in before.store.pages place)),
+        taken_pages s o,
+      )) (no_cut s.owner none))
     where
       same : after_visit s o ≡ left_with false
       same = is_now page bound false well
@@ -176,10 +168,8 @@ module _ (s : State) (o : Outcome) (all : KeepsAll s) (over : is_over s ≡ true
   back_says page bound ill = says_by s (left_with true) (flat_of s) keeps
       (subst (λ (x : State). StoreKept x.store) same says.kept)
       (subst (λ (x : State). IsFaithful s.plan (flat_of s) x.store) same (says.stays ill (flat_of s) keeps.faithful))
-      back_alike keeps.conserved.total
-      (none_rest s (left_with true) refl
-      (ap (λ (x : Plain). length x.core.frames) (back_pages s o ∙ taken_pages s o))
-      (ap (λ (x : Option Owner). cut_of_owner (without_first_frame x)) none))
+      back_alike keeps.conserved.total (none_rest s (left_with true) refl (cc (back_pages s o, taken_pages s o))
+      (cc (none)))
     where
       same : after_visit s o ≡ left_with true
       same = is_now page bound true ill
@@ -190,12 +180,12 @@ module _ (s : State) (o : Outcome) (all : KeepsAll s) (over : is_over s ≡ true
     bare = over_bare s all over idle;
     well = λ e x h. (
       says.never_less,
-      λ released. (rw (taken_flat s o) (release_may s place x.0 x.1 keeps h (sym how_same ∙ released))),
+      λ released. (rw (taken_flat s o) (release_may s place x.0 x.1 keeps h (cc))),
       gone_says page bound e,
     );
     ill = λ e. (
       says.counted e,
-      subst (λ (t : Store). MayFault t None) (sym (taken_flat s o)) (over_faults s all over),
+      rw (taken_flat s o) (over_faults s all over),
       back_says page bound e,
     );
   }
@@ -214,25 +204,20 @@ module _ (s : State) (o : Outcome) (all : KeepsAll s) (over : is_over s ≡ true
   seats = same_seats s o
 
   unrun : (d : ℕ) → (cpu_at (after_visit s o).processors d).process ≡ None
-  unrun d = ap (λ (ps : List Processor). (cpu_at ps d).process) seats.processors ∙ over_none s all over d
+  unrun d = cc (seats.processors, over_none s all over d)
 
   unread : (d : ℕ) (t : Transfer) → (cpu_at (after_visit s o).processors d).transfer ≡ Some t → ⊥
-  unread d t h = over_unread s all over d t
-      (ap (λ (ps : List Processor). (cpu_at ps d).transfer) (sym seats.processors) ∙ h)
+  unread d t h = over_unread s all over d t (cc (seats.processors, h))
 
   come : AllCome (after_visit s o)
   unfolding AllCome
-  come = rw seats.plan (subst (λ (rs : List Run). (k : ℕ) → k < length rs → (run_at rs k).ended ≡ false
-      → Comes (commands_of s.plan k) (run_at rs k)) (sym seats.runs) all.machine.come)
+  come = rw seats.plan (rw seats.runs all.machine.come)
 
   abbrev now_is : State
   now_is = after_visit s o
 
   scheduled : IsScheduled (after_visit s o)
-  scheduled = rw seats.plan (subst (λ (r : List Run). AreScheduled s.plan r now_is.ready now_is.processors)
-      (sym seats.runs) (subst (λ (q : List ℕ). AreScheduled s.plan s.runs q now_is.processors) (sym seats.ready)
-      (subst (λ (ps : List Processor). AreScheduled s.plan s.runs s.ready ps) (sym seats.processors)
-      all.machine.scheduled)))
+  scheduled = rw seats.plan (rw (seats.runs, seats.ready, seats.processors) all.machine.scheduled)
 
   -- A visit keeps the whole promise.
   pub visit_keeps_all : KeepsAll (after_visit s o)

@@ -23,18 +23,16 @@ pub record AreBare (s : State) : Type 0 where
   pub due : (d : ℕ) → (processor_at s.processors d).cpu.due ≡ None
 
 none_has : (xs : List ℕ) (x : ℕ) → xs ≡ [] → has xs x ≡ true → ⊥
-none_has xs x e h = let no : false ≡ true = sym (ap (λ (ys : List ℕ). has ys x) e) ∙ h in cc
+none_has xs x e h = let no : false ≡ true = sym (cc) ∙ h in cc
 
 -- where nothing is held, what is held is fine
 bare_fine : (v : Seen) (b : Bool) → ((d : ℕ) → (v.processors d).cpu.assoc ≡ nothing_held) → Fine (shown v) b
 bare_fine v b bare = record {
-  page = λ d f h. absurd (none_has ((shown v).seat d).pages f
-      (ap (λ (x : Held). map (λ e. e.frame) x.pages) (bare d)) h);
-  seg = λ d k n its h. absurd (none_has ((shown v).seat d).segs n
-      (ap (λ (x : Held). map (λ e. e.number) x.segs) (bare d)) h);
+  page = λ d f h. absurd (none_has ((shown v).seat d).pages f (cc (bare d)) h);
+  seg = λ d k n its h. absurd (none_has ((shown v).seat d).segs n (cc (bare d)) h);
   idle = λ d off. (
-    ap (λ (x : Held). map (λ e. e.number) x.segs) (bare d),
-    ap (λ (x : Held). map (λ e. e.frame) x.pages) (bare d),
+    cc (bare d),
+    cc (bare d),
   );
 }
 
@@ -66,7 +64,7 @@ module _ (s : State) (f u p : ℕ) (k : Keeps s) (none : s.owner ≡ None) (bare
     still = ap waits_for none;
     others = idle_names (shown (seen s)) s.owner (what.Page f) k.book.going_owned no_frames no_cut;
     this = own;
-    aimed = (f, ap (λ (fs : List ℕ). fs ++ f ∷ []) no_frames, refl, no_cut);
+    aimed = (f, cc, refl, no_cut);
   }))
     where
       own : eqb f f ≡ true
@@ -99,8 +97,7 @@ module _ (s : State) (f u p : ℕ) (k : Keeps s) (none : s.owner ≡ None) (bare
     where
       same : shown (seen taking) ≡ shown (seen waited)
       same = λ i. record (shown (seen taking)) {
-        descriptor = λ j n. descriptor_use ((seen taking).linked j n)
-            (cut_uid (no_cut i) j n);
+        descriptor = λ j n. descriptor_use ((seen taking).linked j n) (cut_uid (no_cut i) j n);
       }
 
   leaving_now : (seen waited).words u p ≡ ptw.Leaving f
@@ -126,10 +123,10 @@ module _ (s : State) (f u p : ℕ) (k : Keeps s) (none : s.owner ≡ None) (bare
   bound_still = waited_book.tied.back f u p (ap names leaving_now)
 
   page_still : page_in after_take.store f ≡ (u, p)
-  page_still = ap page_or_zero (sym (binding_is waited f) ∙ bound_still)
+  page_still = cc (binding_is waited f, bound_still)
 
   taken_faults : count_by is_fault (s.entries ++ entry.Take f ∷ []) ≡ count_by is_fault s.entries
-  taken_faults = let one = faults_push s.entries (entry.Take f) in omega (arith, one)
+  taken_faults = omega (arith, faults_push s.entries (entry.Take f))
 
   -- the page leaves the frame
   visit_gone : (faults n : ℕ) → s.faults ≤ faults
@@ -139,9 +136,13 @@ module _ (s : State) (f u p : ℕ) (k : Keeps s) (none : s.owner ≡ None) (bare
   visit_gone faults n rose zeros says = kept_with (record (page_gone (with_faults after_take faults) f) { visited = n })
       (subst (λ (o : Option Owner). KeepsBook (seen (with_owner (page_gone after_take f) o))) (sym none)
       (rw page_still (left_keeps waited f u p how None tables_still waited_book can_finish zeros))) says
-      (let same = left_faults (s.entries ++ entry.Take f ∷ []) f how (page_in after_take.store f) in
-      let one = taken_faults in let few = k.few_faults in omega (arith, same, one, few, rose))
-      k.sizes.processors k.sizes.processes (λ o h. absurd (none_some (sym none ∙ h)))
+      (let one = taken_faults in let few = k.few_faults in omega (
+        arith,
+        (left_faults (s.entries ++ entry.Take f ∷ []) f how (page_in after_take.store f)),
+        one,
+        few,
+        rose,
+      )) k.sizes.processors k.sizes.processes (λ o h. absurd (none_some (sym none ∙ h)))
     where
       how : Left
       how = left_of (words_in after_take.store.pages f)
@@ -153,10 +154,10 @@ module _ (s : State) (f u p : ℕ) (k : Keeps s) (none : s.owner ≡ None) (bare
   visit_back faults n rose may says = kept_with
       (record (page_back (fault_told after_take None faults) f) { visited = n })
       (rw none (subst KeepsBook (sym (back_seen told f u p None tables_still told_book leaving_now))
-      (back_keeps (seen told) f u p None told_book can_back))) says (let one = taken_faults in let two =
+      (back_keeps (seen told) f u p None told_book can_back))) says (let two =
       faults_push (s.entries ++ entry.Take f ∷ []) (entry.Fault None) in
       let three = faults_push ((s.entries ++ entry.Take f ∷ []) ++ entry.Fault None ∷ []) (entry.BackPage f) in
-      let few = k.few_faults in omega (arith, one, two, three, few, rose))
+      let few = k.few_faults in omega (arith, taken_faults, two, three, few, rose))
       k.sizes.processors k.sizes.processes (λ o h. absurd (none_some (sym (ap without_first_frame none) ∙ h)))
     where
       told : State
@@ -180,8 +181,7 @@ pub record AsksVisit (s : State) (o : Outcome) : Type 0 where
   pub bare : AreBare s
   pub well : o.failed ≡ false → (page : ℕ × ℕ) → (seen s).bound s.visited ≡ Some page → (s.faults ≤ o.faults)
       × (left_of (words_in (page_taken s s.visited).store.pages s.visited) ≡ left.Released
-      → MayRelease (flat_of (page_taken s s.visited)) page.0 page.1)
-      × StoreSays (record (page_gone (with_faults
+      → MayRelease (flat_of (page_taken s s.visited)) page.0 page.1) × StoreSays (record (page_gone (with_faults
       (page_taken s s.visited) o.faults) s.visited) { visited = s.visited + 1 })
   pub ill : o.failed ≡ true → Rose s.faults o.faults × MayFault (flat_of (page_taken s s.visited)) None
       × StoreSays (record (page_back (fault_told

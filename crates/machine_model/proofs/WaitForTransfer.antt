@@ -17,7 +17,6 @@ waits_for_the_transfer = refl
 
 -- once the page is there, it is read through that frame
 pub reads_after_the_transfer : book_of (ran ((1, 37) ∷ (0, 39) ∷ []) (stepped 0 is_started)) ≡ read_begun (
-    entry.Here 2 2 0 ∷ entry.FillPage 0 2 ∷
-    entry.Do 0 9 0 (Some 2) (reply.Word 1) ∷ [])
+    entry.Here 2 2 0 ∷ entry.FillPage 0 2 ∷ entry.Do 0 9 0 (Some 2) (reply.Word 1) ∷ [])
 unfolding book_of
 reads_after_the_transfer = refl

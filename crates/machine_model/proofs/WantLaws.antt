@@ -9,14 +9,14 @@ use Rattle.machine_model.proofs.OutlineReads.{at_outline}
 
 module _ (s : State) (c k : ℕ) (its : (cpu_at s.processors c).process ≡ Some k) where
   runner_is : runner_at (outline_of s).runners c ≡ runner_by (around s) (processor_at s.processors c) (Some k)
-  runner_is = at_outline s c ∙ ap (runner_by (around s) (processor_at s.processors c)) its
+  runner_is = cc (at_outline s c)
 
   pub want_here : want_at (outline_of s) c ≡ want_of (around s) k (next_command s k)
-  want_here = ap (λ (x : Runner). x.want) runner_is
+  want_here = cc (runner_is)
 
   pub linked_here : (runner_at (outline_of s).runners c).linked
       ≡ is_linked (around s) k (reference_in (next_command s k))
-  linked_here = ap (λ (x : Runner). x.linked) runner_is
+  linked_here = cc (runner_is)
 
 -- ---- a reference
 
@@ -25,19 +25,19 @@ refer_to nodes r u = Refer (chain_of nodes u) u (r.offset / 1024) (not (eqb (new
 
 module _ (s : State) (k : ℕ) (keeps : Keeps s) (r : Reference) (u : ℕ) (inside : IsInside s k r u) where
   stands : uid_of (kst_at s.store.links.known k) r.number ≡ Some u
-  stands = ap (λ (x : List (List (Option ℕ))). uid_of (kst_at x k) r.number) (sym keeps.faithful.known) ∙ inside.known
+  stands = cc
 
   there : node_in s.store.accounts.nodes u ≡ Some inside.node
-  there = ap (λ (ns : List Node). node_in ns u) (sym keeps.faithful.tree.nodes) ∙ inside.there
+  there = cc
 
   not_past : nat_le (1024 * inside.node.pages) r.offset ≡ false
   not_past = elim (leb_tells (1024 * inside.node.pages) r.offset) [
-    | inl e ↦ (let le = e.1 in let lt = inside.within in absurd (omega (arith, le, lt)))
+    | inl e ↦ (let le = e.1 in let lt = inside.within in absurd (omega arith))
     | inr m ↦ m.0
   ]
 
   allowed : permits (access_of (who_at s.store.whos k) inside.node.rows) r.kind ≡ true
-  allowed = ap (λ (w : Who). permits (access_of w inside.node.rows) r.kind) (who_is s keeps k) ∙ inside.permitted
+  allowed = cc (who_is s keeps k)
 
   pub refer_wants : want_of_reference (around s) k r
       ≡ Refer (chain_of s.store.accounts.nodes u) u (r.offset / 1024) (not (eqb (new_word 0 r.kind) 0))
@@ -90,11 +90,11 @@ module _ (nodes : List Node) (who : Who) (numbers : List (List (Option ℕ))) (k
           → IsReferring nodes numbers k r chain uid page makes
       by true b i = absurd (none_refers Other i refl)
       by false true i = absurd (none_refers Other i refl)
-      by false false i = let same : v ≡ uid = sym (found_uid nodes v n at) ∙ ap uid_or i in record {
-        stands = e ∙ ap (λ (x : ℕ). Some x) same;
+      by false false i = let same = sym (found_uid nodes v n at) ∙ ap uid_or i in record {
+        stands = cc;
         node = n;
         there = ap (node_in nodes) (sym same) ∙ at;
-        chain_is = sym (ap chain_or i) ∙ ap (chain_of nodes) (ap uid_or i);
+        chain_is = cc;
         page_is = ap page_or i;
         makes_is = ap makes_or i;
       }

@@ -24,7 +24,7 @@ put_is u v ns = λ i. map (λ n. by (eqb n.uid u) n i) ns
 -- and lies there
 pub put_there : (u v : ℕ) (ns : List Node) (m : Node) → node_in ns u ≡ Some m
     → volume_in (all_placed (put_on u v) ns) u ≡ v
-put_there u v [] m h = absurd (let no : None ≡ Some m = h in cc)
+put_there u v [] m h = cc
 put_there u v (n ∷ ns) m h = by (eqb n.uid u) h (put_there u v ns m)
   where
     by : (b : Bool) → cond b (Some n) (node_in ns u) ≡ Some m
@@ -54,8 +54,7 @@ module _ (volume : Node → ℕ) where
       by true rest = refl
       by false rest = rest
 
-  branch_same : (ns : List Node) (d : ℕ) (name : List ℕ) → branch_in (moved ns) d name
-      ≡ in_option (branch_in ns d name)
+  branch_same : (ns : List Node) (d : ℕ) (name : List ℕ) → branch_in (moved ns) d name ≡ in_option (branch_in ns d name)
   branch_same [] d name = refl
   branch_same (n ∷ ns) d name = by (is_branch d name n) (branch_same ns d name)
     where
@@ -67,8 +66,7 @@ module _ (volume : Node → ℕ) where
 
   above_same : (ns : List Node) (u : ℕ) → above (moved ns) u ≡ above ns u
   above_same [] u = refl
-  above_same (n ∷ ns) u = λ i.
-      cond (eqb n.uid u) (step_up (λ w. above_same ns w i) n.superior) (above_same ns u i)
+  above_same (n ∷ ns) u = λ i. cond (eqb n.uid u) (step_up (λ w. above_same ns w i) n.superior) (above_same ns u i)
 
   chain_same : (ns : List Node) (u : ℕ) → chain_of (moved ns) u ≡ chain_of ns u
   chain_same ns u = λ i. reverse (u ∷ above_same ns u i)
@@ -78,8 +76,7 @@ module _ (volume : Node → ℕ) where
   walk_same ns [] d b = refl
   walk_same ns (name ∷ names) d b = cc (branch_same ns d name, by b (branch_in ns d name) (walk_same ns names))
     where
-      by : (x : Bool) (o : Option Node)
-          → ((e : ℕ) (y : Bool) → walk_from (moved ns) e y names ≡ walk_from ns e y names)
+      by : (x : Bool) (o : Option Node) → ((e : ℕ) (y : Bool) → walk_from (moved ns) e y names ≡ walk_from ns e y names)
           → onward (λ n. walk_from (moved ns) n.uid n.directory names) x (in_option o)
           ≡ onward (λ n. walk_from ns n.uid n.directory names) x o
       by true (Some n) on = on n.uid n.directory
@@ -93,8 +90,7 @@ module _ (volume : Node → ℕ) where
       by (Some n) = refl
   walked_same ns _ = refl
 
-  segment_same : (ns : List Node) (path : List (List ℕ)) → segment_at (moved ns) path
-      ≡ in_result (segment_at ns path)
+  segment_same : (ns : List Node) (path : List (List ℕ)) → segment_at (moved ns) path ≡ in_result (segment_at ns path)
   unfolding node_at
   segment_same ns path = ap (λ (w : Walk). only_segment (walked (moved ns) w)) (walk_same ns path 1 true)
       ∙ (ap only_segment (walked_same ns (walk_in ns path)) ∙ by (walked ns (walk_in ns path)))
@@ -113,30 +109,31 @@ module _ (volume : Node → ℕ) where
   in_same : (ns : List Node) (who : Who) (r : Reference) (o : Option Node) → want_in (moved ns) who r (in_option o)
       ≡ want_in ns who r o
   in_same ns who r None = refl
-  in_same ns who r (Some n) = ap (λ (chain : List ℕ). of chain) (chain_same ns n.uid)
+  in_same ns who r (Some n) = cc (chain_same ns n.uid)
     where
       of : List ℕ → Want
-      of chain = cond (not (permits (access_of who n.rows) r.kind)) Other
-          (cond (nat_le (1024 * n.pages) r.offset) Other
+      of chain = cond (not (permits (access_of who n.rows) r.kind)) Other (cond (nat_le (1024 * n.pages) r.offset) Other
           (Refer chain n.uid (r.offset / 1024) (not (new_word 0 r.kind == 0))))
 
   known_same : (ns : List Node) (who : Who) (r : Reference) (o : Option ℕ) → want_known (moved ns) who r o
       ≡ want_known ns who r o
   known_same ns who r None = refl
-  known_same ns who r (Some uid) = ap (want_in (moved ns) who r) (node_same ns uid) ∙ in_same ns who r (node_in ns uid)
+  known_same ns who r (Some uid) = cc (node_same ns uid, in_same ns who r (node_in ns uid))
 
   truncated_same : (ns : List Node) (words : ℕ) (x : Result Node Reply)
       → want_truncated (moved ns) words (in_result x) ≡ want_truncated ns words x
   truncated_same ns words (Err r) = refl
-  truncated_same ns words (Ok n) = ap (λ (chain : List ℕ). Truncate chain n.uid (cut_page words)) (chain_same ns n.uid)
+  truncated_same ns words (Ok n) = cc (chain_same ns n.uid)
 
   lengthened_same : (x : Result Node Reply) → want_lengthened (in_result x) ≡ want_lengthened x
   lengthened_same (Err r) = refl
   lengthened_same (Ok n) = refl
 
   command_same : (ns : List Node) (c : Command) → want_of_command (moved ns) c ≡ want_of_command ns c
-  command_same ns (command.Truncate path words) = ap (want_truncated (moved ns) words) (segment_same ns path)
-      ∙ truncated_same ns words (segment_at ns path)
+  command_same ns (command.Truncate path words) = cc (
+    segment_same ns path,
+    truncated_same ns words (segment_at ns path),
+  )
   command_same ns (command.Length path pages) = cc (segment_same ns path, lengthened_same (segment_at ns path))
   command_same ns _ = refl
 

@@ -12,17 +12,16 @@ no_link_in st ds u = (j n : ℕ) → leads_to (descriptor_use (led_to st.ast.ent
     (cut_uid ds j n)) ≢ Some u
 
 -- A segment that was taken whole may become inactive once its pages have left and its descriptors are gone.
-pub whole_may : (s : State) (u : ℕ) → Keeps s → IsWhole (holding s) u
-    → frames_of_owner s.owner ≡ []
+pub whole_may : (s : State) (u : ℕ) → Keeps s → IsWhole (holding s) u → frames_of_owner s.owner ≡ []
     → IsOver (segs_gone s (cut_of_owner s.owner)) → is_active s.store.ast u ≡ true
     → ((v : ℕ) → is_active s.store.ast v ≡ true
     → superior_in (node_in (flat_of (segs_gone s (cut_of_owner s.owner))).nodes v) ≢ Some u)
     → MayDeactivate (flat_of (segs_gone s (cut_of_owner s.owner))) (shown (seen (segs_gone s (cut_of_owner s.owner)))) u
 whole_may s u k whole frames over active inferiors = record {
-  active = ap (λ (st : Storage). is_active st.ast u) store ∙ active;
-  inferiors = λ v h. inferiors v (sym (ap (λ (st : Storage). is_active st.ast v) store) ∙ h);
+  active = cc (store, active);
+  inferiors = λ v h. inferiors v (cc (store, h));
   pages = rw (← store) at (no_page_left (holding s) s.owner u k.book.going_owned whole frames);
-  descriptors = rw over.cut (subst (λ (st : Storage). no_link_in st [] u) (sym store) unlinked);
+  descriptors = rw over.cut (rw store unlinked);
 }
   where
     store : (segs_gone s (cut_of_owner s.owner)).store ≡ s.store
@@ -33,14 +32,13 @@ whole_may s u k whole frames over active inferiors = record {
       where
         by : (x : Option ℕ) → (seen s).linked j n ≡ x → leads_to (descriptor_use x None) ≡ Some u → ⊥
         by None e h = none_some h
-        by (Some v) e h = let is = ap (λ (y : Option ℕ). descriptor_use y (cut_uid (cut_of_owner s.owner) j n)) e in
-            let going = whole.descriptors j n (ap leads_to is ∙ h) in
-            let no : false ≡ true = sym (ap is_going_descriptor is) ∙ going in cc
+        by (Some v) e h = let going = whole.descriptors j n (cc) in
+            let no : false ≡ true = sym (ap is_going_descriptor (ap (λ (y : Option ℕ). descriptor_use y
+            (cut_uid (cut_of_owner s.owner) j n)) e)) ∙ going in cc
 
 -- So may the segment that the owner makes inactive.
 pub may_deactivate : (s : State) (u : ℕ) → Keeps s → TakenWhole s → going_for s.owner ≡ Some u
-    → frames_of_owner s.owner ≡ []
-    → IsOver (segs_gone s (cut_of_owner s.owner)) → is_active s.store.ast u ≡ true
+    → frames_of_owner s.owner ≡ [] → IsOver (segs_gone s (cut_of_owner s.owner)) → is_active s.store.ast u ≡ true
     → ((v : ℕ) → is_active s.store.ast v ≡ true
     → superior_in (node_in (flat_of (segs_gone s (cut_of_owner s.owner))).nodes v) ≢ Some u)
     → MayDeactivate (flat_of (segs_gone s (cut_of_owner s.owner))) (shown (seen (segs_gone s (cut_of_owner s.owner)))) u

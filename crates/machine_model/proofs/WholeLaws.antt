@@ -10,8 +10,7 @@ use Rattle.machine_model.proofs.TieLaws.{none_some}
 
 -- one frame is used otherwise: for nothing of the segment, or for what is going
 frame_whole : (c : Custody) (u f : ℕ) (x : FrameUse) → IsWhole c u
-    → (uid_of_page (page_of x) ≡ Some u → is_going_frame x ≡ true)
-    → IsWhole (with_frame c f x) u
+    → (uid_of_page (page_of x) ≡ Some u → is_going_frame x ≡ true) → IsWhole (with_frame c f x) u
 frame_whole c u f x w new = record {
   pages = λ g. by_place (λ (y : FrameUse). uid_of_page (page_of y) ≡ Some u → is_going_frame y ≡ true) c.frame f x g
       (λ e. new) (λ n. w.pages g);
@@ -19,18 +18,15 @@ frame_whole c u f x w new = record {
 }
 
 descriptor_whole : (c : Custody) (u k n : ℕ) (x : DescriptorUse) → IsWhole c u
-    → (leads_to x ≡ Some u → is_going_descriptor x ≡ true)
-    → IsWhole (with_descriptor c k n x) u
+    → (leads_to x ≡ Some u → is_going_descriptor x ≡ true) → IsWhole (with_descriptor c k n x) u
 descriptor_whole c u k n x w new = record {
   pages = w.pages;
   descriptors = λ i j. by_places (λ (y : DescriptorUse). leads_to y ≡ Some u
-      → is_going_descriptor y ≡ true) c.descriptor k n x i j
-      (λ a b. new) (λ m. w.descriptors i j);
+      → is_going_descriptor y ≡ true) c.descriptor k n x i j (λ a b. new) (λ m. w.descriptors i j);
 }
 
 taken_whole : (x : FrameUse) (u : ℕ) → (uid_of_page (page_of x) ≡ Some u → is_going_frame x ≡ true)
-    → uid_of_page (page_of (taken x)) ≡ Some u
-    → is_going_frame (taken x) ≡ true
+    → uid_of_page (page_of (taken x)) ≡ Some u → is_going_frame (taken x) ≡ true
 taken_whole (frame.Current v q) u w h = refl
 taken_whole (frame.Going v q) u w h = refl
 taken_whole _ u w h = w h
@@ -43,10 +39,8 @@ cut_whole _ u w h = refl
 -- only seats, the ready list or what is active changes
 seat_whole : (c e : Custody) (u : ℕ) → e.frame ≡ c.frame → e.descriptor ≡ c.descriptor → IsWhole c u → IsWhole e u
 seat_whole c e u f d w = record {
-  pages = subst (λ (x : ℕ → FrameUse). (g : ℕ) → uid_of_page (page_of (x g)) ≡ Some u → is_going_frame (x g) ≡ true)
-      (sym f) w.pages;
-  descriptors = subst (λ (x : ℕ → ℕ → DescriptorUse). (k n : ℕ) → leads_to (x k n) ≡ Some u
-      → is_going_descriptor (x k n) ≡ true) (sym d) w.descriptors;
+  pages = rw f w.pages;
+  descriptors = rw d w.descriptors;
 }
 
 -- An entry that spares the segment leaves it whole.
@@ -60,7 +54,7 @@ whole_next p s c u (entry.Leave d) w h = seat_whole c (custody_next p s c (entry
 whole_next p s c u (entry.Activate v) w h = seat_whole c (custody_next p s c (entry.Activate v)) u refl refl w
 whole_next p s c u (entry.Deactivate v) w h = seat_whole c (custody_next p s c (entry.Deactivate v)) u refl refl w
 whole_next p s c u (entry.Start f v q) w h = frame_whole c u f (frame.Started v q) w (λ e. absurd (h (some_same v u e)))
-whole_next p s c u (entry.Lose f) w h = frame_whole c u f frame.Free w (λ e. absurd (none_some e))
+whole_next p s c u (entry.Lose f) w h = frame_whole c u f frame.Free w (λ e. cc)
 whole_next p s c u (entry.Here f v q) w h = frame_whole c u f (frame.Current v q) w (λ e. absurd (h (some_same v u e)))
 whole_next p s c u (entry.Connect k n v) w h =
     descriptor_whole c u k n (descriptor.Current v) w (λ e. absurd (h (some_same v u e)))
@@ -71,28 +65,26 @@ whole_next p s c u (entry.Signal d x) w h = seat_whole c (custody_next p s c (en
 whole_next p s c u (entry.Clear d x) w h = seat_whole c (custody_next p s c (entry.Clear d x)) u refl refl w
 whole_next p s c u (entry.FillSeg d n) w h = seat_whole c (custody_next p s c (entry.FillSeg d n)) u refl refl w
 whole_next p s c u (entry.FillPage d f) w h = seat_whole c (custody_next p s c (entry.FillPage d f)) u refl refl w
-whole_next p s c u (entry.GonePage f) w h = frame_whole c u f frame.Free w (λ e. absurd (none_some e))
+whole_next p s c u (entry.GonePage f) w h = frame_whole c u f frame.Free w (λ e. cc)
 whole_next p s c u (entry.BackPage f) w h = absurd h
-whole_next p s c u (entry.GoneSeg k n) w h = descriptor_whole c u k n descriptor.Free w (λ e. absurd (none_some e))
+whole_next p s c u (entry.GoneSeg k n) w h = descriptor_whole c u k n descriptor.Free w (λ e. cc)
 whole_next p s c u (entry.BackSeg k n) w h = absurd h
 whole_next p s c u _ w h = w
 
 -- a page that is being read spares a segment that is whole
 pub started_spares : (c : Custody) (u f v q : ℕ) → IsWhole c u → c.frame f ≡ frame.Started v q → v ≢ u
-started_spares c u f v q w started same = let going =
-    w.pages f (ap (λ (x : FrameUse). uid_of_page (page_of x)) started ∙ ap (λ (x : ℕ). Some x) same) in
-    let no : false ≡ true = sym (ap is_going_frame started) ∙ going in cc
+started_spares c u f v q w started same = let no : false ≡ true = sym (ap is_going_frame started) ∙ (w.pages f (cc)) in
+    cc
 
 -- ---- nothing is left
 
 -- what goes of a segment that is whole is what the owner has taken: once that is gone, nothing of it is left
 pub no_page_left : (c : Custody) (o : Option Owner) (u : ℕ) → IsOwned c o → IsWhole c u → frames_of_owner o ≡ []
     → HasNoPage c u
-no_page_left c o u k w none f h = let no : false ≡ true =
-    sym (k.frames f ∙ ap (λ (fs : List ℕ). has fs f) none) ∙ w.pages f h in cc
+no_page_left c o u k w none f h = let no : false ≡ true = sym (cc (k.frames f)) ∙ w.pages f h in cc
 
 -- ---- steps
 
 -- where the owner makes no segment inactive, there is nothing to say
 pub whole_idle : (now : State) → going_for now.owner ≡ None → TakenWhole now
-whole_idle now none = record { whole = λ u h. absurd (none_some (sym none ∙ h)) }
+whole_idle now none = record { whole = λ u h. cc }

@@ -11,14 +11,14 @@ pub found : {X : Type 0} (p : X → Bool) (xs : List X) (d : X) → position_or_
 found p xs d h = by_not (p (get_or xs (position_or_len p xs) d)) (prefix_len_stops (λ x. not (p x)) xs d h)
 
 is_for_same : (u v : ℕ) (o : Option Entry) → is_for u o ≡ true → is_for v o ≡ true → u ≡ v
-is_for_same u v None h i = absurd (let no : false ≡ true = h in cc)
+is_for_same u v None h i = cc
 is_for_same u v (Some e) h i = elim (eqb_tells e.uid u) [
   | inl a ↦ elim (eqb_tells e.uid v) [
     | inl b ↦ sym a.1 ∙ b.1
     | inr n ↦
-        absurd (let no : true ≡ false = sym i ∙ n.0 in cc)
+        cc
   ]
-  | inr n ↦ absurd (let no : true ≡ false = sym h ∙ n.0 in cc)
+  | inr n ↦ cc
 ]
 
 -- two segments that are active in one place are one
@@ -26,17 +26,15 @@ pub place_only : (entries : List (Option Entry)) (u v : ℕ) → place_of entrie
     → place_of entries v ≡ place_of entries u → v ≡ u
 unfolding place_of
 place_only entries u v within same = is_for_same v u (get_or entries (position_or_len (is_for u) entries) None)
-    (cc (found (is_for v) entries None (subst (λ (i : ℕ). i < length entries) (sym same) within)))
-    (found (is_for u) entries None within)
+    (cc (found (is_for v) entries None (rw same within))) (found (is_for u) entries None within)
 
 -- the word of one page of an active segment is changed
 pub word_put : (ast : ActiveSegs) (u p : ℕ) (w : Ptw) → place_of ast.entries u < length ast.entries
-    → place_of ast.entries u < length ast.tables
-    → p < length (table_of ast u) → (v q : ℕ)
+    → place_of ast.entries u < length ast.tables → p < length (table_of ast u) → (v q : ℕ)
     → word_of (worded ast u p w) v q ≡ at_put_two (λ x y. word_of ast x y) u p w v q
 word_put ast u p w active there within v q = elim (eqb_tells v u) [
   | inl e ↦ rw e.0 (cc (here, put_list (table_of ast u) p w ptw.Null q within))
-  | inr n ↦ rw n.0 (ap (λ (t : List Ptw). get_or t q ptw.Null) (other n.1))
+  | inr n ↦ rw n.0 (cc (other n.1))
 ]
   where
     now : List (List Ptw)
@@ -53,8 +51,7 @@ word_put ast u p w active there within v q = elim (eqb_tells v u) [
     other : v ≢ u → get_or now (place_of ast.entries v) [] ≡ table_of ast v
     other n = put_list ast.tables (place_of ast.entries u) (set (table_of ast u) p w) [] (place_of ast.entries v) there
         ∙ put_other (λ k. get_or ast.tables k []) (place_of ast.entries u) (set (table_of ast u) p w)
-        (place_of ast.entries v)
-        (λ e. n (place_only ast.entries u v active e))
+        (place_of ast.entries v) (λ e. n (place_only ast.entries u v active e))
 
 -- a page whose word isn't `Null` is within the table of its place
 pub word_within : (ast : ActiveSegs) (u p : ℕ) → word_of ast u p ≢ ptw.Null

@@ -23,14 +23,13 @@ whole_list : (p : Plan) (es more : List Entry) (u : ℕ) → IsWhole (custody_af
     → IsWhole (custody_after p (es ++ more)) u
 whole_list p es [] u w spare = subst (λ (xs : List Entry). IsWhole (custody_after p xs) u) (sym (append-nil es)) w
 whole_list p es (e ∷ more) u w spare = rw (append_assoc es (e ∷ []) more) at (whole_list p (es ++ e ∷ []) more u
-    (subst (λ (c : Custody). IsWhole c u) (sym (custody_after-push p es e)) (whole_next p (store_after p es)
-    (custody_after p es) u e w spare.0)) spare.1)
+    (rw (custody_after-push p es e) (whole_next p (store_after p es) (custody_after p es) u e w spare.0)) spare.1)
 
 -- what goes of a segment is all of it still
 pub whole_on : (s now : State) (more : List Entry) (u : ℕ) → Keeps s → Keeps now → now.plan ≡ s.plan
     → now.entries ≡ s.entries ++ more → IsWhole (holding s) u → AllSpare u more → IsWhole (holding now) u
 whole_on s now more u k kept plan entries w spare = rw (kept.book.held ∙ λ i. custody_after (plan i) (entries i))
-    (whole_list s.plan s.entries more u (subst (λ (c : Custody). IsWhole c u) k.book.held w) spare)
+    (whole_list s.plan s.entries more u (rw (← k.book.held) w) spare)
 
 -- ---- of which commands a failure may be told, by tables that are as before
 
@@ -49,9 +48,9 @@ fails_less old now k (Some c) less (inl h) = inl (
   h.1,
   record {
     uid = h.2.uid;
-    stands = ap (λ (x : List (List (Option ℕ))). uid_of (kst_at x k) h.0.number) less.known ∙ h.2.stands;
+    stands = cc;
     node = h.2.node;
-    there = ap (λ (ns : List Node). node_in ns h.2.uid) less.nodes ∙ h.2.there;
+    there = cc;
     within = h.2.within;
   },
 )
@@ -61,10 +60,10 @@ fails_less old now k (Some c) less (inr h) = inr (by c h)
         → MayChange now.accounts.nodes (is_filed now.accounts now.pages.vtocs) d
     by (command.Length path pages) x = (
       x.0,
-      ap (λ (ns : List Node). segment_at ns path) less.nodes ∙ x.1,
+      cc,
       λ q le. less.filed x.0.uid q (x.2 q le),
     )
-    by (command.Truncate path words) x = (x.0, ap (λ (ns : List Node). segment_at ns path) less.nodes ∙ x.1)
+    by (command.Truncate path words) x = (x.0, cc)
     by _ x = absurd x
 
 fails_by_less : (a : Aim) (old now : Storage) (k : ℕ) (x : Option Command) → IsLess old now → FailsBy a old k x
@@ -98,7 +97,7 @@ pub record LeavesMove (old now : Storage) : Type 0 where
 pub moved_on : (old now : Storage) (k : ℕ) (m : Mover) (x : Option Command) → LeavesMove old now
     → IsMovedFor old k m x → IsMovedFor now k m x
 moved_on old now k m x leaves h = record {
-  moves = subst (λ (t : Tables). MovesForNext t k m x) (sym leaves.tables) h.moves;
+  moves = rw leaves.tables h.moves;
   active = leaves.active m.uid ∙ h.active;
   unread = leaves.unread m.uid h.unread;
 }
@@ -142,8 +141,7 @@ frame_less core f y less g page h = map_list started_page core.frames g frame.Fr
         → started_page (get_or core.frames g frame.Free) ≡ Some page
     by e = elim (set_either core.frames f y g frame.Free) [
       | inl same ↦ ap started_page (sym same) ∙ e
-      | inr is ↦ ap (λ (i : ℕ). started_page (get_or core.frames i frame.Free)) is.0
-          ∙ less page (ap started_page (sym is.1) ∙ e)
+      | inr is ↦ ap (λ (i : ℕ). started_page (get_or core.frames i frame.Free)) is.0 ∙ less page (cc)
     ]
 
 -- a reference reads no page into its frame
@@ -160,12 +158,11 @@ none_from_is : (s : State) (k : ℕ) (path : List (List ℕ)) (pages : ℕ) (n :
     → segment_at (flat_of s).nodes path ≡ Ok n → refusal_of s k (command.Length path pages) ≡ None
     → is_stored_from (flat_of s).stored n.uid pages ≡ false
 unfolding refusal_of length_reply
-none_from_is s k path pages n found stands = by (is_stored_from (flat_of s).stored n.uid pages)
-    (sym (ap (λ (x : Result Node Reply). refusal (length_of (flat_of s).stored pages x)) found) ∙ stands)
+none_from_is s k path pages n found stands = by (is_stored_from (flat_of s).stored n.uid pages) (cc)
   where
     by : (b : Bool) → refusal (cond b reply.Beyond reply.Done) ≡ None → b ≡ false
     by false e = refl
-    by true e = absurd (let none : Some reply.Beyond ≡ None = e in cc)
+    by true e = cc
 
 module _ (s : State) (k : ℕ) (cmd : Command) (keeps : Keeps s) where
   reference_fails : (r : Reference) → reference_of cmd ≡ Some r → outside_refusal s k r ≡ None
@@ -175,24 +172,21 @@ module _ (s : State) (k : ℕ) (cmd : Command) (keeps : Keeps s) where
     is,
     record {
       uid = uid_of_number s.store k r.number;
-      stands = ap (λ (x : List (List (Option ℕ))). uid_of (kst_at x k) r.number) (sym keeps.faithful.known) ∙ h.known;
+      stands = cc;
       node = h.node;
-      there = ap (λ (ns : List Node). node_in ns (uid_of_number s.store k r.number)) (sym keeps.faithful.tree.nodes)
-          ∙ h.there;
+      there = cc;
       within = h.within;
     },
   )
 
   same_path : (path : List (List ℕ)) (n : Node) → segment_at (flat_of s).nodes path ≡ Ok n
       → segment_at s.store.accounts.nodes path ≡ Ok n
-  same_path path n h = ap (λ (ns : List Node). segment_at ns path) (sym keeps.faithful.tree.nodes) ∙ h
+  same_path path n h = cc
 
   truncate_fails : (path : List (List ℕ)) (words : ℕ) → cmd ≡ command.Truncate path words → refusal_of s k cmd ≡ None
       → MayFailBy s.store k (Some cmd)
-  truncate_fails path words is stands = let leads = truncate_stands s k keeps path words
-      (subst (λ (c : Command). refusal_of s k c ≡ None) is stands) in
-      subst (λ (c : Command). MayFailBy s.store k (Some c)) (sym is)
-      (inr (leads.node, same_path path leads.node leads.found))
+  truncate_fails path words is stands = let leads = truncate_stands s k keeps path words (rw (← is) stands) in
+      rw is (inr (leads.node, same_path path leads.node leads.found))
 
   pub page_fails : (uid page : ℕ) → ((r : Reference) × FindsPage s k cmd r uid page) ⊎ FindsCut s k cmd uid page
       → MayFailBy s.store k (Some cmd)
@@ -221,10 +215,12 @@ module _ (s : State) (k : ℕ) (cmd : Command) (keeps : Keeps s) where
           le_tells : nat_le finds.pages q ≡ true
           le_tells = elim (leb_tells finds.pages q) [
             | inl e ↦ e.0
-            | inr n ↦ (let lt = n.1 in absurd (omega (arith, lt, le)))
+            | inr n ↦ (let lt = n.1 in absurd (omega arith))
           ]
 
           by : (b : Bool) → is_stored (flat_of s).stored leads.node.uid q ≡ b → b ≡ false
           by false e = refl
-          by true e = absurd (not_both (stored_from (flat_of s).stored leads.node.uid finds.pages q e le_tells)
-              (none_from_is s k finds.path finds.pages leads.node leads.found stands))
+          by true e = cc (
+            stored_from (flat_of s).stored leads.node.uid finds.pages q e le_tells,
+            none_from_is s k finds.path finds.pages leads.node leads.found stands,
+          )

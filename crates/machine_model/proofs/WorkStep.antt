@@ -39,11 +39,11 @@ use Rattle.machine_model.proofs.WholeLaws.{started_spares, whole_idle}
 pub none_work : (now : State) → now.owner ≡ None → IsWorking now
 none_work now none = record {
   whole = whole_idle now (ap going_for none);
-  leaf = λ u h. absurd (none_some (sym (ap going_for none) ∙ h));
-  fails = λ o h. absurd (none_some (sym none ∙ h));
-  numbered = subst (λ (o : Option Owner). AreNumbered now.store.links.known (cut_of_owner o)) (sym none) tt;
-  taken = λ o h. absurd (none_some (sym none ∙ h));
-  moves = λ o h. absurd (none_some (sym none ∙ h));
+  leaf = λ u h. cc;
+  fails = λ o h. cc;
+  numbered = rw none tt;
+  taken = λ o h. cc;
+  moves = λ o h. cc;
   few = subst OwnsFew (sym none) (omega arith);
 }
 
@@ -53,8 +53,8 @@ pub looking_work : (now : State) (q : Owner) → now.owner ≡ Some q → q.phas
 looking_work now q mine looks numbered few = record {
   few = few;
   numbered = numbered;
-  whole = whole_idle now (ap going_for mine ∙ ap goes_in looks);
-  leaf = λ u h. absurd (none_some (sym (ap going_for mine ∙ ap goes_in looks) ∙ h));
+  whole = whole_idle now (cc);
+  leaf = λ u h. cc;
   fails = λ o h. (rw (ap (λ (x : Owner). x.phase) (some_same o q (sym h ∙ mine)) ∙ looks) tt);
   taken = λ o h. (rw (ap (λ (x : Owner). x.phase) (some_same o q (sym h ∙ mine)) ∙ looks) tt);
   moves = λ o h. (rw (ap (λ (x : Owner). x.phase) (some_same o q (sym h ∙ mine)) ∙ looks) tt);
@@ -85,28 +85,24 @@ leaf_like : (old now : Storage) (u : ℕ) → now.accounts.nodes ≡ old.account
     → ((v : ℕ) → is_active now.ast v ≡ is_active old.ast v) → IsLeaf old u → IsLeaf now u
 leaf_like old now u nodes active h = record {
   active = active u ∙ h.active;
-  inferiors = λ v e i. h.inferiors v (sym (active v) ∙ e)
-      (ap (λ (ns : List Node). superior_in (node_in ns v)) (sym nodes) ∙ i);
+  inferiors = λ v e i. h.inferiors v (sym (active v) ∙ e) (cc);
 }
 
 pub leaves_work : (s now : State) → Keeps s → Keeps now → IsWorking s → Leaves s now → IsWorking now
 leaves_work s now k kept w l = record {
   few = subst OwnsFew (sym l.owner) w.few;
-  numbered = subst (λ (x : List (List (Option ℕ))). AreNumbered x (cut_of_owner now.owner)) (sym less.known)
-      (subst (λ (x : Option Owner). AreNumbered s.store.links.known (cut_of_owner x)) (sym l.owner) w.numbered);
+  numbered = rw (less.known, l.owner) w.numbered;
   whole = record {
     whole = λ u h. (let goes = ap going_for (sym l.owner) ∙ h in
         whole_on s now l.more u k kept l.plan l.book (w.whole.whole u goes) (l.spares u goes));
   };
-  leaf = λ u h. leaf_like s.store now.store u less.nodes l.active (w.leaf u (ap going_for (sym l.owner) ∙ h));
+  leaf = λ u h. leaf_like s.store now.store u less.nodes l.active (w.leaf u (cc));
   fails = λ o h. (let was = sym l.owner ∙ h in
-      rw (l.process o was) (subst (λ (x : Option Command). FailsIn o.phase now.store (process_at s o.cpu) x)
-      (sym (l.next o was)) (fails_in_less o.phase s.store now.store (process_at s o.cpu)
+      rw (l.process o was) (rw (l.next o was) (fails_in_less o.phase s.store now.store (process_at s o.cpu)
       (next_command s (process_at s o.cpu)) less (w.fails o was))));
   taken = λ o h. (let was = sym l.owner ∙ h in
-      rw (l.process o was) (subst (λ (x : Option Command). TakenIn o.phase now (process_at s o.cpu) x)
-      (sym (l.next o was)) (taken_in o.phase s now (process_at s o.cpu) (next_command s (process_at s o.cpu))
-      (record {
+      rw (l.process o was) (rw (l.next o was) (taken_in o.phase s now (process_at s o.cpu)
+      (next_command s (process_at s o.cpu)) (record {
         nodes = less.nodes;
         known = less.known;
         active = l.active;
@@ -116,10 +112,8 @@ leaves_work s now k kept w l = record {
         stands = stands_on s now k kept less.nodes less.known;
       }) (w.fails o was) (w.taken o was))));
   moves = λ o h. (let was = sym l.owner ∙ h in
-      subst (λ (j : ℕ). MovesIn o.phase now.store j (next_command now j)) (sym (l.process o was))
-      (subst (λ (x : Option Command). MovesIn o.phase now.store (process_at s o.cpu) x) (sym (l.next o was))
-      (moves_in_on o.phase s.store now.store (process_at s o.cpu) (next_command s (process_at s o.cpu))
-      (record { tables = l.tables; active = l.active; unread = l.unread }) (w.moves o was))));
+      rw (l.process o was, l.next o was) (moves_in_on o.phase s.store now.store (process_at s o.cpu)
+      (next_command s (process_at s o.cpu)) (assumption) (w.moves o was)));
 }
   where
     less : IsLess s.store now.store
@@ -139,17 +133,17 @@ module _ (s : State) (c : ℕ) (k : Keeps s) (w : IsWorking s) (other : IsNoOwne
     spare = now.spare;
   } → ((u : ℕ) → AllSpare u (e ∷ [])) → ((Page : ℕ → ℕ → Type 0) → AllStay Page (e ∷ [])) → IsWorking now
   seat_work now p e kept same spares stays = leaves_work s now k kept w (record {
-    owner = ap (λ (t : State). t.owner) same;
-    plan = ap (λ (t : State). t.plan) same;
-    tables = ap (λ (t : State). tables_of t.store) same;
-    unread = λ u h. subst (λ (t : State). IsUnread t.store.pages.core u) (sym same) h;
-    active = λ u. ap (λ (t : State). is_active t.store.ast u) same;
-    out = λ u q e. ap (λ (t : State). is_out (word_of t.store.ast u q)) same ∙ e;
+    owner = cc;
+    plan = cc;
+    tables = cc;
+    unread = λ u h. rw same h;
+    active = λ u. cc;
+    out = λ u q e. cc;
     more = e ∷ [];
-    book = ap (λ (t : State). t.entries) same;
+    book = cc;
     spares = λ u h. spares u;
     stays = λ Page Descriptor j. stays Page;
-    process = λ q h. ap or_zero (ap (λ (t : State). (cpu_at t.processors q.cpu).process) same ∙ set_process p q h);
+    process = λ q h. cc (set_process p q h);
     next = λ q h. rw (same);
   })
 
@@ -157,18 +151,18 @@ module _ (s : State) (c : ℕ) (k : Keeps s) (w : IsWorking s) (other : IsNoOwne
   other_process : (q : Owner) → s.owner ≡ Some q → IsMachine s → (cpu_at s.processors c).process ≡ Some (process_at s c)
       → process_at s q.cpu ≢ process_at s c
   other_process q h m its same = other q h (m.scheduled.alone q.cpu c (process_at s c)
-      (some_of (cpu_at s.processors q.cpu).process (k.at_work q h).busy ∙ ap (λ (j : ℕ). Some j) same) its)
+      (cc (some_of (cpu_at s.processors q.cpu).process (k.at_work q h).busy)) its)
     where
       some_of : (x : Option ℕ) → is_some x ≡ true → x ≡ Some (or_zero x)
-      some_of None e = absurd (let none : false ≡ true = e in cc)
+      some_of None e = cc
       some_of (Some n) e = refl
 
   pub other_next : (q : Owner) (run : Run) → s.owner ≡ Some q → IsMachine s
       → (cpu_at s.processors c).process ≡ Some (process_at s c)
       → command_at s.plan (process_at s q.cpu) (run_at (set s.runs (process_at s c) run) (process_at s q.cpu)).place
       ≡ next_command s (process_at s q.cpu)
-  other_next q run h m its = ap (λ (x : Run). command_at s.plan (process_at s q.cpu) x.place)
-      (get_or-set_other s.runs (process_at s c) (process_at s q.cpu) run no_run (other_process q h m its))
+  other_next q run h m its = cc (get_or-set_other s.runs (process_at s c) (process_at s q.cpu) run no_run
+      (other_process q h m its))
 
 -- ---- a segment is taken
 
@@ -185,9 +179,9 @@ module _ (s : State) (c u : ℕ) (k : Keeps s) (idle : IsIdle s.owner) (none : g
   took_work fs pairs some whole numbered few = record {
     few = few;
     whole = whole;
-    numbered = subst (λ (x : List (List (Option ℕ))). AreNumbered x (cut_of_owner now.owner)) (sym like.known) numbered;
-    leaf = λ v h. subst (IsLeaf now.store) (some_same u v (sym (ap going_for has.owner) ∙ h))
-        (leaf_like s.store now.store u (ap (λ (a : AccountMaps). a.nodes) like.accounts)
+    numbered = rw like.known numbered;
+    leaf = λ v h. subst (IsLeaf now.store) (some_same u v (cc (has.owner, h)))
+        (leaf_like s.store now.store u (cc (like.accounts))
         (λ x. ap (λ (es : List (Option Segment)). list_any (is_for x) es) like.entries)
         (record { active = active; inferiors = inferiors }));
     fails = λ q h. (rw (← (some_same _ q (sym has.owner ∙ h)))
@@ -195,12 +189,10 @@ module _ (s : State) (c u : ℕ) (k : Keeps s) (idle : IsIdle s.owner) (none : g
         (sym (ap (λ (ps : List Processor). or_zero (cpu_at ps c).process) like.processors))
         (subst (λ (x : Option Command). MayFailBy now.store (process_at s c) x) (λ i. command_at (sym like.plan i)
         (process_at s c) (run_at (sym like.runs i) (process_at s c)).place) (fails_less s.store now.store
-        (process_at s c) (next_command s (process_at s c))
-        (record {
+        (process_at s c) (next_command s (process_at s c)) (record {
           nodes = ap (λ (a : AccountMaps). a.nodes) like.accounts;
           known = like.known;
-          filed =
-              λ v q e. (λ i. is_filed (like.accounts i) (ap (λ (x : Plain). x.vtocs) like.pages i) v q) ∙ e;
+          filed = λ v q e. (λ i. is_filed (like.accounts i) (ap (λ (x : Plain). x.vtocs) like.pages i) v q) ∙ e;
         }) fails))));
     taken = λ q h. (rw (← (some_same _ q (sym has.owner ∙ h))) tt);
     moves = λ q h. (rw (← (some_same _ q (sym has.owner ∙ h))) tt);
@@ -217,13 +209,11 @@ module _ (s : State) (c u : ℕ) (k : Keeps s) (idle : IsIdle s.owner) (none : g
 
   by_lists : (fs : List ℕ) (pairs : List (ℕ × ℕ)) → TakenWhole (segment_taken s c u fs pairs)
       → AreNumbered s.store.links.known (cut_of_owner (took s c (aim.Deactivating u) (what.Seg u) fs pairs).owner)
-      → OwnsFew (took s c (aim.Deactivating u) (what.Seg u) fs pairs).owner
-      → IsWorking (segment_taken s c u fs pairs)
+      → OwnsFew (took s c (aim.Deactivating u) (what.Seg u) fs pairs).owner → IsWorking (segment_taken s c u fs pairs)
   by_lists [] [] whole numbered few = looking_work (emptied s c u) (looking c) refl refl tt (omega arith)
-  by_lists [] (x ∷ xs) whole numbered few =
-      took_work [] (x ∷ xs) (inr (λ e. (let no_one : x ∷ xs ≡ [] = e in cc))) whole numbered few
+  by_lists [] (x ∷ xs) whole numbered few = took_work [] (x ∷ xs) (inr (λ e. (let no_one = e in cc))) whole numbered few
   by_lists (f ∷ fs) pairs whole numbered few =
-      took_work (f ∷ fs) pairs (inl (λ e. (let no_one : f ∷ fs ≡ [] = e in cc))) whole numbered few
+      took_work (f ∷ fs) pairs (inl (λ e. (let no_one = e in cc))) whole numbered few
 
   own : eqb u u ≡ true
   own = elim (eqb_tells u u) [ inl e ↦ e.0 | inr n ↦ absurd (n.1 refl) ]
@@ -232,10 +222,9 @@ module _ (s : State) (c u : ℕ) (k : Keeps s) (idle : IsIdle s.owner) (none : g
   begun_work = by_lists (frames_from s.store.ast u 0) (trailers_in s.store u)
       (begun_whole s c u k idle none active (unread_any s.store.pages.core u unread))
       (took_numbered s c (aim.Deactivating u) (what.Seg u) (frames_from s.store.ast u 0) (trailers_in s.store u) k
-      (subst (AreNumbered s.store.links.known) (sym idle.cut) tt)
-      (segment_takes s (aim.Deactivating u) (what.Seg u) u 0 k idle own (λ gs cs. refl)).pairs_are)
+      (rw idle.cut tt) (segment_takes s (aim.Deactivating u) (what.Seg u) u 0 k idle own (λ gs cs. refl)).pairs_are)
       (took_few s c (aim.Deactivating u) (what.Seg u) (frames_from s.store.ast u 0) (trailers_in s.store u) idle
-      (let a = frames_from_few s u 0 k in let b = trailers_few s u k in omega (arith, a, b)))
+      (omega (arith, frames_from_few s u 0 k, trailers_few s u k)))
 
 -- ---- the owner goes on
 
@@ -286,7 +275,7 @@ module _ (s : State) (c : ℕ) (k : Keeps s) (w : IsWorking s) where
     };
     leaf = λ u h. w.leaf u (sym (goes_signalled s.owner) ∙ h);
     fails = λ q h. by s.owner refl q h;
-    numbered = subst (AreNumbered s.store.links.known) (sym (cut_signalled s.owner)) w.numbered;
+    numbered = rw (cut_signalled s.owner) w.numbered;
     few = signalled_few s.owner w.few;
     taken = λ q h. takes s.owner refl q h;
     moves = λ q h. moved s.owner refl q h;
@@ -295,9 +284,8 @@ module _ (s : State) (c : ℕ) (k : Keeps s) (w : IsWorking s) where
       moved : (o : Option Owner) → s.owner ≡ o → (q : Owner) → owner_signalled o ≡ Some q
           → MovesIn q.phase s.store (process_at (signalled s c what) q.cpu)
           (next_command (signalled s c what) (process_at (signalled s c what) q.cpu))
-      moved None e q h = absurd (none_some h)
-      moved (Some x) e q h = rw (← (some_same _ q h)) (subst (λ (j : ℕ). MovesIn (phase_signalled x.phase) s.store j
-          (next_command (signalled s c what) j)) (sym (ap or_zero ((told_seats s c what).process x.cpu)))
+      moved None e q h = cc
+      moved (Some x) e q h = rw (← (some_same _ q h)) (rw (ap or_zero ((told_seats s c what).process x.cpu))
           (moves_signalled x.phase s.store (process_at s x.cpu) (next_command s (process_at s x.cpu)) (w.moves x e)))
 
       left : LeavesTaken s (signalled s c what)
@@ -314,19 +302,17 @@ module _ (s : State) (c : ℕ) (k : Keeps s) (w : IsWorking s) where
       takes : (o : Option Owner) → s.owner ≡ o → (q : Owner) → owner_signalled o ≡ Some q
           → TakenIn q.phase (signalled s c what) (process_at (signalled s c what) q.cpu)
           (next_command (signalled s c what) (process_at (signalled s c what) q.cpu))
-      takes None e q h = absurd (none_some h)
+      takes None e q h = cc
       takes (Some x) e q h = rw (← (some_same _ q h))
-          (subst (λ (j : ℕ). TakenIn (phase_signalled x.phase) (signalled s c what) j (next_command (signalled s c what)
-          j)) (sym (ap or_zero ((told_seats s c what).process x.cpu))) (taken_signalled x.phase (signalled s c what)
+          (rw (ap or_zero ((told_seats s c what).process x.cpu)) (taken_signalled x.phase (signalled s c what)
           (process_at s x.cpu) (next_command s (process_at s x.cpu)) (taken_in x.phase s (signalled s c what)
           (process_at s x.cpu) (next_command s (process_at s x.cpu)) left (w.fails x e) (w.taken x e))))
 
       by : (o : Option Owner) → s.owner ≡ o → (q : Owner) → owner_signalled o ≡ Some q
           → FailsIn q.phase s.store (process_at (signalled s c what) q.cpu)
           (next_command (signalled s c what) (process_at (signalled s c what) q.cpu))
-      by None e q h = absurd (none_some h)
-      by (Some x) e q h = rw (← (some_same _ q h)) (subst (λ (j : ℕ). FailsIn (phase_signalled x.phase) s.store j
-          (next_command (signalled s c what) j)) (sym (ap or_zero ((told_seats s c what).process x.cpu)))
+      by None e q h = cc
+      by (Some x) e q h = rw (← (some_same _ q h)) (rw (ap or_zero ((told_seats s c what).process x.cpu))
           (fails_signalled x.phase s.store (process_at s x.cpu) (next_command s (process_at s x.cpu)) (w.fails x e)))
 
   -- a page has left its frame
@@ -353,7 +339,7 @@ module _ (s : State) (c : ℕ) (k : Keeps s) (w : IsWorking s) where
     leaf = λ u h. leaf_like s.store now.store u (nodes_left how f (page_in s.store f)) (λ v. refl)
         (w.leaf u (sym (goes_less s.owner) ∙ h));
     fails = λ q h. by s.owner refl q h;
-    numbered = subst (AreNumbered s.store.links.known) (sym (cut_less s.owner)) w.numbered;
+    numbered = rw (cut_less s.owner) w.numbered;
     few = less_few s.owner w.few;
     taken = λ q h. takes s.owner refl q h;
     moves = λ q h. moved s.owner refl q h;
@@ -364,27 +350,25 @@ module _ (s : State) (c : ℕ) (k : Keeps s) (w : IsWorking s) where
 
       moved : (o : Option Owner) → s.owner ≡ o → (q : Owner) → without_first_frame o ≡ Some q
           → MovesIn q.phase now.store (process_at s q.cpu) (next_command s (process_at s q.cpu))
-      moved None e q h = absurd (none_some h)
-      moved (Some x) e q h = rw (← (some_same _ q h)) (subst (λ (y : Phase). MovesIn y now.store (process_at s x.cpu)
-          (next_command s (process_at s x.cpu)))
-          (sym (ap (λ (y : Owner). y.phase) (some_same x emptying.owner.owner (sym e ∙ emptying.owner.mine))
-          ∙ emptying.waits)) tt)
+      moved None e q h = cc
+      moved (Some x) e q h = rw (← (some_same _ q h)) (rw (ap (λ (y : Owner). y.phase)
+          (some_same x emptying.owner.owner (cc)) ∙ emptying.waits) tt)
 
       takes : (o : Option Owner) → s.owner ≡ o → (q : Owner) → without_first_frame o ≡ Some q
           → TakenIn q.phase now (process_at s q.cpu) (next_command s (process_at s q.cpu))
-      takes None e q h = absurd (none_some h)
-      takes (Some x) e q h = rw (← (some_same _ q h)) (subst (λ (y : Phase). TakenIn y now (process_at s x.cpu)
-          (next_command s (process_at s x.cpu)))
-          (sym (ap (λ (y : Owner). y.phase) (some_same x emptying.owner.owner (sym e ∙ emptying.owner.mine))
-          ∙ emptying.waits)) tt)
+      takes None e q h = cc
+      takes (Some x) e q h = rw (← (some_same _ q h)) (rw (ap (λ (y : Owner). y.phase)
+          (some_same x emptying.owner.owner (cc)) ∙ emptying.waits) tt)
 
       how : Left
       how = left_of (words_in s.store.pages f)
 
       stored_less : (x : Left) (page : ℕ × ℕ) (u q : ℕ) → is_stored (flat_of s).stored u q ≡ false
           → is_stored (without_left x page (flat_of s)).stored u q ≡ false
-      stored_less left.Released page u q e = is_stored-without (flat_of s).stored page.0 (λ i. eqb i page.1) u q
-          ∙ (ap (λ (b : Bool). not (eqb u page.0 && eqb q page.1) && b) e ∙ off (not (eqb u page.0 && eqb q page.1)))
+      stored_less left.Released page u q e = cc (
+        is_stored-without (flat_of s).stored page.0 (λ i. eqb i page.1) u q,
+        off (not (eqb u page.0 && eqb q page.1)),
+      )
         where
           off : (b : Bool) → (b && false) ≡ false
           off true = refl
@@ -395,14 +379,16 @@ module _ (s : State) (c : ℕ) (k : Keeps s) (w : IsWorking s) where
       less = record {
         nodes = nodes_left how f (page_in s.store f);
         known = refl;
-        filed = λ u q e. sym (kept.faithful.pages.stored u q)
-            ∙ (ap (λ (t : Store). is_stored t.stored u q) (left_flat s.plan s.entries f how (page_in s.store f))
-            ∙ stored_less how (page_in s.store f) u q (k.faithful.pages.stored u q ∙ e));
+        filed = λ u q e. cc (
+          kept.faithful.pages.stored u q,
+          left_flat s.plan s.entries f how (page_in s.store f),
+          stored_less how (page_in s.store f) u q (k.faithful.pages.stored u q ∙ e),
+        );
       }
 
       by : (o : Option Owner) → s.owner ≡ o → (q : Owner) → without_first_frame o ≡ Some q
           → FailsIn q.phase now.store (process_at s q.cpu) (next_command s (process_at s q.cpu))
-      by None e q h = absurd (none_some h)
+      by None e q h = cc
       by (Some x) e q h = rw (← (some_same _ q h)) (fails_in_less x.phase s.store now.store (process_at s x.cpu)
           (next_command s (process_at s x.cpu)) less (w.fails x e))
 
@@ -458,7 +444,7 @@ by_end o well ill kept a b = by o.failed refl kept
     by false e h = a h
 
 looking_goes : (s : State) (c : ℕ) → IsLooking s c → going_for s.owner ≡ None
-looking_goes s c l = ap going_for l.owner.mine ∙ ap goes_in l.looks
+looking_goes s c l = cc
 
 module _ (s : State) (c : ℕ) (o : Outcome) (m : IsMachine s) (w : IsWorking s) where
   abbrev keeps : Keeps s
@@ -490,8 +476,7 @@ module _ (s : State) (c : ℕ) (o : Outcome) (m : IsMachine s) (w : IsWorking s)
   was_started : (t : Transfer) → (cpu_at s.processors c).transfer ≡ Some t
       → (holding s).frame t.frame ≡ frame.Started t.uid t.page
   was_started t mine = let reads = keeps.book.under_way.reading c t mine in
-      ap (λ (x : Option (ℕ × ℕ)). frame_use (seen s).words x ((seen s).reads t.frame))
-      (keeps.book.tied.unbound t.frame t.uid t.page reads) ∙ ap read_use reads
+      cc (keeps.book.tied.unbound t.frame t.uid t.page reads)
 
   -- the pages after a reference through a frame, by whether it writes
   abbrev pages_by : ℕ → Reference → Bool → Storage
@@ -531,8 +516,7 @@ module _ (s : State) (c : ℕ) (o : Outcome) (m : IsMachine s) (w : IsWorking s)
       moved None = active_at s.store.ast l.finds.place u at
       moved (Some place) = active_at s.store.ast l.finds.place u at
 
-      was : (v : ℕ) (x : Option ℕ) → is_active (hand_past s.store.ast pool x) v ≡ true
-          → is_active s.store.ast v ≡ true
+      was : (v : ℕ) (x : Option ℕ) → is_active (hand_past s.store.ast pool x) v ≡ true → is_active s.store.ast v ≡ true
       was v None h = h
       was v (Some place) h = h
 
@@ -566,7 +550,7 @@ module _ (s : State) (c : ℕ) (o : Outcome) (m : IsMachine s) (w : IsWorking s)
 
   one_few : (f : ℕ) → length (frames_of_owner s.owner) + length (cut_of_owner s.owner) ≤ 0
       → length (frames_of_owner s.owner ++ f ∷ []) + length (cut_of_owner s.owner) ≤ 288
-  one_few f none = let one = length-append (frames_of_owner s.owner) (f ∷ []) in omega (arith, one, none)
+  one_few f none = omega (arith, length-append (frames_of_owner s.owner) (f ∷ []))
 
   taking_less : (f : ℕ) → IsLess s.store (eviction_begun s c f).store
   taking_less f = record {
@@ -577,15 +561,13 @@ module _ (s : State) (c : ℕ) (o : Outcome) (m : IsMachine s) (w : IsWorking s)
 
   length_inferiors : (u : ℕ) (l : Looks s c (λ x. FindsActive s (process_at s c) x u)) (v : ℕ)
       → superior_in (node_in (flat_of s).nodes v) ≢ Some u
-  length_inferiors u l v = segment_inferiors s u leads.node keeps
-      (ap (node_in s.store.accounts.nodes) (sym same) ∙ leads.there) leads.segment v
+  length_inferiors u l v = segment_inferiors s u leads.node keeps (cc (same, leads.there)) leads.segment v
     where
       leads : LeadsToSegment s l.finds.path
-      leads = length_stands s (process_at s c) keeps l.finds.path l.finds.pages
-          (subst (λ (x : Command). refusal_of s (process_at s c) x ≡ None) l.finds.is l.finds.stands)
+      leads = length_stands s (process_at s c) keeps l.finds.path l.finds.pages (rw (← l.finds.is) l.finds.stands)
 
       same : leads.node.uid ≡ u
-      same = sym leads.uid ∙ (sym (ap (uid_of_command s.store (process_at s c)) l.finds.is) ∙ l.finds.uid)
+      same = cc (leads.uid, l.finds.is, l.finds.uid)
 
   -- a move goes on, and its owner has taken nothing
   move_work : (now : State) (m : Mover) → now.owner ≡ Some (moving c m)
@@ -594,8 +576,8 @@ module _ (s : State) (c : ℕ) (o : Outcome) (m : IsMachine s) (w : IsWorking s)
   move_work now m mine fails moves = record {
     whole = whole_idle now (ap going_for mine);
     few = subst OwnsFew (sym mine) (omega arith);
-    numbered = subst (λ (x : Option Owner). AreNumbered now.store.links.known (cut_of_owner x)) (sym mine) tt;
-    leaf = λ u h. absurd (none_some (sym (ap going_for mine) ∙ h));
+    numbered = rw mine tt;
+    leaf = λ u h. cc;
     fails = λ q h. (rw (← (some_same _ q (sym mine ∙ h))) fails);
     taken = λ q h. (rw (← (some_same _ q (sym mine ∙ h))) tt);
     moves = λ q h. (rw (← (some_same _ q (sym mine ∙ h))) moves);
@@ -632,14 +614,13 @@ module _ (s : State) (c : ℕ) (o : Outcome) (m : IsMachine s) (w : IsWorking s)
         plan = refl;
         tables = refl;
         unread = λ u h. unread_less s.store.pages.core _ u (frame_less s.store.pages.core t.frame
-            (Bound t.uid t.page false false) (λ page e. absurd (none_some e))) h;
+            (Bound t.uid t.page false false) (λ page e. cc)) h;
         active = λ u. refl;
         out = word_out s.store.ast t.uid t.page (ptw.Here t.frame) refl;
         more = entry.Here t.frame t.uid t.page ∷ [];
         book = refl;
         spares = λ u h. (
-          started_spares (holding s) u t.frame t.uid t.page (w.whole.whole u h)
-              (was_started t may.1),
+          started_spares (holding s) u t.frame t.uid t.page (w.whole.whole u h) (was_started t may.1),
           tt,
         );
         stays = λ Page Descriptor j. (
@@ -648,13 +629,12 @@ module _ (s : State) (c : ℕ) (o : Outcome) (m : IsMachine s) (w : IsWorking s)
         );
         process = λ q h. ap or_zero (set_process s c keeps w may.0 _ q h);
         next = λ q h. refl;
-      }))
-      (λ failed kept_ill. leaves_work s (transfer_failed s c t o.faults) keeps kept_ill w (record {
+      })) (λ failed kept_ill. leaves_work s (transfer_failed s c t o.faults) keeps kept_ill w (record {
         owner = refl;
         plan = refl;
         tables = refl;
         unread = λ u h. unread_less s.store.pages.core _ u (frame_less s.store.pages.core t.frame Free
-            (λ page e. absurd (none_some e))) h;
+            (λ page e. cc)) h;
         active = λ u. refl;
         out = λ u q e. e;
         more = entry.Lose t.frame ∷ entry.Fault (Some (process_at s c))
@@ -681,8 +661,7 @@ module _ (s : State) (c : ℕ) (o : Outcome) (m : IsMachine s) (w : IsWorking s)
   work_kept (act.Through f r) may kept = other_told (with_pages s.store (pages_after s.store.pages f r)) (Some f)
       (word_reply (old_word s.store.pages f r) r.kind) may.0 may.1 (pages_tables f r (alters r.kind))
       (pages_unread f r (alters r.kind)) (λ u. refl) (λ u q e. e) kept
-  work_kept (act.Plain r) may kept =
-      other_told s.store None r may.0 may.1 refl (λ u h. h) (λ u. refl) (λ u q e. e) kept
+  work_kept (act.Plain r) may kept = other_told s.store None r may.0 may.1 refl (λ u h. h) (λ u. refl) (λ u q e. e) kept
   work_kept act.TakeSupervisor may kept = looking_work _ (looking c) refl refl tt (omega arith)
   work_kept (act.Answer r) may kept = none_work _ refl
   work_kept act.GiveUp may kept = none_work _ refl
@@ -693,21 +672,19 @@ module _ (s : State) (c : ℕ) (o : Outcome) (m : IsMachine s) (w : IsWorking s)
   work_kept (act.Evict f) may kept = record {
     whole = whole_idle (eviction_begun s c f) refl;
     few = let a = ap (λ (fs : List ℕ). length fs) may.idle.frames in
-        let b = ap (λ (ds : List CutDescriptor). length ds) may.idle.cut in one_few f (omega (arith, a, b));
+        let b = ap (λ (ds : List CutDescriptor). length ds) may.idle.cut in one_few f (omega arith);
     numbered = rw (taking_less f).known w.numbered;
-    leaf = λ u h. absurd (none_some h);
-    fails = λ q h. (rw (← (some_same _ q h)) (subst (MayFailBy (eviction_begun s c f).store (process_at s c))
-        (sym may.next) (fails_less s.store (eviction_begun s c f).store (process_at s c) (Some may.command)
+    leaf = λ u h. cc;
+    fails = λ q h. (rw (← (some_same _ q h)) (rw may.next (fails_less s.store (eviction_begun s c f).store
+        (process_at s c) (Some may.command)
         (taking_less f) (page_fails s (process_at s c) may.command keeps may.finds.uid may.finds.page
         may.finds.case))));
     taken = λ q h. (rw (← (some_same _ q h)) tt);
     moves = λ q h. (rw (← (some_same _ q h)) tt);
   }
   work_kept (act.Empty u) may kept = begun_work s c u keeps may.idle (looking_goes s c may.looking) may.finds.active
-      may.finds.unread (λ v h i. length_inferiors u may v
-      (ap (λ (ns : List Node). superior_in (node_in ns v)) keeps.faithful.tree.nodes ∙ i))
-      (subst (MayFailBy s.store (process_at s c)) (sym may.next)
-      (length_fails s (process_at s c) may.command keeps u may.finds))
+      may.finds.unread (λ v h i. length_inferiors u may v (cc))
+      (rw may.next (length_fails s (process_at s c) may.command keeps u may.finds))
   work_kept (act.EmptyVictim pool chain u) may kept = victim_fails pool chain u may
   work_kept (act.TakeAway fs pairs v) may kept = let has = took_owner s c aim.Committing v fs pairs may.1.frames may.2
       in record {
