@@ -8,13 +8,10 @@ search_tells ast u None only = by (is_active ast u) refl
   where
     by : (b : Bool) → is_active ast u ≡ b → false ≡ b
     by false e = refl
-    by true e = absurd (none_some ((only (place_of ast.entries u)).1 (active_place ast u e).1))
+    by true e = cc ((only (place_of ast.entries u)).1 (active_place ast u e).1)
 
 -- a victim that is emptied once no page of it is being read in
 pub victim_read : (st : Storage) (pool : ℕ) (chain : List ℕ) (uid place : ℕ) (x : Option ℕ) → x ≡ Some place
     → uid ≡ or_zero (uid_at st.ast.entries place)
-    → unless_read (frame_reading st.pages.core uid any_page) (EmptyVictim pool chain uid)
-    ≡ empty_victim st pool chain x
-victim_read st pool chain uid place x found is =
-    ap (λ (u : ℕ). unless_read (frame_reading st.pages.core u any_page) (EmptyVictim pool chain u)) is
-    ∙ ap (empty_victim st pool chain) (sym found)
+    → unless_read (frame_reading st.pages.core uid any_page) (EmptyVictim pool chain uid) ≡ empty_victim st pool chain x
+victim_read st pool chain uid place x found is = cc

@@ -13,12 +13,12 @@ ready_of drive t k (command.Acl path row m) h = h
 ready_of drive t k (command.Length path pages) h = h
 ready_of drive t k (command.Truncate path words) h = λ n at. (let taken = h n at in record {
   active = taken.active;
-  past = record { taken = taken.past.taken; idle = taken.past.idle };
+  past = assumption;
   cut = taken.cut;
 })
 ready_of drive t k (command.Delete path) h = λ n at. (let ready = h n at in record {
   cut = ready.cut;
-  taken = record { taken = ready.taken.taken; idle = ready.taken.idle };
+  taken = assumption;
 })
 ready_of drive t k command.End h = h
 ready_of drive t k c h = tt
@@ -26,7 +26,7 @@ ready_of drive t k c h = tt
 -- the command that a process comes to is the one that may take effect
 pub applies : {D : Type 0} (p : Parts D) (k : ℕ) {x y : Command} → IsApplicable p k x
     → next_command p.state k ≡ Some y → IsApplicable p k y
-applies p k may next = subst (IsApplicable p k) (same_some (sym may.next ∙ next)) may
+applies p k may next = rw (← (same_some (sym may.next ∙ next))) may
 
 module _ {D : Type 0} (drive : D → List (List ℕ)) (tables : Parts D) (t u : Stored D) (k : ℕ) (x : Command)
     (r : Reply) (kept : Option ℕ) (inner : shown drive t ≡ tables.state.store) (may : IsApplicable tables k x)
@@ -44,43 +44,36 @@ module _ {D : Type 0} (drive : D → List (List ℕ)) (tables : Parts D) (t u : 
   faithful = may.faithful
 
   whole : IsCommittedBut drive t u k frames x r kept
-  whole = committed frames (subst (λ (st : Storage). OwnsFor st frames x) (sym inner) may.owns)
+  whole = committed frames (rw inner may.owns)
 
   commits : IsCommitted drive t u k frames x r
   commits = whole.committed
 
   shows : (flat : Store) → IsFaithful s.plan flat s.store → Shows drive s.plan flat t
-  shows flat h = shows_of drive s.plan flat t (subst (IsFaithful s.plan flat) (sym inner) h)
+  shows flat h = shows_of drive s.plan flat t (rw inner h)
 
   reply_is : r ≡ reply_of s k x
   unfolding reply_of
   reply_is = commits.does.answer s.plan (flat_of s) (shows (flat_of s) faithful)
 
   pub applied_reply : r ≡ reply_for s k (next_command s k)
-  applied_reply = reply_is ∙ sym (ap (reply_for s k) next)
+  applied_reply = cc (reply_is, next)
 
   pub applied_left : map (left_entry kept) frames ≡ map (next_frame_entry s.store (next_command s k)) frames
-  applied_left = whole.left s.plan (flat_of s) (subst (IsFaithful s.plan (flat_of s)) (sym inner) faithful)
-      (subst (HasEffect x) (sym reply_is) may.takes)
-      ∙ (ap (λ (st : Storage). map (frame_entry st x) frames) inner
-      ∙ sym (ap (λ (o : Option Command). map (next_frame_entry s.store o) frames) next))
+  applied_left = cc (whole.left s.plan (flat_of s) (subst (IsFaithful s.plan (flat_of s)) (sym inner) faithful)
+      (subst (HasEffect x) (sym reply_is) may.takes))
 
   pub applied_store : shown drive u ≡ effect_for (shown drive t) k frames (next_command s k)
-  applied_store = commits.exact s.plan (flat_of s) (subst (IsFaithful s.plan (flat_of s)) (sym inner) faithful)
-      (subst (HasEffect x) (sym reply_is) may.takes)
-      ∙ sym (ap (effect_for (shown drive t) k frames) next)
+  applied_store = cc (commits.exact s.plan (flat_of s) (subst (IsFaithful s.plan (flat_of s)) (sym inner) faithful)
+      (subst (HasEffect x) (sym reply_is) may.takes))
 
   pub applied_drives : u.segs.pages.volumes.drives ≡ t.segs.pages.volumes.drives
   applied_drives = commits.drives
 
   pub applied_shown : (flat : Store) → IsFaithful s.plan flat s.store
       → IsFaithful s.plan (with_command s k (next_command s k) flat) (shown drive u)
-  applied_shown flat h = subst (λ (o : Option Command). IsFaithful s.plan (with_command s k o flat) (shown drive u))
-      (sym next) (subst (λ (o : Option Reference). IsFaithful s.plan (answered (reply_of s k x) flat
-      (effect_by s.plan flat k x o)) (shown drive u)) (sym may.tree)
-      (subst (λ (y : Reply). IsFaithful s.plan (answered y flat (effect_of_tree_command s.plan flat k x))
-      (shown drive u)) reply_is
-      (record { tree = now.tree; known = now.known; pages = now.pages; script = now.script })))
+  applied_shown flat h = rw (next, may.tree, ← reply_is) (record
+      { tree = now.tree; known = now.known; pages = now.pages; script = now.script })
     where
       now : Shows drive s.plan (answered r flat (effect_of_tree_command s.plan flat k x)) u
       now = commits.does.effect s.plan flat (shows flat h)

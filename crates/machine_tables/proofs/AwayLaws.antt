@@ -9,14 +9,12 @@ use Rattle.machine_model.specs.Actions.{room_for}
 blank_frames : (ws : List Ptw) (low : ℕ) → ((q : ℕ) → get_or ws q ptw.Null ≡ ptw.Null) → frames_in (drop low ws) ≡ []
 blank_frames [] zero h = refl
 blank_frames [] (suc low) h = refl
-blank_frames (w ∷ ws) zero h = ap (λ (x : Ptw). here_in x ++ frames_in ws) (h 0)
-    ∙ blank_frames ws zero (λ q. h (suc q))
+blank_frames (w ∷ ws) zero h = cc (h 0, blank_frames ws zero (λ q. h (suc q)))
 blank_frames (w ∷ ws) (suc low) h = blank_frames ws low (λ q. h (suc q))
 
 pub no_frames : (ast : ActiveSegs) (u low : ℕ) → length ast.tables ≡ length ast.entries → is_active ast u ≡ false
     → false ≡ not (is_empty (frames_from ast u low))
-no_frames ast u low tables off = sym (ap (λ (xs : List ℕ). not (is_empty xs))
-    (blank_frames (table_of ast u) low (inactive_blank ast u tables off)))
+no_frames ast u low tables off = cc (blank_frames (table_of ast u) low (inactive_blank ast u tables off))
 
 -- ---- the descriptors of a process
 
@@ -24,10 +22,9 @@ module _ (k : ℕ) (test : ℕ → Bool) where
   abbrev pairs : ℕ → ℕ → List (ℕ × ℕ)
   pairs from n = map (λ x. (k, x)) (filter test (range_with_len from n))
 
-  pub some_pair : (from n i : ℕ) → from ≤ i → i < from + n → test i ≡ true
-      → not (is_bare [] (pairs from n)) ≡ true
-  some_pair from zero i a b h = absurd (omega (arith, a, b))
-  some_pair from (suc n) i a b h = by (test from) refl (λ c. some_pair (from + 1) n i c (omega (arith, b)) h)
+  pub some_pair : (from n i : ℕ) → from ≤ i → i < from + n → test i ≡ true → not (is_bare [] (pairs from n)) ≡ true
+  some_pair from zero i a b h = absurd (omega arith)
+  some_pair from (suc n) i a b h = by (test from) refl (λ c. some_pair (from + 1) n i c (omega arith) h)
     where
       by : (t : Bool) → test from ≡ t → (from + 1 ≤ i → not (is_bare [] (pairs (from + 1) n)) ≡ true)
           → not (is_bare [] (map (λ x. (k, x)) (cond t (from ∷ filter test (range_with_len (from + 1) n))
@@ -35,22 +32,22 @@ module _ (k : ℕ) (test : ℕ → Bool) where
       by true e rest = refl
       by false e rest = elim (eqb_tells i from) [
         | inl same ↦ cc (same.1)
-        | inr m ↦ (let other = m.1 in rest (omega (arith, a, other)))
+        | inr m ↦ (let other = m.1 in rest (omega arith))
       ]
 
   pub no_pair : (from n : ℕ) → ((i : ℕ) → i < from + n → test i ≡ false) → pairs from n ≡ []
   no_pair from zero off = refl
-  no_pair from (suc n) off = rw (off from (omega arith)) (no_pair (from + 1) n (λ i lt. off i (omega (arith, lt))))
+  no_pair from (suc n) off = rw (off from (omega arith)) (no_pair (from + 1) n (λ i lt. off i (omega arith)))
 
   pub no_pairs : (n : ℕ) → ((i : ℕ) → i < n → test i ≡ false) → false ≡ not (is_bare [] (pairs 0 n))
-  no_pairs n off = rw (no_pair 0 n (λ i lt. off i (omega (arith, lt))))
+  no_pairs n off = rw (no_pair 0 n (λ i lt. off i (omega arith)))
 
 -- none of the numbers up to the next passes
 pub none_next : (test : ℕ → Bool) (n : ℕ) → ((i : ℕ) → i < n → test i ≡ false) → test n ≡ false → (i : ℕ)
     → i < n + 1 → test i ≡ false
 none_next test n before here i lt = elim (eqb_tells i n) [
   | inl e ↦ ap test e.1 ∙ here
-  | inr m ↦ (let other = m.1 in before i (omega (arith, lt, other)))
+  | inr m ↦ (let other = m.1 in before i (omega arith))
 ]
 
 -- ---- taken, or done at once

@@ -20,10 +20,10 @@ module _ {A : Type 0} (items : Option Owner → List A) (all : State → List A 
       let room = on.room in
       let spent = on.spent in
       record {
-        same = ap (all t) left ∙ step ∙ ap (all s) (sym next) ∙ on.same;
+        same = cc;
         owner = owner;
-        room = omega (arith, count, less, room, spare);
-        spent = omega (arith, count, less, room, spent, spare);
+        room = omega arith;
+        spent = omega arith;
       }
 
 -- ---- pages come back
@@ -68,16 +68,13 @@ cut_next : (step : State → CutDescriptor → State) (all : State → List CutD
 cut_next step all s t first d goes owner spare on h is =
     let now = ap (λ (x : State). x.owner) is ∙ owner in
     empties_next cut_of_owner all s t first d _ on (cuts_after s.owner d (sym h)) (ap cut_of_owner now)
-    (ap (λ (x : State). all x (cut_of_owner (without_first_cut s.owner))) is
-    ∙ goes (cut_of_owner (without_first_cut s.owner)))
-    (subst HasOwner (sym now) (owner_less s.owner on.owner)) (ap (λ (x : State). x.spare) is ∙ spare)
+    (cc (goes (cut_of_owner (without_first_cut s.owner)))) (subst HasOwner (sym now) (owner_less s.owner on.owner)) (cc)
 
 pub relinks_next : (s t first : State) (d : CutDescriptor) → RelinksOn s first
     → Some d ≡ slice_get (cut_of_owner s.owner) 0 → t ≡ seg_back s d → KeepsSeats first t → RelinksOn t first
 relinks_next s t first d on h is seats = record {
   each = cut_next seg_back segs_back s t first d (λ ds. refl) refl refl on.each h is;
-  may = subst (λ (x : State). MayRelink x.store (cut_of_owner x.owner)) (sym is)
-      (subst (MayRelink s.store) (cuts_after s.owner d (sym h)) on.may).1;
+  may = rw is (subst (MayRelink s.store) (cuts_after s.owner d (sym h)) on.may).1;
   seats = seats;
 }
 
@@ -91,5 +88,5 @@ pub goes_next : (s t first : State) (d : CutDescriptor) → GoesOn s first
     → Some d ≡ slice_get (cut_of_owner s.owner) 0 → t ≡ seg_gone s d → GoesOn t first
 goes_next s t first d on h is = record {
   each = cut_next seg_gone segs_gone s t first d (λ ds. refl) refl refl on.each h is;
-  store = ap (λ (x : State). x.store) is ∙ on.store;
+  store = cc;
 }

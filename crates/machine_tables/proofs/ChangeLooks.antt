@@ -8,23 +8,18 @@ pub truncate_there : (s : State) (k : ℕ) → Keeps s → (path : List (List �
     → c ≡ command.Truncate path words → refusal_of s k c ≡ None → (u : ℕ) → u ≡ uid_of_command s.store k c
     → is_there s.store.accounts.nodes u ≡ true
 truncate_there s k keeps path words c is stands u its =
-    let leads = truncate_stands s k keeps path words (subst (λ (x : Command). refusal_of s k x ≡ None) is stands) in
-    subst (λ (v : ℕ). is_there s.store.accounts.nodes v ≡ true)
-    (sym (its ∙ ap (uid_of_command s.store k) is ∙ leads.uid)) (ap is_some leads.there)
+    let leads = truncate_stands s k keeps path words (rw (← is) stands) in
+    rw (its ∙ ap (uid_of_command s.store k) is ∙ leads.uid) (ap is_some leads.there)
 
 module _ (st : Storage) (k : ℕ) where
   pub changes_truncate : (path : List (List ℕ)) (words : ℕ) (c : Command) → c ≡ command.Truncate path words
-      → (u v : ℕ) → u ≡ v
-      → with_chain st u (with_cut_page st u words (look_to_take st k u c)) ≡ look_to_change st k v c
-  changes_truncate path words c is u v same =
-      ap (λ (x : Command). with_chain st u (with_cut_page st u words (look_to_take st k u x))) is
-      ∙ ap (λ (w : ℕ). look_to_change st k w (command.Truncate path words)) same ∙ ap (look_to_change st k v) (sym is)
+      → (u v : ℕ) → u ≡ v → with_chain st u (with_cut_page st u words (look_to_take st k u c)) ≡ look_to_change st k v c
+  changes_truncate path words c is u v same = cc
 
   pub changes_length : (path : List (List ℕ)) (pages : ℕ) (c : Command) → c ≡ command.Length path pages
       → (u v : ℕ) → u ≡ v
       → cond (is_active st.ast u) (empty_when_read st.pages.core u (act.Empty u)) act.Commit ≡ look_to_change st k v c
-  changes_length path pages c is u v same =
-      ap (λ (w : ℕ). look_to_change st k w (command.Length path pages)) same ∙ ap (look_to_change st k v) (sym is)
+  changes_length path pages c is u v same = cc
 
   by_itself : (u : ℕ) (c : Command) → ((path : List (List ℕ)) (words : ℕ) → c ≢ command.Truncate path words)
       → ((path : List (List ℕ)) (pages : ℕ) → c ≢ command.Length path pages)
@@ -36,4 +31,4 @@ module _ (st : Storage) (k : ℕ) where
   pub changes_else : (c : Command) → ((path : List (List ℕ)) (words : ℕ) → c ≢ command.Truncate path words)
       → ((path : List (List ℕ)) (pages : ℕ) → c ≢ command.Length path pages) → (u v : ℕ) → u ≡ v
       → look_to_take st k u c ≡ look_to_change st k v c
-  changes_else c a b u v same = by_itself u c a b ∙ ap (λ (w : ℕ). look_to_change st k w c) same
+  changes_else c a b u v same = cc (by_itself u c a b)

@@ -9,7 +9,5 @@ pub chosen_here : (st now : Storage) (f : ℕ) → AreHere st → bindings now.p
     → now.ast ≡ st.ast → is_bound (frame_in now.pages f) ≡ true
     → word_of now.ast (page_in now f).0 (page_in now f).1 ≡ Here f
 chosen_here st now f here same ast bound =
-    ap (λ (a : ActiveSegs). word_of a (page_in now f).0 (page_in now f).1) ast
-    ∙ here.here f (page_in now f).0 (page_in now f).1
-    (ap (λ (b : List (Option (ℕ × ℕ))). binding_at b f) (sym same)
-    ∙ get_or-map bound_page now.pages.core.frames f Free ∙ bound_is (frame_in now.pages f) bound)
+    cc (here.here f (page_in now f).0 (page_in now f).1 (ap (λ (b : List (Option (ℕ × ℕ))). binding_at b f) (sym same)
+    ∙ get_or-map bound_page now.pages.core.frames f Free ∙ bound_is (frame_in now.pages f) bound))

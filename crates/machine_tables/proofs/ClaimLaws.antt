@@ -13,8 +13,8 @@ pub cuts_still : (s : State) (c : ℕ) (a : Aim) (w : What) (fs : List ℕ) (k u
     → cuts_in (take_all s c a w fs).store k uid x ≡ cuts_in s.store k uid x
 cuts_still s c a w fs k uid cuts.Nothing = refl
 cuts_still s c a w fs k uid cuts.Trailers = trailers_still s c a w fs uid
-cuts_still s c a w fs k uid (cuts.Number n) = ap (λ (ls : Links). number_in ls k n) (links_still s c a w fs)
-cuts_still s c a w fs k uid cuts.All = ap (λ (ls : Links). connected_of ls k) (links_still s c a w fs)
+cuts_still s c a w fs k uid (cuts.Number n) = cc (links_still s c a w fs)
+cuts_still s c a w fs k uid cuts.All = cc (links_still s c a w fs)
 
 -- what the cuts ask, once the pages are taken
 pub record CanCutClaim (t : State) (k uid : ℕ) (x : Cuts) : Type 0 where
@@ -29,22 +29,18 @@ pub claim_after : (s t : State) (c : ℕ) (a : Aim) (w : What) (fs : List ℕ) (
     → length fs + length (cuts_in s.store k uid x) ≤ s.spare → CanCutClaim t k uid x
 claim_after s t c a w fs k uid x is knows owner few room = subst (λ (y : State). CanCutClaim y k uid x) (sym is)
     (record {
-      knows = subst (λ (ls : Links). k < length ls.known) (sym (links_still s c a w fs)) knows;
+      knows = rw (links_still s c a w fs) knows;
       owner = owner_still s c a w fs owner;
-      few = let cut = ap length (take_cut s c a w fs) in let all = ap length (cuts_still s c a w fs k uid x) in
-          omega (arith, cut, all, few);
-      room = let spent = room_less s c a w fs (omega (arith, room)) in
-          let all = ap length (cuts_still s c a w fs k uid x) in omega (arith, spent, all, room);
+      few = omega (arith, ap length (take_cut s c a w fs), ap length (cuts_still s c a w fs k uid x));
+      room = let spent = room_less s c a w fs (omega arith) in
+          omega (arith, ap length (cuts_still s c a w fs k uid x));
     })
 
 pub claim_is : {D : Type 0} (old mid new : Parts D) (c : ℕ) (a : Aim) (w : What) (fs : List ℕ) (k uid : ℕ) (x : Cuts)
     → mid ≡ with_state old (take_all old.state c a w fs)
     → new ≡ with_state mid (cut_all mid.state c a w (cuts_in mid.state.store k uid x))
     → new ≡ with_state old (took old.state c a w fs (cuts_in old.state.store k uid x))
-claim_is old mid new c a w fs k uid x took cut =
-    cut ∙ ap (λ (y : Parts _). with_state y (cut_all y.state c a w (cuts_in y.state.store k uid x))) took
-    ∙ ap (λ (pairs : List (ℕ × ℕ)). with_state old (cut_all (take_all old.state c a w fs) c a w pairs))
-    (cuts_still old.state c a w fs k uid x)
+claim_is old mid new c a w fs k uid x took cut = cc (cuts_still old.state c a w fs k uid x)
 
 -- ---- the descriptors of a process, in order
 
@@ -66,20 +62,19 @@ one_connected links k n ns = by (is_connected (descriptor_of links k n)) refl
   where
     by : (b : Bool) → is_connected (descriptor_of links k n) ≡ b
         → map (λ m. (k, m)) (cond b (n ∷ filter (λ m. is_connected (descriptor_of links k m)) ns)
-        (filter (λ m. is_connected (descriptor_of links k m)) ns))
-        ≡ cond b ((k, n) ∷ []) [] ++ connected_in links k ns
+        (filter (λ m. is_connected (descriptor_of links k m)) ns)) ≡ cond b ((k, n) ∷ []) [] ++ connected_in links k ns
     by true e = refl
     by false e = refl
 
 pub next_connected : (links : Links) (k n : ℕ) → n < 256
     → connected_from links k n ≡ number_in links k n ++ connected_from links k (n + 1)
 next_connected links k n lt =
-    let one : 256 - n ≡ suc (256 - (n + 1)) = omega (arith, lt) in
+    let one : 256 - n ≡ suc (256 - (n + 1)) = omega arith in
     rw one (one_connected links k n (range_with_len (n + 1) (256 - (n + 1))))
 
 pub none_connected : (links : Links) (k n : ℕ) → 256 ≤ n → connected_from links k n ≡ []
 none_connected links k n le =
-    let none : 256 - n ≡ zero = omega (arith, le) in rw none
+    let none : 256 - n ≡ zero = omega arith in rw none
 
 -- a cut leaves the other numbers of the process
 number_left : (links : Links) (k n m : ℕ) → n ≢ m
@@ -100,13 +95,12 @@ rest_left : (links : Links) (k n from count : ℕ) → n < from
     → connected_in (unlinked links k n (leads_at links.descriptors k n)) k (range_with_len from count)
     ≡ connected_in links k (range_with_len from count)
 rest_left links k n from zero lt = refl
-rest_left links k n from (suc count) lt =
-    cc (
-      one_connected (unlinked links k n (leads_at links.descriptors k n)) k from (range_with_len (from + 1) count),
-      number_left links k n from (λ e. (omega (arith, e, lt))),
-      rest_left links k n (from + 1) count (omega (arith, lt)),
-      one_connected links k from (range_with_len (from + 1) count),
-    )
+rest_left links k n from (suc count) lt = cc (
+  one_connected (unlinked links k n (leads_at links.descriptors k n)) k from (range_with_len (from + 1) count),
+  number_left links k n from (λ e. (omega arith)),
+  rest_left links k n (from + 1) count (omega arith),
+  one_connected links k from (range_with_len (from + 1) count),
+)
 
 -- once a number is cut, if it was connected, the rest is left
 pub from_left : (s : State) (c : ℕ) (a : Aim) (w : What) (k n : ℕ)
@@ -134,7 +128,7 @@ pub number_few : {s first : State} {c : ℕ} {a : Aim} {w : What} {k n : ℕ} �
 number_few {s} {k = k} {n} on lt =
     let all = ap length (next_connected s.store.links k n lt) in
     let both = length-append (number_in s.store.links k n) (connected_from s.store.links k (n + 1)) in
-    (omega (arith, all, both, on.few), omega (arith, all, both, on.room))
+    (omega arith, omega arith)
 
 -- what a cut leaves of the rest
 one_owner : (s : State) (c : ℕ) (a : Aim) (w : What) (xs : List (ℕ × ℕ)) → HasOwner s.owner
@@ -146,7 +140,7 @@ cuts_spent : (s : State) (c : ℕ) (a : Aim) (w : What) (xs : List (ℕ × ℕ))
     → (cut_all s c a w xs).spare + length xs ≡ s.spare
 cuts_spent s c a w [] le = omega arith
 cuts_spent s c a w (x ∷ xs) le =
-    let rest = cuts_spent (cut_one s c a w x) c a w xs (omega (arith, le)) in omega (arith, rest, le)
+    let rest = cuts_spent (cut_one s c a w x) c a w xs (omega arith) in omega arith
 
 cuts_known : (s : State) (c : ℕ) (a : Aim) (w : What) (xs : List (ℕ × ℕ))
     → (cut_all s c a w xs).store.links.known ≡ s.store.links.known
@@ -163,24 +157,21 @@ number_next {s} {c = c} {a} {w} {k} {n} on lt is = rw is (
     let count = ap length all ∙ length-append xs (connected_from s.store.links k (n + 1)) in
     let less = ap length left in
     let more = cut_long s c a w xs in
-    let spent = cuts_spent s c a w xs (omega (arith, count, on.room)) in
+    let spent = cuts_spent s c a w xs (omega arith) in
     record {
-      same = ap (cut_all (cut_all s c a w xs) c a w) left
-          ∙ (sym (cut_all-append s c a w xs (connected_from s.store.links k (n + 1)))
-          ∙ (ap (cut_all s c a w) (sym all) ∙ on.same));
+      same = cc (cut_all-append s c a w xs (connected_from s.store.links k (n + 1)));
       knows = rw (cuts_known s c a w xs) on.knows;
       owner = one_owner s c a w xs on.owner;
-      few = omega (arith, count, less, on.few, more);
-      room = omega (arith, count, less, on.room, spent);
+      few = omega arith;
+      room = omega arith;
     })
 
 pub numbers_end : {s first : State} {c : ℕ} {a : Aim} {w : What} {k n : ℕ} → CutsAllOn s first c a w k n → 256 ≤ n
     → s ≡ cut_all first c a w (connected_of first.store.links k)
-numbers_end {s} {first} {c} {a} {w} {k} {n} on le =
-    ap (cut_all s c a w) (sym (none_connected s.store.links k n le)) ∙ on.same
+numbers_end {s} {first} {c} {a} {w} {k} {n} on le = cc (none_connected s.store.links k n le)
 
 -- ---- numbers
 
 pub terminate_small : (volumes number : ℕ) → is_command volumes (command.Terminate number) ≡ true → number < 256
 unfolding is_command
-terminate_small volumes number h = let le : nat_le number 255 ≡ true = h in grind (arith, nat_tests)
+terminate_small volumes number h = grind (arith, nat_tests)

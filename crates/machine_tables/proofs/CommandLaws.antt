@@ -19,11 +19,9 @@ number_small volumes (command.Add n o w) r h e = small_in n o _ r (and_parts _ _
 number_small volumes (command.Await n o w t) r h e = small_in n o _ r (and_parts _ _ h).0 refl e
 number_small volumes c r h e = cc
 
-pub number_ended : (volumes : ℕ) (c : Command) (n : ℕ) → c ≡ command.Terminate n → is_command volumes c ≡ true
-    → n < 256
+pub number_ended : (volumes : ℕ) (c : Command) (n : ℕ) → c ≡ command.Terminate n → is_command volumes c ≡ true → n < 256
 unfolding is_command
-number_ended volumes c n is ranges =
-    let le : nat_le n 255 ≡ true = sym (ap (is_command volumes) is) ∙ ranges in grind (arith, nat_tests)
+number_ended volumes c n is ranges = grind (arith, sym (ap (is_command volumes) is) ∙ ranges, nat_tests)
 
 by_command : (p : Plan) (k place : ℕ) (o : Option Command) → IsPlan p → command_at p k place ≡ o
     → IfSome (refers o) (λ r. r.number < 256)
@@ -36,9 +34,7 @@ by_command p k place (Some c) plan at = by (reference_of c) refl
 
 pub next_number : (p : Plan) (k place : ℕ) (x : Option Reference) → IsPlan p → x ≡ refers (command_at p k place)
     → IfSome x (λ r. r.number < 256)
-next_number p k place x plan is =
-    subst (λ (y : Option Reference). IfSome y (λ r. r.number < 256)) (sym is)
-    (by_command p k place (command_at p k place) plan refl)
+next_number p k place x plan is = rw is (by_command p k place (command_at p k place) plan refl)
 
 pub ranges_of : (p now : Plan) (k place : ℕ) → now ≡ p → IsPlan p → (c : Command) → command_at now k place ≡ Some c
     → is_command (length p.volumes) c ≡ true

@@ -62,10 +62,8 @@ changed_nodes old new f keeps before after told =
 
 -- a store with other accounts
 accounts_shown : {D : Type 0} (drive : D → List (List ℕ)) (t u : Stored D) (a : AccountMaps)
-    → u ≡ record t { accounts = u.accounts } → u.accounts ≡ a
-    → shown drive u ≡ record (shown drive t) { accounts = a }
-accounts_shown drive t u a rest is = ap (shown drive) rest
-    ∙ ap (λ (x : AccountMaps). record (shown drive t) { accounts = x }) is
+    → u ≡ record t { accounts = u.accounts } → u.accounts ≡ a → shown drive u ≡ record (shown drive t) { accounts = a }
+accounts_shown drive t u a rest is = cc
 
 -- a command of which only nodes change
 module _ {D : Type 0} (drive : D → List (List ℕ)) (t u : Stored D) (k : ℕ) (r : Reply) (before : HasColumns t.accounts)
@@ -76,7 +74,7 @@ module _ {D : Type 0} (drive : D → List (List ℕ)) (t u : Stored D) (k : ℕ)
   by_nodes c frames does exact = record {
     does = does;
     exact = λ p flat faithful takes. exact takes;
-    drives = ap (λ (x : Stored _). x.segs.pages.volumes.drives) rest;
+    drives = cc;
   }
 
   nodes_shown : (c : Command) (frames : List ℕ) (f : Node → Node) (v : ℕ) → Keeps f
@@ -85,9 +83,8 @@ module _ {D : Type 0} (drive : D → List (List ℕ)) (t u : Stored D) (k : ℕ)
       ≡ with_effect (shown drive t) k v frames c → uid_of_command (shown drive t) k c ≡ v
       → shown drive u ≡ with_effect (shown drive t) k (uid_of_command (shown drive t) k c) frames c
   nodes_shown c frames f v keeps told same uid =
-      accounts_shown drive t u (record t.accounts { nodes = map f t.accounts.nodes }) rest
-      (changed_nodes t.accounts u.accounts f keeps before after told)
-      ∙ (same ∙ ap (λ (x : ℕ). with_effect (shown drive t) k x frames c) (sym uid))
+      cc (accounts_shown drive t u (record t.accounts { nodes = map f t.accounts.nodes }) rest
+      (changed_nodes t.accounts u.accounts f keeps before after told))
 
   pub row_committed : (path : List (List ℕ)) (row : Named) (m : Mode) → Commits drive t u k (command.Acl path row m) r
       → (takes_effect r ≡ true → HasRowSet t.accounts u.accounts path (row_with row m))
@@ -126,8 +123,7 @@ known_shown drive t u known rest is = ap (shown drive) rest ∙ rw is
 -- the flat store that is shown once a command took effect
 pub flat_after : {D : Type 0} (drive : D → List (List ℕ)) (t u : Stored D) (p : Plan) (flat next : Store) (r : Reply)
     → takes_effect r ≡ true → Shows drive p (answered r flat next) u → Shows drive p next u
-flat_after drive t u p flat next r takes shows =
-    rw takes at shows
+flat_after drive t u p flat next r takes shows = rw takes at shows
 
 pub terminate_committed : {D : Type 0} (drive : D → List (List ℕ)) (t u : Stored D) (k number : ℕ) (r : Reply)
     → Commits drive t u k (command.Terminate number) r
@@ -137,8 +133,7 @@ terminate_committed drive t u k number r does rest frames = record {
   does = does;
   exact = λ p flat faithful takes. (let now = flat_after drive t u p flat (after_terminate flat k number) r takes
       (does.effect p flat (shows_of drive p flat t faithful)) in
-      known_shown drive t u _ rest (sym now.known
-      ∙ ap (λ (known : List (List (Option ℕ))). set known k (set (kst_at known k) number None)) faithful.known));
+      known_shown drive t u _ rest (cc));
   drives = ap (λ (x : Stored _). x.segs.pages.volumes.drives) rest;
 }
 
@@ -161,9 +156,7 @@ initiate_exact drive t u k path r does rest frames p flat faithful takes = by (s
     by (Ok n) e =
         let at : segment_at t.accounts.nodes path ≡ Ok n =
         ap (λ (ns : List Node). segment_at ns path) (sym faithful.tree.nodes) ∙ e in
-        known_shown drive t u _ rest (sym now.known ∙ (ap (λ (x : Result Node Reply). (initiated flat k x).known) e
-        ∙ ap (λ (known : List (List (Option ℕ))). set known k (with_number (kst_at known k) n.uid
-        (number_for (kst_at known k) n.uid))) faithful.known))
+        known_shown drive t u _ rest (cc (now.known, e, faithful.known))
         ∙ ap (λ (v : ℕ). with_effect (shown drive t) k v frames (command.Initiate path))
         (sym (segment_uid t.accounts.nodes path n at))
 

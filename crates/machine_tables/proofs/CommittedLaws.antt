@@ -33,8 +33,7 @@ leaves_at t c _ e = cc
 -- ---- all of it
 
 module _ {D : Type 0} (old applied gone said : Parts D) (c k : ℕ) (kept inactive : Option ℕ) (r : Reply) (x : Command)
-    (next : next_command old.state k ≡ Some x)
-    (left : map (left_entry kept) (frames_of_owner old.state.owner)
+    (next : next_command old.state k ≡ Some x) (left : map (left_entry kept) (frames_of_owner old.state.owner)
     ≡ map (next_frame_entry old.state.store (next_command old.state k)) (frames_of_owner old.state.owner))
     (its : (cpu_at old.state.processors c).process ≡ Some k)
     (which : inactive ≡ goes_inactive old.state.store k (next_command old.state k))
@@ -42,8 +41,7 @@ module _ {D : Type 0} (old applied gone said : Parts D) (c k : ℕ) (kept inacti
     (does : applied ≡ with_state old (with_store old.state (effect_for old.state.store k
     (frames_of_owner old.state.owner) (next_command old.state k))))
     (goes : gone ≡ with_state applied (with_owner (booked applied.state (left_entries applied.state kept inactive))
-    gone.state.owner))
-    (tells : said ≡ with_state gone (told_by gone.state c k None r)) where
+    gone.state.owner)) (tells : said ≡ with_state gone (told_by gone.state c k None r)) where
   abbrev pub s : State
   s = old.state
 
@@ -57,8 +55,8 @@ module _ {D : Type 0} (old applied gone said : Parts D) (c k : ℕ) (kept inacti
   full j = with_owner (told_by (booked after (gone_entries s uid x)) c j None (reply_of s k x)) None
 
   entries : left_entries s kept inactive ≡ gone_entries s uid x
-  entries = ap (left_entries s kept) (which ∙ ap (goes_inactive s.store k) next) ∙ entries_named s k x kept
-      (left ∙ ap (λ (o : Option Command). map (next_frame_entry s.store o) (frames_of_owner s.owner)) next)
+  entries = cc (entries_named s k x kept (left ∙ ap (λ (o : Option Command). map (next_frame_entry s.store o)
+      (frames_of_owner s.owner)) next))
 
   said_state : with_owner said.state None ≡ full k
   said_state = rw (tells, goes, does, answer, next, entries)
@@ -75,27 +73,30 @@ module _ {D : Type 0} (old applied gone said : Parts D) (c k : ℕ) (kept inacti
       None (reply_of s j x)) c x) None
 
   committed_is : whole_at k ≡ committed_at s c (next_command s k)
-  committed_is = ap whole_at (sym process) ∙ ap (committed_at s c) (sym next)
+  committed_is = cc (process, next)
 
   final : {v : Parts D} (last : Parts D) (J : Option Owner) → v ≡ last → J ≡ None → last ≡ with_state old last.state
       → with_owner last.state None ≡ whole_at k
       → with_state v (with_owner v.state J) ≡ with_state old (committed_at s c (next_command s k))
-  final last J view none keeps state = rw (view, none, keeps) (ap (with_state old) (state ∙ committed_is))
+  final last J view none keeps state = rw (view, none, keeps) (cc (state, committed_is))
 
   pub committed_stays : {v : Parts D} (J : Option Owner) (b : Bool) → v ≡ said → J ≡ None
       → b ≡ ends_in (next_command s k) → b ≡ false
       → with_state v (with_owner v.state J) ≡ with_state old (committed_at s c (next_command s k))
-  committed_stays J b view none is e = final said J view none said_whole (said_state
-      ∙ ap (λ (t : State). with_owner t None) (sym (stays_at (told_by (booked after (gone_entries s uid x)) c k None
-      (reply_of s k x)) c x (ap ends_in (sym next) ∙ (sym is ∙ e)))))
+  committed_stays J b view none is e = final said J view none said_whole (cc (
+    said_state,
+    stays_at (told_by (booked after (gone_entries s uid x)) c k None (reply_of s k x)) c x
+        (ap ends_in (sym next) ∙ (sym is ∙ e)),
+  ))
 
   pub committed_leaves : {v left : Parts D} (J : Option Owner) (b : Bool)
-      → left ≡ with_state said (left_at said.state c) → v ≡ left → J ≡ None
-      → b ≡ ends_in (next_command s k) → b ≡ true
+      → left ≡ with_state said (left_at said.state c) → v ≡ left → J ≡ None → b ≡ ends_in (next_command s k) → b ≡ true
       → with_state v (with_owner v.state J) ≡ with_state old (committed_at s c (next_command s k))
-  committed_leaves {v} {left} J b leaves view none is e = final left J view none left_whole (left_state
-      ∙ ap (λ (t : State). with_owner t None) (sym (leaves_at (told_by (booked after (gone_entries s uid x)) c k None
-      (reply_of s k x)) c x (ap ends_in (sym next) ∙ (sym is ∙ e)))))
+  committed_leaves {v} {left} J b leaves view none is e = final left J view none left_whole (cc (
+    left_state,
+    leaves_at (told_by (booked after (gone_entries s uid x)) c k None (reply_of s k x)) c x
+        (ap ends_in (sym next) ∙ (sym is ∙ e)),
+  ))
     where
       left_state : with_owner left.state None
           ≡ with_owner (left_at (told_by (booked after (gone_entries s uid x)) c k None (reply_of s k x)) c) None

@@ -6,25 +6,21 @@ use Rattle.machine_tables.proofs.RefusalLaws.{moves_is, shows_of}
 
 -- where the segment must move first, by the tables of a store, is what the flat store says
 target_told : {D : Type 0} (drive : D → List (List ℕ)) (p : Plan) (flat : Store) (t : Stored D) (u : ℕ)
-    → Shows drive p flat t
-    → IsStore (plain drive t.segs.pages) t.segs.ast t.segs.links t.accounts t.whos
+    → Shows drive p flat t → IsStore (plain drive t.segs.pages) t.segs.ast t.segs.links t.accounts t.whos
     → HasParts (map drive t.segs.pages.volumes.drives) t.segs.pages.volumes.records t.segs.pages.volumes.vtocs
     → move_target t u ≡ cond (is_volume_full p flat (volume_in flat.nodes u)) (room_for p flat u) None
-target_told drive p flat t u shows kept parts =
-    ap (λ (b : Bool). cond b (room_of t u) None) (full_told drive p flat t (volume_in t.accounts.nodes u) kept shows
-    ∙ ap (λ (ns : List Node). is_volume_full p flat (volume_in ns u)) (sym shows.tree.nodes))
-    ∙ ap (λ (x : Option ℕ). cond (is_volume_full p flat (volume_in flat.nodes u)) x None)
-    (room_shown drive p flat t shows kept u parts)
+target_told drive p flat t u shows kept parts = cc (
+  full_told drive p flat t (volume_in t.accounts.nodes u) kept shows,
+  room_shown drive p flat t shows kept u parts,
+)
 
 -- the segment of a page that may be made stays where it is
 pub stays : {D : Type 0} (drive : D → List (List ℕ)) (s : State) (t : Stored D) (k f : ℕ) (r : Reference) (u : ℕ)
-    → Shows drive s.plan (flat_of s) t
-    → IsStore (plain drive t.segs.pages) t.segs.ast t.segs.links t.accounts t.whos
+    → Shows drive s.plan (flat_of s) t → IsStore (plain drive t.segs.pages) t.segs.ast t.segs.links t.accounts t.whos
     → HasParts (map drive t.segs.pages.volumes.drives) t.segs.pages.volumes.records t.segs.pages.volumes.vtocs
     → (h : IsMakeable s k f r) → uid_of (kst_at s.store.links.known k) r.number ≡ Some u → move_target t u ≡ None
 stays drive s t k f r u shows kept parts h known =
-    target_told drive s.plan (flat_of s) t u shows kept parts ∙ moves_is s u
-    ∙ ap (move_to s) same ∙ h.stays
+    cc (target_told drive s.plan (flat_of s) t u shows kept parts, moves_is s u)
   where
     same : u ≡ h.place.uid
     same = cc (known, h.place.known)
@@ -35,21 +31,20 @@ pub made_surely : {D : Type 0} (drive : D → List (List ℕ)) (t : Stored D) (s
     → IsFaithful p flat st
     → ((n : Node) → node_in flat.nodes h.uid ≡ Some n → room_reply p flat n reply.Done ≡ reply.Done)
     → ((q : Plan) (s : Store) (n : Node) → Shows drive q s t → IsKnownAs s k r.number n
-    → result ≡ done_or (room_reply q s n reply.Done))
-    → result ≡ Ok tt
+    → result ≡ done_or (room_reply q s n reply.Done)) → result ≡ Ok tt
 made_surely drive t st k f r p flat result is h faithful room answer = by (node_in flat.nodes h.uid) refl
   where
     by : (x : Option Node) → node_in flat.nodes h.uid ≡ x → result ≡ Ok tt
     by None e =
         let none = ap pages_of (ap (λ (ns : List Node). node_in ns h.uid) (sym faithful.tree.nodes) ∙ e) in
-        let within = h.within in absurd (omega (arith, none, within))
+        let within = h.within in absurd (omega arith)
     by (Some n) e =
         let own : n.uid ≡ h.uid = found_uid flat.nodes h.uid n e in
-        answer p flat n (shows_of drive p flat t (subst (IsFaithful p flat) (sym is) faithful)) (record {
-          known = ap (λ (x : List (List (Option ℕ))). uid_of (kst_at x k) r.number) faithful.known
-              ∙ (h.known ∙ ap (λ (u : ℕ). Some u) (sym own));
-          there = ap (node_in flat.nodes) own ∙ e;
-        }) ∙ ap done_or (room n e)
+        answer p flat n (shows_of drive p flat t (rw is faithful)) (assumption (
+          ap (λ (x : List (List (Option ℕ))). uid_of (kst_at x k) r.number) faithful.known
+              ∙ (h.known ∙ ap (λ (u : ℕ). Some u) (sym own)),
+          ap (node_in flat.nodes) own ∙ e,
+        )) ∙ ap done_or (room n e)
 
 -- what the store has then
 pub created_is : {D : Type 0} (drive : D → List (List ℕ)) (t u : Stored D) (uid p f at w : ℕ)

@@ -19,38 +19,34 @@ first_leads entries links place pair rest linked is = times_one (leads_at links.
     let sum : count_by (leads_to pair.0 pair.1) (pair ∷ rest)
     ≡ tally (leads_to pair.0 pair.1 pair) + count_by (leads_to pair.0 pair.1) rest =
     sum_by-cons (λ y. tally (leads_to pair.0 pair.1 y)) pair rest in
-    let here = ap (count_by (leads_to pair.0 pair.1)) is in
-    let exact = linked.exact place pair.0 pair.1 in
-    omega (arith, one, sum, here, exact))
+    omega (arith, ap (count_by (leads_to pair.0 pair.1)) is, linked.exact place pair.0 pair.1))
 
 -- the trailers of an active segment
 pub trailers_are : (st : Storage) (u : ℕ) → IsActive st.ast.entries u
     → trailers_in st u ≡ trailers_of st.links.trailers (place_of st.ast.entries u)
-trailers_are st u active =
-    ap (λ (b : Bool). cond b (trailers_of st.links.trailers (place_of st.ast.entries u)) [])
-    (active_at st.ast active.0 u active.1)
+trailers_are st u active = cc (active_at st.ast active.0 u active.1)
 
 pub no_trailers : (st : Storage) (u : ℕ) → IsActive st.ast.entries u
     → length (trailers_of st.links.trailers (place_of st.ast.entries u)) ≡ 0 → trailers_in st u ≡ []
 no_trailers st u active none = trailers_are st u active
     ∙ nil_from_length (trailers_of st.links.trailers (place_of st.ast.entries u)) none
 
-rest_of : (xs : List (ℕ × ℕ)) (pair : ℕ × ℕ) → slice_get xs 0 ≡ Some pair
-    → (rest : List (ℕ × ℕ)) × (xs ≡ pair ∷ rest)
-rest_of [] pair h = absurd (none_some h)
-rest_of (x ∷ xs) pair h = (xs, let same : x ≡ pair = cc in ap (λ (y : ℕ × ℕ). y ∷ xs) same)
+rest_of : (xs : List (ℕ × ℕ)) (pair : ℕ × ℕ) → slice_get xs 0 ≡ Some pair → (rest : List (ℕ × ℕ)) × (xs ≡ pair ∷ rest)
+rest_of [] pair h = cc
+rest_of (x ∷ xs) pair h = (xs, let same : x ≡ pair = cc in cc)
 
-pub oldest_is : (st : Storage) (u : ℕ) (pair : ℕ × ℕ) → AreLinked st.ast.entries st.links
-    → IsActive st.ast.entries u
+pub oldest_is : (st : Storage) (u : ℕ) (pair : ℕ × ℕ) → AreLinked st.ast.entries st.links → IsActive st.ast.entries u
     → slice_get (trailers_of st.links.trailers (place_of st.ast.entries u)) 0 ≡ Some pair → IsOldest st u pair
 oldest_is st u pair linked active first = record {
   rest = found.0;
   is = trailers_are st u active ∙ found.1;
   leads = leading;
   process = within;
-  number = let long = linked.lists.words pair.0 within in let lt =
-      shown_within leads (sdws_at st.links.descriptors pair.0) pair.1 Fault (place_of st.ast.entries u) refl leading in
-      omega (arith, long, lt);
+  number = omega (
+    arith,
+    linked.lists.words pair.0 within,
+    shown_within leads (sdws_at st.links.descriptors pair.0) pair.1 Fault (place_of st.ast.entries u) refl leading,
+  );
 }
   where
     found : (rest : List (ℕ × ℕ)) × (trailers_of st.links.trailers (place_of st.ast.entries u) ≡ pair ∷ rest)
@@ -62,7 +58,7 @@ oldest_is st u pair linked active first = record {
     within : pair.0 < length st.links.known
     within = let lt = shown_within (λ (words : List Sdw). leads (get_or words pair.1 Fault)) st.links.descriptors
         pair.0 [] (place_of st.ast.entries u) refl leading in
-        let many = linked.lists.processes in omega (arith, lt, many)
+        omega arith
 
 -- ---- the list of what is cut
 
@@ -78,8 +74,7 @@ trailers_within all place pair rest is = within_from all place [] (λ none. cc)
 
 -- once the first trailer of a segment is cut, the others are left
 pub trailers_left : (st : Storage) (u : ℕ) (pair : ℕ × ℕ) (rest : List (ℕ × ℕ)) → trailers_in st u ≡ pair ∷ rest
-    → leads_at st.links.descriptors pair.0 pair.1 ≡ Some (place_of st.ast.entries u)
-    → trailers_in (record st {
+    → leads_at st.links.descriptors pair.0 pair.1 ≡ Some (place_of st.ast.entries u) → trailers_in (record st {
       links = unlinked st.links pair.0 pair.1 (leads_at st.links.descriptors pair.0 pair.1);
     }) u ≡ rest
 trailers_left st u pair rest is leads = by (is_active st.ast u) refl is
@@ -105,16 +100,15 @@ pub record CutsOn (now first : State) (c : ℕ) (a : Aim) (w : What) (u : ℕ) :
 pub one_few : {s first : State} {c : ℕ} {a : Aim} {w : What} {u : ℕ} {pair : ℕ × ℕ} → CutsOn s first c a w u
     → IsOldest s.store u pair → (length (cut_of_owner s.owner) < 256) × (0 < s.spare)
 one_few on is =
-    let all = ap length is.is in (omega (arith, all, on.few), omega (arith, all, on.room))
+    let all = ap length is.is in (omega arith, omega arith)
 
 pub cuts_next : {s t first : State} {c : ℕ} {a : Aim} {w : What} {u : ℕ} {pair : ℕ × ℕ} → CutsOn s first c a w u
-    → IsOldest s.store u pair
-    → t ≡ cut_one s c a w pair → CutsOn t first c a w u
+    → IsOldest s.store u pair → t ≡ cut_one s c a w pair → CutsOn t first c a w u
 cuts_next {s} {c = c} {a} {w} {u} {pair} on is cut = rw cut (record {
-  same = ap (cut_all (cut_one s c a w pair) c a w) left ∙ ap (cut_all s c a w) (sym is.is) ∙ on.same;
+  same = cc (left, is.is, on.same);
   active = on.active;
   owner = owner_still s c a w pair;
-  few = let more = length-append (cut_of_owner s.owner) (note ∷ []) in omega (arith, more, on.few, all, less);
+  few = omega (arith, length-append (cut_of_owner s.owner) (note ∷ []), on.few, all, less);
   room = omega (arith, on.room, all, less);
 })
   where
@@ -131,14 +125,13 @@ cuts_next {s} {c = c} {a} {w} {u} {pair} on is cut = rw cut (record {
     note = note_of s.store pair.0 pair.1 (descriptor_of s.store.links pair.0 pair.1)
 
 -- each cut leaves one less
-pub cut_smaller : (s t : State) (c : ℕ) (a : Aim) (w : What) (u : ℕ) (pair : ℕ × ℕ)
-    → IsOldest s.store u pair
+pub cut_smaller : (s t : State) (c : ℕ) (a : Aim) (w : What) (u : ℕ) (pair : ℕ × ℕ) → IsOldest s.store u pair
     → t ≡ cut_one s c a w pair → length (trailers_in t.store u) < length (trailers_in s.store u)
 cut_smaller s t c a w u pair is cut =
     let left = ap (λ (x : State). length (trailers_in x.store u)) cut
     ∙ ap length (trailers_left s.store u pair is.rest is.is is.leads) in
-    let all = ap length is.is in omega (arith, left, all)
+    omega (arith, ap length is.is)
 
 pub cuts_end : {s first : State} {c : ℕ} {a : Aim} {w : What} {u : ℕ} → CutsOn s first c a w u
     → trailers_in s.store u ≡ [] → s ≡ cut_all first c a w (trailers_in first.store u)
-cuts_end {s} {first} {c} {a} {w} on none = ap (cut_all s c a w) (sym none) ∙ on.same
+cuts_end {s} {first} {c} {a} {w} on none = cc

@@ -102,8 +102,7 @@ erased_freed : (s : Plain) (home : Home) (p r : ℕ) (fs : List ℕ) → IsUsed 
 erased_freed s home p r fs u at = cc (
   freed_unstored s home p fs,
   freed_rest s fs,
-  erased_less (record s { core = (frames_freed s fs).core }) home p r
-      (used_core s home (frames_freed s fs).core u) at,
+  erased_less (record s { core = (frames_freed s fs).core }) home p r (used_core s home (frames_freed s fs).core u) at,
 )
 
 -- ---- the words of a page table
@@ -164,7 +163,7 @@ leaving_same : (x y : ActiveSegs) (uid from n : ℕ) → ((q : ℕ) → from ≤
     → leaving_in y uid (range_with_len from n) ≡ leaving_in x uid (range_with_len from n)
 leaving_same x y uid from zero same = refl
 leaving_same x y uid from (suc n) same =
-    cc (same from (omega arith), leaving_same x y uid (from + 1) n (λ q le. same q (omega (arith, le))))
+    cc (same from (omega arith), leaving_same x y uid (from + 1) n (λ q le. same q (omega arith)))
 
 -- to drop some pages of a segment in order and to give its records back is to free the frames and give them back
 pub cut_erased : (x : Paged) (home : Home) (uid from n : ℕ) → IsNamed x home uid
@@ -176,7 +175,7 @@ cut_erased x home uid from (suc n) h =
     let now = page_cut x home uid from (word_of x.ast uid from) in
     cc (
       cut_erased now home uid (from + 1) n drops.named,
-      leaving_same x.ast now.ast uid (from + 1) n (λ q le. drops.words q (λ e. (omega (arith, le, e)))),
+      leaving_same x.ast now.ast uid (from + 1) n (λ q le. drops.words q (λ e. (omega arith))),
       drops.erased_is (leaving_in x.ast uid (range_with_len (from + 1) n)),
     )
 
@@ -237,8 +236,7 @@ freed_at s (f ∷ fs) g lt = freed_at (framed s f Free) fs g (rw length-set lt) 
     by true = refl
     by false = refl
 
-pub freed_alike : (s : Plain) (fs gs : List ℕ) → ((g : ℕ) → has fs g ≡ has gs g)
-    → frames_freed s fs ≡ frames_freed s gs
+pub freed_alike : (s : Plain) (fs gs : List ℕ) → ((g : ℕ) → has fs g ≡ has gs g) → frames_freed s fs ≡ frames_freed s gs
 freed_alike s fs gs same = freed_rest s fs
     ∙ ((λ i. record s { core = record { frames = frames i; hand = hand i } }) ∙ sym (freed_rest s gs))
   where
@@ -273,19 +271,17 @@ leaving_there ast uid g from (suc n) h =
 
 there_leaving : (ast : ActiveSegs) (uid g from n p : ℕ) → from ≤ p → p < from + n → word_of ast uid p ≡ Leaving g
     → has (leaving_in ast uid (range_with_len from n)) g ≡ true
-there_leaving ast uid g from zero p low high h = absurd (omega (arith, low, high))
+there_leaving ast uid g from zero p low high h = absurd (omega arith)
 there_leaving ast uid g from (suc n) p low high h =
     has_append (leaving (word_of ast uid from)) (leaving_in ast uid (range_with_len (from + 1) n)) g
     ∙ elim (cases_eq from p) [
       | inl same ↦ or_left (has (leaving (word_of ast uid from)) g) _ (rw (same, h, eqb_self g))
-      | inr other ↦ or_right _ _ (there_leaving ast uid g (from + 1) n p (omega (arith, low, other))
-          (omega (arith, high)) h)
+      | inr other ↦ or_right _ _ (there_leaving ast uid g (from + 1) n p (omega arith) (omega arith) h)
     ]
 
 pub owned_alike : (st : Storage) (uid : ℕ) (frames : List ℕ) → OwnsAll st uid frames → (g : ℕ)
     → has frames g ≡ has (leaving_in st.ast uid (range_with_len 0 (pages_in st.accounts.nodes uid))) g
-owned_alike st uid frames owns g = both_ways (has frames g) _
-    (λ h. (let page = owns.pages g h in let lt = page.1 in
-    there_leaving st.ast uid g 0 (pages_in st.accounts.nodes uid) page.0 (omega arith) (omega (arith, lt)) page.2))
+owned_alike st uid frames owns g = both_ways (has frames g) _ (λ h. (let page = owns.pages g h in let lt = page.1 in
+    there_leaving st.ast uid g 0 (pages_in st.accounts.nodes uid) page.0 (omega arith) (omega arith) page.2))
     (λ h. (let page = leaving_there st.ast uid g 0 (pages_in st.accounts.nodes uid) h in
     owns.each page.0 g page.1))

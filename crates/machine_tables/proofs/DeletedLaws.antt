@@ -25,10 +25,9 @@ count_kept s uid ne (x ∷ xs) =
     let rest = count_kept s uid ne xs in
     let all = sum_by-cons (λ (y : ℕ × ℕ). tally (eqb y.0 s)) x xs in
     elim (cases_eq x.0 uid) [
-      | inl is ↦ rw (eq-eqb x.0 uid is)
-          (let none = ap tally (ne_eqb x.0 s (λ e. ne (sym e ∙ is))) in omega (arith, rest, all, none))
+      | inl is ↦ rw (eq-eqb x.0 uid is) (let none = ap tally (ne_eqb x.0 s (λ e. ne (sym e ∙ is))) in omega arith)
       | inr isnt ↦ rw (ne_eqb x.0 uid isnt)
-          (let more = sum_by-cons (λ (y : ℕ × ℕ). tally (eqb y.0 s)) x kept in omega (arith, rest, all, more))
+          (let more = sum_by-cons (λ (y : ℕ × ℕ). tally (eqb y.0 s)) x kept in omega arith)
     ]
   where
     kept : List (ℕ × ℕ)
@@ -74,8 +73,7 @@ module _ (st : Storage) (uid : ℕ) (kept : IsKept st.pages st.ast st.links)
         → IsNamed (record { pages = st.pages; ast = st.ast; stored = n }) home uid
     names n active = record {
       used = home_within;
-      named = λ q some. some_is (filed st.pages home q)
-          (tie.map.stored q ∙ has_word (word_of st.ast uid q) some);
+      named = λ q some. some_is (filed st.pages home q) (tie.map.stored q ∙ has_word (word_of st.ast uid q) some);
     }
       where
         tie : IsTied st.pages uid home (table_of st.ast uid)
@@ -101,8 +99,7 @@ module _ (st : Storage) (uid : ℕ) (kept : IsKept st.pages st.ast st.links)
 -- ---- the store
 
 -- what a path leads to is there
-pub node_there : (ns : List Node) (path : List (List ℕ)) (n : Node) → node_at ns path ≡ Ok n
-    → is_there ns n.uid ≡ true
+pub node_there : (ns : List Node) (path : List (List ℕ)) (n : Node) → node_at ns path ≡ Ok n → is_there ns n.uid ≡ true
 unfolding node_at
 node_there ns path n h = by (walk_in ns path) h
   where
@@ -116,20 +113,17 @@ node_there ns path n h = by (walk_in ns path) h
 
 module _ {D : Type 0} (drive : D → List (List ℕ)) (t u : Stored D) (path : List (List ℕ)) (r : Reply)
     (before : HasColumns t.accounts) (after : HasColumns u.accounts) (tree : IsTree t.accounts.nodes)
-    (now_tree : IsTree u.accounts.nodes)
-    (kept : IsKept (plain drive t.segs.pages) t.segs.ast t.segs.links)
+    (now_tree : IsTree u.accounts.nodes) (kept : IsKept (plain drive t.segs.pages) t.segs.ast t.segs.links)
     (counted : IsStore (plain drive t.segs.pages) t.segs.ast t.segs.links t.accounts t.whos)
     (now_counted : IsStore (plain drive u.segs.pages) u.segs.ast u.segs.links u.accounts u.whos)
-    (parts : HasParts (map drive t.segs.pages.volumes.drives) t.segs.pages.volumes.records
-    t.segs.pages.volumes.vtocs)
+    (parts : HasParts (map drive t.segs.pages.volumes.drives) t.segs.pages.volumes.records t.segs.pages.volumes.vtocs)
     (rest : KeepsRest t u) where
   abbrev st : Storage
   st = shown drive t
 
   -- page control and the active segments, and the accounts
   module _ (n : Node) (frames : List ℕ) (owns : OwnsAll st n.uid frames)
-      (there : is_there t.accounts.nodes n.uid ≡ true)
-      (erases : Erases drive t u n.uid) where
+      (there : is_there t.accounts.nodes n.uid ≡ true) (erases : Erases drive t u n.uid) where
     abbrev freed : Plain
     freed = erased (frames_freed st.pages frames) (home_of t.accounts n.uid)
 
@@ -144,16 +138,13 @@ module _ {D : Type 0} (drive : D → List (List ℕ)) (t u : Stored D) (path : L
         let size = pages_in t.accounts.nodes n.uid in
         let count : size - 0 ≡ size = omega arith in
         record {
-          pages = both.0
-              ∙ (ap (λ (k : ℕ). erased (pages_cut (paged drive t n.uid) (home_of t.accounts n.uid) n.uid
+          pages = both.0 ∙ (ap (λ (k : ℕ). erased (pages_cut (paged drive t n.uid) (home_of t.accounts n.uid) n.uid
               (range_with_len 0 k)).pages (home_of t.accounts n.uid)) count
               ∙ (cut_erased (paged drive t n.uid) (home_of t.accounts n.uid) n.uid 0 size
               (names st n.uid kept counted parts there (count_of t.accounts n.uid) active)
               ∙ ap (λ (x : Plain). erased x (home_of t.accounts n.uid))
               (sym (freed_alike st.pages frames _ (owned_alike st n.uid frames owns)))));
-          ast = both.1 ∙ (cut_inactive (paged drive t n.uid) (home_of t.accounts n.uid) n.uid (pages_from 0 size)
-              ∙ sym (ap (λ (b : Bool). (cond b (with_inactive (with_pages st freed) n.uid) (with_pages st freed)).ast)
-              active));
+          ast = cc (cut_inactive (paged drive t n.uid) (home_of t.accounts n.uid) n.uid (pages_from 0 size));
         }
 
     idle_erased : is_active st.ast n.uid ≡ false → HasErased
@@ -162,12 +153,8 @@ module _ {D : Type 0} (drive : D → List (List ℕ)) (t u : Stored D) (path : L
           nowhere = λ place at. (cc (active_at st.ast place n.uid at));
         }) in
         record {
-          pages = both.0 ∙ ap (λ (x : Plain). erased x (home_of t.accounts n.uid))
-              (sym (freed_alike st.pages frames []
-              (idle_frames st n.uid kept counted parts there frames idle owns)));
-          ast = both.1
-              ∙ sym (ap (λ (b : Bool). (cond b (with_inactive (with_pages st freed) n.uid) (with_pages st freed)).ast)
-              idle);
+          pages = cc (freed_alike st.pages frames [] (idle_frames st n.uid kept counted parts there frames idle owns));
+          ast = cc;
         }
 
     has_erased : HasErased
@@ -179,19 +166,14 @@ module _ {D : Type 0} (drive : D → List (List ℕ)) (t u : Stored D) (path : L
       ≡ erased (frames_freed (plain drive t.segs.pages) frames) (home_of t.accounts n.uid)) where
     left_counts : (s : ℕ) → s ≢ n.uid → count_of u.accounts s ≡ count_of t.accounts s
     unfolding without_stored
-    left_counts s other = now.tree.counts s
-        ∙ (count_kept s n.uid other flat.stored ∙ sym (faithful.tree.counts s))
+    left_counts s other = now.tree.counts s ∙ (count_kept s n.uid other flat.stored ∙ sym (faithful.tree.counts s))
 
-    vtocs : u.segs.pages.volumes.vtocs
-        ≡ (erased (plain drive t.segs.pages) (home_of t.accounts n.uid)).vtocs
-    vtocs = ap (λ (x : Plain). x.vtocs) pages
-        ∙ ap (λ (x : Plain). (erased x (home_of t.accounts n.uid)).vtocs)
+    vtocs : u.segs.pages.volumes.vtocs ≡ (erased (plain drive t.segs.pages) (home_of t.accounts n.uid)).vtocs
+    vtocs = ap (λ (x : Plain). x.vtocs) pages ∙ ap (λ (x : Plain). (erased x (home_of t.accounts n.uid)).vtocs)
         (freed_rest (plain drive t.segs.pages) frames)
 
     accounts_lost : u.accounts ≡ lost t.accounts n.uid
-    accounts_lost = lost_is t.accounts u.accounts n.uid before after tree now_tree
-        (sym now.tree.nodes ∙ ap (λ (ns : List Node). without_node ns n.uid) faithful.tree.nodes)
-        (sym now.tree.next ∙ faithful.tree.next) left_counts
+    accounts_lost = lost_is t.accounts u.accounts n.uid before after tree now_tree (cc) (cc) left_counts
         (entry_kept t.accounts u.accounts t.segs.pages.volumes.vtocs u.segs.pages.volumes.vtocs n.uid counted.housed
         now_counted.housed vtocs)
 
@@ -224,8 +206,7 @@ module _ {D : Type 0} (drive : D → List (List ℕ)) (t u : Stored D) (path : L
         links = links_left n frames p flat faithful now erased_it.pages i;
         whos = rest.whos i;
         moving = rest.moving i;
-      })
-      ∙ sym (ap (λ (x : Storage). record x { accounts = lost t.accounts n.uid }) (inactive_rest next n.uid))
+      }) ∙ sym (ap (λ (x : Storage). record x { accounts = lost t.accounts n.uid }) (inactive_rest next n.uid))
 
   pub delete_committed : (k : ℕ) (frames : List ℕ) → OwnsFor st frames (command.Delete path)
       → Commits drive t u k (command.Delete path) r
@@ -248,7 +229,6 @@ module _ {D : Type 0} (drive : D → List (List ℕ)) (t u : Stored D) (path : L
           ap (λ (ns : List Node). branch_at ns path) (sym faithful.tree.nodes) ∙ e in
           let now = flat_after drive t u p flat (after_delete flat path) r takes
           (does.effect p flat (shows_of drive p flat t faithful)) in
-          deleted_exact n frames p flat at (owns n at) (erases takes n at) faithful
-          (rw e at now)
+          deleted_exact n frames p flat at (owns n at) (erases takes n at) faithful (rw e at now)
           ∙ ap (λ (v : ℕ). with_effect st k v frames (command.Delete path))
           (sym (branch_uid t.accounts.nodes path n at))

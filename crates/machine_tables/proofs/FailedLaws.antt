@@ -18,8 +18,7 @@ failed_faults s c faults =
 failed_state : {D : Type 0} (old mid new : Parts D) (c faults : ℕ) (drives : List D)
     → mid ≡ with_drives old drives faults
     → new ≡ with_state mid (write_failed mid.state c mid.state.faults) → new.state ≡ write_failed old.state c faults
-failed_state old mid new c faults drives is failed =
-    ap (λ (x : Parts _). x.state) failed
+failed_state old mid new c faults drives is failed = ap (λ (x : Parts _). x.state) failed
     ∙ ap (λ (x : Parts _). write_failed x.state c x.state.faults) is
 
 -- the machine after a failed write
@@ -29,8 +28,5 @@ pub failed_outcome : {D E : Type 0} (old mid new : Parts D) (c faults : ℕ) (dr
     → new.state ≡ by_outcome (outcome_of r new.state.faults) done (write_failed old.state c new.state.faults)
 failed_outcome old mid new c faults drives done r e ill is failed =
     let state = failed_state old mid new c faults drives is failed in
-    let same : faults ≡ new.state.faults =
-    sym (ap (λ (x : State). x.faults) state ∙ failed_faults old.state c faults) in
-    state ∙ ap (write_failed old.state c) same
-    ∙ ap (λ (x : Result Left _). by_outcome (outcome_of x new.state.faults) done
-    (write_failed old.state c new.state.faults)) (sym ill)
+    let same : faults ≡ new.state.faults = sym (cc (failed_faults old.state c faults)) in
+    cc

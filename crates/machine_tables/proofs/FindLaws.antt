@@ -10,19 +10,21 @@ module _ {X : Type 0} (p : X → Bool) (d : X) (xs : List X) where
   FailsTo n = (j : ℕ) → j < n → p (get_or xs j d) ≡ false
 
   place_none : FailsTo (length xs) → position_or_len p xs ≡ length xs
-  place_none off = position_or_len_is p xs (length xs) d (omega arith) off (λ lt. absurd (omega (arith, lt)))
+  place_none off = position_or_len_is p xs (length xs) d (omega arith) off (λ lt. absurd (omega arith))
 
   pub find_first : (i : ℕ) → i < length xs → p (get_or xs i d) ≡ true → FailsTo i → find p xs ≡ Some (get_or xs i d)
-  find_first i lt here before = find_at p xs
-      ∙ ap (slice_get xs) (position_or_len_is p xs i d (omega (arith, lt)) before (λ l. here))
-      ∙ slice_get-get_or xs i d lt
+  find_first i lt here before = cc (
+    find_at p xs,
+    position_or_len_is p xs i d (omega (arith, lt)) before (λ l. here),
+    slice_get-get_or xs i d lt,
+  )
 
   pub find_none : FailsTo (length xs) → find p xs ≡ None
-  find_none off = find_at p xs ∙ ap (slice_get xs) (place_none off) ∙ slice_get_past xs (length xs) (omega arith)
+  find_none off = cc (find_at p xs, place_none off, slice_get_past xs (length xs) (omega arith))
 
   pub position_first : (i : ℕ) → i < length xs → p (get_or xs i d) ≡ true → FailsTo i → position p xs ≡ Some i
   position_first i lt here before =
-      rw (position_or_len_is p xs i d (omega (arith, lt)) before (λ l. here), lt-ltb i (length xs) lt)
+      rw (position_or_len_is p xs i d (omega arith) before (λ l. here), lt-ltb i (length xs) lt)
 
   pub position_not : FailsTo (length xs) → position p xs ≡ None
   position_not off = rw (place_none off, le-ltb (length xs) (length xs) (omega arith))

@@ -8,7 +8,7 @@ use Rattle.core_map.specs.declared.Frame.TheVariants as frame
 
 all_blank : {X : Type 0} (xs : List X) (n : ℕ) (d : X) → n ≡ length xs → ((r : ℕ) → get_or xs r d ≡ d)
     → xs ≡ replicate n d
-all_blank xs n d long off = ext_get_or d xs (replicate n d) (sym long ∙ sym (length-replicate n d))
+all_blank xs n d long off = ext_get_or d xs (replicate n d) (cc (length-replicate n d))
     (λ i lt. off i ∙ sym (all_same n i d))
 
 -- as many lists as volumes, each as long as its volume says
@@ -18,9 +18,9 @@ all_are : {X : Type 0} (d : X) (count : Option VolumeLine → ℕ) (vs : List Vo
 all_are d count [] [] e long off = refl
 all_are d count (v ∷ vs) (x ∷ xs) e long off = cc (
   all_blank x (count (Some v)) d (long 0) (off 0),
-  all_are d count vs xs (omega (arith, e)) (λ w. long (suc w)) (λ w. off (suc w)),
+  all_are d count vs xs (omega arith) (λ w. long (suc w)) (λ w. off (suc w)),
 )
-all_are d count vs xs e long off = absurd (omega (arith, e))
+all_are d count vs xs e long off = absurd (omega arith)
 
 -- the root has the first entry of the first volume
 with_root : List (List (Option VtocEntry)) → List (List (Option VtocEntry))
@@ -40,12 +40,14 @@ module _ {D : Type 0} (pages : D → List (List ℕ)) (p : Plan) (v : Vols D)
   records_first = all_are false records_in p.volumes v.records long fresh.records fresh.unused
     where
       long : length v.records ≡ length p.volumes
-      long = sym (length-map v.records length) ∙ ap length parts.sizes ∙ length-map (map pages v.drives) length
-          ∙ length-map v.drives pages ∙ count
+      long = cc (length-map v.records length, length-map (map pages v.drives) length, length-map v.drives pages)
 
   vtocs_first : with_root v.vtocs ≡ first_vtocs p.volumes
-  vtocs_first = ap with_root (all_are None entries_in p.volumes v.vtocs
-      (parts.tables ∙ length-map v.drives pages ∙ count) fresh.entries fresh.free) ∙ root_in p.volumes
+  vtocs_first = cc (
+    all_are None entries_in p.volumes v.vtocs (parts.tables ∙ length-map v.drives pages ∙ count)
+        fresh.entries fresh.free,
+    root_in p.volumes,
+  )
 
   pages_first : after_asked (plain pages (empty_frames p.frames v)) 0 1 (Some 0)
       ≡ first_pages p (first_words p.frames) (map pages v.drives)
@@ -63,14 +65,14 @@ module _ {D : Type 0} (pages : D → List (List ℕ)) (p : Plan) (v : Vols D)
       → t.segs.ast ≡ no_segments p.pools → t.segs.links ≡ no_links (sum p.pools) (length p.processes)
       → t.whos ≡ map (λ x. x.who) p.processes → t.segs.moving ≡ None
       → shown pages t ≡ first_store p (first_words p.frames) (map pages v.drives)
-  store_first t accounts paged ast links whos still = λ i. record {
-    accounts = accounts i;
-    pages = (paged ∙ pages_first) i;
-    ast = ast i;
-    links = links i;
-    whos = whos i;
-    moving = still i;
-  }
+  store_first t accounts paged ast links whos still = λ i. assumption (
+    accounts i,
+    (paged ∙ pages_first) i,
+    ast i,
+    links i,
+    whos i,
+    still i,
+  )
 
 -- ---- what it says
 
@@ -86,15 +88,14 @@ module _ (p : Plan) (st : Storage) (spare faults : ℕ) where
       → AreAccounts st.accounts → length st.ast.entries ≡ sum st.ast.sizes → IsFaithful p (boot p) st
       → length st.pages.core.frames ≡ p.frames → StoreSays s
   says_first kept counted accounts places faithful frames = record {
-    store = record { kept = kept; counted = counted; accounts = accounts; places = places };
-    faithful = subst (λ (t : Store). IsFaithful p t st) (sym (store_after-nil p)) faithful;
+    store = assumption;
+    faithful = rw (store_after-nil p) faithful;
     rights = record {
-      modes = λ i d n h at. absurd (none_some h);
-      lengths = λ i d n h at. absurd (none_some h);
+      modes = λ i d n h at. cc;
+      lengths = λ i d n h at. cc;
     };
     cut = tt;
-    conserved = subst (IsConserved p) (sym (store_after-nil p))
-        (conserved_by p (boot p) st faithful accounts boot_total);
+    conserved = rw (store_after-nil p) (conserved_by p (boot p) st faithful accounts boot_total);
     frames = frames;
   }
 
@@ -128,7 +129,7 @@ module _ (p : Plan) (words : List (List ℕ)) (disks : List (List (List ℕ))) (
   keeps_first says = record {
     machine = record {
       keeps = kept_with first booting.machine.keeps.book says (omega arith) booting.machine.keeps.sizes.processors
-          booting.machine.keeps.sizes.processes (λ o h. absurd (none_some h));
+          booting.machine.keeps.sizes.processes (λ o h. cc);
       script = script;
       come = come_first booting.machine.come;
       scheduled = booting.machine.scheduled;

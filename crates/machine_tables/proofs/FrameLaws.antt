@@ -11,9 +11,8 @@ use Rattle.machine_tables.proofs.FindLaws.{position_first}
 -- the hand meets each frame
 meets : (core : Core) (f : ℕ) → f < length core.frames → IsMember f (round_frames core)
 meets core f lt = elim (cases_lt f core.hand) [
-  | inl before ↦ member_right f _ _ (range_has 0 core.hand f (omega arith) (omega (arith, before)))
-  | inr past ↦ member_left f _ _ (range_has core.hand (length core.frames - core.hand) f past
-      (omega (arith, lt, past)))
+  | inl before ↦ member_right f _ _ (range_has 0 core.hand f (omega arith) (omega arith))
+  | inr past ↦ member_left f _ _ (range_has core.hand (length core.frames - core.hand) f past (omega arith))
 ]
 
 chosen : (core : Core) (f : ℕ) → f < length core.frames → is_bound (frame_at core f) ≡ true
@@ -44,7 +43,7 @@ none_chosen core none = by (clock_choice core) refl
     by (Some f) e =
         let page = choice_bound core f e in
         let bound : is_bound (frame_at core f) ≡ true =
-        bound_is (frame_at core f) page.0 (sym (map_list bound_page core.frames f Free) ∙ page.1) in
+        bound_is (frame_at core f) page.0 (cc (map_list bound_page core.frames f Free)) in
         absurd (let no : true ≡ false = sym (any_at is_bound core.frames f Free bound refl) ∙ none in cc)
 
 started_by : (x : Frame) → is_free x ≡ false → is_bound x ≡ false → is_started x ≡ true
@@ -53,16 +52,11 @@ started_by _ free bound = cc
 
 first_started : (frames : List Frame) → 1 ≤ length frames → All (λ x. is_free x ≡ false) frames
     → list_any is_bound frames ≡ false → position is_started frames ≡ Some 0
-first_started [] some full none = absurd (omega (arith, some))
-first_started (x ∷ xs) some full none =
-    position_first is_started Free (x ∷ xs) 0 (omega arith)
+first_started [] some full none = absurd (omega arith)
+first_started (x ∷ xs) some full none = position_first is_started Free (x ∷ xs) 0 (omega arith)
     (started_by x (All-get_or (λ y. is_free y ≡ false) (x ∷ xs) 0 Free (omega arith) full)
-    (first_false (is_bound x) (list_any is_bound xs) none))
-    (λ j lt. absurd (omega (arith, lt)))
+    (first_false (is_bound x) (list_any is_bound xs) none)) (λ j lt. absurd (omega arith))
 
 pub first_waits : (core : Core) → false ≡ list_any is_bound core.frames → 1 ≤ length core.frames
-    → All (λ x. is_free x ≡ false) core.frames
-    → act.Waits (act.ForTransfer 0) ≡ evict_or_wait core (clock_choice core)
-first_waits core none some full =
-    ap (λ (x : Option ℕ). unless_read x act.GiveUp) (sym (first_started core.frames some full (sym none)))
-    ∙ ap (evict_or_wait core) (sym (none_chosen core (sym none)))
+    → All (λ x. is_free x ≡ false) core.frames → act.Waits (act.ForTransfer 0) ≡ evict_or_wait core (clock_choice core)
+first_waits core none some full = cc (first_started core.frames some full (sym none), none_chosen core (sym none))

@@ -18,24 +18,23 @@ module _ (ks vs : List ℕ) (u : ℕ) (up : IsRising ks) (off : has ks u ≡ fal
   rising_beside = subst IsRising keys_are (rising_insert ks u gap.0 up gap.1)
 
   pub has_beside : (v : ℕ) → has (with_beside ks ks u u) v ≡ (eqb u v || has ks v)
-  has_beside v = ap (λ (x : List ℕ). has x v) (sym keys_are) ∙ has_insert ks gap.0 u v
+  has_beside v = cc (keys_are, has_insert ks gap.0 u v)
 
   pub look_beside : (v : ℕ) → look (with_beside ks ks u u) (with_beside ks vs u 0) v ≡ look ks vs v
-  look_beside v = ap (λ (x : List ℕ). look x (with_beside ks vs u 0) v) (sym keys_are)
-      ∙ (ap (λ (x : List ℕ). look (insert ks gap.0 u) x v) (sym values_are) ∙ look_insert ks vs gap.0 u v long off)
+  look_beside v = cc (keys_are, values_are, look_insert ks vs gap.0 u v long off)
 
   pub length_beside : length (with_beside ks vs u 0) ≡ length (with_beside ks ks u u)
   length_beside =
       let inside = gap.1.within in
       let keys = ap length (sym keys_are) ∙ length-insert ks gap.0 u inside in
-      let values = ap length (sym values_are) ∙ length-insert vs gap.0 0 (omega (arith, inside, long)) in
-      omega (arith, keys, values, long)
+      let values = ap length (sym values_are) ∙ length-insert vs gap.0 0 (omega arith) in
+      omega arith
 
 below_absent : (u : ℕ) (ns : List Node) → AreBelow u ns → has_segment ns u ≡ false
 below_absent u [] below = refl
 below_absent u (n ∷ ns) below =
     let less = below.0 in
-    let far : eqb n.uid u ≡ false = ne_eqb n.uid u (λ q. omega (arith, less, q)) in
+    let far : eqb n.uid u ≡ false = ne_eqb n.uid u (λ q. omega arith) in
     rw far (below_absent u ns below.1)
 
 module _ (old new : AccountMaps) (n : Node) (before : HasColumns old) (after : HasColumns new)
@@ -46,21 +45,19 @@ module _ (old new : AccountMaps) (n : Node) (before : HasColumns old) (after : H
 
   -- what segments there are
   there_now : (u : ℕ) → has new.segments u ≡ cond (eqb n.uid u) (not n.directory) (has old.segments u)
-  there_now u = after.segments u ∙ (ap (λ (ns : List Node). has_segment ns u) nodes
-      ∙ ap (cond (eqb n.uid u) (not n.directory)) (sym (before.segments u)))
+  there_now u = cc (after.segments u, before.segments u)
 
   -- a directory has no count
   pub directory_gained : n.directory ≡ true → (new.segments ≡ old.segments) × (new.counts ≡ old.counts)
   directory_gained dir = (
     segments,
-    columns_same old.segments new.counts old.counts before.rising
-        (after.counted ∙ ap length segments) before.counted
-        (λ u there. ap (λ (ks : List ℕ). look ks new.counts u) (sym segments) ∙ counts u),
+    columns_same old.segments new.counts old.counts before.rising (after.counted ∙ ap length segments) before.counted
+        (λ u there. cc (segments, counts u)),
   )
     where
       same : (u : ℕ) → has new.segments u ≡ has old.segments u
       same u = there_now u ∙ rw dir (elim (cases_eq n.uid u) [
-        | inl is ↦ rw (eq-eqb n.uid u is) (sym (ap (has old.segments) (sym is) ∙ fresh))
+        | inl is ↦ rw (eq-eqb n.uid u is) (cc (is, fresh))
         | inr isnt ↦ rw (ne_eqb n.uid u isnt)
       ])
 
@@ -68,24 +65,24 @@ module _ (old new : AccountMaps) (n : Node) (before : HasColumns old) (after : H
       segments = rising_same new.segments old.segments after.rising before.rising same
 
   -- a segment has one, which is 0
-  pub segment_gained : n.directory ≡ false
-      → (new.segments ≡ with_beside old.segments old.segments n.uid n.uid)
+  pub segment_gained : n.directory ≡ false → (new.segments ≡ with_beside old.segments old.segments n.uid n.uid)
       × (new.counts ≡ with_beside old.segments old.counts n.uid 0)
   segment_gained seg = (
     segments,
     columns_same (with_beside old.segments old.segments n.uid n.uid) new.counts
         (with_beside old.segments old.counts n.uid 0) rising (after.counted ∙ ap length segments)
-        (length_beside old.segments old.counts n.uid before.rising fresh before.counted)
-        (λ u there. ap (λ (ks : List ℕ). look ks new.counts u) (sym segments) ∙ (counts u
-        ∙ sym (look_beside old.segments old.counts n.uid before.rising fresh before.counted u))),
+        (length_beside old.segments old.counts n.uid before.rising fresh before.counted) (λ u there. cc (
+          segments,
+          counts u,
+          look_beside old.segments old.counts n.uid before.rising fresh before.counted u,
+        )),
   )
     where
       rising : IsRising (with_beside old.segments old.segments n.uid n.uid)
       rising = rising_beside old.segments old.counts n.uid before.rising fresh before.counted
 
       same : (u : ℕ) → has new.segments u ≡ has (with_beside old.segments old.segments n.uid n.uid) u
-      same u = there_now u ∙ (ap (λ (b : Bool). cond (eqb n.uid u) (not b) (has old.segments u)) seg
-          ∙ (by (eqb n.uid u)
+      same u = there_now u ∙ (ap (λ (b : Bool). cond (eqb n.uid u) (not b) (has old.segments u)) seg ∙ (by (eqb n.uid u)
           ∙ sym (has_beside old.segments old.counts n.uid before.rising fresh before.counted u)))
         where
           by : (b : Bool) → cond b true (has old.segments u) ≡ (b || has old.segments u)

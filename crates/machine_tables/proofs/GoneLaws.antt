@@ -14,7 +14,7 @@ use Rattle.machine_tables.proofs.ColumnLaws.{columns_same, rising_same}
 without_absent : (ks vs : List ℕ) (u : ℕ) → length vs ≡ length ks → has ks u ≡ false → without_beside ks vs u ≡ vs
 without_absent (k ∷ ks) (v ∷ vs) u long off = elim (cases_Bool (eqb k u)) [
   | inl is ↦ cc
-  | inr isnt ↦ rw isnt (ap (λ (xs : List ℕ). v ∷ xs) (without_absent ks vs u (omega (arith, long)) (rw isnt at off)))
+  | inr isnt ↦ rw isnt (cc (without_absent ks vs u (omega (arith, long)) (rw isnt at off)))
 ]
 without_absent _ _ u long off = refl
 
@@ -36,12 +36,10 @@ module _ (ks vs : List ℕ) (u : ℕ) (up : IsRising ks) (long : length vs ≡ l
       let place = place_there ks u h in
       let within = place.1 in (
         place.0,
-        record {
-          within = within;
-          at = place.2;
-          keys = ap (without_beside ks ks) (sym place.2) ∙ sym (remove_beside ks ks place.0 refl up within);
-          values = ap (without_beside ks vs) (sym place.2) ∙ sym (remove_beside ks vs place.0 long up within);
-        },
+        assumption (
+          ap (without_beside ks ks) (sym place.2) ∙ sym (remove_beside ks ks place.0 refl up within),
+          ap (without_beside ks vs) (sym place.2) ∙ sym (remove_beside ks vs place.0 long up within),
+        ),
       )
 
   pub rising_without : IsRising (without_beside ks ks u)
@@ -71,8 +69,8 @@ module _ (ks vs : List ℕ) (u : ℕ) (up : IsRising ks) (long : length vs ≡ l
         let keys = ap length w.1.keys in
         let values = ap length w.1.values in
         let fewer = length-remove ks w.0 within in
-        let less = length-remove vs w.0 (omega (arith, within, long)) in
-        omega (arith, keys, values, fewer, less, long))
+        let less = length-remove vs w.0 (omega arith) in
+        omega arith)
     | inr isnt ↦ rw (without_absent ks ks u refl isnt, without_absent ks vs u long isnt) long
   ]
 
@@ -82,11 +80,11 @@ segment_left : (ns : List Node) (u v : ℕ) → has_segment (without_node ns u) 
 segment_left [] u v = refl
 segment_left (n ∷ ns) u v = elim (cases_eq n.uid u) [
   | inl same ↦ rw (eq-eqb n.uid u same, segment_left ns u v) (elim (cases_eq n.uid v) [
-    | inl here ↦ rw (eq-eqb u v (sym same ∙ here)) (and_false (has_segment ns v) ∙ sym (and_false _))
+    | inl here ↦ rw (eq-eqb u v (cc)) (and_false (has_segment ns v) ∙ sym (and_false _))
     | inr there ↦ rw (ne_eqb n.uid v there)
   ])
   | inr other ↦ rw (ne_eqb n.uid u other) (elim (cases_eq n.uid v) [
-    | inl here ↦ rw (eq-eqb n.uid v here) (kept _ _ (ne_eqb u v (λ e. other (here ∙ sym e))))
+    | inl here ↦ rw (eq-eqb n.uid v here) (kept _ _ (ne_eqb u v (λ e. other (cc))))
     | inr there ↦ rw (ne_eqb n.uid v there) (segment_left ns u v)
   ])
 ]
@@ -96,8 +94,7 @@ module _ (old new : AccountMaps) (uid : ℕ) (before : HasColumns old) (after : 
     (counts : (s : ℕ) → s ≢ uid → count_of new s ≡ count_of old s) where
   segments_lost : new.segments ≡ without_beside old.segments old.segments uid
   segments_lost = rising_same new.segments (without_beside old.segments old.segments uid) after.rising
-      (rising_without old.segments old.counts uid before.rising before.counted)
-      (λ v. cc (
+      (rising_without old.segments old.counts uid before.rising before.counted) (λ v. cc (
         after.segments v,
         segment_left old.nodes uid v,
         before.segments v,
@@ -109,8 +106,7 @@ module _ (old new : AccountMaps) (uid : ℕ) (before : HasColumns old) (after : 
       (without_beside old.segments old.counts uid)
       (rising_without old.segments old.counts uid before.rising before.counted)
       (after.counted ∙ ap length segments_lost)
-      (length_without old.segments old.counts uid before.rising before.counted)
-      (λ v there. elim (cases_eq v uid) [
+      (length_without old.segments old.counts uid before.rising before.counted) (λ v there. elim (cases_eq v uid) [
         | inl same ↦ cc (
           has_without old.segments old.counts uid before.rising before.counted v,
           eq-eqb uid v (sym same),
@@ -131,7 +127,7 @@ uids ns = map (λ n. n.uid) ns
 below_other : (ns : List Node) (u v : ℕ) → AreBelow u ns → is_there ns v ≡ true → u ≢ v
 below_other [] u v below h e = cc
 below_other (n ∷ ns) u v below h e = elim (cases_Bool (eqb n.uid v)) [
-  | inl is ↦ (let less = below.0 in let same : n.uid ≡ v = eqb-true n.uid v is in omega (arith, less, same, e))
+  | inl is ↦ (omega (arith, eqb-true n.uid v is))
   | inr isnt ↦ below_other ns u v below.1 (rw isnt at h) e
 ]
 
@@ -141,11 +137,11 @@ entries_same : (ns : List Node) → IsTree ns → (vs ws : List ℕ) → length 
 entries_same [] t [] [] long many same = refl
 entries_same (n ∷ ns) t (v ∷ vs) (w ∷ ws) long many same =
     let first : v ≡ w = cc (eqb_self n.uid, same n.uid (rw (eqb_self n.uid))) in
-    let rest : vs ≡ ws = entries_same ns t.1 vs ws (omega (arith, long)) (omega (arith, many)) (λ u there.
+    let rest : vs ≡ ws = entries_same ns t.1 vs ws (omega arith) (omega arith) (λ u there.
     (let far : eqb n.uid u ≡ false = ne_eqb n.uid u
     (below_other ns n.uid u (joined_below ns n.superior n t.0) there) in cc (far, same u (rw far there)))) in
     λ i. first i ∷ rest i
-entries_same ns t vs ws long many same = absurd (omega (arith, long, many))
+entries_same ns t vs ws long many same = absurd (omega arith)
 
 -- what is left isn't the node
 there_left : (ns : List Node) (u v : ℕ) → is_there (without_node ns u) v ≡ true → v ≢ u
@@ -166,7 +162,7 @@ uids_left (n ∷ ns) t [] u v ne = none (uids (without_node (n ∷ ns) u))
 uids_left (n ∷ ns) t (w ∷ vs) u v ne = elim (cases_eq n.uid u) [
   | inl same ↦ rw (
     eq-eqb n.uid u same,
-    ne_eqb n.uid v (λ e. ne (sym e ∙ same)),
+    ne_eqb n.uid v (λ e. ne (cc)),
     all_left ns u (rw same at (joined_below ns n.superior n t.0)),
   )
   | inr other ↦ rw (ne_eqb n.uid u other, uids_left ns t.1 vs u v ne)
@@ -175,19 +171,17 @@ uids_left (n ∷ ns) t (w ∷ vs) u v ne = elim (cases_eq n.uid u) [
 length_left : (ns : List Node) → IsTree ns → (vs : List ℕ) (u : ℕ) → length vs ≡ length ns
     → length (without_beside (uids ns) vs u) ≡ length (without_node ns u)
 length_left [] t vs u long = long
-length_left (n ∷ ns) t [] u long = absurd (omega (arith, long))
+length_left (n ∷ ns) t [] u long = absurd (omega arith)
 length_left (n ∷ ns) t (w ∷ vs) u long = elim (cases_eq n.uid u) [
-  | inl same ↦ rw (eq-eqb n.uid u same, all_left ns u (rw same at (joined_below ns n.superior n t.0)))
-      (omega (arith, long))
-  | inr other ↦ rw (ne_eqb n.uid u other, length_left ns t.1 vs u (omega (arith, long)))
+  | inl same ↦ rw (eq-eqb n.uid u same, all_left ns u (rw same at (joined_below ns n.superior n t.0))) (omega arith)
+  | inr other ↦ rw (ne_eqb n.uid u other, length_left ns t.1 vs u (omega arith))
 ]
 
 -- the accounts once a node is taken out
 pub lost_is : (old new : AccountMaps) (uid : ℕ) → HasColumns old → HasColumns new → IsTree old.nodes
     → IsTree new.nodes → new.nodes ≡ without_node old.nodes uid → new.next ≡ old.next
     → ((s : ℕ) → s ≢ uid → count_of new s ≡ count_of old s)
-    → ((v : ℕ) → is_there new.nodes v ≡ true → entry_of new v ≡ entry_of old v)
-    → new ≡ lost old uid
+    → ((v : ℕ) → is_there new.nodes v ≡ true → entry_of new v ≡ entry_of old v) → new ≡ lost old uid
 lost_is old new uid before after tree now nodes next counts entries = (λ i. record {
   nodes = nodes i;
   entries = homes i;
@@ -198,8 +192,7 @@ lost_is old new uid before after tree now nodes next counts entries = (λ i. rec
   where
     homes : new.entries ≡ without_beside (uids old.nodes) old.entries uid
     homes = entries_same new.nodes now new.entries (without_beside (uids old.nodes) old.entries uid) after.homes
-        (length_left old.nodes tree old.entries uid before.homes ∙ sym (ap length nodes))
-        (λ v there. cc (
+        (cc (length_left old.nodes tree old.entries uid before.homes)) (λ v there. cc (
           entries v there,
           uids_left old.nodes tree old.entries uid v (there_left old.nodes uid v (rw nodes at there)),
         ))
@@ -229,11 +222,9 @@ still_used vtocs home other v h =
 
 -- each node that is left has the entry that it had
 pub entry_kept : (old new : AccountMaps) (vtocs now : List (List (Option Entry))) (uid : ℕ) → AreHoused old vtocs
-    → AreHoused new now
-    → now ≡ set vtocs (home_of old uid).volume
+    → AreHoused new now → now ≡ set vtocs (home_of old uid).volume
     (set (vtoc_in vtocs (home_of old uid).volume) (home_of old uid).entry None)
     → (v : ℕ) → is_there new.nodes v ≡ true → entry_of new v ≡ entry_of old v
 entry_kept old new vtocs now uid before after is v there =
     ap (λ (home : Home). home.entry) (before.only (home_of new v) v
-    (still_used vtocs (home_of old uid) (home_of new v) v
-    (rw is at (after.homes v there))))
+    (still_used vtocs (home_of old uid) (home_of new v) v (rw is at (after.homes v there))))

@@ -3,17 +3,17 @@ use Rattle.machine_tables.proofs.Prelude.{◌≡◌, ◌<◌, ℕ, List, [], ◌
 use Rattle.machine_tables.proofs.PartLaws.{Going}
 
 first_of : {A : Type 0} (xs : List A) (x : A) → slice_get xs 0 ≡ Some x → xs ≡ x ∷ rest_of xs
-first_of [] x h = absurd (none_some h)
-first_of (y ∷ ys) x h = let same : y ≡ x = cc in ap (λ z. z ∷ ys) same
+first_of [] x h = cc
+first_of (y ∷ ys) x h = let same : y ≡ x = cc in cc
 
 pub frames_next : (o : Option Owner) (f : ℕ) → slice_get (frames_of_owner o) 0 ≡ Some f
     → frames_of_owner o ≡ f ∷ frames_of_owner (without_first_frame o)
-frames_next None f h = absurd (none_some h)
+frames_next None f h = cc
 frames_next (Some o) f h = first_of o.frames f h
 
 pub cuts_after : (o : Option Owner) (d : CutDescriptor) → slice_get (cut_of_owner o) 0 ≡ Some d
     → cut_of_owner o ≡ d ∷ cut_of_owner (without_first_cut o)
-cuts_after None d h = absurd (none_some h)
+cuts_after None d h = cc
 cuts_after (Some o) d h = first_of o.cut d h
 
 pub owner_left : (o : Option Owner) → HasOwner o → HasOwner (without_first_frame o)
@@ -29,7 +29,7 @@ one_less : {A : Type 0} (items : Option Owner → List A) (o now left : Option O
     → items o ≡ x ∷ items left → now ≡ left → length (items now) < length (items o)
 one_less items o now left x next is =
     let more = ap length next in
-    let fewer = ap (λ (y : Option Owner). length (items y)) is in omega (arith, more, fewer)
+    let fewer = ap (λ (y : Option Owner). length (items y)) is in omega arith
 
 module _ {D : Type 0} {On : State → State → Type 0} {s first : Parts D} (t : Parts D) (going : Going On s first) where
   pub frame_smaller : {f : ℕ} → Some f ≡ slice_get (frames_of_owner s.state.owner) 0

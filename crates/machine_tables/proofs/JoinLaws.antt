@@ -15,7 +15,7 @@ idle_is ast u idle = false_from_ne_true (is_active ast u)
 
 same_uids : (a : AccountMaps) (us : List ℕ) → uids_of (map (link_of a) us) ≡ us
 same_uids a [] = refl
-same_uids a (u ∷ us) = ap (λ (vs : List ℕ). u ∷ vs) (same_uids a us)
+same_uids a (u ∷ us) = cc (same_uids a us)
 
 module _ (st new : Storage) (of : ℕ) (h : IsStore st.pages st.ast st.links st.accounts st.whos)
     (t : IsTree st.accounts.nodes) (there : is_there st.accounts.nodes of ≡ true) where
@@ -38,10 +38,10 @@ module _ (st new : Storage) (of : ℕ) (h : IsStore st.pages st.ast st.links st.
   link_is i lt = get_or-map (link_of a) uids i 0 no_link (omega (arith, lt, same_length))
 
   uid_is : (i : ℕ) → i < length chain → (link_at chain i).uid ≡ get_or uids i 0
-  uid_is i lt = ap (λ (l : Link). l.uid) (link_is i lt)
+  uid_is i lt = cc (link_is i lt)
 
   home_is : (i : ℕ) → i < length chain → (link_at chain i).home ≡ home_of a (link_at chain i).uid
-  home_is i lt = ap (λ (l : Link). l.home) (link_is i lt) ∙ ap (home_of a) (sym (uid_is i lt))
+  home_is i lt = cc (link_is i lt, uid_is i lt)
 
   node_is : (i : ℕ) → i < length chain → (n : Node) × (node_in a.nodes (link_at chain i).uid ≡ Some n)
   node_is i lt = found_there a.nodes (link_at chain i).uid
@@ -50,26 +50,25 @@ module _ (st new : Storage) (of : ℕ) (h : IsStore st.pages st.ast st.links st.
   first_is : (i : ℕ) → IsFirstInactive st.ast.entries chain i → first_inactive st.ast uids ≡ Some (link_at chain i).uid
   first_is i first =
       let within = first.within in
-      find_first (λ u. not (is_active st.ast u)) 0 uids i (omega (arith, within, same_length))
-      (ap (λ (u : ℕ). not (is_active st.ast u)) (sym (uid_is i within))
-      ∙ ap not (idle_is st.ast (link_at chain i).uid first.inactive))
-      (λ j less. (let active = first.before j less in
-      ap (λ (u : ℕ). not (is_active st.ast u)) (sym (uid_is j (omega (arith, less, within))))
-      ∙ ap not (active_at st.ast active.0 (link_at chain j).uid active.1)))
-      ∙ ap (λ (u : ℕ). Some u) (sym (uid_is i within))
+      cc (
+        find_first (λ u. not (is_active st.ast u)) 0 uids i (omega (arith, within, same_length))
+            (ap (λ (u : ℕ). not (is_active st.ast u)) (sym (uid_is i within)) ∙ ap not
+            (idle_is st.ast (link_at chain i).uid first.inactive)) (λ j less.
+            (let active = first.before j less in ap (λ (u : ℕ). not (is_active st.ast u))
+            (sym (uid_is j (omega (arith, less, within)))) ∙ ap not (active_at st.ast active.0 (link_at chain j).uid
+            active.1))),
+        uid_is i within,
+      )
 
   pool_is : (i : ℕ) → IsFirstInactive st.ast.entries chain i → (link_at chain i).pool ≡ wanted_pool st of
   pool_is i first =
       let found = node_is i first.within in
-      link_pool st.pages st.ast st.links a st.whos chain h t down i found.0 first.within found.1
-      ∙ sym (ap (λ (o : Option ℕ). pool_of_node (node_in a.nodes (or_zero o))) (first_is i first)
-      ∙ ap pool_of_node found.1)
+      cc (link_pool st.pages st.ast st.links a st.whos chain h t down i found.0 first.within found.1, first_is i first)
 
   -- ---- it becomes active
 
   pub joined_place : (place i : ℕ) → JoinsAt st new chain place i → free_place st.ast (wanted_pool st of) ≡ Some place
-  joined_place place i joins = ap (free_place st.ast) (sym (pool_is i joins.first))
-      ∙ least_free st.ast (link_at chain i).pool place joins.least
+  joined_place place i joins = cc (pool_is i joins.first, least_free st.ast (link_at chain i).pool place joins.least)
 
   pub joined_is : (place i uid : ℕ) → JoinsAt st new chain place i → first_inactive st.ast uids ≡ Some uid
       → new ≡ with_active st uid place
@@ -88,14 +87,14 @@ module _ (st new : Storage) (of : ℕ) (h : IsStore st.pages st.ast st.links st.
       same = cc (first_is i joins.first, wanted)
 
       at : node_in a.nodes uid ≡ Some found.0
-      at = ap (node_in a.nodes) (sym same) ∙ found.1
+      at = cc (same, found.1)
 
       superior : superior_of chain i ≡ superior_of_node (node_in a.nodes uid)
       superior = sym (link_superior st.pages st.ast st.links a st.whos chain h t down i found.0 within found.1)
           ∙ sym (ap superior_of_node at)
 
       home : (link_at chain i).home ≡ home_of a uid
-      home = home_is i within ∙ ap (home_of a) same
+      home = cc (home_is i within, same)
 
       pool : (link_at chain i).pool ≡ pool_of_node (node_in a.nodes uid)
       pool = link_pool st.pages st.ast st.links a st.whos chain h t down i found.0 within found.1
@@ -105,7 +104,7 @@ module _ (st new : Storage) (of : ℕ) (h : IsStore st.pages st.ast st.links st.
   pub no_victim : (i : ℕ) → IsFirstInactive st.ast.entries chain i → IsSome (free_place st.ast (wanted_pool st of))
       → IsFull st.ast (link_at chain i).pool → ⊥
   no_victim i first free full =
-      let none = full_none st.ast (wanted_pool st of) (subst (IsFull st.ast) (pool_is i first) full) in cc
+      let none = full_none st.ast (wanted_pool st of) (rw (← (pool_is i first)) full) in cc
 
   pub free_to_go : IsSome (free_place st.ast (wanted_pool st of)) → HasOneToGo st.ast chain
   free_to_go free = record { off = λ i first full. absurd (no_victim i first free full) }
@@ -114,9 +113,7 @@ module _ (st new : Storage) (of : ℕ) (h : IsStore st.pages st.ast st.links st.
 
   pub off_to_go : HasOneOffChain st.ast (wanted_pool st of) uids → HasOneToGo st.ast chain
   off_to_go off = record {
-    off = λ i first full. subst (λ (us : List ℕ). HasOneOffChain st.ast (link_at chain i).pool us)
-        (sym (same_uids a uids))
-        (subst (λ (pool : ℕ). HasOneOffChain st.ast pool uids) (sym (pool_is i first)) off);
+    off = λ i first full. rw (same_uids a uids, pool_is i first) off;
   }
 
   pub passed_is : (i : ℕ) → FindsFull st new chain i → new ≡ with_hand_moved st (wanted_pool st of) uids
@@ -128,8 +125,7 @@ module _ (st new : Storage) (of : ℕ) (h : IsStore st.pages st.ast st.links st.
   pub not_whole : AreActive st.ast.entries chain → IsSome (first_inactive st.ast uids) → ⊥
   not_whole all some = let none = find_none (λ u. not (is_active st.ast u)) 0 uids (λ j less.
       (let within : j < length chain = omega (arith, less, same_length) in let active = all.each j within in
-      ap (λ (u : ℕ). not (is_active st.ast u)) (sym (uid_is j within))
-      ∙ ap not (active_at st.ast active.0 (link_at chain j).uid active.1))) in cc
+      cc (uid_is j within, active_at st.ast active.0 (link_at chain j).uid active.1))) in cc
 
   -- a segment whose pool has a free place becomes active, and one whose pool is full has the pool's hand pass
   pub must_join : (r : Next) → Joins st new chain r → IsSome (first_inactive st.ast uids)

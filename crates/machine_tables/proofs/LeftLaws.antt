@@ -6,13 +6,12 @@ use Rattle.laws.proofs.Bools.{and_parts}
 -- ---- pages of zeros
 
 zeros_from : (ws : List ℕ) → are_zeros ws ≡ true → (k d : ℕ) → k < length ws → get_or ws k d ≡ 0
-zeros_from [] h k d lt = absurd (omega (arith, lt))
+zeros_from [] h k d lt = absurd (omega arith)
 zeros_from (w ∷ ws) h zero d lt = zero_word w (and_parts (eqb w 0) (are_zeros ws) h).0
-zeros_from (w ∷ ws) h (suc k) d lt =
-    zeros_from ws (and_parts (eqb w 0) (are_zeros ws) h).1 k d (omega (arith, lt))
+zeros_from (w ∷ ws) h (suc k) d lt = zeros_from ws (and_parts (eqb w 0) (are_zeros ws) h).1 k d (omega arith)
 
 left_released : (ws : List ℕ) → are_zeros ws ≡ true → Released ≡ left_of ws
-left_released ws h = sym (ap (λ (b : Bool). cond b Released Kept) h)
+left_released ws h = cc
 
 pub left_is : {E : Type 0} (r : Result Left E) (ws : List ℕ) → (r ≡ Ok Released) ↔ AreZero ws
     → IfOk r (λ left. left ≡ left_of ws)
@@ -40,14 +39,11 @@ pub left_exact : {D E : Type 0} (old new : Parts D) (f : ℕ) (r : Result Left E
     → IsSettled old.state.store.accounts new.state.store.accounts (page_in old.state.store f).0 r
     → IfOk r (λ left. new ≡ with_drives (with_state old (with_store old.state (with_accounts
     (with_left old.state.store f left (page_in old.state.store f)) new.state.store.accounts))) new.drives
-    new.state.faults)
-    → IfOk r (λ left. new ≡ with_drives (with_state old (with_store old.state
+    new.state.faults) → IfOk r (λ left. new ≡ with_drives (with_state old (with_store old.state
     (with_left old.state.store f left (page_in old.state.store f)))) new.drives new.state.faults)
 left_exact old new f (Err e) before after settled is = tt
 left_exact {D} {E} old new f (Ok how) before after settled is =
-    is ∙ ap (λ (a : AccountMaps). with_drives (with_state old (with_store old.state (with_accounts
-    (with_left old.state.store f how (page_in old.state.store f)) a))) new.drives new.state.faults)
-    (settled_is {E = E} old.state.store.accounts new.state.store.accounts (page_in old.state.store f).0 (Ok how) how
+    cc (settled_is {E = E} old.state.store.accounts new.state.store.accounts (page_in old.state.store f).0 (Ok how) how
     refl before after settled)
 
 -- ---- what comes back
@@ -67,10 +63,8 @@ relink_after old mid new x is store owner effect cut may =
     ap (λ (y : Parts _). frames_of_owner y.state.owner) is ∙ ap frames_of_owner owner in
     let here : new.state.store ≡ with_all_here old.state.store (frames_of_owner old.state.owner) =
     ap (λ (y : Parts _). y.state.store) effect ∙ back_store mid.state (frames_of_owner mid.state.owner)
-    ∙ ap (λ (st : Storage). with_all_here st (frames_of_owner mid.state.owner))
-    (ap (λ (y : Parts _). y.state.store) is ∙ store)
+    ∙ ap (λ (st : Storage). with_all_here st (frames_of_owner mid.state.owner)) (cc)
     ∙ ap (with_all_here old.state.store) frames in
     let cuts : cut_of_owner new.state.owner ≡ cut_of_owner old.state.owner =
     cut ∙ ap (λ (y : Parts _). cut_of_owner y.state.owner) is ∙ ap cut_of_owner owner in
-    subst (λ (st : Storage). MayRelink st (cut_of_owner new.state.owner)) (sym here)
-    (subst (MayRelink (with_all_here old.state.store (frames_of_owner old.state.owner))) (sym cuts) may)
+    rw (here, cuts) may

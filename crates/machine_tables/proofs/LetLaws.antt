@@ -9,7 +9,7 @@ pub booked_more : (s : State) (es fs : List Entry) → booked (booked s es) fs �
 booked_more s es fs =
     let entries = append_assoc s.entries es fs in
     let long : length (es ++ fs) ≡ length es + length fs = length-append es fs in
-    let spare : (s.spare - length es) - length fs ≡ s.spare - length (es ++ fs) = omega (arith, long) in
+    let spare : (s.spare - length es) - length fs ≡ s.spare - length (es ++ fs) = omega arith in
     λ i. record s { entries = entries i; spare = spare i }
 
 pub booked_none : (s : State) → booked s [] ≡ s
@@ -41,33 +41,30 @@ pages_next s t first kept f on at is = subst (λ (x : State). PagesOn x first ke
     record {
       same = ap (λ (x : State). with_owner x None)
           (booked_more (with_owner s (without_first_frame s.owner)) (left_entry kept f ∷ [])
-          (map (left_entry kept) rest))
-          ∙ (ap (λ (fs : List ℕ). with_owner (booked s (map (left_entry kept) fs)) None) (sym all) ∙ on.same);
+          (map (left_entry kept) rest)) ∙ (cc);
       owner = owner_left s.owner on.owner;
-      room = omega (arith, count, room);
+      room = omega arith;
       cut = cut_less s.owner ∙ on.cut;
-      spent = omega (arith, count, room, spent);
+      spent = omega arith;
     })
 
 -- ---- descriptors
 
 segs_booked : (s : State) (ds : List CutDescriptor) → with_owner (segs_gone s ds) None
     ≡ with_owner (booked s (map cut_entry ds)) None
-segs_booked s [] = ap (λ (x : State). with_owner x None) (sym (booked_none s))
-segs_booked s (d ∷ ds) = segs_booked (seg_gone s d) ds
-    ∙ ap (λ (x : State). with_owner x None)
+segs_booked s [] = cc (booked_none s)
+segs_booked s (d ∷ ds) = segs_booked (seg_gone s d) ds ∙ ap (λ (x : State). with_owner x None)
     (booked_more (with_owner s (without_first_cut s.owner)) (cut_entry d ∷ []) (map cut_entry ds))
 
 -- ---- all that goes
 
 pub all_gone : {D : Type 0} (old mid next new : Parts D) (kept inactive : Option ℕ)
     → mid ≡ with_state old (with_owner (booked old.state (map (left_entry kept) (frames_of_owner old.state.owner)))
-    mid.state.owner)
-    → cut_of_owner mid.state.owner ≡ cut_of_owner old.state.owner
+    mid.state.owner) → cut_of_owner mid.state.owner ≡ cut_of_owner old.state.owner
     → next ≡ with_state mid (segs_gone mid.state (cut_of_owner mid.state.owner))
     → new ≡ with_state next (booked next.state (inactive_entry inactive))
     → new ≡ with_state old (with_owner (booked old.state (left_entries old.state kept inactive)) new.state.owner)
-all_gone {D} old mid next new kept inactive pages cut segs last = whole ∙ ap (with_state old) state
+all_gone {D} old mid next new kept inactive pages cut segs last = cc (whole, state)
   where
     F : List Entry
     F = map (left_entry kept) (frames_of_owner old.state.owner)
@@ -83,8 +80,7 @@ all_gone {D} old mid next new kept inactive pages cut segs last = whole ∙ ap (
         (ap (λ (x : State). with_owner x None) (booked_more old.state F C))
 
     none_state : with_owner new.state None ≡ with_owner (booked old.state (F ++ (C ++ I))) None
-    none_state = ap (λ (x : Parts D). with_owner x.state None) last
-        ∙ (ap (λ (x : State). booked x I) segs_state
+    none_state = ap (λ (x : Parts D). with_owner x.state None) last ∙ (ap (λ (x : State). booked x I) segs_state
         ∙ ap (λ (x : State). with_owner x None) (booked_more old.state (F ++ C) I
         ∙ ap (booked old.state) (append_assoc F C I)))
 

@@ -17,14 +17,12 @@ place_found ast place u tree at =
 -- the segment of a page that is in a frame is active
 pub active_in : (now : Plain) (ast : ActiveSegs) (links : Links) (f u p : ℕ) → IsKept now ast links
     → bound_page (frame_in now f) ≡ Some (u, p) → IsActive ast.entries u
-active_in now ast links f u p kept bound =
-    kept.paged.bound f u p (get_or-map bound_page now.core.frames f Free ∙ bound)
+active_in now ast links f u p kept bound = kept.paged.bound f u p (get_or-map bound_page now.core.frames f Free ∙ bound)
 
 -- a page that is here is in the frame that its word names
 pub bound_in : (now : Plain) (ast : ActiveSegs) (links : Links) (u p f : ℕ) → IsKept now ast links
     → IsActive ast.entries u → word_of ast u p ≡ Here f → bound_page (frame_in now f) ≡ Some (u, p)
 bound_in now ast links u p f kept active here =
     let at = place_found ast active.0 u kept.tree active.1 in
-    let table = kept.paged.tables (place_of ast.entries u) u
-    (subst (λ (place : ℕ). uid_at ast.entries place ≡ Some u) (sym at) active.1) in
+    let table = kept.paged.tables (place_of ast.entries u) u (rw (← (sym at)) active.1) in
     sym (get_or-map bound_page now.core.frames f Free) ∙ table.back f p (ap frame_of here)

@@ -12,15 +12,13 @@ module _ (s : State) (u : ℕ) where
 
   pub link_there : (v : ℕ) → MayLook s → is_there st.accounts.nodes u ≡ true
       → first_inactive st.ast (chain_of st.accounts.nodes u) ≡ Some v → is_there st.accounts.nodes v ≡ true
-  link_there v h there first =
-      first_there st.accounts.nodes h.keeps.store.accounts.tree st.ast u v there first
+  link_there v h there first = first_there st.accounts.nodes h.keeps.store.accounts.tree st.ast u v there first
 
   pub link_victim : (v : ℕ) → MayLook s → is_there st.accounts.nodes u ≡ true
       → first_inactive st.ast (chain_of st.accounts.nodes u) ≡ Some v → (pool : ℕ)
       → pool ≡ pool_of_node (node_in st.accounts.nodes v) → IsFull st.ast pool
       → HasOneOffChain st.ast pool (chain_of st.accounts.nodes u)
   link_victim v h there first pool is full =
-      subst (λ (q : ℕ). HasOneOffChain st.ast q (chain_of st.accounts.nodes u)) (sym is)
-      (chain_one_off st.pages st.ast st.links st.accounts st.whos h.keeps.store.counted h.keeps.store.accounts.tree u
-      h.keeps.store.kept.tree (subst ArePools (sym h.pools) h.script.pools) there v first
+      rw is (chain_one_off st.pages st.ast st.links st.accounts st.whos h.keeps.store.counted
+      h.keeps.store.accounts.tree u h.keeps.store.kept.tree (subst ArePools (sym h.pools) h.script.pools) there v first
       (subst (IsFull st.ast) is full))

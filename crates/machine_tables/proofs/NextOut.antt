@@ -7,26 +7,25 @@ none_past : (table : List Ptw) (count p : ℕ) → length table ≤ p → first_
 unfolding first_out
 none_past table zero p past = refl
 none_past table (suc count) p past =
-    ap (λ (w : Ptw). cond (is_out w) (Some p) (first_out table count (p + 1))) (get_or_past table p ptw.Null past)
-    ∙ none_past table count (p + 1) (omega (arith, past))
+    cc (get_or_past table p ptw.Null past, none_past table count (p + 1) (omega (arith, past)))
 
 -- a page is it, or the next one after it
 step : (table : List Ptw) (n count p : ℕ) → n ≡ suc count
     → first_out table n p ≡ cond (is_out (ptw_at table p)) (Some p) (first_out table count (p + 1))
 unfolding first_out
-step table n count p more = ap (λ (m : ℕ). first_out table m p) more
+step table n count p more = cc
 
 -- a walk up to the length that was found at first
 module _ (table : List Ptw) (end p : ℕ) (size : end ≡ length table) where
   pub out_end : end ≤ p → next_out table p ≡ None
-  out_end past = none_past table (256 - p) p (omega (arith, size, past))
+  out_end past = none_past table (256 - p) p (omega arith)
 
   module _ (short : length table ≤ 256) (within : p < end) where
     here : next_out table p ≡ cond (is_out (ptw_at table p)) (Some p) (next_out table (p + 1))
-    here = step table (256 - p) (256 - (p + 1)) p (omega (arith, short, size, within))
+    here = step table (256 - p) (256 - (p + 1)) p (omega arith)
 
     pub out_here : is_out (ptw_at table p) ≡ true → next_out table p ≡ Some p
-    out_here is = here ∙ ap (λ (b : Bool). cond b (Some p) (next_out table (p + 1))) is
+    out_here is = cc (here, is)
 
     pub out_later : is_out (ptw_at table p) ≡ false → next_out table p ≡ next_out table (p + 1)
-    out_later is = here ∙ ap (λ (b : Bool). cond b (Some p) (next_out table (p + 1))) is
+    out_later is = cc (here, is)

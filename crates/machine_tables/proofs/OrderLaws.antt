@@ -97,7 +97,7 @@ module _ (x : Paged) (home : Home) (uid p q at f : ℕ) (word : word_of x.ast ui
     its = named.named p own
 
     other : (r : ℕ) × (filed x.pages home q ≡ Some r)
-    other = named.named q (λ none. some (sym is ∙ none))
+    other = named.named q (λ none. some (cc))
 
     records : (unstored (unstored x.pages home p) home q).records ≡ (unstored (unstored x.pages home q) home p).records
     records = records_order x.pages home p q its.0 other.0 named.used its.1 other.1 ne
@@ -109,21 +109,18 @@ module _ (x : Paged) (home : Home) (uid p q at f : ℕ) (word : word_of x.ast ui
     frames = x.pages.core.frames
 
   -- the frames, where the other page leaves one too
-  free_order : (g : ℕ) → f ≢ g → (y z : Frame)
-      → set (set (set x.pages.core.frames f y) f Free) g Free
+  free_order : (g : ℕ) → f ≢ g → (y z : Frame) → set (set (set x.pages.core.frames f y) f Free) g Free
       ≡ set (set (set x.pages.core.frames g Free) f z) f Free
   free_order g apart y z = rw (set-set, set_comm _ _ _ _ _ apart, set-set)
 
   mark_order : (g : ℕ) → f ≢ g
       → set (set x.pages.core.frames f (after_reference (get_or x.pages.core.frames f Free) true)) g Free
-      ≡ set (set x.pages.core.frames g Free) f
-      (after_reference (get_or (set x.pages.core.frames g Free) f Free) true)
+      ≡ set (set x.pages.core.frames g Free) f (after_reference (get_or (set x.pages.core.frames g Free) f Free) true)
   mark_order g apart = rw (set_comm _ _ _ _ _ apart, get_or-set_other)
 
   -- the two pages, where the frames come to the same
   dropped_order : (v : Ptw) (core : Core) → word_of x.ast uid q ≡ v → v ≢ Null
-      → core ≡ (drops (page_cut x home uid q v)).pages.core
-      → ◌≡◌ {A = Paged} (record {
+      → core ≡ (drops (page_cut x home uid q v)).pages.core → ◌≡◌ {A = Paged} (record {
         pages = record (drops (page_cut x home uid q v)).pages {
           core = core;
           records = (unstored (unstored x.pages home p) home q).records;
@@ -152,8 +149,7 @@ module _ (x : Paged) (home : Home) (uid p q at f : ℕ) (word : word_of x.ast ui
   drops_order : (v : Ptw) → word_of x.ast uid q ≡ v → v ≢ Leaving f → Commutes drops v
   drops_order Null is apart = refl
   drops_order (Leaving g) is apart = dropped_order (Leaving g) _ is (λ e. cc)
-      (ap (λ (fs : List Frame). record x.pages.core { frames = fs }) (free_order g (λ e. apart (cc))
-      (after_reference (frame_in x.pages f) true)
+      (cc (free_order g (λ e. apart (cc)) (after_reference (frame_in x.pages f) true)
       (after_reference (get_or (set x.pages.core.frames g Free) f Free) true)))
   drops_order v is apart = dropped_order v _ is (λ e. cc) refl
 
@@ -168,8 +164,7 @@ module _ (x : Paged) (home : Home) (uid p q at f : ℕ) (word : word_of x.ast ui
         };
         ast = words i;
       })
-  stays_order v is apart = ap (λ (a : ActiveSegs). record (page_cut (stays x) home uid q v) { ast = a })
-      (words_order x.ast uid p q (Here f) Null within ne)
+  stays_order v is apart = cc (words_order x.ast uid p q (Here f) Null within ne)
 
   -- one page is dropped after the cut, or before
   pub one_order : (v : Ptw) → word_of x.ast uid q ≡ v → v ≢ Leaving f
@@ -224,14 +219,14 @@ pub some_order : (x : Paged) (home : Home) (uid p at f from n : ℕ) → p < fro
     ≡ cut_first (pages_cut x home uid (range_with_len from n)) home uid p at (Leaving f)
 some_order x home uid p at f from zero lt named alone = refl
 some_order x home uid p at f from (suc n) lt named alone =
-    let ne : from ≢ p = λ e. (omega (arith, lt, e)) in
+    let ne : from ≢ p = λ e. (omega arith) in
     let apart : p ≢ from = λ e. (ne (sym e)) in
     let v = word_of x.ast uid from in
     let now = page_cut x home uid from v in
     cc (
       first_other x home uid p from at f alone.word apart named,
       one_order x home uid p from at f alone.word apart named v refl (alone.others from ne),
-      some_order now home uid p at f (from + 1) n (omega (arith, lt)) (page_drops x home uid from v refl named).named
+      some_order now home uid p at f (from + 1) n (omega arith) (page_drops x home uid from v refl named).named
           (alone_after x home uid p from f ne named alone),
     )
 
@@ -244,19 +239,18 @@ pub record IsNullFrom (x : Paged) (uid from : ℕ) : Type 0 where
 null_cut : (x : Paged) (home : Home) (uid from n : ℕ) → IsNullFrom x uid from
     → pages_cut x home uid (range_with_len from n) ≡ x
 null_cut x home uid from zero null = refl
-null_cut x home uid from (suc n) null =
-    cc (
-      null.null from (omega arith),
-      null_cut x home uid (from + 1) n (record { null = λ q le. null.null q (omega (arith, le)) }),
-    )
+null_cut x home uid from (suc n) null = cc (
+  null.null from (omega arith),
+  null_cut x home uid (from + 1) n (record { null = λ q le. null.null q (omega arith) }),
+)
 
 -- so it doesn't matter how many more are looked at
 pub null_more : (x : Paged) (home : Home) (uid from n k : ℕ) → IsNamed x home uid → IsNullFrom x uid (from + n)
     → pages_cut x home uid (range_with_len from (n + k)) ≡ pages_cut x home uid (range_with_len from n)
 null_more x home uid from zero k named null =
-    rw zero-add (null_cut x home uid from k (record { null = λ q le. null.null q (omega (arith, le)) }))
+    rw zero-add (null_cut x home uid from k (record { null = λ q le. null.null q (omega arith) }))
 null_more x home uid from (suc n) k named null =
     let v = word_of x.ast uid from in
     let drops = page_drops x home uid from v refl named in
     rw suc-add (null_more (page_cut x home uid from v) home uid (from + 1) n k drops.named
-    (record { null = λ q le. drops.words q (λ e. (omega (arith, le, e))) ∙ null.null q (omega (arith, le)) }))
+    (record { null = λ q le. drops.words q (λ e. (omega arith)) ∙ null.null q (omega arith) }))

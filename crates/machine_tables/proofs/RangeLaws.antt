@@ -28,9 +28,9 @@ some_records v h = elim (leb_tells 1 v.records) [
 
 records_some : (vs : List VolumeLine) (v : ℕ) → list_all is_volume vs ≡ true → v < length vs
     → 1 ≤ records_in (slice_get vs v)
-records_some [] v h lt = absurd (omega (arith, lt))
+records_some [] v h lt = absurd (omega arith)
 records_some (x ∷ vs) zero h lt = some_records x (and_parts _ _ h).0
-records_some (x ∷ vs) (suc v) h lt = records_some vs v (and_parts _ _ h).1 (omega (arith, lt))
+records_some (x ∷ vs) (suc v) h lt = records_some vs v (and_parts _ _ h).1 (omega arith)
 
 -- there is a drive for each volume of the script
 pub drive_each : {D : Type 0} (pages : D → List (List ℕ)) (drives : List D) (p : Plan) (records : List (List Bool))
@@ -41,12 +41,10 @@ drive_each pages drives p records vtocs plan same parts =
       | inl lt ↦ (omega (arith, lt, all))
       | inr past ↦ (let none : size records (length p.volumes - 1) ≡ 0 =
           ap length (get_or_past records (length p.volumes - 1) [] past) in
-          let some = records_some p.volumes (length p.volumes - 1) plan.volumes
-          (let least = plan.some in omega (arith, least)) in
+          let some = records_some p.volumes (length p.volumes - 1) plan.volumes (omega arith) in
           let is = same (length p.volumes - 1) in
-          absurd (omega (arith, none, some, is)))
+          absurd (omega arith))
     ]
   where
     all : length records ≡ length drives
-    all = sym (length-map records length) ∙ ap length parts.sizes ∙ length-map (map pages drives) length
-        ∙ length-map drives pages
+    all = cc (length-map records length, length-map (map pages drives) length, length-map drives pages)

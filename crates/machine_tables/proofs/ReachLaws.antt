@@ -24,7 +24,7 @@ module _ (s : State) (k : ℕ) (r : Reference) (keeps : Keeps s) (within : outsi
   inside = inside_is s k r keeps within
 
   its_node : node_in s.store.accounts.nodes u ≡ Some inside.node
-  its_node = sym (ap (λ ns. node_in ns u) keeps.faithful.tree.nodes) ∙ inside.there
+  its_node = cc (keeps.faithful.tree.nodes, inside.there)
 
   -- its segment is there
   pub segment_there : is_there s.store.accounts.nodes u ≡ true
@@ -38,8 +38,7 @@ module _ (s : State) (k : ℕ) (r : Reference) (keeps : Keeps s) (within : outsi
   pub page_there : IsActive s.store.ast.entries u → r.offset / 1024 < length (table_of s.store.ast u)
   page_there active =
       let at = place_found s.store.ast active.0 u keeps.store.kept.tree active.1 in
-      let here : uid_at s.store.ast.entries (place_of s.store.ast.entries u) ≡ Some u =
-      subst (λ (place : ℕ). uid_at s.store.ast.entries place ≡ Some u) (sym at) active.1 in
+      let here : uid_at s.store.ast.entries (place_of s.store.ast.entries u) ≡ Some u = rw (← (sym at)) active.1 in
       let room = room_of inside.node
       (subst (λ (n : Option Node). pages_of n ≤ 256) its_node (keeps.store.counted.counted.most u))
       (λ d. sym (ap pages_of its_node) ∙ keeps.store.counted.counted.flat u

@@ -26,14 +26,14 @@ least_of : (x y g : ℕ) → (x ≤ g) ⊎ (y ≤ g) → AtMost (Some (cond (nat
 least_of x y g either = (cond (nat_le x y) x y, refl, grind (arith, nat_tests))
 
 lesser_left : (a b : Option ℕ) (g : ℕ) → AtMost a g → AtMost (lesser a b) g
-lesser_left None b g m = absurd (none_some m.1)
+lesser_left None b g m = cc
 lesser_left (Some x) None g m = m
-lesser_left (Some x) (Some y) g m = least_of x y g (inl (let same = some_same m.1 in omega (arith, same, m.2)))
+lesser_left (Some x) (Some y) g m = least_of x y g (inl (omega (arith, some_same m.1)))
 
 lesser_right : (a b : Option ℕ) (g : ℕ) → AtMost b g → AtMost (lesser a b) g
 lesser_right None b g m = m
-lesser_right (Some x) None g m = absurd (none_some m.1)
-lesser_right (Some x) (Some y) g m = least_of x y g (inr (let same = some_same m.1 in omega (arith, same, m.2)))
+lesser_right (Some x) None g m = cc
+lesser_right (Some x) (Some y) g m = least_of x y g (inr (omega (arith, some_same m.1)))
 
 module _ (uid : ℕ) (test : ℕ → Bool) (ps : List Processor) where
   abbrev reads : ℕ → Option ℕ
@@ -41,7 +41,7 @@ module _ (uid : ℕ) (test : ℕ → Bool) (ps : List Processor) where
 
   least_some : (n f : ℕ) → least_from uid test ps n ≡ Some f → (d : ℕ) × (reads d ≡ Some f)
   unfolding least_from
-  least_some zero f h = absurd (none_some h)
+  least_some zero f h = cc
   least_some (suc n) f h = elim (lesser_from (least_from uid test ps n) (reads n) f h) [
     | inl e ↦ least_some n f e
     | inr e ↦ (n, e)
@@ -49,12 +49,10 @@ module _ (uid : ℕ) (test : ℕ → Bool) (ps : List Processor) where
 
   least_most : (n d g : ℕ) → d < n → reads d ≡ Some g → AtMost (least_from uid test ps n) g
   unfolding least_from
-  least_most zero d g lt h = absurd (omega (arith, lt))
+  least_most zero d g lt h = absurd (omega arith)
   least_most (suc n) d g lt h = elim (eqb_tells d n) [
-    | inl e ↦ lesser_right (least_from uid test ps n) (reads n) g
-        (g, ap (λ (x : ℕ). reads x) (sym e.1) ∙ h, omega arith)
-    | inr m ↦ lesser_left (least_from uid test ps n) (reads n) g
-        (least_most n d g (let ne = m.1 in omega (arith, lt, ne)) h)
+    | inl e ↦ lesser_right (least_from uid test ps n) (reads n) g (g, cc, omega arith)
+    | inr m ↦ lesser_left (least_from uid test ps n) (reads n) g (least_most n d g (omega arith) h)
   ]
 
 -- ---- the frames that are being read into
@@ -63,8 +61,7 @@ pub least_first : (uid : ℕ) (test : ℕ → Bool) (ps : List Processor) → No
 unfolding least_from
 least_first uid test ps = refl
 
-least_next : (uid : ℕ) (test : ℕ → Bool) (ps : List Processor) (n : ℕ)
-    → least_from uid test ps (n + 1)
+least_next : (uid : ℕ) (test : ℕ → Bool) (ps : List Processor) (n : ℕ) → least_from uid test ps (n + 1)
     ≡ lesser (least_from uid test ps n) (read_by uid test (processor_at ps n).cpu.transfer)
 unfolding least_from
 least_next uid test ps n = ap (least_from uid test ps) (let e : n + 1 ≡ suc n = omega arith in e)
@@ -72,9 +69,7 @@ least_next uid test ps n = ap (least_from uid test ps) (let e : n + 1 ≡ suc n 
 pub least_step : (uid : ℕ) (test : ℕ → Bool) (ps : List Processor) (n : ℕ) (least read now : Option ℕ)
     → least ≡ least_from uid test ps n → read ≡ read_by uid test (processor_at ps n).cpu.transfer
     → now ≡ lesser least read → now ≡ least_from uid test ps (n + 1)
-least_step uid test ps n least read now l r e =
-    e ∙ ap (λ (x : Option ℕ). lesser x read) l ∙ ap (lesser (least_from uid test ps n)) r
-    ∙ sym (least_next uid test ps n)
+least_step uid test ps n least read now l r e = cc (least_next uid test ps n)
 
 module _ (core : Core) (ps : List Processor) (uid : ℕ) (test : ℕ → Bool) (under : AreRead core ps) where
   abbrev passes : Frame → Bool
@@ -86,17 +81,16 @@ module _ (core : Core) (ps : List Processor) (uid : ℕ) (test : ℕ → Bool) (
   -- what a processor reads is being read into its frame
   read_from : (d f : ℕ) (o : Option Transfer) → (processor_at ps d).cpu.transfer ≡ o → read_by uid test o ≡ Some f
       → passes (frame_at core f) ≡ true
-  read_from d f None e h = absurd (none_some h)
+  read_from d f None e h = cc
   read_from d f (Some t) e h = by (eqb t.uid uid && test t.page) refl h
     where
       by : (b : Bool) → (eqb t.uid uid && test t.page) ≡ b → cond b (Some t.frame) None ≡ Some f
           → passes (frame_at core f) ≡ true
-      by false i j = absurd (none_some j)
+      by false i j = cc
       by true i j =
           let same : t.frame ≡ f = some_same j in
           let read : read_at (reads_of core) t.frame ≡ Some (t.uid, t.page) = under.reading d t e in
-          ap (is_page_of uid test) (sym (started_at f)
-          ∙ ap (λ (g : ℕ). read_at (reads_of core) g) (sym same) ∙ read) ∙ i
+          cc (started_at f)
 
   -- what is being read into a frame is read by some processor
   reads_to : (f : ℕ) → passes (frame_at core f) ≡ true
@@ -109,13 +103,12 @@ module _ (core : Core) (ps : List Processor) (uid : ℕ) (test : ℕ → Bool) (
       by (Some page) e i =
           let who = under.reader f page.0 page.1 (started_at f ∙ e) in (
             who.0,
-            ap (read_by uid test) who.1 ∙ ap (λ (b : Bool). cond b (Some f) None) i,
+            cc,
           )
 
   -- a processor that reads is one of them
   reader_within : (d f : ℕ) → read_by uid test (processor_at ps d).cpu.transfer ≡ Some f → d < length ps
-  reader_within d f h =
-      shown_within (λ p. read_by uid test p.cpu.transfer) ps d no_processor f refl h
+  reader_within d f h = shown_within (λ p. read_by uid test p.cpu.transfer) ps d no_processor f refl h
 
   frame_within : (f : ℕ) → passes (frame_at core f) ≡ true → f < length core.frames
   frame_within f h = within_from core.frames f Free (λ none. cc)
@@ -129,17 +122,16 @@ module _ (core : Core) (ps : List Processor) (uid : ℕ) (test : ℕ → Bool) (
       by true i =
           let who = reads_to g i in
           let most = least_most uid test ps (length ps) who.0 g (reader_within who.0 g who.1) who.1 in
-          absurd (let lt = below most.0 (sym e ∙ most.1) in let le = most.2 in omega (arith, lt, le))
+          absurd (omega (arith, below most.0 (sym e ∙ most.1)))
 
   -- the least frame is found either way
   pub reading_is : frame_reading core uid test ≡ least_from uid test ps (length ps)
   reading_is = by (least_from uid test ps (length ps)) refl
     where
       by : (o : Option ℕ) → least_from uid test ps (length ps) ≡ o → frame_reading core uid test ≡ o
-      by None e = position_not passes Free core.frames
-          (λ j lt. not_before j None e (λ f no. absurd (none_some no)))
+      by None e = position_not passes Free core.frames (λ j lt. not_before j None e (λ f no. cc))
       by (Some f) e =
           let who = least_some uid test ps (length ps) f e in
           let here = read_from who.0 f (processor_at ps who.0).cpu.transfer refl who.1 in
           position_first passes Free core.frames f (frame_within f here) here
-          (λ j lt. not_before j (Some f) e (λ g same. subst (λ (x : ℕ). j < x) (some_same same) lt))
+          (λ j lt. not_before j (Some f) e (λ g same. rw (← (some_same same)) lt))

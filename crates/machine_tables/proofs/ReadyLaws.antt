@@ -10,8 +10,7 @@ pub one_released : (n : ℕ) (q before after : Queue) → before ≡ released q 
 one_released n q before after e f =
     let s : suc n ≡ n + 1 = omega arith in
     let z : 1 + n ≡ n + 1 = omega arith in
-    let more : range 1 n ++ (n + 1) ∷ [] ≡ range 1 (n + 1) =
-    sym (range_end 1 n ∙ ap (λ (x : ℕ). range 1 n ++ x ∷ []) z) ∙ ap (range 1) s in
+    let more : range 1 n ++ (n + 1) ∷ [] ≡ range 1 (n + 1) = sym (cc (range_end 1 n)) ∙ ap (range 1) s in
     let items = append_assoc q.waiting (range 1 n) ((n + 1) ∷ []) ∙ ap (λ (zs : List ℕ). q.waiting ++ zs) more in
     f ∙ ap (λ (x : Queue). with_last x (n + 1)) e ∙ (λ i. record q { waiting = items i })
 
@@ -22,12 +21,11 @@ room_left q t n count e lt room =
     ap (λ (x : Queue). length x.waiting) e ∙ length-append q.waiting (range 1 n) in
     let many : length (range 1 n) ≡ n = range_length 1 n in
     let same : t.room ≡ q.room = ap (λ (x : Queue). x.room) e in
-    omega (arith, items, many, same, lt, room)
+    omega arith
 
 -- so many can be released where their list has room
 pub room_for : (n room count : ℕ) (xs : List ℕ) → range 1 count ≡ xs → n + length xs ≤ room → n + count ≤ room
-room_for n room count xs e le =
-    let many : count ≡ length xs = sym (range_length 1 count) ∙ ap length e in omega (arith, many, le)
+room_for n room count xs e le = omega (arith, sym (range_length 1 count) ∙ ap length e)
 
 -- ---- all processes are ready at first
 
@@ -38,13 +36,12 @@ pub ready_room : (q : Queue) (n count : ℕ) → q ≡ first_of n count → n < 
 ready_room q n count e lt =
     let items : length q.waiting ≡ n = ap (λ (x : Queue). length x.waiting) e ∙ range_length 0 n in
     let same : q.room ≡ count = ap (λ (x : Queue). x.room) e in
-    omega (arith, items, same, lt)
+    omega arith
 
 pub one_ready : (before after : Queue) (n count : ℕ) → before ≡ first_of n count → after ≡ with_last before n
     → after ≡ first_of (n + 1) count
 one_ready before after n count e f =
     let s : suc n ≡ n + 1 = omega arith in
     let z : 0 + n ≡ n = omega arith in
-    let more : range 0 n ++ n ∷ [] ≡ range 0 (n + 1) =
-    sym (range_end 0 n ∙ ap (λ (x : ℕ). range 0 n ++ x ∷ []) z) ∙ ap (range 0) s in
+    let more : range 0 n ++ n ∷ [] ≡ range 0 (n + 1) = sym (cc (range_end 0 n)) ∙ ap (range 0) s in
     f ∙ ap (λ (x : Queue). with_last x n) e ∙ (λ i. record { waiting = more i; room = count })

@@ -13,7 +13,7 @@ moves_is s u = refl
 
 pub shows_of : {D : Type 0} (drive : D → List (List ℕ)) (p : Plan) (t : Store) (st : Stored D)
     → IsFaithful p t (shown drive st) → Shows drive p t st
-shows_of drive p t st h = record { tree = h.tree; known = h.known; pages = h.pages; script = h.script }
+shows_of drive p t st h = assumption
 
 same_outside : (x : Reply) → stored.only stored.is_outside x ≡ model.only model.is_outside x
 same_outside reply.Unknown = refl
@@ -40,4 +40,4 @@ room_is s k r = same_room (reply_to_reference s.plan (flat_of s) k r)
 pub command_is : (s : State) (k : ℕ) (c : Command) → reference_of c ≡ None
     → refusal (reply_to_command s.plan (flat_of s) k c) ≡ model.refusal_of s k c
 unfolding model.refusal_of
-command_is s k c tree = ap (λ (o : Option Reference). refusal (reply_by s.plan (flat_of s) k c o)) tree
+command_is s k c tree = cc

@@ -5,8 +5,9 @@ pub right_is : (ns : List Node) (whos : List Who) (k u : ℕ) (m : Mode) (pages 
     → IsRight ns whos k u m pages → (m ≡ access_of (who_at whos k) (rows_in ns u)) × (pages ≡ pages_in ns u)
 right_is ns whos k u m pages there right =
     let found = some_there (node_in ns u) there in (
-      right.mode_is found.0 found.1
-          ∙ ap (λ (rows : List Row). access_of (who_at whos k) rows)
-          (field_found (λ ms. rows_in ms u) (λ x. x.rows) u (λ m ms. refl) ns found.0 found.1),
-      right.pages_are found.0 found.1 ∙ sym (ap pages_of found.1),
+      cc (
+        right.mode_is found.0 found.1,
+        field_found (λ ms. rows_in ms u) (λ x. x.rows) u (λ m ms. refl) ns found.0 found.1,
+      ),
+      cc (right.pages_are found.0 found.1),
     )

@@ -19,16 +19,14 @@ work_rule s c going work = rw (going, work) refl
 -- the owner of the supervisor has a process
 pub owner_busy : (s : State) (c : ℕ) (h : Holder) (frames : List ℕ) (cut : List CutDescriptor) → Keeps s
     → s.owner ≡ owner_of (Some h) frames cut → h.cpu ≡ c → IsSome (cpu_at s.processors c).process
-owner_busy s c h frames cut keeps is here = subst (λ (d : ℕ). IsSome (cpu_at s.processors d).process) here
-    (keeps.at_work (owner_by h frames cut) is).busy
+owner_busy s c h frames cut keeps is here = rw (← here) (keeps.at_work (owner_by h frames cut) is).busy
 
 -- a segment that the owner moves is active
 pub moved_active : (s : State) (h : Holder) (frames : List ℕ) (cut : List CutDescriptor)
-    → s.store.moving ≡ mover_of s.owner
-    → ((m : Mover) → s.store.moving ≡ Some m → IsActive s.store.ast.entries m.uid)
+    → s.store.moving ≡ mover_of s.owner → ((m : Mover) → s.store.moving ≡ Some m → IsActive s.store.ast.entries m.uid)
     → s.owner ≡ owner_of (Some h) frames cut → (m : Mover) → h.phase ≡ phase.Moving m
     → IsActive s.store.ast.entries m.uid
-moved_active s h frames cut moving active is m moves = active m (moving ∙ (ap mover_of is ∙ ap mover_in moves))
+moved_active s h frames cut moving active is m moves = active m (cc)
 
 -- and its page table has 256 words at the most
 pub moved_short : (s : State) (keeps : Keeps s) (m : Mover) → IsActive s.store.ast.entries m.uid

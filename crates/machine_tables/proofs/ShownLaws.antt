@@ -5,14 +5,14 @@ use Rattle.machine_tables.proofs.RefusalLaws.{shows_of}
 
 faithful_of : {D : Type 0} (drive : D → List (List ℕ)) (p : Plan) (t : Store) (st : Stored D) → Shows drive p t st
     → IsFaithful p t (shown drive st)
-faithful_of drive p t st h = record { tree = h.tree; known = h.known; pages = h.pages; script = h.script }
+faithful_of drive p t st h = assumption
 
 -- by what a call of the store says
 pub shown_by : {D : Type 0} (drive : D → List (List ℕ)) (old : Parts D) (before after : Stored D) (p : Plan)
     (t u : Store) → shown drive before ≡ old.state.store → (Shows drive p t before → Shows drive p u after)
     → IsFaithful p t old.state.store → IsFaithful p u (shown drive after)
 shown_by drive old before after p t u same call h = faithful_of drive p u after
-    (call (shows_of drive p t before (subst (IsFaithful p t) (sym same) h)))
+    (call (shows_of drive p t before (rw same h)))
 
 -- the page in a bound frame
 page_told : (x : Frame) → is_bound x ≡ true → ◌≡◌ {A = ℕ × ℕ} (uid_in x, number_in x) (page_or_zero (bound_page x))
@@ -23,23 +23,19 @@ pub page_of_frame : {D : Type 0} (drive : D → List (List ℕ)) (old : Parts D)
     → shown drive before ≡ old.state.store → is_bound (frame_at old.state.store.pages.core f) ≡ true
     → ◌≡◌ {A = ℕ × ℕ} (uid_in (frame_at before.segs.pages.core f), number_in (frame_at before.segs.pages.core f))
     (page_in old.state.store f)
-page_of_frame drive old before f same bound =
-    ap (λ (x : Storage). (uid_in (frame_at x.pages.core f), number_in (frame_at x.pages.core f))) same
-    ∙ page_told (frame_at old.state.store.pages.core f) bound
+page_of_frame drive old before f same bound = cc (page_told (frame_at old.state.store.pages.core f) bound)
 
 -- a word is written through a frame
 pub written_shown : {D : Type 0} (drive : D → List (List ℕ)) (old : Parts D) (before after : Stored D) (p : Plan)
     (t : Store) (f at w : ℕ) → shown drive before ≡ old.state.store
     → is_bound (frame_at old.state.store.pages.core f) ≡ true
     → (Shows drive p t before → Shows drive p (written t (uid_in (frame_at before.segs.pages.core f))
-    (1024 * number_in (frame_at before.segs.pages.core f) + at) w) after)
-    → IsFaithful p t old.state.store
+    (1024 * number_in (frame_at before.segs.pages.core f) + at) w) after) → IsFaithful p t old.state.store
     → IsFaithful p (written t (page_in old.state.store f).0 (1024 * (page_in old.state.store f).1 + at) w)
     (shown drive after)
 written_shown drive old before after p t f at w same bound call h =
     subst (λ (x : ℕ × ℕ). IsFaithful p (written t x.0 (1024 * x.1 + at) w) (shown drive after))
-    (page_of_frame drive old before f same bound)
-    (shown_by drive old before after p t _ same call h)
+    (page_of_frame drive old before f same bound) (shown_by drive old before after p t _ same call h)
 
 -- a page has left its frame
 left_same : (E : Type 0) (t : Store) (page : ℕ × ℕ) (left : Left)
@@ -58,9 +54,7 @@ left_shown drive old before after f uid (Err e) same bound own call = tt
 left_shown {E = E} drive old before after f uid (Ok left) same bound own call = λ p t h.
     subst (λ (x : Store). IsFaithful p x (shown drive after)) (left_same E t (page_in old.state.store f) left)
     (subst (λ (x : ℕ × ℕ). IsFaithful p (page_left {E = E} t x.0 x.1 (Ok left)) (shown drive after))
-    (ap (λ (u : ℕ). (u, number_in (frame_at before.segs.pages.core f))) (sym own)
-    ∙ page_of_frame drive old before f same bound)
-    (shown_by drive old before after p t _ same (call p t) h))
+    (cc (page_of_frame drive old before f same bound)) (shown_by drive old before after p t _ same (call p t) h))
 
 -- ---- a reference through a frame
 
@@ -72,9 +66,10 @@ still_bound (Bound u q used modified) = refl
 -- once its word was read
 page_read : (s : Plain) (f : ℕ) → is_bound (frame_in s f) ≡ true
     → bound_page (frame_in (referred s f false) f) ≡ bound_page (frame_in s f)
-page_read s f bound = ap bound_page
-    (get_or-set_same s.core.frames f (after_reference (frame_in s f) false) Free (bound_within s f bound))
-    ∙ still_bound (frame_in s f)
+page_read s f bound = cc (
+  get_or-set_same s.core.frames f (after_reference (frame_in s f) false) Free (bound_within s f bound),
+  still_bound (frame_in s f),
+)
 
 pub through_shown : {D : Type 0} (old mid : Parts D) (after : Storage) (f w : ℕ) (r : Reference) (p : Plan) (t : Store)
     → is_bound (frame_in old.state.store.pages f) ≡ true
@@ -83,8 +78,7 @@ pub through_shown : {D : Type 0} (old mid : Parts D) (after : Storage) (f w : �
     → (IsFaithful p t mid.state.store → IsFaithful p
     (written t (page_in mid.state.store f).0 (1024 * (page_in mid.state.store f).1 + r.offset % 1024) w) after)
     → IsFaithful p t mid.state.store → IsFaithful p (through old.state f r t) after
-through_shown old mid after f w r p t bound read writes word write h =
-    subst (λ (x : Store). IsFaithful p x after) (sym done) (write h)
+through_shown old mid after f w r p t bound read writes word write h = rw done (write h)
   where
     page : page_in mid.state.store f ≡ page_in old.state.store f
     page = ap (λ (x : Parts _). page_in x.state.store f) read
@@ -95,11 +89,8 @@ through_shown old mid after f w r p t bound read writes word write h =
 
     done : through old.state f r t ≡ into (page_in mid.state.store f) w
     done = ap (λ (b : Bool). cond b (into (page_in old.state.store f)
-        (new_word (old_word old.state.store.pages f r) r.kind)) t) writes
-        ∙ (λ i. into (sym page i) (sym word i))
+        (new_word (old_word old.state.store.pages f r) r.kind)) t) writes ∙ (λ i. into (sym page i) (sym word i))
 
 pub not_through : {D : Type 0} (old : Parts D) (after : Storage) (f : ℕ) (r : Reference) (p : Plan) (t : Store)
     → alters r.kind ≡ false → IsFaithful p t after → IsFaithful p (through old.state f r t) after
-not_through old after f r p t none h = subst (λ (b : Bool). IsFaithful p (cond b
-    (written t (page_in old.state.store f).0 (1024 * (page_in old.state.store f).1 + r.offset % 1024)
-    (new_word (old_word old.state.store.pages f r) r.kind)) t) after) (sym none) h
+not_through old after f r p t none h = rw none h

@@ -24,7 +24,7 @@ pub room_less : (s : State) (c : ℕ) (a : Aim) (w : What) (fs : List ℕ) → l
     → (take_all s c a w fs).spare + length fs ≡ s.spare
 room_less s c a w [] le = omega arith
 room_less s c a w (f ∷ fs) le =
-    let rest = room_less (take_one s c a w f) c a w fs (omega (arith, le)) in omega (arith, rest, le)
+    let rest = room_less (take_one s c a w f) c a w fs (omega arith) in omega arith
 
 -- ---- a table whose pages are taken in order
 
@@ -73,7 +73,7 @@ pub here_few : {s first : State} {c : ℕ} {a : Aim} {w : What} {u p low : ℕ} 
 here_few {s} {u = u} {p = p} on lt =
     let all = ap length (frames_here s.store.ast u p lt) in
     let both = length-append (here_in (word_of s.store.ast u p)) (frames_from s.store.ast u (p + 1)) in
-    (omega (arith, all, both, on.few), omega (arith, all, both, on.room))
+    (omega arith, omega arith)
 
 pub takes_next : {s t first : State} {c : ℕ} {a : Aim} {w : What} {u p low : ℕ} → TakesOn s first c a w u p low
     → p < length (table_of s.store.ast u) → t ≡ take_all s c a w (here_in (word_of s.store.ast u p))
@@ -85,21 +85,18 @@ takes_next {s} {t} {first} {c} {a} {w} {u} {p} on lt is past =
     let count = ap length all ∙ length-append hs (frames_from s.store.ast u (p + 1)) in
     let less = ap length rest in
     let more = ap (λ (x : State). length (frames_of_owner x.owner)) is ∙ take_long s c a w hs in
-    let spent = room_less s c a w hs (omega (arith, count, on.room)) in
+    let spent = room_less s c a w hs (omega arith) in
     let spare = ap (λ (x : State). x.spare) is in
     record {
-      same = ap (λ (x : State). take_all x c a w (frames_from t.store.ast u (p + 1))) is
-          ∙ ap (take_all (take_all s c a w hs) c a w) rest
-          ∙ sym (take_all-append s c a w hs (frames_from s.store.ast u (p + 1)))
-          ∙ ap (take_all s c a w) (sym all) ∙ on.same;
-      active = subst (λ (e : List (Option Entry)). IsActive e u) (sym past.entries) on.active;
-      long = past.long ∙ on.long;
-      owner = subst (λ (x : State). HasOwner x.owner) (sym is) (owner_still s c a w hs on.owner);
-      few = omega (arith, count, less, on.few, more);
-      room = omega (arith, count, less, on.room, spent, spare);
-      still = ap (λ (x : State). x.store.moving) is ∙ takes_still s c a w hs on.still;
+      same = cc (take_all-append s c a w hs (frames_from s.store.ast u (p + 1)));
+      active = rw past.entries on.active;
+      long = cc;
+      owner = rw is (owner_still s c a w hs on.owner);
+      few = omega arith;
+      room = omega arith;
+      still = cc (takes_still s c a w hs on.still);
     }
 
 pub takes_end : {s first : State} {c : ℕ} {a : Aim} {w : What} {u p low : ℕ} → TakesOn s first c a w u p low
     → length (table_of s.store.ast u) ≤ p → s ≡ take_all first c a w (frames_from first.store.ast u low)
-takes_end {s} {first} {c} {a} {w} {u} {p} on le = ap (take_all s c a w) (sym (frames_past s.store.ast u p le)) ∙ on.same
+takes_end {s} {first} {c} {a} {w} {u} {p} on le = cc (frames_past s.store.ast u p le)

@@ -28,19 +28,15 @@ none_of (x ∷ xs) h = cc
 pub some_here : (ws : List Ptw) (p low : ℕ) → frames_in (drop p ws) ≡ frames_in (drop low ws) → p < length ws
     → not (is_empty (here_in (ptw_at ws p))) ≡ true → not (is_empty (frames_in (drop low ws))) ≡ true
 some_here ws p low same lt here =
-    ap (λ (xs : List ℕ). not (is_empty xs)) (sym same ∙ ap frames_in (drop_more ws p Null lt))
-    ∙ nonempty_append (here_in (ptw_at ws p)) (frames_in (drop (p + 1) ws)) here
+    cc (drop_more ws p Null lt, nonempty_append (here_in (ptw_at ws p)) (frames_in (drop (p + 1) ws)) here)
 
 pub next_here : (ws : List Ptw) (p low : ℕ) → frames_in (drop p ws) ≡ frames_in (drop low ws) → p < length ws
     → not (is_empty (here_in (ptw_at ws p))) ≡ false → frames_in (drop (p + 1) ws) ≡ frames_in (drop low ws)
-next_here ws p low same lt none =
-    sym (ap frames_in (drop_more ws p Null lt) ∙ ap (λ (xs : List ℕ). xs ++ frames_in (drop (p + 1) ws))
-    (none_of (here_in (ptw_at ws p)) none)) ∙ same
+next_here ws p low same lt none = cc (drop_more ws p Null lt, none_of (here_in (ptw_at ws p)) none)
 
 pub none_here : (ws : List Ptw) (p low : ℕ) → frames_in (drop p ws) ≡ frames_in (drop low ws) → length ws ≤ p
     → not (is_empty (frames_in (drop low ws))) ≡ false
-none_here ws p low same past =
-    ap (λ (xs : List ℕ). not (is_empty xs)) (sym same ∙ ap frames_in (drop_of_length-le ws past))
+none_here ws p low same past = cc (drop_of_length-le ws past)
 
 pub bare_pages : (fs : List ℕ) (pairs : List (ℕ × ℕ)) → not (is_empty fs) ≡ true → is_bare fs pairs ≡ false
 bare_pages [] pairs h = cc
@@ -54,9 +50,8 @@ bare_trailers fs pairs rest pair is = ap (is_bare fs) is ∙ by fs
     by [] = refl
     by (x ∷ xs) = refl
 
-pub bare_none : (fs : List ℕ) (pairs : List (ℕ × ℕ)) → not (is_empty fs) ≡ false → pairs ≡ []
-    → is_bare fs pairs ≡ true
-bare_none fs pairs none is = ap (λ (xs : List ℕ). is_bare xs pairs) (none_of fs none) ∙ ap (is_bare []) is
+pub bare_none : (fs : List ℕ) (pairs : List (ℕ × ℕ)) → not (is_empty fs) ≡ false → pairs ≡ [] → is_bare fs pairs ≡ true
+bare_none fs pairs none is = cc (none_of fs none)
 
 -- ---- pages, and then descriptors
 
@@ -71,7 +66,7 @@ pub after_pages : (s t : State) (c : ℕ) (a : Aim) (w : What) (fs : List ℕ) (
     → IsActive s.store.ast.entries u → HasOwner s.owner
     → length (cut_of_owner s.owner) + length (trailers_in s.store u) ≤ 256
     → length fs + length (trailers_in s.store u) ≤ s.spare → CanCut t u
-after_pages s t c a w fs u is active owner few room = subst (λ (x : State). CanCut x u) (sym is) (record {
+after_pages s t c a w fs u is active owner few room = rw is (record {
   active = subst (λ (e : List (Option Entry)). IsActive e u) (sym (entries_still s c a w fs)) active;
   owner = owner_still s c a w fs owner;
   few = let cut = ap length (take_cut s c a w fs) in let all = ap length (trailers_still s c a w fs u) in
@@ -84,7 +79,4 @@ pub took_is : {D : Type 0} (old mid new : Parts D) (c : ℕ) (a : Aim) (w : What
     → mid ≡ with_state old (take_all old.state c a w fs)
     → new ≡ with_state mid (cut_all mid.state c a w (trailers_in mid.state.store u))
     → new ≡ with_state old (took old.state c a w fs (trailers_in old.state.store u))
-took_is old mid new c a w fs u took cut =
-    cut ∙ ap (λ (x : Parts _). with_state x (cut_all x.state c a w (trailers_in x.state.store u))) took
-    ∙ ap (λ (xs : List (ℕ × ℕ)). with_state old (cut_all (take_all old.state c a w fs) c a w xs))
-    (trailers_still old.state c a w fs u)
+took_is old mid new c a w fs u took cut = cc (trailers_still old.state c a w fs u)

@@ -18,7 +18,7 @@ less_of ks vs u = by ks vs (look ks vs u) refl
       | inl same ↦ simp (eq-eqb i u same)
       | inr other ↦ simp (ne_eqb i u other) (by is ws n (rw (ne_eqb i u other) at e))
     ]
-    by is ws n e = let none : 0 ≡ n = e in omega (arith, none)
+    by is ws n e = omega arith
 
 -- ---- what else stays
 
@@ -36,15 +36,15 @@ pub record KeepsOthers (old now : Storage) (uid : ℕ) : Type 0 where
 
 keeps_both : (a b c : Storage) (uid : ℕ) → KeepsOthers a b uid → KeepsOthers b c uid → KeepsOthers a c uid
 keeps_both a b c uid x y = record {
-  nodes = y.nodes ∙ x.nodes;
-  entries = y.entries ∙ x.entries;
-  next = y.next ∙ x.next;
-  segments = y.segments ∙ x.segments;
-  long = y.long ∙ x.long;
+  nodes = cc;
+  entries = cc;
+  next = cc;
+  segments = cc;
+  long = cc;
   counts = λ s other. y.counts s other ∙ x.counts s other;
-  links = y.links ∙ x.links;
-  whos = y.whos ∙ x.whos;
-  moving = y.moving ∙ x.moving;
+  links = cc;
+  whos = cc;
+  moving = cc;
 }
 
 -- ---- pages that are stored no more
@@ -52,8 +52,7 @@ keeps_both a b c uid x y = record {
 without_told : (st : Storage) (uid p : ℕ) (w : Ptw)
     → told_of (without_page st uid p w) uid ≡ page_cut (told_of st uid) (home_in st uid) uid p w
 without_told st uid p Null = refl
-without_told st uid p w = ap (λ (n : ℕ). record (page_cut (told_of st uid) (home_in st uid) uid p w) { stored = n })
-    (less_of st.accounts.segments st.accounts.counts uid)
+without_told st uid p w = cc (less_of st.accounts.segments st.accounts.counts uid)
 
 without_keeps : (st : Storage) (uid p : ℕ) (w : Ptw) → KeepsOthers st (without_page st uid p w) uid
 without_keeps st uid p Null = assumption
@@ -154,8 +153,7 @@ module _ (st : Storage) (uid words : ℕ) where
       ≡ pages_cut (told_of st uid) (home_in st uid) uid (pages_past st uid words)
   even_told even = rw (eq-eqb at 0 even) (some_told st uid (pages_past st uid words))
 
-  pub odd_told : at ≢ 0 → IsCuttable st uid page (word_of st.ast uid page)
-      → told_of (with_truncated st uid words) uid
+  pub odd_told : at ≢ 0 → IsCuttable st uid page (word_of st.ast uid page) → told_of (with_truncated st uid words) uid
       ≡ pages_cut (cut_first (told_of st uid) (home_in st uid) uid page at (word_of st.ast uid page))
       (home_in st uid) uid (pages_past st uid words)
   odd_told odd may =
@@ -172,6 +170,5 @@ module _ (st : Storage) (uid words : ℕ) where
     | inl even ↦ rw (eq-eqb at 0 even) (some_keeps st uid (pages_past st uid words))
     | inr odd ↦ rw (ne_eqb at 0 odd) (let now = with_cut st uid page at (word_of st.ast uid page) in
         keeps_both st now (without_pages now uid (pages_past st uid words)) uid
-        (cut_keeps st uid page at (word_of st.ast uid page) (may odd))
-        (some_keeps now uid (pages_past st uid words)))
+        (cut_keeps st uid page at (word_of st.ast uid page) (may odd)) (some_keeps now uid (pages_past st uid words)))
   ]

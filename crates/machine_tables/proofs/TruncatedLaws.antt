@@ -202,21 +202,17 @@ module _ (st : Storage) (uid : ℕ) (kept : IsKept st.pages st.ast st.links)
 
 map_same : (g h : ℕ → Entry) (fs : List ℕ) → ((f : ℕ) → has fs f ≡ true → g f ≡ h f) → map g fs ≡ map h fs
 map_same g h [] same = refl
-map_same g h (f ∷ fs) same =
-    cc (same f (rw (eqb_self f)), map_same g h fs (λ k is. same k (or_right (eqb f k) _ is)))
+map_same g h (f ∷ fs) same = cc (same f (rw (eqb_self f)), map_same g h fs (λ k is. same k (or_right (eqb f k) _ is)))
 
 module _ {D : Type 0} (drive : D → List (List ℕ)) (t m u : Stored D) (n : Node) (words : ℕ)
     (before : HasColumns t.accounts) (after : HasColumns m.accounts)
     (kept : IsKept (plain drive t.segs.pages) t.segs.ast t.segs.links)
     (counted : IsStore (plain drive t.segs.pages) t.segs.ast t.segs.links t.accounts t.whos)
-    (parts : HasParts (map drive t.segs.pages.volumes.drives) t.segs.pages.volumes.records
-    t.segs.pages.volumes.vtocs)
+    (parts : HasParts (map drive t.segs.pages.volumes.drives) t.segs.pages.volumes.records t.segs.pages.volumes.vtocs)
     (there : is_there t.accounts.nodes n.uid ≡ true) (taken : IsTakenPast t.segs n.uid words)
     (pages : CutsPages t m n.uid words)
     (exact : paged drive m n.uid ≡ cut_at (paged drive t n.uid) (home_of t.accounts n.uid) n.uid
-    (pages_in t.accounts.nodes n.uid) words)
-    (others : CountsOthers t.accounts m.accounts n.uid)
-    (back : u ≡ record m {
+    (pages_in t.accounts.nodes n.uid) words) (others : CountsOthers t.accounts m.accounts n.uid) (back : u ≡ record m {
       segs = record m.segs {
         ast = here_again m.segs.ast n.uid (words / 1024) (word_of m.segs.ast n.uid (words / 1024));
       };
@@ -261,15 +257,13 @@ module _ {D : Type 0} (drive : D → List (List ℕ)) (t m u : Stored D) (n : No
   even_gone even = pages.unstores.gone page (pages.past page (omega (arith, even)))
 
   keeps : KeepsOthers st target n.uid
-  keeps = truncated_keeps st n.uid words
-      (λ odd. cuttable_in st n.uid kept counted there active page away (inside odd))
+  keeps = truncated_keeps st n.uid words (λ odd. cuttable_in st n.uid kept counted there active page away (inside odd))
 
   told : told_of target n.uid ≡ again (paged drive m n.uid) n.uid page (word_of m.segs.ast n.uid page)
   told = elim (cases_eq offset 0) [
     | inl even ↦ even_told st n.uid words even ∙ sym (even_cut x own_home n.uid size words named null even
         (ap (λ (y : Paged). word_of y.ast n.uid page) (sym exact) ∙ even_gone even))
-    | inr odd ↦ odd_told st n.uid words odd
-        (cuttable_in st n.uid kept counted there active page away (inside odd))
+    | inr odd ↦ odd_told st n.uid words odd (cuttable_in st n.uid kept counted there active page away (inside odd))
         ∙ sym (odd_cut x own_home n.uid size words named null odd
         (leaving_in st n.uid kept counted there active page away (inside odd)))
   ] ∙ ap (λ (y : Paged). again y n.uid page (word_of y.ast n.uid page)) (sym exact)
@@ -326,8 +320,7 @@ module _ {D : Type 0} (drive : D → List (List ℕ)) (t m u : Stored D) (n : No
   -- the page that is cut
   odd_kept : (f : ℕ) → offset ≢ 0 → word_of st.ast n.uid page ≡ Leaving f
       → is_kept kept_frame f ≡ not (is_cleared x offset (Leaving f))
-  odd_kept f odd word =
-      ap (λ (y : Paged). is_kept (frame_left (word_of y.ast n.uid page)) f) exact
+  odd_kept f odd word = ap (λ (y : Paged). is_kept (frame_left (word_of y.ast n.uid page)) f) exact
       ∙ rw (ne_eqb offset 0 odd, stays) (by (is_cleared past offset (Leaving f))
       ∙ ap not (cut_zeros f (page + 1) (size - (page + 1)) x))
     where
@@ -384,8 +377,7 @@ module _ {D : Type 0} (drive : D → List (List ℕ)) (t m u : Stored D) (n : No
         | inr other ↦ (let le = own.1 in
             rw (
               past_gone f own.0 (omega (arith, le, other)) own.3,
-              le-ltb (1024 * own.0) words
-                  (omega (arith, le, other)),
+              le-ltb (1024 * own.0) words (omega (arith, le, other)),
             ))
       ]
 
@@ -521,8 +513,7 @@ module _ {D : Type 0} (drive : D → List (List ℕ)) (t m : Stored D) (path : L
           (taken its.0 its.1) (pages its.0 its.1) (exact its.0 its.1) (others its.0 its.1) back_at path frames owns)
 
       pub truncate_committed : (k : ℕ) (frames : List ℕ) → OwnsFor old frames (command.Truncate path words)
-          → (o : Option ℕ) → o ≡ frame_left word
-          → IsCommittedBut drive t u k frames (command.Truncate path words) r o
+          → (o : Option ℕ) → o ≡ frame_left word → IsCommittedBut drive t u k frames (command.Truncate path words) r o
       truncate_committed k frames owns o is = record {
         committed = record {
           does = record {

@@ -13,7 +13,7 @@ member_at : (x : ℕ) (xs : List ℕ) → IsMember x xs → IsAt xs x
 member_at x [] m = absurd m
 member_at x (y ∷ ys) (inl e) = (0, omega arith, sym e)
 member_at x (y ∷ ys) (inr m) = let rest = member_at x ys m in let lt = rest.1 in
-    (suc rest.0, omega (arith, lt), rest.2)
+    (suc rest.0, omega arith, rest.2)
 
 any_place : (x : ℕ) (xs : List ℕ) → list_any (λ y. eqb y x) xs ≡ true → IsAt xs x
 any_place x xs h = let lt = some_within (λ y. eqb y x) xs h in
@@ -25,14 +25,12 @@ module _ (ns : List Node) (t : IsNodeTree ns) (u : ℕ) where
   -- a link is a directory, or the last one
   link_is : (x : ℕ) → IsAt (chain_of ns u) x → (has_directory ns x ≡ true) ⊎ (x ≡ u)
   link_is x at = elim (cases_lt (suc at.0) (length (chain_of ns u))) [
-    | inl lt ↦ inl (subst (λ (y : ℕ). has_directory ns y ≡ true) at.2
-        (subst (IsUp ns (get_or (chain_of ns u) (suc at.0) 0)) (chain_next ns t u at.0 lt)
+    | inl lt ↦ inl (rw (← at.2) (subst (IsUp ns (get_or (chain_of ns u) (suc at.0) 0)) (chain_next ns t u at.0 lt)
         (superior_up ns t (get_or (chain_of ns u) (suc at.0) 0))).1)
     | inr past ↦ (let long : length (chain_of ns u) ≡ length (u ∷ above ns u) = length-reverse (u ∷ above ns u) in
         let lt = at.1 in
-        let last : length (u ∷ above ns u) - 1 - at.0 ≡ 0 = omega (arith, long, lt, past) in
-        inr (sym at.2 ∙ get_or-reverse (u ∷ above ns u) at.0 0 (omega (arith, lt, long))
-        ∙ ap (λ (i : ℕ). get_or (u ∷ above ns u) i 0) last))
+        let last : length (u ∷ above ns u) - 1 - at.0 ≡ 0 = omega arith in
+        inr (cc (get_or-reverse (u ∷ above ns u) at.0 0 (omega (arith, lt, long)))))
   ]
 
   -- the superior of a link is the link before it
@@ -40,10 +38,10 @@ module _ (ns : List Node) (t : IsNodeTree ns) (u : ℕ) where
   above_link x s at e = by at.0 at.1 at.2
     where
       by : (i : ℕ) → i < length (chain_of ns u) → get_or (chain_of ns u) i 0 ≡ x → IsAt (chain_of ns u) s
-      by zero lt is = absurd (none_some (sym (chain_first ns t u) ∙ ap (superior_in ns) is ∙ e))
+      by zero lt is = cc (chain_first ns t u)
       by (suc i) lt is = (
         i,
-        omega (arith, lt),
+        omega arith,
         let same : Some (get_or (chain_of ns u) i 0) ≡ Some s =
             sym (chain_next ns t u i lt) ∙ ap (superior_in ns) is ∙ e in
             cc,
@@ -73,8 +71,7 @@ module _ (now : Plain) (ast : ActiveSegs) (links : Links) (a : AccountMaps) (who
       → IsInPool ast.sizes 0 place
   directory_pool place x at dir =
       let node = found_there a.nodes x (h.active.there place x at) in
-      subst (λ (pool : ℕ). IsInPool ast.sizes pool place)
-      (ap (λ (b : Bool). cond b 0 (pool_for node.0.pages)) (sym (directory_found a.nodes x node.0 node.1) ∙ dir))
+      rw (← (ap (λ (b : Bool). cond b 0 (pool_for node.0.pages)) (sym (directory_found a.nodes x node.0 node.1) ∙ dir)))
       (h.active.pools place x node.0 at node.1)
 
   module _ (tree : IsTree ast.entries) (pools : ArePools ast.sizes) (v : ℕ)
@@ -86,11 +83,10 @@ module _ (now : Plain) (ast : ActiveSegs) (links : Links) (a : AccountMaps) (who
     -- the first pool has more places than the chain has links
     in_first : pool_of n ≡ 0 → HasOneOffChain ast (pool_of n) (chain_of a.nodes u)
     in_first zeroth = pool_one_off ast (pool_of n) (chain_of a.nodes u) tree.once
-        (λ i lt. full (first_of ast.sizes (pool_of n) + i) (record { from = omega arith; to = omega (arith, lt) }))
+        (λ i lt. full (first_of ast.sizes (pool_of n) + i) (record { from = omega arith; to = omega arith }))
         (let most = chain_length a.nodes t u in
-        let many : 12 ≤ size_of ast.sizes (pool_of n) =
-        subst (λ (pool : ℕ). 12 ≤ size_of ast.sizes pool) (sym zeroth) (first_pool ast.sizes pools) in
-        omega (arith, most, many))
+        let many : 12 ≤ size_of ast.sizes (pool_of n) = rw zeroth (first_pool ast.sizes pools) in
+        omega arith)
 
     -- of another pool the chain has its last link at the most, which isn't active
     in_other : pool_of n ≢ 0 → HasOneOffChain ast (pool_of n) (chain_of a.nodes u)
@@ -110,13 +106,11 @@ module _ (now : Plain) (ast : ActiveSegs) (links : Links) (a : AccountMaps) (who
         within = record { from = omega arith; to = let some = after.0 in omega (arith, some) }
 
         here : IsAt (chain_of a.nodes u) v
-        here = member_at v (chain_of a.nodes u)
-            (found_member (λ w. not (is_active ast w)) (chain_of a.nodes u) v first)
+        here = member_at v (chain_of a.nodes u) (found_member (λ w. not (is_active ast w)) (chain_of a.nodes u) v first)
 
         last : v ≡ u
         last = elim (link_is a.nodes t u v here) [
-          | inl dir ↦ absurd (other (ap (λ (b : Bool). cond b 0 (pool_for n.pages))
-              (sym (directory_found a.nodes v n node) ∙ dir)))
+          | inl dir ↦ absurd (other (cc (directory_found a.nodes v n node)))
           | inr same ↦ same
         ]
 
@@ -146,8 +140,7 @@ module _ (now : Plain) (ast : ActiveSegs) (links : Links) (a : AccountMaps) (who
       → HasOneOffChain ast (pool_of_node (node_in a.nodes v)) (chain_of a.nodes u)
   chain_one_off tree pools there v first full =
       let node = found_there a.nodes v (first_there a.nodes t ast u v there first) in
-      subst (λ (o : Option Node). HasOneOffChain ast (pool_of_node o) (chain_of a.nodes u)) (sym node.1)
-      (one_off tree pools v first node.0 node.1
+      rw node.1 (one_off tree pools v first node.0 node.1
       (subst (λ (o : Option Node). IsFull ast (pool_of_node o)) node.1 full))
 
 -- ---- a chain by its end
@@ -169,12 +162,12 @@ module _ (ns : List Node) (t : IsNodeTree ns) (ast : ActiveSegs) (x v : ℕ)
     where
       by : (r : Option ℕ) → find idle ys ≡ r → r ≡ None
       by None e = refl
-      by (Some z) e = absurd (none_some (sym h ∙ found_front idle ys (w ∷ []) z e))
+      by (Some z) e = cc (found_front idle ys (w ∷ []) z e)
 
   none_fails : (xs : List ℕ) → find idle (reverse xs) ≡ None → AllFail idle xs
   none_fails [] h = tt
   none_fails (w ∷ ws) h =
-      let at = sym (ap (find idle) (reverse_onto ws w [])) ∙ h in
+      let at = sym (cc (reverse_onto ws w [])) ∙ h in
       let front = none_front (reverse ws) w at in
       (one (idle w) (sym (past_front idle (reverse ws) (w ∷ []) front) ∙ at), none_fails ws front)
     where
@@ -184,34 +177,33 @@ module _ (ns : List Node) (t : IsNodeTree ns) (ast : ActiveSegs) (x v : ℕ)
 
   -- what is above the first of a chain that isn't active is active
   above_first : (xs : List ℕ) → IsChain (above ns) xs → find idle (reverse xs) ≡ Some v → AllFail idle (above ns v)
-  above_first [] chain h = absurd (none_some h)
+  above_first [] chain h = cc
   above_first (w ∷ ws) chain h = by (find idle (reverse ws)) refl (above_first ws chain.2)
     where
       at : find idle (reverse ws ++ w ∷ []) ≡ Some v
-      at = sym (ap (find idle) (reverse_onto ws w [])) ∙ h
+      at = cc (reverse_onto ws w [])
 
       alone : (b : Bool) → cond b (Some w) None ≡ Some v → w ≡ v
       alone true i = let is : w ≡ v = cc in is
-      alone false i = absurd (none_some i)
+      alone false i = cc
 
       by : (r : Option ℕ) → find idle (reverse ws) ≡ r → (find idle (reverse ws) ≡ Some v → AllFail idle (above ns v))
           → AllFail idle (above ns v)
       by (Some z) e rest = rest (e ∙ (sym (found_front idle (reverse ws) (w ∷ []) z e) ∙ at))
-      by None e rest = subst (AllFail idle)
-          (chain.0 ∙ ap (above ns) (alone (idle w) (sym (past_front idle (reverse ws) (w ∷ []) e) ∙ at)))
+      by None e rest = subst (AllFail idle) (cc (alone (idle w) (sym (past_front idle (reverse ws) (w ∷ []) e) ∙ at)))
           (none_fails ws e)
 
   none_idle : (xs : List ℕ) → AllFail idle xs → find idle (reverse xs) ≡ None
   none_idle [] h = refl
-  none_idle (w ∷ ws) h = ap (find idle) (reverse_onto ws w [])
-      ∙ past_front idle (reverse ws) (w ∷ []) (none_idle ws h.1)
-      ∙ ap (λ (b : Bool). cond b (Some w) None) h.0
+  none_idle (w ∷ ws) h = cc (reverse_onto ws w [], past_front idle (reverse ws) (w ∷ []) (none_idle ws h.1))
 
   -- the first link that isn't active is the first of its own chain
   pub own_chain : first_inactive ast (chain_of ns v) ≡ Some v
-  own_chain = ap (find idle) (reverse_onto (above ns v) v [])
-      ∙ past_front idle (reverse (above ns v)) (v ∷ []) (none_idle (above ns v) above_active)
-      ∙ ap (λ (b : Bool). cond b (Some v) None) (find_true idle (chain_of ns x) v first)
+  own_chain = cc (
+    reverse_onto (above ns v) v [],
+    past_front idle (reverse (above ns v)) (v ∷ []) (none_idle (above ns v) above_active),
+    find_true idle (chain_of ns x) v first,
+  )
     where
       chains : HasChains ns
       chains = has_chains ns t

@@ -6,12 +6,11 @@ use Rattle.machine_tables.proofs.TakeLaws.{word_put}
 -- the page of a bound frame is on its way out once it is taken
 pub taken_leaving : (st : Storage) (f : ℕ) → is_bound (frame_in st.pages f) ≡ true → AreHere st
     → IsLeaving (with_leaving st f) f
-taken_leaving st f bound here =
-    subst (λ (o : Option (ℕ × ℕ)). IsLeaving (leaving_if st f o) f) (sym page) (record {
-      bound = bound;
-      leaving = ap (λ (o : Option (ℕ × ℕ)). word_of (worded st.ast x.0 x.1 (Leaving f)) (page_or_zero o).0
-          (page_or_zero o).1) page ∙ word_put st.ast x.0 x.1 (Leaving f) (word_within st.ast x.0 x.1 (λ e. cc word)).1;
-    })
+taken_leaving st f bound here = rw page (record {
+  bound = bound;
+  leaving = ap (λ (o : Option (ℕ × ℕ)). word_of (worded st.ast x.0 x.1 (Leaving f)) (page_or_zero o).0
+      (page_or_zero o).1) page ∙ word_put st.ast x.0 x.1 (Leaving f) (word_within st.ast x.0 x.1 (λ e. cc word)).1;
+})
   where
     x : ℕ × ℕ
     x = page_in st f

@@ -25,16 +25,15 @@ module _ (now : Plain) (ast : ActiveSegs) (links : Links) (a : AccountMaps) (who
 
   last : (i : ℕ) → suc i ≡ length chain → get_or chain i 0 ≡ u
   last i end = let none : length (u ∷ above a.nodes u) - 1 - i ≡ 0 = omega (arith, long, end) in
-      get_or-reverse (u ∷ above a.nodes u) i 0 (omega (arith, long, end))
-      ∙ ap (λ (k : ℕ). get_or (u ∷ above a.nodes u) k 0) none
+      cc (get_or-reverse (u ∷ above a.nodes u) i 0 (omega (arith, long, end)))
 
   each : (n i : ℕ) → suc (i + n) ≡ length chain → is_active ast (get_or chain i 0) ≡ true
-  each zero i end = subst (λ (x : ℕ). is_active ast x ≡ true) (sym (last i (omega (arith, end)))) active
-  each (suc n) i end = before i (omega (arith, end)) (each n (suc i) (omega (arith, end)))
+  each zero i end = subst (λ (x : ℕ). is_active ast x ≡ true) (sym (last i (omega arith))) active
+  each (suc n) i end = before i (omega arith) (each n (suc i) (omega arith))
 
   whole_chain : first_inactive ast chain ≡ None
   whole_chain = find_none (λ x. not (is_active ast x)) 0 chain
-      (λ i less. ap not (each (length chain - suc i) i (omega (arith, less))))
+      (λ i less. ap not (each (length chain - suc i) i (omega arith)))
 
 -- of a node that is active no superior is inactive
 pub active_whole : (s : State) (u : ℕ) → MayLook s → is_active s.store.ast u ≡ true
@@ -49,12 +48,9 @@ pub next_first : (s : State) (u w : ℕ) → MayLook s → is_there s.store.acco
 next_first s u w h there idle up active =
     let ns = s.store.accounts.nodes in
     let node = found_there ns u there in
-    let over : superior_in ns u ≡ Some w = superior_found ns u node.0 node.1
-    ∙ (sym (ap superior_of_node node.1) ∙ up) in
+    let over : superior_in ns u ≡ Some w = superior_found ns u node.0 node.1 ∙ (cc) in
     let above_is : above ns u ≡ w ∷ above ns w = above_once ns h.keeps.store.accounts.tree u
     ∙ ap (step_up (above ns)) over in
     let chain_is : chain_of ns u ≡ chain_of ns w ++ u ∷ [] = ap (λ (xs : List ℕ). reverse (u ∷ xs)) above_is
     ∙ turned u (w ∷ above ns w) in
-    ap (first_inactive s.store.ast) chain_is
-    ∙ past_front (λ x. not (is_active s.store.ast x)) (chain_of ns w) (u ∷ []) (active_whole s w h active)
-    ∙ ap (λ (b : Bool). cond (not b) (Some u) None) idle
+    cc (past_front (λ x. not (is_active s.store.ast x)) (chain_of ns w) (u ∷ []) (active_whole s w h active))

@@ -3,4 +3,4 @@ use Rattle.machine_tables.proofs.ActiveLaws.{search_tells}
 use Rattle.machine_tables.proofs.chains.is_active.Goals as goal
 
 pub returns : goal.returns
-returns c = c.is_some.ensures ∙ search_tells c.args.ast.now c.args.uid c.search.result c.search.ensures.only
+returns c = cc (search_tells c.args.ast.now c.args.uid c.search.result c.search.ensures.only)

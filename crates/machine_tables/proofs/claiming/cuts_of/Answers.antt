@@ -4,4 +4,4 @@ use Rattle.machine_tables.proofs.claiming.cuts_of.Goals as goal
 
 pub returns-in-Terminate-clause-number : goal.returns-in-Terminate-clause-number
 returns-in-Terminate-clause-number c = λ volumes h. terminate_small volumes c.in-Terminate.number
-    (subst (λ (x : Command). is_command volumes x ≡ true) c.in-Terminate.is h)
+    (rw (← c.in-Terminate.is) h)

@@ -10,20 +10,17 @@ gone : {D : Type 0} (drive : D → List (List ℕ)) (old new : Stored D) (k : �
     → ((frames : List ℕ) → map (left_entry None) frames ≡ map (frame_entry (shown drive old) y) frames)
     → ((frames : List ℕ) → OwnsFor (shown drive old) frames y → IsCommitted drive old new k frames y r)
     → (frames : List ℕ) → OwnsFor (shown drive old) frames x → IsCommittedBut drive old new k frames x r None
-gone drive old new k r is left committed = subst (λ (c : Command). (frames : List ℕ)
-    → OwnsFor (shown drive old) frames c → IsCommittedBut drive old new k frames c r None) (sym is)
-    (λ frames owns. record {
-      committed = committed frames owns;
-      left = λ p flat faithful takes. left frames;
-    })
+gone drive old new k r is left committed = rw is (λ frames owns. record {
+  committed = committed frames owns;
+  left = λ p flat faithful takes. left frames;
+})
 
 pub make_dir-requires-clause-volume : goal.make_dir-requires-clause-volume
 make_dir-requires-clause-volume g c = dir_volume _ c.in-MkDir.path c.in-MkDir.volume
     (ranges _ c.in-MkDir.is c.requires.ranges)
 
 pub make_seg-requires-clause-process : goal.make_seg-requires-clause-process
-make_seg-requires-clause-process g c =
-    subst (λ (n : ℕ). c.args.process < n) (sym c.look.ensures.store.known.processes) c.requires.knows
+make_seg-requires-clause-process g c = rw c.look.ensures.store.known.processes c.requires.knows
 
 pub make_seg-requires-clause-volume : goal.make_seg-requires-clause-volume
 make_seg-requires-clause-volume g c = seg_volume _ c.in-MkSeg.path c.in-MkSeg.pages c.in-MkSeg.volume
@@ -69,8 +66,4 @@ pub returns-in-Status : goal.returns-in-Status
 returns-in-Status g c = gone _ _ _ _ _ c.in-Status.is (λ fs. refl) (λ fs owns. c.status.ensures c.args.process fs)
 
 pub returns-in-Truncate : goal.returns-in-Truncate
-returns-in-Truncate g c = subst (λ (x : Command). (frames : List ℕ)
-    → OwnsFor (shown g.D.Drive.pages c.args.store.now) frames x
-    → IsCommittedBut g.D.Drive.pages c.args.store.now c.truncate.new.store c.args.process frames x c.truncate.result.0
-    c.truncate.result.1)
-    (sym c.in-Truncate.is) (λ frames owns. c.truncate.ensures c.args.process frames owns)
+returns-in-Truncate g c = rw c.in-Truncate.is (λ frames owns. c.truncate.ensures c.args.process frames owns)

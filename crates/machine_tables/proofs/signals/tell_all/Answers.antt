@@ -8,10 +8,7 @@ loop-at-init c = none_told _ _ _
 pub loop-at-preserved : goal.loop-at-preserved
 loop-at-preserved c =
     next_told _ _ c.loop-at.at c.args.processors.now c.loop-at.processors c.index-processors-at.result _
-    c.loop-at-test.true c.loop-at.invariant
-    c.tell_one.ensures
+    c.loop-at-test.true c.loop-at.invariant c.tell_one.ensures
 
 pub returns : goal.returns
-returns c =
-    told_all _ _ c.loop-at.at c.args.processors.now c.loop-at.processors
-    (let a = c.loop-at-test.false in let b = c.loop-at.auto.at-end in omega (arith, a, b)) c.loop-at.invariant
+returns c = told_all _ _ c.loop-at.at c.args.processors.now c.loop-at.processors (omega arith) c.loop-at.invariant

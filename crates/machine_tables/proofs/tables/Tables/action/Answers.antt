@@ -9,5 +9,4 @@ pub returns-then-is_over_at : goal.returns-then-is_over_at
 returns-then-is_over_at g c = over_rule c.args.self.now.state c.args.c (search rules) (search rules)
 
 pub returns-else-is_over_at : goal.returns-else-is_over_at
-returns-else-is_over_at g c =
-    c.work.ensures ∙ work_rule c.args.self.now.state c.args.c (search rules) (search rules)
+returns-else-is_over_at g c = cc (work_rule c.args.self.now.state c.args.c (search rules) (search rules))

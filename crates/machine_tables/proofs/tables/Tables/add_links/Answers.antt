@@ -6,14 +6,11 @@ link-requires g c =
     let st : Storage = c.args.self.now.state.store in
     let i : ℕ = c.loop-uid.uid-index in
     let items : c.as_slice-uid-items.result.now ≡ chain_of st.accounts.nodes c.args.of =
-    c.as_slice-uid-items.ensures.value ∙ (c.chain-chain.ensures.chain
-    ∙ ap (λ (a : AccountMaps). chain_of a.nodes c.args.of) c.accounts.ensures.accounts) in
-    let lt : i < length (chain_of st.accounts.nodes c.args.of) =
-    subst (λ (xs : List ℕ). i < length xs) items c.loop-uid-test.true in
+    c.as_slice-uid-items.ensures.value ∙ (cc) in
+    let lt : i < length (chain_of st.accounts.nodes c.args.of) = rw (← items) c.loop-uid-test.true in
     ap (λ (t : Parts g.row.D.Denot). is_there t.state.store.accounts.nodes
     (get_or c.as_slice-uid-items.result.now i 0)) c.self.view_is
-    ∙ (ap (λ (xs : List ℕ). is_there st.accounts.nodes (get_or xs i 0)) items
-    ∙ chain_there st.accounts.nodes c.accounts.ensures.tree c.args.of c.requires.there i lt)
+    ∙ (cc (chain_there st.accounts.nodes c.accounts.ensures.tree c.args.of c.requires.there i lt))
 
 pub loop-uid-init : goal.loop-uid-init
 loop-uid-init g c = c.requires.empty

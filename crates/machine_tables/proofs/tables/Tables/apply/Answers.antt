@@ -10,8 +10,7 @@ take_effect-requires-clause-ready g c =
     let same : next_command c.args.self.now.state c.args.process ≡ Some c.in-Some.command.now =
     sym (ap (λ (t : Parts g.row.D.Denot). next_command t.state c.args.process) c.self.view_is) ∙ at in
     ready_of g.D.Drive.pages c.self.inside.store c.args.process c.in-Some.command.now
-    (subst (λ (st : Storage). IsReadyFor st c.args.process c.in-Some.command.now)
-    (sym (ap (λ (t : Parts g.row.D.Denot). t.state.store) c.self.view_is))
+    (rw (ap (λ (t : Parts g.row.D.Denot). t.state.store) c.self.view_is)
     (applies c.args.self.now c.args.process c.requires.1 same).ready_for)
 
 pub returns : goal.returns

@@ -3,17 +3,14 @@ use Rattle.machine_tables.proofs.FirstLaws.{says_boot, store_first}
 use Rattle.machine_tables.proofs.tables.Tables.boot.Goals as goal
 
 pub returns-clause-state : goal.returns-clause-state
-returns-clause-state g c =
-    c.in_ok-tables.ensures.state
-    ∙ ap (λ (st : Storage). first_state c.args.script st c.in_ok-tables.tables.state.spare
-    (sum_by g.D.Drive.faults c.in_ok-store.store.segs.pages.volumes.drives))
-    (store_first g.D.Drive.pages c.args.script c.args.volumes c.requires.count c.requires.fresh
-    c.promise.ensures.parts c.in_ok-store.store c.in_ok-store.ensures.accounts c.in_ok-store.ensures.pages
-    c.in_ok-store.ensures.inactive c.in_ok-store.ensures.links c.in_ok-store.ensures.whos
-    c.in_ok-store.ensures.still)
-    ∙ ap (λ (ds : List g.row.D.Denot). first_state c.args.script
-    (first_store c.args.script (first_words c.args.script.frames) (map g.D.Drive.pages c.args.volumes.drives))
-    c.in_ok-tables.tables.state.spare (sum_by g.D.Drive.faults ds)) c.in_ok-store.ensures.drives
+returns-clause-state g c = cc (
+  c.in_ok-tables.ensures.state,
+  store_first g.D.Drive.pages c.args.script c.args.volumes c.requires.count
+      c.requires.fresh c.promise.ensures.parts c.in_ok-store.store c.in_ok-store.ensures.accounts
+      c.in_ok-store.ensures.pages c.in_ok-store.ensures.inactive c.in_ok-store.ensures.links
+      c.in_ok-store.ensures.whos c.in_ok-store.ensures.still,
+  c.in_ok-store.ensures.drives,
+)
 
 pub returns-clause-says : goal.returns-clause-says
 returns-clause-says g c =

@@ -15,6 +15,5 @@ returns-clause-effect g c = elim c.if-ends.branch [
       c.args.c c.args.process c.apply-reply.result.1 c.goes_inactive-inactive.result c.apply-reply.result.0 c.requires.0
       c.requires.1.applies.next c.apply-reply.ensures.left c.requires.1.its c.goes_inactive-inactive.ensures
       c.apply-reply.ensures.reply c.apply-reply.ensures.effect c.let_all_go.ensures.effect c.tell.ensures
-      c.end.new.self c.ends-ends.result (c.self.view_is ∙ w.self-is) c.end.ensures c.ends-ends.ensures
-      w.if-ends.false
+      c.end.new.self c.ends-ends.result (c.self.view_is ∙ w.self-is) c.end.ensures c.ends-ends.ensures w.if-ends.false
 ]

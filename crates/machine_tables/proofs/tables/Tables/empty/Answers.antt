@@ -6,5 +6,5 @@ take_segment-requires-clause-takes g c = record {
   owner = c.requires.owner;
   pages = c.requires.pages;
   descriptors = c.requires.descriptors;
-  room = (let all = c.requires.room in omega (arith, all));
+  room = (omega arith);
 }

@@ -7,7 +7,7 @@ returns-then-is_connected g c =
     let test = c.loop-number-test.true in
     sym (some_pair c.args.process
     (λ n. is_connected (descriptor_of c.args.self.now.state.store.links c.args.process n)) 0 256 c.loop-number.number
-    (omega arith) (omega (arith, test)) (search rules))
+    (omega arith) (omega arith) (search rules))
 
 pub loop-number-preserved : goal.loop-number-preserved
 loop-number-preserved g c = none_next (λ n. is_connected
@@ -18,4 +18,4 @@ pub returns : goal.returns
 returns g c =
     let test = c.loop-number-test.false in
     no_pairs c.args.process (λ n. is_connected (descriptor_of c.args.self.now.state.store.links c.args.process n)) 256
-    (λ n lt. c.loop-number.invariant n (omega (arith, lt, test)))
+    (λ n lt. c.loop-number.invariant n (omega arith))

@@ -4,4 +4,4 @@ use Rattle.machine_tables.proofs.tables.Tables.is_next.Goals as goal
 
 pub returns-in-Some : goal.returns-in-Some
 returns-in-Some g c = λ active. next_first c.args.self.now.state c.args.of c.in-Some.above c.requires.looks
-    c.requires.there c.requires.idle (sym c.superior.ensures ∙ c.in-Some.is) (sym c.is_active.ensures.tells ∙ active)
+    c.requires.there c.requires.idle (cc) (cc)

@@ -9,8 +9,7 @@ join_next-requires-clause-off g c = free_to_go c.args.self.now.state.store c.arg
 pub unreachable-requires : goal.unreachable-requires
 unreachable-requires g c = must_join c.args.self.now.state.store c.join_next.new.self.state.store c.args.of
     c.promise.ensures.counted c.promise.ensures.accounts.tree c.requires.there _ c.join_next.ensures.next
-    c.requires.first
-    c.requires.free c.in-Victim.is
+    c.requires.first c.requires.free c.in-Victim.is
 
 pub returns-clause-place : goal.returns-clause-place
 returns-clause-place g c = joined_place c.args.self.now.state.store c.join_next.new.self.state.store c.args.of

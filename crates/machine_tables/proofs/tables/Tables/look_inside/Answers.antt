@@ -16,6 +16,5 @@ look_at_page-requires-clause-page g c =
     c.requires.inside active)
 
 pub look_at_page-requires-clause-segment : goal.look_at_page-requires-clause-segment
-look_at_page-requires-clause-segment g c =
-    rw c.uid_of_number-uid.ensures
+look_at_page-requires-clause-segment g c = rw c.uid_of_number-uid.ensures
     (segment_is c.args.self.now.state c.args.process c.args.reference c.requires.looks.keeps c.requires.inside)

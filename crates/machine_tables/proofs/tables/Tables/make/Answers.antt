@@ -22,8 +22,7 @@ unreachable-requires g c =
     ap (λ (t : Parts g.row.D.Denot). t.state.store) c.self.view_is in
     let done = made_surely g.D.Drive.pages c.self.inside.store s.store c.args.process c.args.f c.args.reference.now
     s.plan (flat_of s) c.create-made.result inner c.requires.makeable.place c.requires.makeable.faithful
-    c.requires.makeable.room
-    c.create-made.ensures.answer in
+    c.requires.makeable.room c.create-made.ensures.answer in
     let no = sym c.in-Err.is ∙ done in cc
 
 pub returns-clause-made : goal.returns-clause-made

@@ -9,12 +9,9 @@ join_next-requires-clause-off g c = off_to_go c.args.self.now.state.store c.args
 pub unreachable-requires : goal.unreachable-requires
 unreachable-requires g c = must_pass c.args.self.now.state.store c.join_next.new.self.state.store c.args.of
     c.promise.ensures.counted c.promise.ensures.accounts.tree c.requires.victim.there _ c.join_next.ensures.next
-    c.requires.victim
-    c.in-Activated.is
+    c.requires.victim c.in-Activated.is
 
 pub returns : goal.returns
-returns g c = c.in-Victim.ensures.rest
-    ∙ ap (λ (st : Storage). with_state c.args.self.now (with_store c.args.self.now.state st))
-    (passed_is c.args.self.now.state.store c.join_next.new.self.state.store c.args.of
-    c.promise.ensures.counted c.promise.ensures.accounts.tree c.requires.victim.there
-    c.in-Victim.ensures.next.0 c.in-Victim.ensures.next.1)
+returns g c = cc (passed_is c.args.self.now.state.store c.join_next.new.self.state.store c.args.of
+    c.promise.ensures.counted c.promise.ensures.accounts.tree c.requires.victim.there c.in-Victim.ensures.next.0
+    c.in-Victim.ensures.next.1)

@@ -6,8 +6,7 @@ use Rattle.machine_tables.proofs.tables.Tables.reach.Goals as goal
 pub returns-in-Some-clause-effect : goal.returns-in-Some-clause-effect
 returns-in-Some-clause-effect g c =
     reached c.args.self.now _ _ c.args.f _ c.args.reference.now c.requires c.read-old.ensures.effect
-    c.write.ensures.effect
-    (search rules) (search rules)
+    c.write.ensures.effect (search rules) (search rules)
 
 pub returns-in-Some-clause-shown : goal.returns-in-Some-clause-shown
 returns-in-Some-clause-shown g c = λ p t h. through_shown c.args.self.now _ _ c.args.f _ c.args.reference.now p t

@@ -11,5 +11,4 @@ pub returns-clause-leaving : goal.returns-clause-leaving
 returns-clause-leaving g c =
     let effect : c.note.new.self ≡ with_state c.args.self.now (page_taken c.args.self.now.state c.args.f) =
     search rules in
-    subst (λ (t : Parts g.row.D.Denot). IsLeaving t.state.store c.args.f) (sym effect)
-    (taken_leaving c.args.self.now.state.store c.args.f c.requires.bound c.requires.here)
+    rw effect (taken_leaving c.args.self.now.state.store c.args.f c.requires.bound c.requires.here)

@@ -5,10 +5,10 @@ use Rattle.machine_tables.proofs.tables.Tables.take_pages.Goals as goal
 
 -- a page before the end of a table, or past it, by the length that was found at first
 before : {p now first found : ℕ} → now ≡ first → found ≡ first → p < found → p < now
-before same size lt = omega (arith, same, size, lt)
+before same size lt = omega arith
 
 past : {p now first found : ℕ} → now ≡ first → found ≡ first → found ≤ p → now ≤ p
-past same size le = omega (arith, same, size, le)
+past same size le = omega arith
 
 pub take_page-requires-clause-few : goal.take_page-requires-clause-few
 take_page-requires-clause-few g c = (here_few c.loop-p.invariant.on
@@ -19,8 +19,7 @@ take_page-requires-clause-room g c = (here_few c.loop-p.invariant.on
     (before c.loop-p.invariant.on.long c.table_size-p-end.ensures c.loop-p-test.true)).1
 
 pub take_page-requires-clause-page : goal.take_page-requires-clause-page
-take_page-requires-clause-page g c =
-    before c.loop-p.invariant.on.long c.table_size-p-end.ensures c.loop-p-test.true
+take_page-requires-clause-page g c = before c.loop-p.invariant.on.long c.table_size-p-end.ensures c.loop-p-test.true
 
 pub loop-p-preserved : goal.loop-p-preserved
 loop-p-preserved g c = record {

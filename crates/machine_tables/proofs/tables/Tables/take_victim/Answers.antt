@@ -4,7 +4,5 @@ use Rattle.machine_tables.proofs.tables.Tables.take_victim.Goals as goal
 
 pub empty-requires-clause-bare : goal.empty-requires-clause-bare
 empty-requires-clause-bare g c =
-    subst (λ (t : Parts g.row.D.Denot). is_bare (frames_from t.state.store.ast c.args.uid 0)
-    (trailers_in t.state.store c.args.uid) ≡ true → IsEmptied t.state.store c.args.uid) (sym c.pass_hand.ensures)
-    (bare_after c.args.self.now.state.store (wanted_pool c.args.self.now.state.store c.args.of)
+    rw c.pass_hand.ensures (bare_after c.args.self.now.state.store (wanted_pool c.args.self.now.state.store c.args.of)
     (chain_of c.args.self.now.state.store.accounts.nodes c.args.of) c.args.uid c.requires.bare)

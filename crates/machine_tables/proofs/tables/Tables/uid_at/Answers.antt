@@ -9,7 +9,6 @@ returns-in-Ok g c =
     ∙ ap (λ (t : Parts g.row.D.Denot). t.state.store.accounts) c.self.view_is)
 
 pub returns-in-Err : goal.returns-in-Err
-returns-in-Err g c =
-    path_fails c.accounts.result.now.nodes c.args.path.now c.in-Err.field-0 c.in-Err.ensures.answer
+returns-in-Err g c = path_fails c.accounts.result.now.nodes c.args.path.now c.in-Err.field-0 c.in-Err.ensures.answer
     ∙ ap (λ (a : AccountMaps). uid_of_node (node_at a.nodes c.args.path.now)) (c.accounts.ensures.accounts
     ∙ ap (λ (t : Parts g.row.D.Denot). t.state.store.accounts) c.self.view_is)
