@@ -1,7 +1,8 @@
 -- What the tables ask of a processor that acts by itself follows from the promise and the rule.
-use Rattle.machine.proofs.Prelude.{◌≡◌, ◌<◌, ◌≤◌, ◌+◌, ◌-◌, ◌^◌, ◌/◌, ℕ, Bool, true, false, ◌||◌, ◌&&◌, cond, eqb, length, map, List, [], ◌∷◌, Option, Some, None, refl, sym, ap, subst, ◌∙◌, inl, inr, arith, find, length-le_from_distinct_below, eqb_tells, HeldPage, HeldSeg, is_number, is_page, page_of, seg_of, Command, is_end, place_fits, place_within, custody_after, Custody, Seat, has, range, released_by, Action, action_of, no_call, AreDistinct, AreHeldPages, names, held_page, Reference, cpu_at, descriptor_of, next_command, processor_at, run_at, shown, speaks, led_to, seen, Who, sdws_at, leb_tells, length-map, get_or_past, none_some, State, Asks, action_can, CanDo, CanFill, to_hold, Parts, IsSound, MayAnswer, and_both, distinct_of, none_listed, or_parts, range_length, any_turned}
+use Rattle.machine.proofs.Prelude.{◌≡◌, ◌<◌, ◌≤◌, ◌+◌, ◌-◌, ◌^◌, ◌/◌, ℕ, Bool, true, false, ◌||◌, ◌&&◌, cond, eqb, length, map, List, [], ◌∷◌, Option, Some, None, refl, sym, ap, subst, ◌∙◌, inl, inr, arith, find, length-le_from_distinct_below, eqb_tells, HeldPage, HeldSeg, is_number, is_page, page_of, seg_of, Command, is_end, place_fits, place_within, custody_after, Custody, Seat, has, range, released_by, Action, no_call, AreDistinct, AreHeldPages, held_page, Reference, cpu_at, next_command, processor_at, run_at, shown, speaks, led_to, seen, Who, sdws_at, leb_tells, length-map, get_or_past, none_some, State, Asks, action_can, CanDo, CanFill, Parts, IsSound, MayAnswer, and_both, distinct_of, none_listed, or_parts, range_length, any_turned, or_zero, some_same, and_parts, eqb-true, eqb_self, to_hold}
 use Rattle.machine_model.specs.Actions as act
 use Rattle.machine.proofs.CountedLaws.{counted_after}
+use Rattle.machine.proofs.Does.{Does, keeps_of}
 use Rattle.descriptor_seg.specs.declared.Sdw.TheVariants as sdw
 
 -- ---- ready processes
@@ -10,13 +11,14 @@ use Rattle.descriptor_seg.specs.declared.Sdw.TheVariants as sdw
 short : (n : ℕ) (xs : List ℕ) → AreDistinct xs → ((q : ℕ) → has xs q ≡ true → q < n) → length xs ≤ n
 short n xs once below = length-le_from_distinct_below xs n (distinct_of xs once) (λ q h. below q (any_turned xs q h))
 
-module _ {D : Type 0} (t : Parts D) (c : ℕ) (sound : IsSound t) where
+module _ {D : Type 0} {t : Parts D} (sound : IsSound t) (c : ℕ) {k : ℕ}
+    (its : (cpu_at t.state.processors c).process ≡ Some k) where
   abbrev s : State
   s = t.state
 
   -- The ready list has room for the process of a processor.
-  pub ready_room : (k : ℕ) → (cpu_at s.processors c).process ≡ Some k → length s.ready < t.room
-  ready_room k its =
+  pub ready_room : length s.ready < t.room
+  ready_room =
       let scheduled = sound.keeps.machine.scheduled in
       let planned = (scheduled.running c k its).planned in
       let long : length (k ∷ s.ready) ≤ length s.plan.processes = short (length s.plan.processes) (k ∷ s.ready)
@@ -26,17 +28,24 @@ module _ {D : Type 0} (t : Parts D) (c : ℕ) (sound : IsSound t) where
     where
       both : (q : ℕ) → k < length s.plan.processes → has (k ∷ s.ready) q ≡ true → q < length s.plan.processes
       both q planned h = elim (eqb_tells k q) [
-        | inl e ↦ subst (λ (j : ℕ). j < length s.plan.processes) e.1 planned
+        | inl e ↦ rw (← e.1) planned
         | inr n ↦ (sound.keeps.machine.scheduled.waiting q
             (subst (λ (b : Bool). (b || has s.ready q) ≡ true) n.0 h)).planned
       ]
 
-  -- The process of a processor is one of those that run.
-  pub run_there : (k : ℕ) → (cpu_at s.processors c).process ≡ Some k → k < length s.runs
-  run_there k its =
-      let planned = (sound.keeps.machine.scheduled.running c k its).planned in
-      let sizes = sound.keeps.machine.keeps.sizes.processes in
-      omega (arith, planned, sizes)
+  planned : k < length s.plan.processes
+  planned = (sound.keeps.machine.scheduled.running c k its).planned
+
+  -- The process of a processor is one of those that run, and has numbers.
+  pub run_there : k < length s.runs
+  run_there = omega (arith, sound.keeps.machine.keeps.sizes.processes, planned)
+
+  pub process_known : k < length s.store.links.known
+  process_known =
+      let whos : length s.store.whos ≡ length s.plan.processes =
+      ap (λ (xs : List Who). length xs) sound.keeps.machine.keeps.faithful.script.whos
+      ∙ length-map s.plan.processes (λ x. x.who) in
+      omega (arith, whos, sound.keeps.machine.keeps.store.counted.known.processes, planned)
 
 -- ---- what is taken in
 
@@ -44,58 +53,41 @@ module _ {D : Type 0} (t : Parts D) (c : ℕ) (sound : IsSound t) where
 seg_new : (es : List HeldSeg) (n : ℕ) → has (map (λ e. e.number) es) n ≡ false → find (is_number n) es ≡ None
 seg_new [] n h = refl
 seg_new (e ∷ es) n h = let both = or_parts (eqb e.number n) (has (map (λ x. x.number) es) n) h in
-    by (eqb e.number n) both.0 (seg_new es n both.1)
-  where
-    by : (b : Bool) → b ≡ false → find (is_number n) es ≡ None → cond b (Some e) (find (is_number n) es) ≡ None
-    by true h rest = absurd (let no : true ≡ false = h in cc)
-    by false h rest = rest
+    let rest = seg_new es n both.1 in rw both.0 rest
 
-module _ {D : Type 0} (t : Parts D) (c : ℕ) (sound : IsSound t) (there : c < length t.state.processors) where
+-- what the rules found can be done
+can : {D : Type 0} {t : Parts D} {c : ℕ} {a : Action} → Does t c a → Asks t.state c (no_call t.state) a
+    → CanDo t.state c (no_call t.state) a
+can {D} {t} {c} d asks = rw d.may.doing at (action_can t.state c (no_call t.state) (keeps_of d) d.may.there
+    (rw d.may.doing asks))
+
+module _ {D : Type 0} {t : Parts D} {c n : ℕ} (d : Does t c (act.FillSeg n)) where
   abbrev u : State
   u = t.state
 
-  can_fill : (n : ℕ) → action_of u c ≡ act.FillSeg n → CanFill u c n
-  can_fill n doing = subst (λ (a : Action). CanDo u c (no_call u) a) doing
-      (action_can u c (no_call u) sound.keeps.machine.keeps there
-      (subst (λ (a : Action). Asks u c (no_call u) a) (sym doing) tt))
+  can_fill : CanFill u c n
+  can_fill = can d tt
 
   -- A descriptor that is taken in isn't held.
-  pub seg_not_held : (n : ℕ) → action_of u c ≡ act.FillSeg n → seg_of (cpu_at u.processors c).assoc n ≡ None
-  seg_not_held n doing = let can = can_fill n doing in
-      seg_new (cpu_at u.processors c).assoc.segs n
-      (subst (λ (m : ℕ). has (map (λ e. e.number) (cpu_at u.processors c).assoc.segs) m ≡ false) can.number can.can.new)
-
-  -- The process of a processor has numbers.
-  pub process_known : (k : ℕ) → (cpu_at u.processors c).process ≡ Some k → k < length u.store.links.known
-  process_known k its =
-      let planned = (sound.keeps.machine.scheduled.running c k its).planned in
-      let whos : length u.store.whos ≡ length u.plan.processes =
-      ap (λ (xs : List Who). length xs) sound.keeps.machine.keeps.faithful.script.whos
-      ∙ length-map u.plan.processes (λ x. x.who) in
-      let known = sound.keeps.machine.keeps.store.counted.known.processes in
-      omega (arith, planned, whos, known)
+  pub seg_not_held : seg_of (cpu_at u.processors c).assoc n ≡ None
+  seg_not_held = seg_new (cpu_at u.processors c).assoc.segs n (rw (← can_fill.number) can_fill.can.new)
 
   -- A descriptor that is taken in is one of a process's 256.
-  pub number_there : (k n : ℕ) → (cpu_at u.processors c).process ≡ Some k → action_of u c ≡ act.FillSeg n → n < 256
-  number_there k n its doing = elim (leb_tells 256 n) [
+  pub number_there : {k : ℕ} → (cpu_at u.processors c).process ≡ Some k → n < 256
+  number_there {k} its = elim (leb_tells 256 n) [
     | inl past ↦
-        (let can = can_fill n doing in
-        let same : can.process ≡ k = some_is (sym can.can.process ∙ its) in
+        (let same : can_fill.process ≡ k = ap or_zero (sym can_fill.can.process ∙ its) in
         let long : length (sdws_at u.store.links.descriptors k) ≡ 256 =
-        sound.keeps.machine.keeps.store.kept.linked.lists.words k (process_known k its) in
+        (keeps_of d).store.kept.linked.lists.words k (process_known d.sound c its) in
         let far : length (sdws_at u.store.links.descriptors k) ≤ n = omega (arith, long, past.1) in
-        let fault : descriptor_of u.store.links k n ≡ sdw.Fault =
-        get_or_past (sdws_at u.store.links.descriptors k) n sdw.Fault far in
-        let none : (seen u).linked k n ≡ None = ap (led_to u.store.ast.entries) fault in
+        let none : (seen u).linked k n ≡ None = ap (led_to u.store.ast.entries)
+        (get_or_past (sdws_at u.store.links.descriptors k) n sdw.Fault far) in
         let some : (seen u).linked k n ≡ Some (to_hold u c n).uid = subst (λ (j : ℕ). (seen u).linked j n
-        ≡ Some (to_hold u c n).uid) same (subst (λ (m : ℕ). (seen u).linked can.process m ≡ Some (to_hold u c n).uid)
-        can.number can.can.linked) in
+        ≡ Some (to_hold u c n).uid) same (subst (λ (m : ℕ). (seen u).linked can_fill.process m
+        ≡ Some (to_hold u c n).uid) can_fill.number can_fill.can.linked) in
         absurd (none_some (sym none ∙ some)))
     | inr less ↦ (let far = less.1 in omega (arith, far))
   ]
-    where
-      some_is : {a b : ℕ} → Some a ≡ Some b → a ≡ b
-      some_is h = cc
 
 -- a page whose frame isn't held isn't found
 page_new : (bound : ℕ → Option (ℕ × ℕ)) (es : List HeldPage) (u p f : ℕ) → AreHeldPages bound es
@@ -110,34 +102,26 @@ page_new bound (e ∷ es) u p f held once h =
     by true i off rest =
         let its = and_both e.uid e.page u p i in
         let there : bound e.frame ≡ Some (u, p) = held.0 ∙ λ j. Some (its.0 j, its.1 j) in
-        elim (eqb_tells e.frame f) [
-          | inl y ↦ absurd (let no : true ≡ false = sym y.0 ∙ off in cc)
-          | inr n ↦ absurd (n.1 (once e.frame there))
-        ]
+        cc (sym (ap (λ (x : ℕ). eqb x f) (once e.frame there) ∙ eqb_self f) ∙ off)
     by false i off rest = rest
 
-module _ {D : Type 0} (t : Parts D) (c : ℕ) (sound : IsSound t) (there : c < length t.state.processors) where
-  abbrev v : State
-  v = t.state
+-- A page that is taken in isn't held.
+pub page_not_held : {D : Type 0} {t : Parts D} {c f : ℕ} {r : Reference} → Does t c (act.FillPage f r)
+    → page_of (cpu_at t.state.processors c).assoc (held_page (cpu_at t.state.processors c) f r).uid (r.offset / 1024)
+    ≡ None
+page_not_held {D} {t} {c} {f} {r} d = page_new (seen t.state).bound (cpu_at t.state.processors c).assoc.pages e.uid
+    (r.offset / 1024) f ((keeps_of d).book.holding_right c).pages
+    (λ g bound. some_same g f (cc ((keeps_of d).book.tied.named g e.uid (r.offset / 1024) bound, may.0.word))) may.0.new
+  where
+    e : HeldPage
+    e = held_page (cpu_at t.state.processors c) f r
 
-  -- A page that is taken in isn't held.
-  pub page_not_held : (f : ℕ) (r : Reference) → action_of v c ≡ act.FillPage f r
-      → page_of (cpu_at v.processors c).assoc (held_page (cpu_at v.processors c) f r).uid (r.offset / 1024) ≡ None
-  page_not_held f r doing =
-      let e = held_page (cpu_at v.processors c) f r in
-      let can = subst (λ (a : Action). CanDo v c (no_call v) a) doing
-      (action_can v c (no_call v) sound.keeps.machine.keeps there
-      (subst (λ (a : Action). Asks v c (no_call v) a) (sym doing) tt)) in
-      let book = sound.keeps.machine.keeps.book in
-      page_new (seen v).bound (cpu_at v.processors c).assoc.pages e.uid (r.offset / 1024) f (book.holding_right c).pages
-      (λ g bound. frame_is (sym (book.tied.named g e.uid (r.offset / 1024) bound) ∙ ap names can.0.word)) can.0.new
-    where
-      frame_is : {a b : ℕ} → Some a ≡ Some b → a ≡ b
-      frame_is h = cc
+    may : CanDo t.state c (no_call t.state) (act.FillPage f r)
+    may = can d tt
 
 -- ---- answers
 
-module _ {D : Type 0} (t : Parts D) (c : ℕ) (sound : IsSound t) (k : ℕ)
+module _ {D : Type 0} {t : Parts D} (sound : IsSound t) (c : ℕ) {k : ℕ}
     (its : (cpu_at t.state.processors c).process ≡ Some k) where
   abbrev w : State
   w = t.state
@@ -148,15 +132,14 @@ module _ {D : Type 0} (t : Parts D) (c : ℕ) (sound : IsSound t) (k : ℕ)
   -- Where the initializer ends no other process is ready, so the ready list has room for all that it releases, and for
   -- the process of the processor.
   pub leaving_room : (cmd : Option Command) → length w.ready + (length (released_by w.plan k cmd) + 1) ≤ t.room
-  leaving_room None = let less = ready_room t c sound k its in omega (arith, less)
+  leaving_room None = omega (arith, ready_room sound c its)
   leaving_room (Some cmd) = freed (is_end cmd && (w.plan.initializer && eqb k 0)) refl
     where
       small : length w.ready < t.room
-      small = ready_room t c sound k its
+      small = ready_room sound c its
 
       alone : w.plan.initializer ≡ true → k ≡ 0 → w.ready ≡ []
-      alone first zeroth = none_listed w.ready (λ q h.
-          (let may = sound.keeps.machine.scheduled.waiting q h in
+      alone first zeroth = none_listed w.ready (λ q h. (let may = sound.keeps.machine.scheduled.waiting q h in
           let mine = sound.keeps.machine.scheduled.running c k its in
           elim may.turn [
             | inl never ↦ (let wrong : true ≡ false = sym first ∙ never in cc)
@@ -167,8 +150,7 @@ module _ {D : Type 0} (t : Parts D) (c : ℕ) (sound : IsSound t) (k : ℕ)
                   let wrong : true ≡ false = sym here ∙ apart in cc)
               | inr ended ↦
                   (let going : (run_at w.runs 0).ended ≡ false =
-                  subst (λ (j : ℕ). (run_at w.runs j).ended ≡ false) zeroth
-                  mine.going in
+                  subst (λ (j : ℕ). (run_at w.runs j).ended ≡ false) zeroth mine.going in
                   let wrong : true ≡ false = sym ended ∙ going in cc)
             ]
           ]))
@@ -176,27 +158,17 @@ module _ {D : Type 0} (t : Parts D) (c : ℕ) (sound : IsSound t) (k : ℕ)
       freed : (b : Bool) → (is_end cmd && (w.plan.initializer && eqb k 0)) ≡ b
           → length w.ready + (length (cond b (range 1 (n - 1)) []) + 1) ≤ t.room
       freed true h =
-          let parts = both_true (is_end cmd) (w.plan.initializer && eqb k 0) h in
-          let more = both_true w.plan.initializer (eqb k 0) parts.1 in
-          let none : length w.ready ≡ 0 = ap (λ (xs : List ℕ). length xs) (alone more.0 (is_zeroth more.1)) in
+          let parts = and_parts (is_end cmd) (w.plan.initializer && eqb k 0) h in
+          let more = and_parts w.plan.initializer (eqb k 0) parts.1 in
+          let none : length w.ready ≡ 0 = ap (λ (xs : List ℕ). length xs) (alone more.0 (eqb-true k 0 more.1)) in
           let long = range_length 1 (n - 1) in
           let room = sound.room in
           omega (arith, none, long, room, small)
-        where
-          is_zeroth : eqb k 0 ≡ true → k ≡ 0
-          is_zeroth e = elim (eqb_tells k 0) [
-            | inl x ↦ x.1
-            | inr m ↦ absurd (let no : true ≡ false = sym e ∙ m.0 in cc)
-          ]
-
-          both_true : (a b : Bool) → (a && b) ≡ true → (a ≡ true) × (b ≡ true)
-          both_true true b e = (refl, e)
-          both_true false b e = absurd (let no : false ≡ true = e in cc)
       freed false h = omega (arith, small)
 
   -- So there is room for those that it releases.
   pub released_room : (cmd : Option Command) → length w.ready + length (released_by w.plan k cmd) ≤ t.room
-  released_room cmd = let room = leaving_room cmd in omega (arith, room)
+  released_room cmd = omega (arith, leaving_room cmd)
 
   -- A processor has answered fewer commands since it loaded its process than the book has entries.
   pub count_room : (processor_at w.processors c).count < length w.entries
@@ -207,7 +179,7 @@ module _ {D : Type 0} (t : Parts D) (c : ℕ) (sound : IsSound t) (k : ℕ)
       let process : seat.process ≡ Some k = ap (λ (x : Seat). x.process) (sym same) ∙ its in
       let less = counted_after w.plan w.entries c k process in
       let count : (processor_at w.processors c).count ≡ seat.count = ap (λ (x : Seat). x.count) same in
-      omega (arith, less, count)
+      omega arith
 
   -- A process's next command is one of at most 100,000.
   pub place_room : c < length w.processors → (run_at w.runs k).place + 1 < 2 ^ 32
@@ -218,10 +190,4 @@ module _ {D : Type 0} (t : Parts D) (c : ℕ) (sound : IsSound t) (k : ℕ)
 
   -- It may be answered, if its processor has not answered too many.
   pub may_answer : c < length w.processors → (processor_at w.processors c).count + 1 < 2 ^ 64 → MayAnswer t c k
-  may_answer there count = record {
-    process = its;
-    run = run_there t c sound k its;
-    place = place_room there;
-    count = count;
-    ready = released_room (next_command w k);
-  }
+  may_answer there count = assumption (run_there sound c its, place_room there, released_room (next_command w k))

@@ -1,5 +1,5 @@
 -- A processor that does more than take part, drop and load has a process.
-use Rattle.machine.proofs.Prelude.{◌≡◌, ◌<◌, ℕ, length, true, false, eqb, List, [], ◌∷◌, Option, Some, None, inl, inr, refl, sym, ap, subst, ◌∙◌, cond_both, eqb_tells, What, Transfer, Processor, action_of, clear_or, go_on_with, load_or_idle, own_or_run, run_process, transfer_or, no_call, Keeps, IsReading, or_zero, process_at, processor_at, Owner, State, action_by, process_here, reads_for, Parts, IsSound, IsBusy, is_of_process}
+use Rattle.machine.proofs.Prelude.{◌≡◌, ◌<◌, ℕ, length, true, false, eqb, List, [], ◌∷◌, Option, Some, None, refl, sym, ap, ◌∙◌, cond_both, What, Transfer, Processor, action_of, clear_or, go_on_with, load_or_idle, own_or_run, run_process, transfer_or, no_call, Keeps, IsReading, or_zero, process_at, processor_at, Owner, State, action_by, process_here, reads_for, IsBusy, is_of_process, eqb-true}
 use Rattle.machine_model.specs.Actions as act
 
 -- what its action tells of a processor
@@ -11,7 +11,7 @@ module _ (s : State) (c : ℕ) (k : Keeps s) (reading : IsReading s) (there : c 
   p = processor_at s.processors c
 
   none : false ≡ true → IsBusy s c
-  none h = absurd (let no : false ≡ true = h in cc)
+  none h = cc
 
   run_busy : (x : Option ℕ) → p.cpu.process ≡ x → Busy s c (run_process s p x)
   run_busy None e = by s.ready
@@ -25,14 +25,8 @@ module _ (s : State) (c : ℕ) (k : Keeps s) (reading : IsReading s) (there : c 
   owner_busy None e = run_busy p.cpu.process refl
   owner_busy (Some q) e = cond_both (eqb q.cpu c) (go_on_with s (process_at s c) q q.phase)
       (run_process s p p.cpu.process) (Busy s c)
-      (λ h g. process_here s c (no_call s) k there (record { owner = q; mine = e; same = is h }))
+      (λ h g. process_here s c (no_call s) k there (record { owner = q; mine = e; same = eqb-true q.cpu c h }))
       (λ h. run_busy p.cpu.process refl)
-    where
-      is : eqb q.cpu c ≡ true → q.cpu ≡ c
-      is h = elim (eqb_tells q.cpu c) [
-        | inl y ↦ y.1
-        | inr n ↦ absurd (let no : true ≡ false = sym h ∙ n.0 in cc)
-      ]
 
   transfer_busy : (x : Option Transfer) → p.cpu.transfer ≡ x → Busy s c (transfer_or s c p x)
   transfer_busy (Some t) e = λ h. (reads_for s c t k reading e).its
@@ -47,9 +41,4 @@ module _ (s : State) (c : ℕ) (k : Keeps s) (reading : IsReading s) (there : c 
 
   -- the same by the action's name
   pub busy_of : (a : act.Action) → action_of s c ≡ a → Busy s c a
-  busy_of a doing = subst (Busy s c) doing step_busy
-
--- the same of a machine that keeps its promise
-pub busy_for : {D : Type 0} (t : Parts D) (c : ℕ) → IsSound t → c < length t.state.processors → (a : act.Action)
-    → action_of t.state c ≡ a → is_of_process a ≡ true → IsBusy t.state c
-busy_for t c sound there a doing = busy_of t.state c sound.keeps.machine.keeps sound.keeps.reading there a doing
+  busy_of a doing = rw (← doing) step_busy

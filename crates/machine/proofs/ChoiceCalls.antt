@@ -1,5 +1,5 @@
 -- What the choice of a processor's action asks follows from the promise.
-use Rattle.machine.proofs.Prelude.{◌≡◌, ◌<◌, ◌≤◌, ℕ, true, false, is_some, length, List, [], Option, Some, None, refl, sym, ap, subst, ◌∙◌, arith, IfSome, find, HeldSeg, is_number, Mover, Node, node_in, pool_of, IsActive, table_at, uid_at, leads_to, place_of, pages_of, directory_found, room_of, IsLongEnough, AreHeldSegs, AreOfProcess, IsEntitled, seen, Keeps, MovesIn, mover_in, mover_of, Phase, cpu_at, is_active, next_command, process_at, shown, Owner, State, active_place, descriptor_active, entitled_all, leads_all, seg_found, active_there, none_some, AreLong, MayChoose, Parts, IsSound}
+use Rattle.machine.proofs.Prelude.{◌≡◌, ◌<◌, ◌≤◌, ℕ, true, false, is_some, length, List, [], Option, Some, None, refl, subst, ◌∙◌, arith, IfSome, find, HeldSeg, is_number, Mover, Node, node_in, pool_of, IsActive, table_at, uid_at, leads_to, place_of, pages_of, directory_found, room_of, IsLongEnough, AreHeldSegs, AreOfProcess, IsEntitled, seen, Keeps, MovesIn, mover_in, mover_of, Phase, cpu_at, is_active, next_command, process_at, shown, Owner, State, active_place, descriptor_active, entitled_all, leads_all, seg_found, active_there, AreLong, MayChoose, Parts, IsSound, some_same}
 use Rattle.machine_model.specs.declared.Phase.TheVariants as phase
 use Rattle.machine.proofs.AloneLaws.{process_known, run_there}
 
@@ -48,8 +48,8 @@ module _ {D : Type 0} (t : Parts D) (c : ℕ) (sound : IsSound t) (there : c < l
             most = subst (λ (y : Option Node). pages_of y ≤ 256) e (keeps.store.counted.counted.most h.uid)
 
             flat : node.directory ≡ true → node.pages ≡ 0
-            flat is = sym (ap pages_of e) ∙ keeps.store.counted.counted.flat h.uid
-                (directory_found s.store.accounts.nodes h.uid node e ∙ is)
+            flat is = cc (keeps.store.counted.counted.flat h.uid (directory_found s.store.accounts.nodes h.uid node e
+                ∙ is))
 
     long_enough : IsLongEnough s.store.ast h
     long_enough = record {
@@ -66,41 +66,37 @@ module _ {D : Type 0} (t : Parts D) (c : ℕ) (sound : IsSound t) (there : c < l
 
       of_process : (h : HeldSeg) → find (is_number n) segs ≡ Some h → (x : Option ℕ)
           → (cpu_at s.processors c).process ≡ x → IsLongEnough s.store.ast h
-      of_process h e None none = absurd (none_some (sym (ap (λ (es : List HeldSeg). find (is_number n) es)
-          (nothing none)) ∙ e))
+      of_process h e None none = cc (nothing none)
       of_process h e (Some k) its = long_enough k its n h e
 
       by : (x : Option HeldSeg) → find (is_number n) segs ≡ x → IfSome x (IsLongEnough s.store.ast)
       by None e = tt
       by (Some h) e = of_process h e (cpu_at s.processors c).process refl
 
-  some_same : {a b : Mover} → Some a ≡ Some b → a ≡ b
-  some_same e = cc
-
   -- the segment that moves is active
   moves_active : (m : Mover) → (x : Option Owner) → s.owner ≡ x → mover_of x ≡ Some m
       → IsActive s.store.ast.entries m.uid
-  moves_active m None e h = absurd (none_some h)
+  moves_active m None e h = cc
   moves_active m (Some q) e h = by q.phase (sound.keeps.working.moves q e) h
     where
       by : (y : Phase) → MovesIn y s.store (process_at s q.cpu) (next_command s (process_at s q.cpu))
           → mover_in y ≡ Some m → IsActive s.store.ast.entries m.uid
-      by phase.Looking rests i = absurd (none_some i)
-      by (phase.Taken a w) rests i = absurd (none_some i)
-      by (phase.Waiting a w) rests i = absurd (none_some i)
-      by (phase.Moving n) rests i = let same : n ≡ m = some_same i in
+      by phase.Looking rests i = cc
+      by (phase.Taken a w) rests i = cc
+      by (phase.Waiting a w) rests i = cc
+      by (phase.Moving n) rests i = let same = some_same n m i in
           subst (λ (x : Mover). IsActive s.store.ast.entries x.uid) same
           (place_of s.store.ast.entries n.uid, (active_place s.store.ast n.uid rests.active).1)
 
   moved_active : (m : Mover) → s.store.moving ≡ Some m → IsActive s.store.ast.entries m.uid
-  moved_active m e = moves_active m s.owner refl (sym sound.keeps.machine.moving ∙ e)
+  moved_active m e = moves_active m s.owner refl (cc)
 
   pub may_choose : MayChoose s c
   may_choose = record {
     processor = there;
     count = keeps.sizes.processors;
-    run = run_there t c sound;
-    known = process_known t c sound there;
+    run = λ k its. run_there sound c its;
+    known = λ k its. process_known sound c its;
     held = held_long;
     keeps = keeps;
     script = sound.keeps.machine.script;

@@ -1,5 +1,5 @@
--- What stays where a tree command takes effect: how many places and drives there are, and how many calls have failed.
-use Rattle.machine.proofs.Prelude.{◌≡◌, ◌%◌, ◌/◌, ℕ, Bool, true, false, cond, eqb, length, List, [], ◌∷◌, Option, Some, None, refl, ap, ◌∙◌, length-set, Command, Row, bound_page, Ptw, cut, erased, framed, Plain, frame_in, words_in, place_of, word_of, committed, committed_at, frames_freed, gone_entries, left_after, pages_past, with_cut, with_cut_in, with_deleted, with_effect, with_made, with_truncated, without_page, without_pages, are_zeros, here_if, with_here, with_inactive, frames_of_owner, home_in, is_active, process_at, reply_of, uid_of_command, State, Storage, booked, told, with_pages, with_store}
+-- How many places and drives there are stays where a tree command takes effect.
+use Rattle.machine.proofs.Prelude.{◌≡◌, ◌%◌, ◌/◌, ℕ, Bool, true, false, cond, eqb, length, List, [], ◌∷◌, Option, Some, None, refl, ◌∙◌, length-set, Command, Row, bound_page, Ptw, cut, erased, framed, Plain, frame_in, words_in, place_of, word_of, frames_freed, pages_past, with_cut, with_cut_in, with_deleted, with_effect, with_made, with_truncated, without_page, without_pages, are_zeros, here_if, with_here, with_inactive, home_in, is_active, Storage, with_pages}
 use Rattle.script.specs.declared.commands.Command.TheVariants as command
 use Rattle.flat_model.specs.Branches.{parts_of}
 use Rattle.core_map.specs.declared.Frame.TheVariants as frame
@@ -65,34 +65,9 @@ deleted st u frames = by (is_active st.ast u)
     by true = λ i. (length-set st.ast.entries (place_of st.ast.entries u) None i, freed st.pages frames i)
     by false = λ i. (length st.ast.entries, freed st.pages frames i)
 
-effect : (st : Storage) (k u : ℕ) (frames : List ℕ) (c : Command)
-    → counts (with_effect st k u frames c) ≡ counts st
+pub effect : (st : Storage) (k u : ℕ) (frames : List ℕ) (c : Command) → counts (with_effect st k u frames c) ≡ counts st
 effect st k u frames (command.MkDir path volume) = made st true 0 volume [] (parts_of path)
 effect st k u frames (command.MkSeg path pages volume) = made st false pages volume _ (parts_of path)
 effect st k u frames (command.Truncate path words) = truncated st u words
 effect st k u frames (command.Delete path) = deleted st u frames
 effect st k u frames _ = refl
-
--- a process that leaves its processor changes neither the store nor the drives' count
-left_store : (s : State) (c : ℕ) (x : Command)
-    → ((left_after s c x).store ≡ s.store) × ((left_after s c x).faults ≡ s.faults)
-left_store s c command.End = (refl, refl)
-left_store s c _ = (refl, refl)
-
-committed_store : (s : State) (c k : ℕ) (x : Command)
-    → ((committed s c k x).store ≡ with_effect s.store k (uid_of_command s.store k x) (frames_of_owner s.owner) x)
-    × ((committed s c k x).faults ≡ s.faults)
-committed_store s c k x = left_store (told (booked (with_store s
-    (with_effect s.store k (uid_of_command s.store k x) (frames_of_owner s.owner) x))
-    (gone_entries s (uid_of_command s.store k x) x)) c None (reply_of s k x)) c x
-
--- The drives are called by no tree command.
-pub commit_faults : (s : State) (c : ℕ) (x : Option Command) → (committed_at s c x).faults ≡ s.faults
-commit_faults s c None = refl
-commit_faults s c (Some x) = (committed_store s c (process_at s c) x).1
-
--- There are as many places and drives as before.
-pub commit_counts : (s : State) (c : ℕ) (x : Option Command) → counts (committed_at s c x).store ≡ counts s.store
-commit_counts s c None = refl
-commit_counts s c (Some x) = ap counts (committed_store s c (process_at s c) x).0
-    ∙ effect s.store (process_at s c) (uid_of_command s.store (process_at s c) x) (frames_of_owner s.owner) x

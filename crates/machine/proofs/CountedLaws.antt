@@ -1,5 +1,5 @@
 -- How many commands a processor has answered since it loaded its process, and where a process's next command stands.
-use Rattle.machine.proofs.Prelude.{◌≡◌, ◌<◌, ◌+◌, ℕ, eqb, List, [], ◌∷◌, length, Some, refl, sym, ap, ◌∙◌, arith, cond_both, What, Plan, Entry, after_entry, Store, boot, custody_after, custody_from, Custody, Seat, nothing_held, at_put, custody_next, count_next, by_place, none_some}
+use Rattle.machine.proofs.Prelude.{◌≡◌, ◌<◌, ◌+◌, ℕ, eqb, List, [], ◌∷◌, length, Some, refl, sym, ◌∙◌, arith, cond_both, What, Plan, Entry, after_entry, Store, boot, custody_after, custody_from, Custody, Seat, nothing_held, at_put, custody_next, count_next, by_place}
 use Rattle.book.specs.declared.entries.Entry.TheVariants as entry
 use Rattle.custody_model.specs.Next.{told}
 
@@ -14,19 +14,18 @@ told_same c i w d = cond_both (eqb d i) _ _ (λ (x : Seat). x.process ≡ (c.sea
 -- the processor had that process before
 kept : (p : Plan) (s : Store) (c : Custody) (e : Entry) (n d k : ℕ) → AreCounted c n → (c.seat d).process ≡ Some k
     → ((custody_next p s c e).seat d).count < n + 1
-kept p s c e n d k counted h =
-    let more = count_next p s c e d in let less = counted d k h in omega (arith, more, less)
+kept p s c e n d k counted h = omega (arith, count_next p s c e d, counted d k h)
 
 -- a seat that is put has the process that was there, or none
 put_had : (f : ℕ → Seat) (i d k : ℕ) (x : Seat) → (x.process ≡ Some k → (f i).process ≡ Some k)
     → (at_put f i x d).process ≡ Some k → (f d).process ≡ Some k
 put_had f i d k x had = by_place (λ (y : Seat). y.process ≡ Some k → (f d).process ≡ Some k) f i x d
-    (λ e h. ap (λ (j : ℕ). (f j).process) e ∙ had h) (λ m h. h)
+    (λ e h. cc (had h)) (λ m h. h)
 
 counted_load : (c : Custody) (i d k : ℕ) (n : ℕ) (x : Seat) → x.count ≡ 0 → AreCounted c n
     → (at_put c.seat i x d).process ≡ Some k → (at_put c.seat i x d).count < n + 1
 counted_load c i d k n x zero counted = by_place (λ (y : Seat). y.process ≡ Some k → y.count < n + 1) c.seat i x d
-    (λ e h. omega (arith, zero)) (λ m h. (let less = counted d k h in omega (arith, less)))
+    (λ e h. omega arith) (λ m h. (omega (arith, counted d k h)))
 
 counted_next : (p : Plan) (s : Store) (c : Custody) (e : Entry) (n : ℕ) → AreCounted c n
     → AreCounted (custody_next p s c e) (n + 1)
@@ -37,7 +36,7 @@ counted_next p s c (entry.Do j i f g r) n counted d k h =
 counted_next p s c (entry.Online i) n counted d k h =
     kept p s c (entry.Online i) n d k counted (put_had c.seat i d k _ (λ x. x) h)
 counted_next p s c (entry.Leave i) n counted d k h =
-    kept p s c (entry.Leave i) n d k counted (put_had c.seat i d k _ (λ x. absurd (none_some x)) h)
+    kept p s c (entry.Leave i) n d k counted (put_had c.seat i d k _ (λ x. cc) h)
 counted_next p s c (entry.Signal i w) n counted d k h =
     kept p s c (entry.Signal i w) n d k counted (sym (told_same c i w d) ∙ h)
 counted_next p s c (entry.Clear i w) n counted d k h =
@@ -46,34 +45,20 @@ counted_next p s c (entry.FillSeg i m) n counted d k h =
     kept p s c (entry.FillSeg i m) n d k counted (put_had c.seat i d k _ (λ x. x) h)
 counted_next p s c (entry.FillPage i f) n counted d k h =
     kept p s c (entry.FillPage i f) n d k counted (put_had c.seat i d k _ (λ x. x) h)
-counted_next p s c (entry.Release u q) n counted d k h = kept p s c (entry.Release u q) n d k counted h
-counted_next p s c (entry.Fault j) n counted d k h = kept p s c (entry.Fault j) n d k counted h
-counted_next p s c (entry.Moved j u w) n counted d k h = kept p s c (entry.Moved j u w) n d k counted h
-counted_next p s c (entry.Activate u) n counted d k h = kept p s c (entry.Activate u) n d k counted h
-counted_next p s c (entry.Deactivate u) n counted d k h = kept p s c (entry.Deactivate u) n d k counted h
-counted_next p s c (entry.Start f u q) n counted d k h = kept p s c (entry.Start f u q) n d k counted h
-counted_next p s c (entry.Lose f) n counted d k h = kept p s c (entry.Lose f) n d k counted h
-counted_next p s c (entry.Here f u q) n counted d k h = kept p s c (entry.Here f u q) n d k counted h
-counted_next p s c (entry.Connect j m u) n counted d k h = kept p s c (entry.Connect j m u) n d k counted h
-counted_next p s c (entry.Take f) n counted d k h = kept p s c (entry.Take f) n d k counted h
-counted_next p s c (entry.Cut j m) n counted d k h = kept p s c (entry.Cut j m) n d k counted h
-counted_next p s c (entry.GonePage f) n counted d k h = kept p s c (entry.GonePage f) n d k counted h
-counted_next p s c (entry.BackPage f) n counted d k h = kept p s c (entry.BackPage f) n d k counted h
-counted_next p s c (entry.GoneSeg j m) n counted d k h = kept p s c (entry.GoneSeg j m) n d k counted h
-counted_next p s c (entry.BackSeg j m) n counted d k h = kept p s c (entry.BackSeg j m) n d k counted h
+counted_next p s c e n counted d k h = kept p s c e n d k counted h
 
 counted_from : (p : Plan) (s : Store) (c : Custody) (es : List Entry) (n : ℕ) → AreCounted c n
     → AreCounted (custody_from p s c es) (length es + n)
 unfolding custody_from
-counted_from p s c [] n counted = λ d k h. (let less = counted d k h in omega (arith, less))
+counted_from p s c [] n counted = λ d k h. (omega (arith, counted d k h))
 counted_from p s c (e ∷ es) n counted =
     let rest = counted_from p (after_entry p s e) (custody_next p s c e) es (n + 1) (counted_next p s c e n counted) in
-    λ d k h. (let less = rest d k h in omega (arith, less))
+    λ d k h. (omega (arith, rest d k h))
 
 -- A processor has answered fewer commands since it loaded its process than there are entries.
 pub counted_after : (p : Plan) (es : List Entry) (d k : ℕ) → ((custody_after p es).seat d).process ≡ Some k
     → ((custody_after p es).seat d).count < length es
 unfolding custody_after
 counted_after p es d k h =
-    let all = counted_from p (boot p) (nothing_held p) es 0 (λ e j i. absurd (none_some i)) d k h in
-    omega (arith, all)
+    let all = counted_from p (boot p) (nothing_held p) es 0 (λ e j i. cc) d k h in
+    omega arith

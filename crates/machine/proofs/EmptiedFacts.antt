@@ -1,6 +1,6 @@
 -- A segment that was taken whole is empty once its pages have left: no page of it is in a frame or being read, no
 -- descriptor leads to it, and it has no active inferior.
-use Rattle.machine.proofs.Prelude.{◌≡◌, ◌≢◌, ◌<◌, ℕ, zero, suc, Bool, true, false, eqb, get_or, List, [], ◌∷◌, Option, Some, cond, is_some, length, arith, None, inl, inr, refl, sym, ap, ◌∙◌, All, eqb_tells, Node, node_in, Ptw, HasNoInferior, IsAway, entry_at, superior_of, uid_at, uid_in, trailers_of, place_of, table_of, is_there, superior_in, is_going_descriptor, is_uid, leads_to, uid_of_page, names, holding, seen, Keeps, cut_of_owner, frames_of_owner, is_active, trailers_in, bound_use, cut_uid, descriptor_use, frame_use, read_use, State, IsWhole, active_place, trailers_taken, none_some, ArePairs, active_at, no_page_left, IsEmptied}
+use Rattle.machine.proofs.Prelude.{◌≡◌, ◌≢◌, ◌<◌, ℕ, zero, suc, true, false, get_or, List, [], ◌∷◌, Option, Some, is_some, length, arith, None, refl, sym, ap, ◌∙◌, All, Node, node_in, Ptw, HasNoInferior, IsAway, entry_at, superior_of, uid_at, uid_in, trailers_of, place_of, table_of, is_there, superior_in, is_going_descriptor, leads_to, uid_of_page, names, holding, seen, Keeps, cut_of_owner, frames_of_owner, is_active, trailers_in, bound_use, cut_uid, descriptor_use, frame_use, State, IsWhole, active_place, trailers_taken, ArePairs, active_at, no_page_left, IsEmptied, eqb-true, eqb_self, some_same}
 use Rattle.assoc_mem.specs.declared.What.TheVariants as what
 use Rattle.page_table.specs.declared.Ptw.TheVariants as ptw
 use Rattle.active_segs.specs.declared.Entry.{Entry}
@@ -14,16 +14,16 @@ word_away (ptw.Here f) h = h f refl
 word_away (ptw.Leaving f) h = h f refl
 
 within_same : (ws : List Ptw) (p : ℕ) (d : Ptw) → p < length ws → get_or ws p ptw.Null ≡ get_or ws p d
-within_same [] p d lt = absurd (omega (arith, lt))
+within_same [] p d lt = absurd (omega arith)
 within_same (w ∷ ws) zero d lt = refl
-within_same (w ∷ ws) (suc p) d lt = within_same ws p d (omega (arith, lt))
+within_same (w ∷ ws) (suc p) d lt = within_same ws p d (omega arith)
 
 words_away : (ws : List Ptw) → ((p f : ℕ) → names (get_or ws p ptw.Null) ≢ Some f) → All IsAway ws
-words_away ws h p d lt = word_away (get_or ws p d) (λ f e. h p f (ap names (within_same ws p d lt) ∙ e))
+words_away ws h p d lt = word_away (get_or ws p d) (λ f e. h p f (cc (within_same ws p d lt)))
 
 -- what has a superior is there
 has_superior : (o : Option Entry) (u : ℕ) → superior_of o ≡ Some u → (v : ℕ) × (uid_in o ≡ Some v)
-has_superior None u h = absurd (none_some h)
+has_superior None u h = cc
 has_superior (Some e) u h = (e.uid, refl)
 
 module _ (s : State) (u : ℕ) (k : Keeps s) (whole : IsWhole (holding s) u) (frames : frames_of_owner s.owner ≡ [])
@@ -51,8 +51,7 @@ module _ (s : State) (u : ℕ) (k : Keeps s) (whole : IsWhole (holding s) u) (fr
     -- none is being read into one
     unread : (f p : ℕ) → (seen s).reads f ≢ Some (u, p)
     unread f p h = no_page_left (holding s) s.owner u k.book.going_owned whole frames f
-        (ap (λ (x : Option (ℕ × ℕ)). uid_of_page (page_of (frame_use (seen s).words x ((seen s).reads f))))
-        (k.book.tied.unbound f u p h) ∙ ap (λ (x : Option (ℕ × ℕ)). uid_of_page (page_of (read_use x))) h)
+        (cc (k.book.tied.unbound f u p h))
 
     -- no descriptor leads to it
     unlinked : (j n : ℕ) → (seen s).linked j n ≢ Some u
@@ -60,22 +59,12 @@ module _ (s : State) (u : ℕ) (k : Keeps s) (whole : IsWhole (holding s) u) (fr
         let going = whole.descriptors j n (ap leads_to is) in
         let no : false ≡ true = sym (ap is_going_descriptor is) ∙ going in cc
 
-    own : eqb u u ≡ true
-    own = elim (eqb_tells u u) [ inl e ↦ e.0 | inr n ↦ absurd (n.1 refl) ]
-
     no_trailers : (xs : List (ℕ × ℕ)) → ArePairs (seen s).linked (what.Seg u) xs → xs ≡ []
     no_trailers [] h = refl
-    no_trailers (x ∷ xs) h = absurd (unlinked x.0 x.1 (h.0.1 ∙ ap (λ (v : ℕ). Some v) (same h.0.0 h.0.2)))
-      where
-        same : (v : ℕ) → is_uid u (Some v) ≡ true → v ≡ u
-        same v e = elim (eqb_tells v u) [
-          | inl y ↦ y.1
-          | inr n ↦ absurd (let no : true ≡ false = sym e ∙ n.0 in cc)
-        ]
+    no_trailers (x ∷ xs) h = absurd (unlinked x.0 x.1 (cc (eqb-true h.0.0 u h.0.2)))
 
     trailers_none : trailers_of s.store.links.trailers place ≡ []
-    trailers_none = sym (ap (λ (b : Bool). cond b (trailers_of s.store.links.trailers place) [])
-        active) ∙ no_trailers (trailers_in s.store u) (trailers_taken s (what.Seg u) u k own)
+    trailers_none = cc (no_trailers (trailers_in s.store u) (trailers_taken s (what.Seg u) u k (eqb_self u)))
 
     leaf : HasNoInferior s.store.ast.entries place
     leaf q v at h = by (node_in s.store.accounts.nodes w.0) refl
@@ -94,18 +83,15 @@ module _ (s : State) (u : ℕ) (k : Keeps s) (whole : IsWhole (holding s) u) (fr
 
         by : (x : Option Node) → node_in s.store.accounts.nodes w.0 ≡ x → ⊥
         by None e = let no : false ≡ true = sym (ap is_some e) ∙ there in cc
-        by (Some n) e = inferiors w.0 its_active (ap superior_in e
-            ∙ (sym (k.store.counted.active.superiors q w.0 n w.1 e) ∙ (h ∙ same)))
+        by (Some n) e = inferiors w.0 its_active (cc (e, k.store.counted.active.superiors q w.0 n w.1 e, h, same))
 
     pub emptied : IsEmptied s.store u
     emptied = record {
       active = (place, its_place);
       leaf = leaf;
-      away = words_away (table_of s.store.ast u)
-          (λ p f h. unbound f p (k.book.tied.back f u p h));
-      idle = record { none = λ f v p at h. unread f p (h ∙ ap (λ (x : ℕ). Some (x, p)) (one v (sym at ∙ its_place))) };
+      away = words_away (table_of s.store.ast u) (λ p f h. unbound f p (k.book.tied.back f u p h));
+      idle = record {
+        none = λ f v p at h. unread f p (cc (some_same v u (sym at ∙ its_place)));
+      };
       cut = trailers_none;
     }
-      where
-        one : (v : ℕ) → Some v ≡ Some u → v ≡ u
-        one v e = cc

@@ -1,10 +1,10 @@
 -- No process is ready or running just where every one has ended.
-use Rattle.machine.proofs.Prelude.{◌≡◌, ℕ, suc, Bool, true, false, not, ◌||◌, ◌&&◌, is_some, List, [], ◌∷◌, Option, Some, None, refl, sym, ap, ◌∙◌, ◌↔◌, list_any, has, has_process, is_empty, is_over, KeepsAll, cpu_at, MayRun, State, Processor, flat_ended, HaveEnded, has_head}
+use Rattle.machine.proofs.Prelude.{◌≡◌, ℕ, suc, Bool, true, false, ◌||◌, is_some, List, [], ◌∷◌, Option, Some, None, refl, sym, ◌∙◌, ◌↔◌, list_any, has_process, is_empty, is_over, KeepsAll, cpu_at, MayRun, State, Processor, flat_ended, HaveEnded, has_head}
 
 -- a processor of a list has a process, where one has
 busy_found : (ps : List Processor) → list_any has_process ps ≡ true
     → (d : ℕ) × (k : ℕ) × ((cpu_at ps d).process ≡ Some k)
-busy_found [] h = absurd (let no : false ≡ true = h in cc)
+busy_found [] h = cc
 busy_found (p ∷ ps) h = by p.cpu.process refl h (busy_found ps)
   where
     by : (x : Option ℕ) → p.cpu.process ≡ x → (is_some x || list_any has_process ps) ≡ true
@@ -23,8 +23,7 @@ module _ (s : State) (all : KeepsAll s) (ended : HaveEnded s) where
     where
       by : (xs : List ℕ) → s.ready ≡ xs → is_empty xs ≡ true
       by [] e = refl
-      by (x ∷ xs) e = absurd (none_may x (all.machine.scheduled.waiting x
-          (ap (λ (ys : List ℕ). has ys x) e ∙ has_head x xs)))
+      by (x ∷ xs) e = absurd (none_may x (all.machine.scheduled.waiting x (cc (has_head x xs))))
 
   none_busy : list_any has_process s.processors ≡ false
   none_busy = by (list_any has_process s.processors) refl
@@ -35,8 +34,7 @@ module _ (s : State) (all : KeepsAll s) (ended : HaveEnded s) where
           absurd (none_may one.1 (all.machine.scheduled.running one.0 one.1 one.2))
 
   all_over : is_over s ≡ true
-  all_over = ap (λ (b : Bool). b && not (list_any has_process s.processors)) none_ready
-      ∙ ap (λ (b : Bool). not b) none_busy
+  all_over = cc (none_ready, none_busy)
 
 pub over_ended : (s : State) → KeepsAll s → (is_over s ≡ true) ↔ HaveEnded s
 over_ended s all = (flat_ended s all, all_over s all)

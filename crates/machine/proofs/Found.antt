@@ -1,5 +1,5 @@
 -- What the rules found where they choose an action of the supervisor's owner, or the end of a transfer.
-use Rattle.machine.proofs.Prelude.{◌≡◌, ◌<◌, ℕ, ◌*◌, length, Bool, true, false, not, ◌&&◌, cond, eqb, List, [], ◌∷◌, position, Option, Some, None, inl, inr, refl, sym, ap, subst, ◌∙◌, ◌/◌, nat_le, find, option_map, cond_both, eqb_tells, HeldPage, HeldSeg, frame_of, is_page, seg_of, Sdw, Ptw, word_reply, new_word, permits, sdws_at, table_of, word_of, next_out, by_descriptor, by_held, by_page, by_seg, by_word, reference_of, Command, Reference, What, Transfer, Aim, Phase, Processor, action_of, by_move, clear_or, come_to, copy_or_commit, finish_of, go_on_with, has_had_its_turn, is_empty, load_or_idle, look_of, move_of, once_cleared, own_or_run, refer_or_take, run_process, take_or_wait, transfer_or, no_call, IsMachine, AreHeldPages, seen, descriptor_of, is_due, next_command, process_at, processor_at, Owner, State, action_by, LookFinds, look_finds, HasWaited, IsLooking, look_idle, process_here, speaks, IsMine, none_some, Looks, and_both}
+use Rattle.machine.proofs.Prelude.{◌≡◌, ◌<◌, ℕ, ◌*◌, length, Bool, true, false, not, ◌&&◌, cond, eqb, List, [], ◌∷◌, position, Option, Some, None, refl, sym, ap, subst, ◌∙◌, ◌/◌, nat_le, find, option_map, cond_both, HeldPage, HeldSeg, frame_of, is_page, seg_of, Sdw, Ptw, word_reply, new_word, permits, sdws_at, table_of, word_of, next_out, by_descriptor, by_held, by_page, by_seg, by_word, reference_of, Command, Reference, What, Transfer, Aim, Phase, Processor, action_of, by_move, clear_or, come_to, copy_or_commit, finish_of, go_on_with, has_had_its_turn, is_empty, load_or_idle, look_of, move_of, once_cleared, own_or_run, refer_or_take, run_process, take_or_wait, transfer_or, no_call, IsMachine, AreHeldPages, seen, descriptor_of, is_due, next_command, process_at, processor_at, Owner, State, action_by, LookFinds, look_finds, HasWaited, IsLooking, look_idle, process_here, speaks, IsMine, Looks, and_both, eqb-true}
 use Rattle.book.specs.declared.replies.Reply.TheVariants as reply
 use Rattle.descriptor_seg.specs.declared.Sdw.TheVariants as sdw
 use Rattle.page_table.specs.declared.Ptw.TheVariants as ptw
@@ -31,8 +31,7 @@ Found s c (act.Empty u) = Looked s c (act.Empty u)
 Found s c (act.EmptyVictim pool chain u) = Looked s c (act.EmptyVictim pool chain u)
 Found s c (act.TakeAway fs pairs w) = Looked s c (act.TakeAway fs pairs w)
 Found s c (act.FinishEviction f) = Waited s c aim.Evicting (λ fs. (rest : List ℕ) × (fs ≡ f ∷ rest))
-Found s c (act.FinishPage f) =
-    (u : ℕ) × Waited s c (aim.Deactivating u) (λ fs. (rest : List ℕ) × (fs ≡ f ∷ rest))
+Found s c (act.FinishPage f) = (u : ℕ) × Waited s c (aim.Deactivating u) (λ fs. (rest : List ℕ) × (fs ≡ f ∷ rest))
 Found s c (act.Deactivate u) = Waited s c (aim.Deactivating u) (λ fs. fs ≡ [])
 Found s c act.TakeSupervisor = s.owner ≡ None
 Found s c act.GiveUp = IsMine s c
@@ -41,7 +40,7 @@ Found s c _ = Unit {0}
 -- the frame of a page that is held has the page
 page_held : (bound : ℕ → Option (ℕ × ℕ)) (es : List HeldPage) (u q f : ℕ)
     → option_map (λ e. e.frame) (find (is_page u q) es) ≡ Some f → AreHeldPages bound es → bound f ≡ Some (u, q)
-page_held bound [] u q f h all = absurd (none_some h)
+page_held bound [] u q f h all = cc
 page_held bound (e ∷ es) u q f h all = by (is_page u q e) refl h (λ i. page_held bound es u q f i all.1)
   where
     by : (b : Bool) → is_page u q e ≡ b → option_map (λ x. x.frame) (cond b (Some e) (find (is_page u q) es)) ≡ Some f
@@ -147,29 +146,14 @@ module _ (s : State) (c : ℕ) (m : IsMachine s) (there : c < length s.processor
     look_found (act.Empty u) h = looks h
     look_found (act.EmptyVictim pool chain u) h = looks h
     look_found (act.TakeAway fs pairs w) h = looks h
-    look_found (act.Answer r) h = tt
-    look_found act.Commit h = tt
+    look_found act.GiveUp h = l.owner
     look_found (act.Through f r) h = absurd h
-    look_found (act.Plain r) h = tt
+    look_found (act.EndTransfer t) h = absurd h
     look_found (act.FinishEviction f) h = absurd h
     look_found (act.FinishPage f) h = absurd h
-    look_found (act.Waits why) h = tt
-    look_found act.GiveUp h = l.owner
-    look_found act.IsStopped h = tt
-    look_found act.HasEnded h = tt
-    look_found act.Online h = tt
-    look_found (act.Clear w) h = tt
-    look_found (act.EndTransfer t) h = absurd h
-    look_found (act.Load n) h = tt
-    look_found act.Leave h = tt
-    look_found (act.FillSeg n) h = tt
-    look_found (act.FillPage f r) h = tt
-    look_found act.TakeSupervisor h = absurd h
-    look_found (act.Signal w) h = tt
     look_found (act.Deactivate u) h = absurd h
-    look_found (act.BeginMove u volume) h = tt
-    look_found (act.CopyPage x q) h = absurd h
-    look_found (act.CommitMove x) h = absurd h
+    look_found act.TakeSupervisor h = absurd h
+    look_found a h = tt
 
   -- ---- what was taken goes
 
@@ -189,8 +173,7 @@ module _ (s : State) (c : ℕ) (m : IsMachine s) (there : c < length s.processor
   phase_found q its (phase.Taken a w) e = tt
   phase_found q its (phase.Waiting a w) e = by (position is_due s.processors) refl
     where
-      by : (x : Option ℕ) → position is_due s.processors ≡ x
-          → Found s c (once_cleared x (finish_of a q.owner.frames))
+      by : (x : Option ℕ) → position is_due s.processors ≡ x → Found s c (once_cleared x (finish_of a q.owner.frames))
       by None i = finish_found a w (record { owner = q; waits = e; cleared = i }) q.owner.frames refl
       by (Some d) i = tt
   phase_found q its (phase.Moving x) e = by (next_out (table_of s.store.ast x.uid) x.next)
@@ -204,14 +187,8 @@ module _ (s : State) (c : ℕ) (m : IsMachine s) (there : c < length s.processor
   owner_found : (x : Option Owner) → s.owner ≡ x → Found s c (own_or_run s c p x)
   owner_found None e = run_found p.cpu.process
   owner_found (Some q) e = cond_both (eqb q.cpu c) (go_on_with s k q q.phase) (run_process s p p.cpu.process)
-      (Found s c) (λ h. mine (is h)) (λ h. run_found p.cpu.process)
+      (Found s c) (λ h. mine (eqb-true q.cpu c h)) (λ h. run_found p.cpu.process)
     where
-      is : eqb q.cpu c ≡ true → q.cpu ≡ c
-      is h = elim (eqb_tells q.cpu c) [
-        | inl y ↦ y.1
-        | inr n ↦ absurd (let no : true ≡ false = sym h ∙ n.0 in cc)
-      ]
-
       mine : q.cpu ≡ c → Found s c (go_on_with s k q q.phase)
       mine same = phase_found (record { owner = q; mine = e; same = same })
           (process_here s c (no_call s) m.keeps there (record { owner = q; mine = e; same = same })) q.phase refl
@@ -230,4 +207,4 @@ module _ (s : State) (c : ℕ) (m : IsMachine s) (there : c < length s.processor
 
   -- the same by the action's name
   pub found_of : (a : act.Action) → action_of s c ≡ a → Found s c a
-  found_of a doing = subst (Found s c) doing step_found
+  found_of a doing = rw (← doing) step_found

@@ -1,181 +1,108 @@
 -- What the calls ask that bring a segment of a chain nearer: it becomes active, or the victim of its pool is emptied.
-use Rattle.machine.proofs.Prelude.{◌≡◌, ◌<◌, ℕ, true, is_some, length, List, Option, Some, None, refl, sym, ap, subst, ◌∙◌, IsSome, length-set, ArePools, Command, node_in, chain_of, HasNoInferior, uid_at, HasOneOffChain, first_off_chain, hand_past, is_there, action_of, pool_of_node, after, no_call, victim_taken, with_hand_moved, Keeps, first_inactive, free_place, or_zero, process_at, State, Storage, activated_at, with_active, with_store, first_there, about_there, IsAbout, leaf_inferiors, victim_leaf, Speaks, speaks, active_at, all_used, Looks, wanted_pool, Parts, with_state, chain_end, chain_one_off, own_chain, IsSound, IsBusy}
+use Rattle.machine.proofs.Prelude.{Action, ArePools, Command, HasNoInferior, HasOneOffChain, IsAbout, IsSome, List, Looks, Node, None, Parts, Some, State, Storage, about_there, active_at, all_used, ap, arith, chain_end, chain_of, chain_one_off, first_inactive, first_there, free_place, is_of_process, is_some, is_there, leaf_inferiors, no_call, node_in, or_zero, own_chain, pool_of_node, process_at, refl, subst, sym, true, uid_at, victim_leaf, wanted_pool, ℕ, ◌<◌, ◌∙◌, ◌≡◌, IsSound, MayDo, some_same, speaks}
 use Rattle.machine_model.specs.Actions as act
-use Rattle.machine.proofs.Busy.{busy_for}
-use Rattle.machine.proofs.Found.{Looked, found_of}
-use Rattle.machine.proofs.OwnerCalls.{IsEmptiable, SoundIn, emptiable_by, kept_through, owned, still_for}
-use Rattle.machine.proofs.Stays.{ShowsAs, same_as, tables_as, then_as}
-use Rattle.machine.proofs.TakingStays.{begun_as}
+use Rattle.machine.proofs.Does.{Does, busy, found, keeps_of, still_for}
+use Rattle.machine.proofs.Found.{Looked}
+use Rattle.machine.proofs.OwnerCalls.{IsEmptiable, emptiable_by, owned}
 
--- a segment that is active
-active_as : (st : Storage) (u place : ℕ) → ShowsAs st (with_active st u place)
-active_as st u place = tables_as st (with_active st u place).ast st.links refl
-    (length-set st.ast.entries place _) refl
+-- what a processor's look is about is there
+about_is : {D : Type 0} {t : Parts D} {c : ℕ} {a : Action} {Finds : Command → Type 0} → Does t c a
+    → is_of_process a ≡ true → (l : Looks t.state c Finds) → (u : ℕ)
+    → IsAbout t.state (process_at t.state c) l.command u → is_there t.state.store.accounts.nodes u ≡ true
+about_is {D} {t} {c} d of l = about_there t.state c (no_call t.state) d.sound.keeps.machine l.idle l.command
+    (let its = speaks t.state c (process_at t.state c) d.sound.keeps.machine d.may.there (busy d of) in
+    let same = some_same its.0 l.command (cc) in
+    rw (← same) its.1)
 
--- a hand that has moved
-hand_by : (st : Storage) (pool : ℕ) (x : Option ℕ) → ShowsAs st (record st { ast = hand_past st.ast pool x })
-hand_by st pool None = same_as st
-hand_by st pool (Some place) = tables_as st (hand_past st.ast pool (Some place)) st.links refl refl refl
+-- ---- a segment becomes active
 
-victim_as : (s : State) (c pool : ℕ) (chain : List ℕ) (u : ℕ) → ShowsAs s.store (victim_taken s c pool chain u).store
-victim_as s c pool chain u = then_as s.store (with_hand_moved s.store pool chain)
-    (victim_taken s c pool chain u).store (hand_by s.store pool (first_off_chain s.store.ast pool chain))
-    (begun_as (with_store s (with_hand_moved s.store pool chain)) c u)
+-- a segment may become active, for the command that node u is about
+pub record IsJoinable (s : State) (u : ℕ) : Type 0 where
+  pub still : s.store.moving ≡ None
+  pub there : is_there s.store.accounts.nodes u ≡ true
+  pub first : first_inactive s.store.ast (chain_of s.store.accounts.nodes u) ≡ Some u
+  pub free : IsSome (free_place s.store.ast (pool_of_node (node_in s.store.accounts.nodes u)))
+  pub room : 0 < s.spare
 
-module _ {D : Type 0} (t : Parts D) (c : ℕ) (sound : IsSound t) (there : c < length t.state.processors) where
-  abbrev s : State
-  s = t.state
+module _ {D : Type 0} {t : Parts D} {c u place : ℕ} (d : Does t c (act.Activate u place)) where
+  abbrev nodes : List Node
+  nodes = t.state.store.accounts.nodes
 
-  abbrev keeps : Keeps s
-  keeps = sound.keeps.machine.keeps
+  l : Looked t.state c (act.Activate u place)
+  l = found d
 
-  -- the process of a processor that looks comes to the command that it looks for
-  speaks_of : {Finds : Command → Type 0} (l : Looks s c Finds) → IsBusy s c → Speaks s c (process_at s c) l.command
-  speaks_of l busy = (let its = speaks s c (process_at s c) sound.keeps.machine there busy in
-      subst (Speaks s c (process_at s c)) (same (sym its.1.next ∙ l.next)) its.1)
-    where
-      same : {x y : Command} → Some x ≡ Some y → x ≡ y
-      same e = cc
-
-  about_is : {Finds : Command → Type 0} (l : Looks s c Finds) → IsBusy s c → (u : ℕ)
-      → IsAbout s (process_at s c) l.command u → is_there s.store.accounts.nodes u ≡ true
-  about_is l busy = about_there s c (no_call s) sound.keeps.machine l.idle l.command (speaks_of l busy)
-
-  -- ---- a segment becomes active
-
-  place_found : (u place : ℕ) → action_of s c ≡ act.Activate u place
-      → free_place s.store.ast (pool_of_node (node_in s.store.accounts.nodes u)) ≡ Some place
-  place_found u place doing = l.finds.free
-    where
-      l : Looked s c (act.Activate u place)
-      l = found_of s c sound.keeps.machine there (act.Activate u place) doing
+  first : first_inactive t.state.store.ast (chain_of nodes l.finds.link.about) ≡ Some u
+  first = rw (← l.finds.link.chain_is) l.finds.link.first
 
   -- it is there, and the first of its own chain that isn't active
-  pub link_there : (u place : ℕ) → action_of s c ≡ act.Activate u place
-      → is_there s.store.accounts.nodes u ≡ true
-  link_there u place doing = first_there s.store.accounts.nodes keeps.store.accounts.tree s.store.ast
-      l.finds.link.about u
-      (about_is l (busy_for t c sound there (act.Activate u place) doing refl) l.finds.link.about l.finds.link.case)
-      (subst (λ (chain : List ℕ). first_inactive s.store.ast chain ≡ Some u) l.finds.link.chain_is l.finds.link.first)
-    where
-      l : Looked s c (act.Activate u place)
-      l = found_of s c sound.keeps.machine there (act.Activate u place) doing
-
-  pub link_first : (u place : ℕ) → action_of s c ≡ act.Activate u place
-      → first_inactive s.store.ast (chain_of s.store.accounts.nodes u) ≡ Some u
-  link_first u place doing = own_chain s.store.accounts.nodes keeps.store.accounts.tree s.store.ast l.finds.link.about u
-      (subst (λ (chain : List ℕ). first_inactive s.store.ast chain ≡ Some u) l.finds.link.chain_is l.finds.link.first)
-    where
-      l : Looked s c (act.Activate u place)
-      l = found_of s c sound.keeps.machine there (act.Activate u place) doing
-
-  pub place_free : (u place : ℕ) → action_of s c ≡ act.Activate u place
-      → IsSome (free_place s.store.ast (pool_of_node (node_in s.store.accounts.nodes u)))
-  place_free u place doing = ap is_some (place_found u place doing)
+  pub joinable : IsJoinable t.state u
+  joinable = record {
+    still = still_for d;
+    there = first_there nodes (keeps_of d).store.accounts.tree t.state.store.ast l.finds.link.about u
+        (about_is d refl l l.finds.link.about l.finds.link.case) first;
+    first = own_chain nodes (keeps_of d).store.accounts.tree t.state.store.ast l.finds.link.about u first;
+    free = ap is_some l.finds.free;
+    room = omega arith;
+  }
 
   -- it is in the place that the rules gave
-  pub activated : (u place found : ℕ) → action_of s c ≡ act.Activate u place
-      → free_place s.store.ast (pool_of_node (node_in s.store.accounts.nodes u)) ≡ Some found
-      → (now : Parts D) → now ≡ with_state t (activated_at s u found)
-      → now ≡ with_state t (activated_at s u place)
-  activated u place found doing free now is =
-      is ∙ ap (λ (x : ℕ). with_state t (activated_at s u x)) (same (sym free ∙ place_found u place doing))
-    where
-      same : {a b : ℕ} → Some a ≡ Some b → a ≡ b
-      same e = cc
+  pub place_is : {other : ℕ} → free_place t.state.store.ast (pool_of_node (node_in nodes u)) ≡ Some other
+      → other ≡ place
+  place_is free = cc (free, l.finds.free)
 
-  pub activate_sound : (u place : ℕ) → action_of s c ≡ act.Activate u place
-      → SoundIn t (activated_at s u place)
-  unfolding after
-  activate_sound u place doing = kept_through t c sound there (act.Activate u place) (activated_at s u place) refl doing
-      refl (active_as s.store u place)
+-- ---- the victim of a pool
 
-  -- ---- the victim of a pool
+-- what the call asks that takes what the victim has in use, where the chain is that of a node
+pub record IsVictim (s : State) (of u : ℕ) : Type 0 where
+  pub there : is_there s.store.accounts.nodes of ≡ true
+  pub first : IsSome (first_inactive s.store.ast (chain_of s.store.accounts.nodes of))
+  pub full : free_place s.store.ast (wanted_pool s.store of) ≡ None
+  pub off : HasOneOffChain s.store.ast (wanted_pool s.store of) (chain_of s.store.accounts.nodes of)
+  pub goes : IsEmptiable s u
 
-  module _ (pool : ℕ) (chain : List ℕ) (u : ℕ) (doing : action_of s c ≡ act.EmptyVictim pool chain u) where
-    looked : Looked s c (act.EmptyVictim pool chain u)
-    looked = found_of s c sound.keeps.machine there (act.EmptyVictim pool chain u) doing
+pub is_victim : {D : Type 0} {t u : Parts D} {c pool uid : ℕ} (of : ℕ) → t ≡ u → IsSound t
+    → MayDo u.state c (act.EmptyVictim pool (chain_of u.state.store.accounts.nodes of) uid)
+    → Does t c (act.EmptyVictim pool (chain_of t.state.store.accounts.nodes of) uid)
+is_victim of same sound may = record { sound = sound; may = rw same may }
 
-    -- the pool is full, and it is that of the first segment of the chain that isn't active
-    victim_first : IsSome (first_inactive s.store.ast chain)
-    victim_first = ap is_some looked.finds.link.first
+module _ {D : Type 0} {t : Parts D} {c pool u : ℕ} (of : ℕ)
+    (d : Does t c (act.EmptyVictim pool (chain_of t.state.store.accounts.nodes of) u)) where
+  abbrev st : Storage
+  st = t.state.store
 
-    victim_pool : pool ≡ pool_of_node (node_in s.store.accounts.nodes (or_zero (first_inactive s.store.ast chain)))
-    victim_pool = looked.finds.pool_is ∙ ap
-        (λ (x : Option ℕ). pool_of_node (node_in s.store.accounts.nodes (or_zero x)))
-        (sym looked.finds.link.first)
+  abbrev chain : List ℕ
+  chain = chain_of st.accounts.nodes of
 
-    victim_full : free_place s.store.ast pool ≡ None
-    victim_full = looked.finds.full
+  looked : Looked t.state c (act.EmptyVictim pool chain u)
+  looked = found d
 
-    leaf : (w : ℕ) × (uid_at s.store.ast.entries looked.finds.place ≡ Some w)
-        × HasNoInferior s.store.ast.entries looked.finds.place
-    leaf = victim_leaf s.store.ast pool chain looked.finds.place keeps.store.kept.tree looked.finds.victim
+  leaf : (w : ℕ) × (uid_at st.ast.entries looked.finds.place ≡ Some w) × HasNoInferior st.ast.entries looked.finds.place
+  leaf = victim_leaf st.ast pool chain looked.finds.place (keeps_of d).store.kept.tree looked.finds.victim
 
-    at : uid_at s.store.ast.entries looked.finds.place ≡ Some u
-    at = leaf.1 ∙ ap (λ (x : ℕ). Some x) (sym (looked.finds.uid ∙ ap or_zero leaf.1))
+  at : uid_at st.ast.entries looked.finds.place ≡ Some u
+  at = leaf.1 ∙ ap (λ (x : ℕ). Some x) (sym (looked.finds.uid ∙ ap or_zero leaf.1))
 
-    victim_emptiable : IsEmptiable t c sound there u
-    victim_emptiable = emptiable_by t c sound there u (still_for t c sound there
-        (act.EmptyVictim pool chain u) doing) looked.idle (owned t c sound there looked.looking.owner)
-        (active_at s.store.ast looked.finds.place u at) looked.finds.unread
-        (leaf_inferiors s looked.finds.place u keeps at leaf.2)
+  -- the pool is that of the first segment of the chain that isn't active
+  pub pool_is : pool ≡ wanted_pool st of
+  pool_is = cc (looked.finds.pool_is, looked.finds.link.first)
 
-    victim_sound : SoundIn t (victim_taken s c pool chain u)
-    unfolding after
-    victim_sound = kept_through t c sound there (act.EmptyVictim pool chain u) (victim_taken s c pool chain u) refl
-        doing refl (victim_as s c pool chain u)
+  wanted_there : is_there st.accounts.nodes of ≡ true
+  wanted_there = rw (← (chain_end st.accounts.nodes looked.finds.link.about of (sym looked.finds.link.chain_is)))
+      (about_is d refl looked looked.finds.link.about looked.finds.link.case)
 
-  -- ---- the same where the chain is told by its node
-
-  module _ (pool of u : ℕ)
-      (doing : action_of s c ≡ act.EmptyVictim pool (chain_of s.store.accounts.nodes of) u) where
-    abbrev chain : List ℕ
-    chain = chain_of s.store.accounts.nodes of
-
-    l : Looked s c (act.EmptyVictim pool chain u)
-    l = looked pool chain u doing
-
-    of_is : l.finds.link.about ≡ of
-    of_is = chain_end s.store.accounts.nodes l.finds.link.about of (sym l.finds.link.chain_is)
-
-    wanted_there : is_there s.store.accounts.nodes of ≡ true
-    wanted_there = subst (λ (x : ℕ). is_there s.store.accounts.nodes x ≡ true) of_is
-        (about_is l (busy_for t c sound there (act.EmptyVictim pool chain u) doing refl) l.finds.link.about
-        l.finds.link.case)
-
-    pool_is : pool ≡ wanted_pool s.store of
-    pool_is = victim_pool pool chain u doing
-
-    wanted_off : HasOneOffChain s.store.ast (wanted_pool s.store of) (chain_of s.store.accounts.nodes of)
-    wanted_off = subst (λ (x : ℕ). HasOneOffChain s.store.ast x chain) (sym l.finds.pool_is ∙ pool_is)
-        (chain_one_off s.store.pages s.store.ast s.store.links s.store.accounts s.store.whos keeps.store.counted
-        keeps.store.accounts.tree of keeps.store.kept.tree
-        (subst ArePools (sym sound.keeps.machine.pools) sound.keeps.machine.script.pools) wanted_there l.finds.wanted
-        l.finds.link.first (all_used s.store.ast (pool_of_node (node_in s.store.accounts.nodes l.finds.wanted))
-        (subst (λ (x : ℕ). free_place s.store.ast x ≡ None) l.finds.pool_is l.finds.full)))
-
-    -- what the call asks that takes what the victim has in use
-    pub record IsVictim : Type 0 where
-      pub node : is_there s.store.accounts.nodes of ≡ true
-      pub first : IsSome (first_inactive s.store.ast (chain_of s.store.accounts.nodes of))
-      pub full : free_place s.store.ast (wanted_pool s.store of) ≡ None
-      pub off : HasOneOffChain s.store.ast (wanted_pool s.store of) (chain_of s.store.accounts.nodes of)
-      pub goes : IsEmptiable t c sound there u
-
-    pub victim_call : IsVictim
-    victim_call = record {
-      node = wanted_there;
-      first = victim_first pool chain u doing;
-      full = subst (λ (x : ℕ). free_place s.store.ast x ≡ None) pool_is (victim_full pool chain u doing);
-      off = wanted_off;
-      goes = victim_emptiable pool chain u doing;
-    }
-
-    pub victim_is : (now : Parts D)
-        → now ≡ with_state t (victim_taken s c (wanted_pool s.store of) (chain_of s.store.accounts.nodes of) u)
-        → now ≡ with_state t (victim_taken s c pool (chain_of s.store.accounts.nodes of) u)
-    victim_is now is = is ∙ ap (λ (x : ℕ). with_state t (victim_taken s c x chain u)) (sym pool_is)
-
-    pub victim_keeps : SoundIn t (victim_taken s c (wanted_pool s.store of) (chain_of s.store.accounts.nodes of) u)
-    victim_keeps = λ now is. victim_sound pool chain u doing now (victim_is now is)
+  pub victim_call : IsVictim t.state of u
+  victim_call = record {
+    there = wanted_there;
+    first = ap is_some looked.finds.link.first;
+    full = subst (λ (x : ℕ). free_place st.ast x ≡ None) pool_is looked.finds.full;
+    off = subst (λ (x : ℕ). HasOneOffChain st.ast x chain) (sym looked.finds.pool_is ∙ pool_is)
+        (chain_one_off st.pages st.ast st.links st.accounts st.whos (keeps_of d).store.counted
+        (keeps_of d).store.accounts.tree of (keeps_of d).store.kept.tree
+        (subst ArePools (sym d.sound.keeps.machine.pools) d.sound.keeps.machine.script.pools) wanted_there
+        looked.finds.wanted looked.finds.link.first
+        (all_used st.ast (pool_of_node (node_in st.accounts.nodes looked.finds.wanted))
+        (subst (λ (x : ℕ). free_place st.ast x ≡ None) looked.finds.pool_is looked.finds.full)));
+    goes = emptiable_by d u (still_for d) looked.idle (owned looked.looking.owner)
+        (active_at st.ast looked.finds.place u at) looked.finds.unread
+        (leaf_inferiors t.state looked.finds.place u (keeps_of d) at leaf.2);
+  }

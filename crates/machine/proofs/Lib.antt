@@ -1,17 +1,16 @@
 mod Prelude
 pub mod AccountLaws
 pub mod AloneLaws
-pub mod BackStays
 pub mod Busy
 pub mod CallLaws
-pub mod Changed
 pub mod ChoiceCalls
 pub mod CommitCalls
 pub mod CommitStays
 pub mod CountedLaws
+pub mod CountsKept
 pub mod CreateCalls
 pub mod DiskLaws
-pub mod DisksKept
+pub mod Does
 pub mod DriveCounts
 pub mod EmptiedFacts
 pub mod EndedLaws
@@ -25,7 +24,6 @@ pub mod MoveCalls
 pub mod MovedLaws
 pub mod NoZeros
 pub mod OwnerCalls
-pub mod Quiet
 pub mod ReadStays
 pub mod RestLaws
 pub mod RunLaws

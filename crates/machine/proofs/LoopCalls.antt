@@ -1,5 +1,5 @@
 -- What the loops that make a machine end come to, turn by turn.
-use Rattle.machine.proofs.Prelude.{◌≡◌, ◌≤◌, ◌<◌, ℕ, ◌+◌, ◌++◌, ◌∷◌, [], true, false, cond, eqb, ◌&&◌, length, is_some, List, Option, Some, None, position, refl, sym, ap, subst, ◌∙◌, arith, inl, inr, cases_lt, eqb_tells, append-nil, get_or_past, Err, Ok, OnErr, OnOk, Result, Plan, Point, Transfer, action_of, has_process, is_over, AwaitsClear, AwaitsTransfer, CommandDone, Goes, HasTaken, IsReader, JobDone, JobFell, RoundDone, command_gauge, is_at, all_rank, Outline, Runner, runner_at, around, keeper_of, outline_of, stage_of, KeepsAll, cpu_at, no_processor, process_at, processor_at, HasStepped, IsGoing, IsOwnedBy, Owner, State, Processor, position_at, position_none, round_done, way_falls, way_next, kept_of, in_job, at_outline, long_outline, seen_reading, no_owner, pools_kept, Parts, Why, HasGone, HasMoved, HasStalled, HasTurned, MayWait, OwnerTurned, WaitsFor, is_into, is_still_at, reads_into, with_spare, Grows, HasRun, HasStood, is_moved, tally, with_room, Appends, IfStill, IsTurn, KeepsParts, TellsFaults, turn_of, why_by, Turn}
+use Rattle.machine.proofs.Prelude.{◌≡◌, ◌≤◌, ◌<◌, ℕ, ◌+◌, ◌++◌, ◌∷◌, [], true, false, cond, eqb, ◌&&◌, length, is_some, List, Option, Some, None, position, refl, sym, ap, subst, ◌∙◌, arith, inl, inr, cases_lt, append-nil, get_or_past, Err, Ok, OnErr, OnOk, Result, Transfer, action_of, has_process, is_over, CommandDone, Goes, HasTaken, IsReader, JobDone, JobFell, RoundDone, command_gauge, is_at, all_rank, Outline, Runner, runner_at, around, outline_of, stage_of, KeepsAll, cpu_at, no_processor, process_at, processor_at, IsGoing, IsOwnedBy, Owner, State, Processor, position_at, position_none, round_done, way_falls, way_next, kept_of, in_job, at_outline, long_outline, seen_reading, no_owner, pools_kept, Parts, Why, HasGone, HasMoved, HasStalled, HasTurned, MayWait, OwnerTurned, WaitsFor, is_into, is_still_at, reads_into, with_spare, Grows, HasRun, HasStood, is_moved, tally, with_room, Appends, IfStill, IsTurn, KeepsParts, TellsFaults, turn_of, why_by, Turn, eqb-true, eqb_self, some_same}
 use Rattle.machine_model.specs.Actions as act
 use Rattle.machine_model.specs.Outline as outline
 use Rattle.machine_model.specs.Turns as model
@@ -11,35 +11,29 @@ use Rattle.machine.proofs.RunLaws.{round_made, run_append, run_grows, run_grows_
 
 -- ---- steps, one after another
 
--- a step leaves whether the machine was stopped
-pub turn_stopped : {D X : Type 0} (plan : D → X) (places faults : D → ℕ) (old new : Parts D) (c : ℕ) (answer : Turn)
-    → IsTurn plan places faults old new c answer → new.state.stopped ≡ old.state.stopped
-turn_stopped plan places faults old new c answer h = ap (λ (s : State). s.stopped) h.step.done
-    ∙ (pools_kept old.state c (action_of old.state c) h.step.outcome).stopped
+module _ {D X : Type 0} {plan : D → X} {places faults : D → ℕ} where
+  pub gone_self : {a : Parts D} → HasGone plan places faults a a
+  gone_self = record { cpus = []; moved = 0; run = (refl, refl); stopped = refl }
 
-module _ {D X : Type 0} (plan : D → X) (places faults : D → ℕ) where
-  pub gone_self : (a : Parts D) → HasGone plan places faults a a
-  gone_self a = record { cpus = []; moved = 0; run = (refl, refl); stopped = refl }
-
-  pub gone_on : (a b d : Parts D) → HasGone plan places faults a b → HasGone plan places faults b d
+  pub gone_on : {a b d : Parts D} → HasGone plan places faults a b → HasGone plan places faults b d
       → HasGone plan places faults a d
-  gone_on a b d one two = record {
+  gone_on {a} {b} {d} one two = record {
     cpus = one.cpus ++ two.cpus;
     moved = one.moved + two.moved;
     run = run_append plan places faults a b d one.cpus two.cpus one.moved two.moved one.run two.run;
     stopped = two.stopped ∙ one.stopped;
   }
 
-  pub stalled_on : (a b d : Parts D) → HasGone plan places faults a b → HasStalled plan places faults b d
+  pub stalled_on : {a b d : Parts D} → HasGone plan places faults a b → HasStalled plan places faults b d
       → HasStalled plan places faults a d
-  stalled_on a b d one two = record { last = two.last; gone = gone_on a b two.last one two.gone; room = two.room }
+  stalled_on one two = record { last = two.last; gone = gone_on one two.gone; room = two.room }
 
   -- room was made, and a step
-  pub gone_round : (a b d : Parts D) (c : ℕ) (answer : Turn) → b ≡ with_room a b.state.spare
+  pub gone_round : {a b d : Parts D} {c : ℕ} {answer : Turn} → b ≡ with_room a b.state.spare
       → IsTurn plan places faults b d c answer → Appends b.state.entries d.state.entries 320
       → KeepsParts plan places faults b d → TellsFaults faults b d (process_at b.state c)
       → HasGone plan places faults a d
-  gone_round a b d c answer is turn more kept told = record {
+  gone_round {a} {b} {d} {c} {answer} is turn more kept told = record {
     cpus = c ∷ [];
     moved = tally (is_moved answer);
     run = (
@@ -50,25 +44,24 @@ module _ {D X : Type 0} (plan : D → X) (places faults : D → ℕ) where
       round_made plan places faults a b d c (tally (is_moved answer)) answer is turn more kept told refl,
       (refl, refl),
     );
-    stopped = turn_stopped plan places faults b d c answer turn ∙ ap (λ (t : Parts D). t.state.stopped) is;
+    stopped = ap (λ (s : State). s.stopped) turn.step.done
+        ∙ ((pools_kept b.state c (action_of b.state c) turn.step.outcome).stopped
+        ∙ ap (λ (t : Parts D). t.state.stopped) is);
   }
 
   -- there was no room for a step
-  pub stalled_at : (a b : Parts D) → b ≡ with_room a b.state.spare → HasStalled plan places faults a b
-  stalled_at a b is = record { last = a; gone = gone_self a; room = is }
-
-  pub stalled_stopped : (a b : Parts D) → HasStalled plan places faults a b → b.state.stopped ≡ a.state.stopped
-  stalled_stopped a b h = ap (λ (t : Parts D). t.state.stopped) h.room ∙ h.gone.stopped
+  pub stalled_at : {a b : Parts D} → b ≡ with_room a b.state.spare → HasStalled plan places faults a b
+  stalled_at {a} is = record { last = a; gone = gone_self; room = is }
 
   -- ---- what follows
 
-  pub gone_run : (a b : Parts D) → HasGone plan places faults a b
+  pub gone_run : {a b : Parts D} → HasGone plan places faults a b
       → (cpus : List ℕ) × (moved : ℕ) × HasRun plan places faults a b cpus moved
-  gone_run a b h = (h.cpus, h.moved, h.run)
+  gone_run h = (h.cpus, h.moved, h.run)
 
-  pub stalled_stood : (a b : Parts D) → HasStalled plan places faults a b
+  pub stalled_stood : {a b : Parts D} → HasStalled plan places faults a b
       → (cpus : List ℕ) × HasStood plan places faults a b cpus
-  stalled_stood a b h = (
+  stalled_stood h = (
     h.gone.cpus,
     record {
       before = h.gone.cpus;
@@ -82,87 +75,65 @@ module _ {D X : Type 0} (plan : D → X) (places faults : D → ℕ) where
   )
 
   -- a processor of the script is one still
-  pub gone_planned : (a b : Parts D) (c : ℕ) → HasGone plan places faults a b → c < a.state.plan.processors
+  pub gone_planned : {a b : Parts D} {c : ℕ} → HasGone plan places faults a b → c < a.state.plan.processors
       → c < b.state.plan.processors
-  gone_planned a b c h = subst (λ (p : Plan). c < p.processors)
-      (sym (run_keeps plan places faults a b h.cpus h.moved h.run).script)
+  gone_planned {a} {b} h within = rw (run_keeps plan places faults a b h.cpus h.moved h.run).script within
 
-  -- however it ended
-  pub loop_grows : {T E : Type 0} (a b : Parts D) (r : Result T E) → OnOk r (HasGone plan places faults a b)
+-- however it ended
+module _ {D X T E : Type 0} (plan : D → X) (places faults : D → ℕ) (a b : Parts D) where
+  pub loop_grows : (r : Result T E) → OnOk r (HasGone plan places faults a b)
       → OnErr r (HasStalled plan places faults a b) → Grows a.state.entries b.state.entries
-  loop_grows a b (Ok x) gone stalled = run_grows plan places faults a b gone.cpus gone.moved gone.run
-  loop_grows a b (Err e) gone stalled = run_grows_on plan places faults a b (stalled_stood a b stalled).0
-      (stalled_stood a b stalled).1
+  loop_grows (Ok x) gone stalled = run_grows plan places faults a b gone.cpus gone.moved gone.run
+  loop_grows (Err e) gone stalled = let stood = stalled_stood stalled in
+      run_grows_on plan places faults a b stood.0 stood.1
 
-  pub loop_keeps : {T E : Type 0} (a b : Parts D) (r : Result T E) → OnOk r (HasGone plan places faults a b)
+  pub loop_keeps : (r : Result T E) → OnOk r (HasGone plan places faults a b)
       → OnErr r (HasStalled plan places faults a b) → KeepsParts plan places faults a b
-  loop_keeps a b (Ok x) gone stalled = run_keeps plan places faults a b gone.cpus gone.moved gone.run
-  loop_keeps a b (Err e) gone stalled = run_keeps_on plan places faults a b (stalled_stood a b stalled).0
-      (stalled_stood a b stalled).1
+  loop_keeps (Ok x) gone stalled = run_keeps plan places faults a b gone.cpus gone.moved gone.run
+  loop_keeps (Err e) gone stalled = let stood = stalled_stood stalled in
+      run_keeps_on plan places faults a b stood.0 stood.1
 
-  pub loop_stopped : {T E : Type 0} (a b : Parts D) (r : Result T E) → OnOk r (HasGone plan places faults a b)
+  pub loop_stopped : (r : Result T E) → OnOk r (HasGone plan places faults a b)
       → OnErr r (HasStalled plan places faults a b) → b.state.stopped ≡ a.state.stopped
-  loop_stopped a b (Ok x) gone stalled = gone.stopped
-  loop_stopped a b (Err e) gone stalled = stalled_stopped a b stalled
+  loop_stopped (Ok x) gone stalled = gone.stopped
+  loop_stopped (Err e) gone stalled = ap (λ (t : Parts D). t.state.stopped) stalled.room ∙ stalled.gone.stopped
 
 -- ---- a turn
 
--- room for entries is in no outline
-roomy_outline : (s : State) (n : ℕ) → outline_of (with_spare s n) ≡ outline_of s
-unfolding outline_of
-roomy_outline s n = refl
-
 -- room was made, and a step
-pub turned_by : {D X : Type 0} (plan : D → X) (places faults : D → ℕ) (a b d : Parts D) (c : ℕ) (answer : Turn) (n : ℕ)
-    → b ≡ record a { state = with_spare a.state n } → KeepsAll a.state → KeepsAll d.state
-    → IsTurn plan places faults b d c answer → HasTurned a.state d.state c answer
-turned_by plan places faults a b d c answer n is before now made =
-    by (subst (λ (x : Parts _). IsTurn plan places faults x d c answer) is made)
+pub turned_by : {D X : Type 0} {plan : D → X} {places faults : D → ℕ} {a b d : Parts D} {c : ℕ} {answer : Turn}
+    → b ≡ with_room a b.state.spare → KeepsAll a.state → KeepsAll d.state → IsTurn plan places faults b d c answer
+    → HasTurned a.state d.state c answer
+turned_by {D} {X} {plan} {places} {faults} {a} {b} {d} {c} {answer} is before now made = by (rw is at made)
   where
-    stays : (x : Turn) → IfStill x (d ≡ record a { state = with_spare a.state n })
-        → IfStill x (d.state ≡ with_spare a.state n)
+    stays : (x : Turn) → IfStill x (d ≡ with_room a b.state.spare)
+        → IfStill x (d.state ≡ with_spare a.state b.state.spare)
     stays (turn.Moved p) h = tt
-    stays (turn.Waits w) h = ap (λ (t : Parts _). t.state) h
-    stays turn.Ended h = ap (λ (t : Parts _). t.state) h
-    stays turn.Stopped h = ap (λ (t : Parts _). t.state) h
+    stays (turn.Waits w) h = cc
+    stays turn.Ended h = cc
+    stays turn.Stopped h = ap (λ (t : Parts D). t.state) h
 
-    by : IsTurn plan places faults (record a { state = with_spare a.state n }) d c answer
-        → HasTurned a.state d.state c answer
+    by : IsTurn plan places faults (with_room a b.state.spare) d c answer → HasTurned a.state d.state c answer
     by h = record {
       before = before;
       now = now;
-      spare = n;
+      spare = b.state.spare;
       stepped = record { outcome = h.step.outcome; done = h.step.done };
       answer_is = h.answer_is;
       still = stays answer h.still;
     }
 
--- an answer by the model's
-moved_by : (s : State) (c : ℕ) (a : act.Action) (p : Point) → turn.Moved p ≡ turn_of s c a
-    → model.turn_of a ≡ outline.Moved
-moved_by s c act.IsStopped p h = absurd (let no : turn.Moved p ≡ turn.Stopped = h in cc)
-moved_by s c act.HasEnded p h = absurd (let no : turn.Moved p ≡ turn.Ended = h in cc)
-moved_by s c (act.Waits reason) p h = absurd (let no : turn.Moved p ≡ turn.Waits (why_by reason) = h in cc)
-moved_by s c a p h = refl
+-- an answer says what the model's does
+abbrev SaysTurn : Turn → outline.Turn → Type 0
+SaysTurn (turn.Moved p) x = x ≡ outline.Moved
+SaysTurn (turn.Waits w) x = (reason : act.Why) × (w ≡ why_by reason) × (x ≡ outline.WaitsFor reason)
+SaysTurn _ x = x ≡ outline.Ended
 
-waits_by : (s : State) (c : ℕ) (a : act.Action) (w : Why) → turn.Waits w ≡ turn_of s c a
-    → (reason : act.Why) × (w ≡ why_by reason) × (model.turn_of a ≡ outline.WaitsFor reason)
-waits_by s c act.IsStopped w h = absurd (let no : turn.Waits w ≡ turn.Stopped = h in cc)
-waits_by s c act.HasEnded w h = absurd (let no : turn.Waits w ≡ turn.Ended = h in cc)
-waits_by s c (act.Waits reason) w h = (reason, (let same : turn.Waits w ≡ turn.Waits (why_by reason) = h in cc), refl)
-waits_by s c a w h = absurd (let no : turn.Waits w ≡ turn.Moved _ = h in cc)
-
-ended_by : (s : State) (c : ℕ) (a : act.Action) → turn.Ended ≡ turn_of s c a → model.turn_of a ≡ outline.Ended
-ended_by s c act.IsStopped h = refl
-ended_by s c act.HasEnded h = refl
-ended_by s c (act.Waits reason) h = absurd (let no : turn.Ended ≡ turn.Waits (why_by reason) = h in cc)
-ended_by s c a h = absurd (let no : turn.Ended ≡ turn.Moved _ = h in cc)
-
-stopped_by : (s : State) (c : ℕ) (a : act.Action) → turn.Stopped ≡ turn_of s c a → model.turn_of a ≡ outline.Ended
-stopped_by s c act.IsStopped h = refl
-stopped_by s c act.HasEnded h = refl
-stopped_by s c (act.Waits reason) h = absurd (let no : turn.Stopped ≡ turn.Waits (why_by reason) = h in cc)
-stopped_by s c a h = absurd (let no : turn.Stopped ≡ turn.Moved _ = h in cc)
+says_turn : (s : State) (c : ℕ) (a : act.Action) → SaysTurn (turn_of s c a) (model.turn_of a)
+says_turn s c act.IsStopped = refl
+says_turn s c act.HasEnded = refl
+says_turn s c (act.Waits reason) = (reason, refl, refl)
+says_turn s c a = refl
 
 module _ (s t : State) (c : ℕ) (answer : Turn) (turned : HasTurned s t c answer) (on : s.stopped ≡ false) where
   abbrev roomy : State
@@ -170,17 +141,12 @@ module _ (s t : State) (c : ℕ) (answer : Turn) (turned : HasTurned s t c answe
 
   -- the machine that was given room
   pub roomy_goes : IsGoing roomy
-  roomy_goes = record { keeps = rest_kept s turned.spare s.stopped turned.before; on = on }
+  roomy_goes = assumption (rest_kept s turned.spare s.stopped turned.before)
 
-  same_outline : outline_of roomy ≡ outline_of s
-  same_outline = roomy_outline s turned.spare
-
-  stepped : HasStepped roomy t c
-  stepped = turned.stepped
-
-  -- where it waits nothing has changed
-  pub still_outline : (w : Why) → answer ≡ turn.Waits w → outline_of t ≡ outline_of s
-  still_outline w is = ap outline_of (subst (λ (x : Turn). IfStill x (t ≡ roomy)) is turned.still) ∙ same_outline
+  -- where it waits nothing has changed; room for entries is in no outline
+  still_outline : (w : Why) → answer ≡ turn.Waits w → outline_of t ≡ outline_of s
+  unfolding outline_of
+  still_outline w is = ap outline_of (subst (λ (x : Turn). IfStill x (t ≡ roomy)) is turned.still)
 
   -- ---- the owner's turn
 
@@ -188,127 +154,79 @@ module _ (s t : State) (c : ℕ) (answer : Turn) (turned : HasTurned s t c answe
     roomy_mine : IsOwnedBy roomy c
     roomy_mine = record { owner = mine.owner; mine = mine.mine; cpu = mine.cpu }
 
-    moved_fell : model.turn_of (action_of roomy c) ≡ outline.Moved → JobFell (outline_of s) (outline_of t) c
-    moved_fell h = subst (λ (o : Outline). JobFell o (outline_of t) c) same_outline
-        (rounds.moved_turn roomy t c roomy_goes turned.now there roomy_mine stepped h)
-
-    by_reason : (reason : act.Why) → model.turn_of (action_of roomy c) ≡ outline.WaitsFor reason
-        → outline_of t ≡ outline_of s → OwnerTurned s t c (turn.Waits (why_by reason))
-    by_reason (act.ForClear late) h same = (
-      same,
-      subst (λ (o : Outline). AwaitsClear o c late)
-          (same_outline ∙ sym same)
-          (rounds.awaits_clear_turn roomy t c roomy_goes turned.now there roomy_mine stepped late h),
-    )
-    by_reason (act.ForTransfer frame) h same = (
-      same,
-      subst (λ (o : Outline). AwaitsTransfer o c frame)
-          (same_outline ∙ sym same)
-          (rounds.awaits_transfer_turn roomy t c roomy_goes turned.now there roomy_mine stepped frame h),
-    )
-    by_reason (act.ForOwner cpu) h same =
-        rounds.never_owner roomy t c roomy_goes turned.now there roomy_mine stepped cpu h
-    by_reason (act.WhileIdle busy) h same =
-        rounds.never_idle roomy t c roomy_goes turned.now there roomy_mine stepped busy h
-
     -- What a step of the owner brings.
     pub owner_turned : OwnerTurned s t c answer
-    owner_turned = by answer refl
+    unfolding outline_of
+    owner_turned = by answer refl (rw turned.answer_is (says_turn roomy c (action_of roomy c)))
       where
-        by : (x : Turn) → answer ≡ x → OwnerTurned s t c x
-        by (turn.Moved p) is = moved_fell (moved_by roomy c (action_of roomy c) p (sym is ∙ turned.answer_is))
-        by (turn.Waits w) is = let told = waits_by roomy c (action_of roomy c) w (sym is ∙ turned.answer_is) in
-            subst (λ (x : Why). OwnerTurned s t c (turn.Waits x)) (sym told.1)
-            (by_reason told.0 told.2 (still_outline w is))
-        by turn.Ended is = rounds.never_ended roomy t c roomy_goes turned.now there roomy_mine stepped
-            (ended_by roomy c (action_of roomy c) (sym is ∙ turned.answer_is))
-        by turn.Stopped is = rounds.never_ended roomy t c roomy_goes turned.now there roomy_mine stepped
-            (stopped_by roomy c (action_of roomy c) (sym is ∙ turned.answer_is))
+        by_reason : (reason : act.Why) → model.turn_of (action_of roomy c) ≡ outline.WaitsFor reason
+            → outline_of t ≡ outline_of s → OwnerTurned s t c (turn.Waits (why_by reason))
+        by_reason (act.ForClear late) h same = (
+          same,
+          rw same (rounds.awaits_clear_turn roomy t c roomy_goes turned.now there roomy_mine turned.stepped late h),
+        )
+        by_reason (act.ForTransfer frame) h same = (
+          same,
+          rw same (rounds.awaits_transfer_turn roomy t c roomy_goes turned.now there roomy_mine turned.stepped frame h),
+        )
+        by_reason (act.ForOwner cpu) h same =
+            rounds.never_owner roomy t c roomy_goes turned.now there roomy_mine turned.stepped cpu h
+        by_reason (act.WhileIdle busy) h same =
+            rounds.never_idle roomy t c roomy_goes turned.now there roomy_mine turned.stepped busy h
+
+        by : (x : Turn) → answer ≡ x → SaysTurn x (model.turn_of (action_of roomy c)) → OwnerTurned s t c x
+        by (turn.Moved p) is h = rounds.moved_turn roomy t c roomy_goes turned.now there roomy_mine turned.stepped h
+        by (turn.Waits w) is h = rw h.1 (by_reason h.0 h.2 (still_outline w is))
+        by turn.Ended is h = rounds.never_ended roomy t c roomy_goes turned.now there roomy_mine turned.stepped h
+        by turn.Stopped is h = rounds.never_ended roomy t c roomy_goes turned.now there roomy_mine turned.stepped h
 
 -- the owner is one of the processors
 pub owner_there : (s : State) (c : ℕ) → KeepsAll s → IsOwnedBy s c → c < length s.processors
-owner_there s c keeps mine = subst (λ (d : ℕ). d < length s.processors) mine.cpu
-    (subst (λ (n : ℕ). mine.owner.cpu < n) (long_outline s)
-    ((kept_of s keeps).job.at_work mine.owner.cpu
-    (stage_of s.store.ast.entries mine.owner.frames mine.owner.phase) (in_job s mine.owner mine.mine)).within)
+owner_there s c keeps mine = rw (← mine.cpu, ← (long_outline s)) ((kept_of s keeps).job.at_work mine.owner.cpu
+    (stage_of s.store.ast.entries mine.owner.frames mine.owner.phase) (in_job s mine.owner mine.mine)).within
 
 pub owner_planned : (s : State) (c : ℕ) → KeepsAll s → IsOwnedBy s c → c < s.plan.processors
-owner_planned s c keeps mine =
-    subst (λ (n : ℕ). c < n) keeps.machine.keeps.sizes.processors (owner_there s c keeps mine)
+owner_planned s c keeps mine = rw (← keeps.machine.keeps.sizes.processors) (owner_there s c keeps mine)
 
 -- what the owner waits for is a processor, or is read by one
 pub may_wait : (s t : State) (c : ℕ) (answer : Turn) → OwnerTurned s t c answer → MayWait t c answer
 may_wait s t c (turn.Moved p) h = tt
 may_wait s t c (turn.Waits (why.ForClear late)) h = h.1
 may_wait s t c (turn.Waits (why.ForTransfer frame)) h = h.1
-may_wait s t c (turn.Waits (why.ForOwner cpu)) h = absurd h
-may_wait s t c (turn.Waits (why.WhileIdle busy)) h = absurd h
-may_wait s t c turn.Ended h = absurd h
-may_wait s t c turn.Stopped h = absurd h
+may_wait s t c _ h = absurd h
 
 -- the processor that is waited for is there
-pub awaited_planned : (s : State) (c d : ℕ) (answer : Turn) → KeepsAll s → WaitsFor s c answer d
-    → d < s.plan.processors
-awaited_planned s c d answer keeps waits =
-    subst (λ (n : ℕ). d < n) keeps.machine.keeps.sizes.processors (by answer waits)
+pub awaited_planned : (s : State) (c d : ℕ) (answer : Turn) → KeepsAll s → WaitsFor s c answer d → d < s.plan.processors
+awaited_planned s c d answer keeps waits = rw (← keeps.machine.keeps.sizes.processors) (by answer waits)
   where
     by : (x : Turn) → WaitsFor s c x d → d < length s.processors
     by (turn.Waits (why.ForClear late)) h = rounds.late_there s c d h.1
-    by (turn.Waits (why.ForTransfer frame)) h = subst (λ (n : ℕ). d < n) (long_outline s) h.1.within
-    by (turn.Moved p) h = absurd h
-    by (turn.Waits (why.ForOwner cpu)) h = absurd h
-    by (turn.Waits (why.WhileIdle busy)) h = absurd h
-    by turn.Ended h = absurd h
-    by turn.Stopped h = absurd h
+    by (turn.Waits (why.ForTransfer frame)) h = rw (← (long_outline s)) h.1.within
+    by _ h = absurd h
 
 -- the owner's step moved
 pub moved_alone : (s t : State) (c : ℕ) (answer : Turn) → OwnerTurned s t c answer → HasMoved answer
     → JobFell (outline_of s) (outline_of t) c
 moved_alone s t c (turn.Moved p) h moved = h
-moved_alone s t c (turn.Waits w) h moved = absurd moved
-moved_alone s t c turn.Ended h moved = absurd h
-moved_alone s t c turn.Stopped h moved = absurd h
+moved_alone s t c _ h moved = absurd moved
 
 -- or the processor for which it waits has made its own
 module _ (s t u : State) (c d : ℕ) (late : Turn) (on : t.stopped ≡ false) (turned : HasTurned t u d late) where
   abbrev ready : State
   ready = with_spare t turned.spare
 
-  ready_outline : outline_of ready ≡ outline_of t
-  ready_outline = roomy_outline t turned.spare
-
-  ready_goes : IsGoing ready
-  ready_goes = roomy_goes t u d late turned on
-
-  cleared : outline_of t ≡ outline_of s → AwaitsClear (outline_of t) c d → JobFell (outline_of s) (outline_of u) c
-  cleared same awaits = subst (λ (o : Outline). JobFell o (outline_of u) c) (ready_outline ∙ same)
-      (rounds.cleared_turn ready u c d ready_goes
-      (subst (λ (o : Outline). AwaitsClear o c d) (sym ready_outline) awaits) turned.stepped)
-
-  was_read : (frame : ℕ) → outline_of t ≡ outline_of s → AwaitsTransfer (outline_of t) c frame
-      → IsReader (outline_of t) frame d → JobFell (outline_of s) (outline_of u) c
-  was_read frame same awaits reader = subst (λ (o : Outline). JobFell o (outline_of u) c) (ready_outline ∙ same)
-      (rounds.read_turn ready u c frame d ready_goes turned.now
-      (subst (λ (o : Outline). AwaitsTransfer o c frame) (sym ready_outline) awaits)
-      (subst (λ (o : Outline). IsReader o frame d) (sym ready_outline) reader) turned.stepped)
-
   pub awaited_fell : (answer : Turn) → OwnerTurned s t c answer → WaitsFor t c answer d
       → JobFell (outline_of s) (outline_of u) c
-  awaited_fell (turn.Waits (why.ForClear e)) h waits = cleared h.0 waits.1
-  awaited_fell (turn.Waits (why.ForTransfer frame)) h waits = was_read frame h.0 waits.0 waits.1
-  awaited_fell (turn.Moved p) h waits = absurd waits
-  awaited_fell (turn.Waits (why.ForOwner cpu)) h waits = absurd waits
-  awaited_fell (turn.Waits (why.WhileIdle busy)) h waits = absurd waits
-  awaited_fell turn.Ended h waits = absurd waits
-  awaited_fell turn.Stopped h waits = absurd waits
+  unfolding outline_of
+  awaited_fell (turn.Waits (why.ForClear e)) h waits = subst (λ (o : Outline). JobFell o (outline_of u) c) h.0
+      (rounds.cleared_turn ready u c d (roomy_goes t u d late turned on) waits.1 turned.stepped)
+  awaited_fell (turn.Waits (why.ForTransfer frame)) h waits = subst (λ (o : Outline). JobFell o (outline_of u) c) h.0
+      (rounds.read_turn ready u c frame d (roomy_goes t u d late turned on) turned.now waits.0 waits.1 turned.stepped)
+  awaited_fell _ h waits = absurd waits
 
 -- somebody reads into the frame that is waited for
 reads_from : (s : State) (f d : ℕ) → IsReader (outline_of s) f d → reads_into f (processor_at s.processors d) ≡ true
-reads_from s f d reader = ap (is_into f) (sym (ap (λ (x : Runner). x.reading) (at_outline s d)
-    ∙ seen_reading (around s) (processor_at s.processors d)) ∙ reader.reading) ∙ own f
-  where
-    own : (n : ℕ) → eqb n n ≡ true
-    own n = elim (eqb_tells n n) [ inl y ↦ y.0 | inr m ↦ absurd (m.1 refl) ]
+reads_from s f d reader = cc (at_outline s d, seen_reading (around s) (processor_at s.processors d), eqb_self f)
 
 pub reader_found : (s : State) (f : ℕ) → ((d : ℕ) × IsReader (outline_of s) f d)
     → position (reads_into f) s.processors ≡ None → ⊥
@@ -323,36 +241,25 @@ reader_is s f d h = by (cpu_at s.processors d).transfer refl found.1
     found = position_at (reads_into f) s.processors no_processor d h
 
     by : (x : Option Transfer) → (cpu_at s.processors d).transfer ≡ x → is_into f x ≡ true → IsReader (outline_of s) f d
-    by None e i = absurd (let no : false ≡ true = i in cc)
+    by None e i = cc
     by (Some t) e i = record {
       uid = t.uid;
       page = t.page;
-      within = subst (λ (n : ℕ). d < n) (sym (long_outline s)) found.0;
-      reading = ap (λ (x : Runner). x.reading) (at_outline s d)
-          ∙ (seen_reading (around s) (processor_at s.processors d) ∙ (e ∙ (λ j. Some (record t { frame = same j }))));
+      within = rw (long_outline s) found.0;
+      reading = ap (λ (x : Runner). x.reading) (at_outline s d) ∙ (seen_reading (around s) (processor_at s.processors d)
+          ∙ (e ∙ (λ j. Some (record t { frame = eqb-true t.frame f i j }))));
     }
-      where
-        same : t.frame ≡ f
-        same = elim (eqb_tells t.frame f) [
-          | inl y ↦ y.1
-          | inr n ↦ absurd (let no : true ≡ false = sym i ∙ n.0 in cc)
-        ]
 
 -- who owns the supervisor while a job goes on is the processor whose job it is
 pub job_mine : (a b : State) (c d : ℕ) → Goes (outline_of a) (outline_of b) c → IsOwnedBy b d → d ≡ c
 job_mine a b c d goes owned = let mine = rounds.job_owner a b c goes owned.owner owned.mine in
-    sym owned.cpu
-    ∙ (ap (λ (q : Owner). q.cpu) (owner_is owned.owner mine.owner (sym owned.mine ∙ mine.mine)) ∙ mine.cpu)
-  where
-    owner_is : (x y : Owner) → Some x ≡ Some y → x ≡ y
-    owner_is x y h = cc
+    cc (some_same owned.owner mine.owner (sym owned.mine ∙ mine.mine))
 
 -- a job goes on with a turn
 pub job_goes_on : (a b t : State) (c d : ℕ) → Goes (outline_of a) (outline_of b) c → IsOwnedBy b d
     → JobFell (outline_of b) (outline_of t) d → Goes (outline_of a) (outline_of t) c
 job_goes_on a b t c d goes owned fell = let same = job_mine a b c d goes owned in
-    rounds.job_next a b t c goes (subst (IsOwnedBy b) same owned)
-    (subst (JobFell (outline_of b) (outline_of t)) same fell)
+    rounds.job_next a b t c goes (rw (← same) owned) (rw (← same) fell)
 
 -- ---- a command
 
@@ -360,22 +267,18 @@ job_goes_on a b t c d goes owned fell = let same = job_mine a b c d goes owned i
 pub running_there : (s : State) (c : ℕ) → is_some (cpu_at s.processors c).process ≡ true → c < length s.processors
 running_there s c running = elim (cases_lt c (length s.processors)) [
   | inl lt ↦ lt
-  | inr past ↦ absurd (let none : true ≡ false = sym running
-      ∙ ap (λ (p : Processor). is_some p.cpu.process) (get_or_past s.processors c no_processor past) in cc)
+  | inr past ↦ cc (sym running ∙ ap (λ (p : Processor). is_some p.cpu.process)
+      (get_or_past s.processors c no_processor past))
 ]
 
 pub running_planned : (s : State) (c : ℕ) → KeepsAll s → is_some (cpu_at s.processors c).process ≡ true
     → c < s.plan.processors
-running_planned s c keeps running =
-    subst (λ (n : ℕ). c < n) keeps.machine.keeps.sizes.processors (running_there s c running)
+running_planned s c keeps running = rw (← keeps.machine.keeps.sizes.processors) (running_there s c running)
 
 module _ (s t : State) (c : ℕ) (answer : Turn) (turned : HasTurned s t c answer) (on : s.stopped ≡ false)
     (none : s.owner ≡ None) (running : is_some (cpu_at s.processors c).process ≡ true) where
   abbrev given : State
   given = with_spare s turned.spare
-
-  same : outline_of given ≡ outline_of s
-  same = roomy_outline s turned.spare
 
   there : c < length s.processors
   there = running_there s c running
@@ -385,26 +288,22 @@ module _ (s t : State) (c : ℕ) (answer : Turn) (turned : HasTurned s t c answe
 
   -- nobody owns the supervisor after the turn
   pub turn_free : t.owner ≡ None → CommandDone (outline_of s) (outline_of t) c
-  turn_free free = subst (λ (o : Outline). CommandDone o (outline_of t) c) same
-      (rounds.command_free given t c going turned.now there none running turned.stepped free)
+  unfolding outline_of
+  turn_free free = rounds.command_free given t c going turned.now there none running turned.stepped free
 
   -- the job that it took the supervisor for is done
   pub turn_job : (u : State) (d : ℕ) → IsOwnedBy t d → JobDone (outline_of t) (outline_of u) d
       → CommandDone (outline_of s) (outline_of u) c
-  turn_job u d owned done = rounds.command_job s t u c
-      (subst (λ (o : Outline). HasTaken o (outline_of t) c) same took.1)
+  unfolding outline_of
+  turn_job u d owned done = rounds.command_job s t u c took.1
       (subst (λ (e : ℕ). JobDone (outline_of t) (outline_of u) e) is done)
     where
       took : IsOwnedBy t c × HasTaken (outline_of given) (outline_of t) c
       took = rounds.command_took given t c going turned.now there none running turned.stepped owned.owner owned.mine
 
-      owner_same : (x y : Owner) → Some x ≡ Some y → x ≡ y
-      owner_same x y h = cc
-
       is : d ≡ c
       is = sym owned.cpu
-          ∙ (ap (λ (o : Owner). o.cpu) (owner_same owned.owner took.0.owner (sym owned.mine ∙ took.0.mine))
-          ∙ took.0.cpu)
+          ∙ (ap (λ (o : Owner). o.cpu) (some_same owned.owner took.0.owner (sym owned.mine ∙ took.0.mine)) ∙ took.0.cpu)
 
 -- ---- the loop over a command
 
@@ -416,10 +315,8 @@ IsOnWay old s c since = all_rank (outline_of s) + cond (is_at (runner_at (outlin
 pub way_begins : (s : State) (c since : ℕ) → KeepsAll s → is_some (cpu_at s.processors c).process ≡ true
     → since ≡ (processor_at s.processors c).count → IsOnWay s s c since
 way_begins s c since keeps running is = rounds.way_start s c since (rounds.at_seen s c since keeps
-    ∙ ((λ i. running i && eqb (processor_at s.processors c).count (is i)) ∙ own (processor_at s.processors c).count))
-  where
-    own : (n : ℕ) → (true && eqb n n) ≡ true
-    own n = elim (eqb_tells n n) [ inl y ↦ y.0 | inr m ↦ absurd (m.1 refl) ]
+    ∙ ((λ i. running i && eqb (processor_at s.processors c).count (is i)) ∙ eqb_self
+    (processor_at s.processors c).count))
 
 pub way_goes : (old s t : State) (c since : ℕ) → KeepsAll s → is_still_at since (processor_at s.processors c) ≡ true
     → IsOnWay old s c since → CommandDone (outline_of s) (outline_of t) c → IsOnWay old t c since
@@ -436,7 +333,7 @@ pub way_ends : (old t : State) (c since : ℕ) → KeepsAll t → t.owner ≡ No
     → is_still_at since (processor_at t.processors c) ≡ false → RoundDone (outline_of old) (outline_of t)
 unfolding outline_of
 way_ends old t c since keeps none way gone = round_done (outline_of old) (outline_of t) c since
-    (ap (keeper_of t.store.ast.entries) none) way (rounds.at_seen t c since keeps ∙ gone)
+    (cc) way (rounds.at_seen t c since keeps ∙ gone)
 
 -- ---- a round
 
@@ -451,7 +348,7 @@ first_runs s c h = (position_at has_process s.processors no_processor c h).1
 -- no processor has a process, and something is left to do: processor 0 has made its step
 pub idle_done : (s t : State) (answer : Turn) (turned : HasTurned s t 0 answer) → s.stopped ≡ false → s.owner ≡ None
     → position has_process s.processors ≡ None → is_over s ≡ false → RoundDone (outline_of s) (outline_of t)
-idle_done s t answer turned on none idle more = subst (λ (o : Outline). RoundDone o (outline_of t))
-    (roomy_outline s turned.spare)
-    (rounds.idle_round (with_spare s turned.spare) t (roomy_goes s t 0 answer turned on) turned.now none
-    (λ d. position_none has_process s.processors no_processor d idle refl) more turned.stepped)
+unfolding outline_of
+idle_done s t answer turned on none idle more = rounds.idle_round (with_spare s turned.spare) t
+    (roomy_goes s t 0 answer turned on) turned.now none
+    (λ d. position_none has_process s.processors no_processor d idle refl) more turned.stepped

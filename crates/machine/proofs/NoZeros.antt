@@ -1,6 +1,6 @@
 -- Once every frame was visited no stored page is all zeros: such a page would be in a frame, and the pages that stayed
 -- in theirs have a word other than 0.
-use Rattle.machine.proofs.Prelude.{◌≡◌, ◌<◌, ◌≤◌, ◌+◌, ◌*◌, ℕ, Bool, true, false, cond, get_or, length, position, replicate, List, [], Option, Some, None, inl, inr, refl, sym, ap, subst, ◌∙◌, arith, ◌/◌, ◌%◌, All, and_parts, cases_lt, get_or_past, length-replicate, All-get_or, All-nil, AreZero, bound_page, is_stored, is_zero_page, zero_words, record_at, HaveFullPages, is_binding, is_stored_at, words_filed, words_held, words_of_page, bindings, frame_in, words_in, IsInFrame, vtoc_in, place_of, IsHomeOf, is_filed, is_there, picture, Keeps, flat_of, home_in, is_active, State, WasVisited, active_place, frame_words, binding_is, none_some, active_at, AllVisited, HasNoZeros, words_of, get_or_default_zero, zeros_to}
+use Rattle.machine.proofs.Prelude.{◌≡◌, ◌<◌, ◌≤◌, ◌+◌, ◌*◌, ℕ, Bool, true, false, get_or, length, position, List, [], Option, Some, None, inl, inr, refl, sym, ap, subst, ◌∙◌, arith, ◌/◌, ◌%◌, All, and_parts, cases_lt, get_or_past, length-replicate, All-get_or, All-nil, AreZero, bound_page, is_stored, is_zero_page, zero_words, record_at, HaveFullPages, is_binding, is_stored_at, words_filed, words_held, words_of_page, bindings, frame_in, words_in, IsInFrame, vtoc_in, place_of, IsHomeOf, is_filed, is_there, picture, Keeps, flat_of, home_in, is_active, State, WasVisited, active_place, frame_words, binding_is, none_some, active_at, AllVisited, HasNoZeros, words_of, get_or_default_zero, zeros_to}
 use Rattle.machine.proofs.VisitNext.{bound_there}
 
 -- ---- pages of 1024 words
@@ -10,9 +10,9 @@ IsFull words = length words ≡ 1024
 
 few_words : (pages : List (List ℕ)) → All IsFull pages → (r : ℕ) → length (get_or pages r []) ≤ 1024
 few_words pages full r = elim (cases_lt r (length pages)) [
-  | inl lt ↦ (let words = All-get_or IsFull pages r [] lt full in omega (arith, words))
+  | inl lt ↦ (omega (arith, All-get_or IsFull pages r [] lt full))
   | inr past ↦ (let none : length (get_or pages r []) ≡ 0 =
-      ap (λ (ws : List ℕ). length ws) (get_or_past pages r [] past) in omega (arith, none))
+      ap (λ (ws : List ℕ). length ws) (get_or_past pages r [] past) in omega arith)
 ]
 
 full_disk : (disks : List (List (List ℕ))) → All HaveFullPages disks → (v : ℕ) → HaveFullPages (get_or disks v [])
@@ -26,10 +26,9 @@ full_disk disks full v = elim (cases_lt v (length disks)) [
 module _ (s : State) (k : Keeps s) where
   module _ (u p : ℕ) (stored : is_stored (flat_of s).stored u p ≡ true) where
     filed : is_filed s.store.accounts s.store.pages.vtocs u p ≡ true
-    filed = sym (k.faithful.pages.stored u p) ∙ stored
+    filed = cc (k.faithful.pages.stored u p)
 
-    parts : (is_there s.store.accounts.nodes u ≡ true)
-        × (is_stored_at s.store.pages (home_in s.store u) p ≡ true)
+    parts : (is_there s.store.accounts.nodes u ≡ true) × (is_stored_at s.store.pages (home_in s.store u) p ≡ true)
     unfolding is_filed
     parts = and_parts (is_there s.store.accounts.nodes u) (is_stored_at s.store.pages (home_in s.store u) p) filed
 
@@ -56,16 +55,11 @@ module _ (s : State) (k : Keeps s) where
     word_at i lt =
         let page : (1024 * p + i) / 1024 ≡ p = omega (arith, lt) in
         let place : (1024 * p + i) % 1024 ≡ i = omega (arith, lt) in
-        k.faithful.pages.words u (1024 * p + i)
-        ∙ (ap (λ (b : Bool). get_or (cond b (words_of s u ((1024 * p + i) / 1024)) (replicate 1024 0))
-        ((1024 * p + i) % 1024) 0) parts.0
-        ∙ (ap (λ (q : ℕ). get_or (words_of s u q) ((1024 * p + i) % 1024) 0) page
-        ∙ ap (λ (j : ℕ). get_or (words_of s u p) j 0) place))
+        cc (k.faithful.pages.words u (1024 * p + i), parts.0, page, place)
 
     zeros_there : length (words_of s u p) ≤ 1024 → is_zero_page (flat_of s).words u p ≡ true → AreZero (words_of s u p)
-    zeros_there size zeros i d lt =
-        get_or_default_zero (words_of s u p) i d lt ∙ (sym (word_at i (omega (arith, lt, size)))
-        ∙ zero_words (flat_of s).words u p i zeros (omega (arith, lt, size)))
+    zeros_there size zeros i d lt = get_or_default_zero (words_of s u p) i d lt ∙ (sym (word_at i (omega arith))
+        ∙ zero_words (flat_of s).words u p i zeros (omega arith))
 
     module _ (each : AllVisited s) where
       no_zeros : AreZero (words_of s u p) → ⊥
@@ -103,7 +97,7 @@ module _ (s : State) (k : Keeps s) where
       disk = get_or s.store.pages.disks (home_in s.store u).volume []
 
       on_record : (x : Option ℕ) → length (words_filed disk x) ≤ 1024
-      on_record None = let full = length-replicate {A = ℕ} 1024 0 in omega (arith, full)
+      on_record None = omega (arith, length-replicate {A = ℕ} 1024 0)
       on_record (Some r) = few_words disk (full_disk s.store.pages.disks disks (home_in s.store u).volume) r
 
       by : (x : Option ℕ) → length (words_held s.store.pages.frames disk

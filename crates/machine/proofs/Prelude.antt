@@ -1,8 +1,8 @@
 -- The names that the proofs of this crate take from elsewhere.
 pub use Rattle.std.proofs.Common.{Bool, List, None, Option, Some, [], ap, append-nil, arith, cond, drop, eqb, false, get_or, inl, inr, is_some, le_refl, length, ltb, map, min, not, position, refl, replicate, rules, set, subst, suc, sum, sym, take, true, zero, ℕ, ◌&&◌, ◌*◌, ◌++◌, ◌+◌, ◌-◌, ◌<◌, ◌^◌, ◌||◌, ◌∙◌, ◌∷◌, ◌≡◌, ◌≢◌, ◌≤◌, ◌⊎◌}
 pub use Rattle.std.proofs.Math.Seq.{map-set_same}
-pub use Rattle.std.proofs.lemmas.Bool.{and_parts, cases_lt, cond_both, or_parts}
-pub use Rattle.std.proofs.lemmas.Bool.Decides.{Decides-ltb, eqb_tells, leb_tells, nat_tests}
+pub use Rattle.std.proofs.lemmas.Bool.{and_parts, cases_lt, cond_both, eqb-true, or_parts}
+pub use Rattle.std.proofs.lemmas.Bool.Decides.{eqb_tells, leb_tells, nat_tests}
 pub use Rattle.std.proofs.lemmas.Grind.{common_steps, get_or_default_zero}
 pub use Rattle.std.proofs.lemmas.List.{get_or-set_other, get_or-set_same, get_or_past, length-append, length-map, length-replicate, length-set, take-append-drop, take_more}
 pub use Rattle.std.proofs.lemmas.List.Elements.{All-get_or, All-map, All-nil}
@@ -15,14 +15,13 @@ pub use Rattle.std.specs.List.{find, list_all, list_any}
 pub use Rattle.std.specs.Option.{option_map}
 pub use Rattle.std.specs.Prelude.{All, Contains, Err, IfOk, IfSome, IsOk, IsSome, Ok, OnErr, OnOk, Result, count_by, nat_le, nat_lt, slice_get, sum_by, ◌%◌, ◌/◌, ◌↔◌}
 pub use Rattle.laws.proofs.Bools.{not_both}
-pub use Rattle.laws.proofs.Lists.{sum_of_map}
-pub use Rattle.laws.proofs.Numbers.{and_both}
+pub use Rattle.laws.proofs.Lists.{all_same, sum_of_map}
+pub use Rattle.laws.proofs.Numbers.{and_both, eqb_self}
 pub use Rattle.laws.proofs.Options.{some_same}
 pub use Rattle.laws.proofs.Places.{seen_same}
 pub use Rattle.mword.specs.Words.{AreZero}
 pub use Rattle.mnames.specs.declared.principals.Who.{Who}
 pub use Rattle.site_io.specs.Faults.{Rose}
-pub use Rattle.site_io.specs.declared.gate.Point.{Point}
 pub use Rattle.script.specs.Forms.{ArePools}
 unfoldable pub use Rattle.script.specs.Forms.{is_command}
 pub use Rattle.script.specs.Plans.{Plan}
@@ -49,18 +48,16 @@ pub use Rattle.flat_model.proofs.SharedLaws.{nonzero_alters}
 pub use Rattle.flat_model.proofs.ZeroLaws.{zero_words}
 pub use Rattle.flat_model.specs.Commands.{is_end}
 unfoldable pub use Rattle.flat_model.specs.Legal.{after_entry}
-pub use Rattle.flat_model.specs.Moves.{moved}
 pub use Rattle.flat_model.specs.Pages.{is_stored}
 unfoldable pub use Rattle.flat_model.specs.Pages.{is_zero_page}
 pub use Rattle.flat_model.specs.References.{is_out_of_room, is_used_up, room_reply, stores_page, word_reply}
-unfoldable pub use Rattle.flat_model.specs.References.{after_reference}
 pub use Rattle.flat_model.specs.Store.{Store, entries_in, known_uid, records_in, records_of}
 unfoldable pub use Rattle.flat_model.specs.Store.{boot}
 pub use Rattle.custody_model.proofs.SharedLaws.{any_turned, has_head, range_length}
 pub use Rattle.custody_model.proofs.TurnLaws.{count_next}
 pub use Rattle.custody_model.specs.Allowed.{superior_in}
 unfoldable pub use Rattle.custody_model.specs.Clean.{custody_after, custody_from}
-pub use Rattle.custody_model.specs.Custody.{Custody, Seat, bound_page as page_held, has, is_going_descriptor, is_uid, leads_to, nothing_held, range, uid_of_page}
+pub use Rattle.custody_model.specs.Custody.{Custody, Seat, bound_page as page_held, has, is_going_descriptor, leads_to, nothing_held, range, uid_of_page}
 pub use Rattle.custody_model.specs.Next.{at_put, released_by}
 unfoldable pub use Rattle.custody_model.specs.Next.{custody_next}
 pub use Rattle.page_table.specs.declared.Ptw.{Ptw}
@@ -74,11 +71,10 @@ pub use Rattle.volumes.specs.FailLine.{IsOneMore}
 pub use Rattle.volumes.specs.FullPages.{HaveFullPages}
 pub use Rattle.volumes.specs.Volumes.{HasParts, Vols, faults_at, made_of}
 pub use Rattle.volumes.specs.declared.Part.{Part}
-pub use Rattle.seg_mover.specs.Copies.{CallsDrives, FailedAt}
+pub use Rattle.seg_mover.specs.Copies.{CallsDrives}
 pub use Rattle.seg_mover.specs.declared.Mover.{Mover}
 pub use Rattle.active_segs.specs.Active.{ActiveSegs, HasNoInferior, IsActive, IsAway, entry_at, superior_in as superior_of, table_at, uid_at, uid_in}
 pub use Rattle.active_segs.specs.Victim.{HasOneOffChain, first_off_chain, hand_past}
-pub use Rattle.active_segs.specs.declared.Entry.{Entry as Segment}
 pub use Rattle.descriptor_seg.specs.declared.Sdw.{Sdw}
 pub use Rattle.trailers.specs.Trailer.{trailers_of}
 pub use Rattle.page_control.proofs.Facts.{bound_from_page}
@@ -110,7 +106,7 @@ pub use Rattle.machine_model.proofs.ActionCases.{action_by}
 pub use Rattle.machine_model.proofs.ActiveKept.{segs_gone_rest}
 pub use Rattle.machine_model.proofs.ActiveSeen.{active_place, any_at, within_some}
 pub use Rattle.machine_model.proofs.AllEnded.{flat_ended, over_complete}
-pub use Rattle.machine_model.proofs.BookAfter.{HasBooked, entries_after}
+pub use Rattle.machine_model.proofs.BookAfter.{entries_after}
 pub use Rattle.machine_model.proofs.ChainFacts.{chain_active, first_there}
 pub use Rattle.machine_model.proofs.CommandFacts.{LeadsToSegment, length_stands}
 pub use Rattle.machine_model.proofs.CommitReady.{IsCommitting, committing}
@@ -149,7 +145,7 @@ pub use Rattle.machine_model.proofs.SharedLaws.{zeros_to}
 pub use Rattle.machine_model.proofs.SpeakLaws.{Speaks, speaks}
 pub use Rattle.machine_model.proofs.StepAsks.{reads_for}
 pub use Rattle.machine_model.proofs.StepKept.{CanDo, CanFill, IsMine, to_hold}
-pub use Rattle.machine_model.proofs.StepKnows.{CopiesNext, EndsMove, Knows, step_knows}
+pub use Rattle.machine_model.proofs.StepKnows.{CopiesNext, Knows, step_knows}
 pub use Rattle.machine_model.proofs.TakeLists.{trailers_taken}
 pub use Rattle.machine_model.proofs.TakeSeen.{binding_is}
 pub use Rattle.machine_model.proofs.TakeWhole.{nothing_whole}
@@ -174,13 +170,13 @@ pub use Rattle.machine_model.specs.Entitled.{IsEntitled}
 pub use Rattle.machine_model.specs.Fitting.{IsFitting}
 unfoldable pub use Rattle.machine_model.specs.Foreseen.{AllCome}
 pub use Rattle.machine_model.specs.Holding.{holding, led_to, seen}
-pub use Rattle.machine_model.specs.Jobs.{are_zeros, cut_all, cut_one, deactivation_begun, emptied, emptied as segment_emptied, entries_left, eviction_begun, eviction_done, here_if, leaving_if, left_of, page_back, page_done, page_gone, page_in, pages_back, seg_back, seg_gone, segment_taken, segs_back, segs_gone, signalled, take_all, take_one, took, victim_taken, with_choice, with_hand_moved, with_here, with_inactive, with_leaving, with_left, with_relink, write_failed}
+pub use Rattle.machine_model.specs.Jobs.{are_zeros, cut_all, cut_one, deactivation_begun, emptied, emptied as segment_emptied, entries_left, eviction_done, here_if, leaving_if, left_of, page_back, page_done, page_gone, page_in, pages_back, seg_back, seg_gone, segment_taken, segs_back, segs_gone, take_all, take_one, took, victim_taken, with_choice, with_hand_moved, with_here, with_inactive, with_leaving, with_left, with_relink, write_failed}
 pub use Rattle.machine_model.specs.Keeps.{AreAccounts, IsFaithful, Keeps, StoreKept, is_fault}
 pub use Rattle.machine_model.specs.Lacking.{MovesFor, MovesForNext, MovesIn, tables_of}
 pub use Rattle.machine_model.specs.Looping.{AwaitsClear, AwaitsTransfer, CommandDone, Goes, HasTaken, IsReader, JobDone, JobFell, RoundDone, command_gauge, is_at}
 unfoldable pub use Rattle.machine_model.specs.Measures.{all_rank, job_rank}
 pub use Rattle.machine_model.specs.Movers.{AsksMover, mover_in, mover_of}
-pub use Rattle.machine_model.specs.Moves.{copy_failed, move_begun, move_committed, mover_to, page_copied, without_move}
+pub use Rattle.machine_model.specs.Moves.{copy_failed, move_begun, mover_to, page_copied}
 pub use Rattle.machine_model.specs.Outline.{Outline, Runner, runner_at}
 pub use Rattle.machine_model.specs.Outlined.{around, keeper_of, stage_of}
 unfoldable pub use Rattle.machine_model.specs.Outlined.{outline_of}
@@ -190,13 +186,13 @@ pub use Rattle.machine_model.specs.Reads.{cpu_at, cut_of_owner, descriptor_of, f
 pub use Rattle.machine_model.specs.Refusal.{is_of_room, only, uid_of_command, uid_of_number}
 unfoldable pub use Rattle.machine_model.specs.Refusal.{move_to, outside_refusal, refusal_of, reply_of, room_refusal}
 pub use Rattle.machine_model.specs.Returned.{IsLeaving, MayComeBack}
-pub use Rattle.machine_model.specs.Rounds.{HasStepped, IsGoing, IsOwnedBy}
-pub use Rattle.machine_model.specs.Said.{Says, left_page, shown_after, through, with_command, without_left}
+pub use Rattle.machine_model.specs.Rounds.{IsGoing, IsOwnedBy}
+pub use Rattle.machine_model.specs.Said.{Says, left_page, shown_after, without_left}
 pub use Rattle.machine_model.specs.Scheduled.{MayRun}
 pub use Rattle.machine_model.specs.Seen.{bound_use, cut_uid, descriptor_use, frame_use, read_use, shown}
 pub use Rattle.machine_model.specs.Shutdown.{after_visit, page_taken, visited_if}
 pub use Rattle.machine_model.specs.State.{Owner, State, Storage}
-pub use Rattle.machine_model.specs.Steps.{activated_at, answered, booked, brought, came_online, cleared_at, connected_to, fault_told, frame_lost, held_page, left_at, loaded, looking, old_word, page_created, page_filled, pages_after, seg_filled, started, told, told_by, transfer_failed, transferred, went_through, with_active, with_faults, with_owner, with_pages, with_store}
+pub use Rattle.machine_model.specs.Steps.{booked, brought, fault_told, held_page, old_word, pages_after, told, told_by, transfer_failed, transferred, went_through, with_faults, with_owner, with_pages, with_store}
 pub use Rattle.machine_model.specs.Taking.{IsTakenBy, TakenIn, TakenTo}
 pub use Rattle.machine_model.specs.Turns.{calls_drive, moves}
 pub use Rattle.machine_model.specs.Visits.{AreIdle, AreVisited, TellsBack, WasVisited}
@@ -213,8 +209,8 @@ pub use Rattle.machine_tables.proofs.VictimLaws.{chain_end, chain_one_off, own_c
 pub use Rattle.machine_tables.specs.Activated.{wanted_pool}
 pub use Rattle.machine_tables.specs.Claimed.{HasItsSegment, frames_for, of_segment, pairs_for, took_for, what_for}
 pub use Rattle.machine_tables.specs.Held.{AreLong, MayChoose}
-pub use Rattle.machine_tables.specs.Made.{HasPlace, IsMakeable, page_reference}
-pub use Rattle.machine_tables.specs.Meant.{meant, taken_for, why_of}
+pub use Rattle.machine_tables.specs.Made.{HasPlace, IsMakeable}
+pub use Rattle.machine_tables.specs.Meant.{taken_for, why_of}
 pub use Rattle.machine_tables.specs.Moved.{MayCopy}
 pub use Rattle.machine_tables.specs.Owned.{HasOwner}
 pub use Rattle.machine_tables.specs.Parts.{Parts, SparesCall, first_words, outcome_of, with_pages_of, with_state}
@@ -230,7 +226,7 @@ pub use Rattle.machine.specs.Schedules.{Grows, HasRun, HasStood, IsRound, is_mov
 pub use Rattle.machine.specs.Shut.{AllVisited, AreToldBack, CallsAtVisit, HasNoZeros, HasVisited, TellsLoss, words_of}
 pub use Rattle.machine.specs.Sizes.{HaveSizes}
 pub use Rattle.machine.specs.Starts.{parts_of}
-pub use Rattle.machine.specs.Turns.{Appends, AreTold, CallsAs, CallsNone, CallsOne, CallsTwo, Changes, CountsAlike, HaveCounted, HaveEnded, IfMoved, IfStill, IsBusy, IsStep, IsTurn, KeepsParts, LetsGo, MayAnswer, MayDo, RoseAtOne, TellsFaults, is_of_process, turn_of, why_by}
+pub use Rattle.machine.specs.Turns.{Appends, AreTold, CallsAs, CallsNone, CallsOne, CallsTwo, Changes, CountsAlike, HaveCounted, HaveEnded, IfMoved, IfStill, IsBusy, IsTurn, KeepsParts, LetsGo, MayAnswer, MayDo, RoseAtOne, TellsFaults, is_of_process, turn_of, why_by}
 pub use Rattle.machine.specs.Unstuck.{IsDone, NamesAll}
 pub use Rattle.machine.specs.declared.turn.Turn.{Turn}
 pub use Rattle.machine.specs.declared.turn.Turn.TheVariants.{Waits}

@@ -1,5 +1,5 @@
 -- A page that comes into its frame, or a frame that is free again where the drive failed, isn't seen in the flat store.
-use Rattle.machine.proofs.Prelude.{◌≡◌, ◌≢◌, ◌<◌, ℕ, true, false, set, length, [], Some, None, refl, sym, ap, ◌∙◌, get_or-set_other, get_or-set_same, Frame, bound_page, frame_at, is_modified, started_page, with_frame, Ptw, Home, framed, KeepsWords, words_at, Plain, binding_at, bindings, frame_in, IsTied, shown_in, shown_out, Touches, page_none, page_some, words_kept, IsActive, table_at, table_of, word_of, IsHomeOf, IsKept, IsOutAt, home_of, Transfer, names, seen, Keeps, home_in, is_active, processor_at, State, brought, with_pages, map_list, within_by, none_some, active_at, word_within, some_same}
+use Rattle.machine.proofs.Prelude.{◌≡◌, ◌≢◌, ◌<◌, ℕ, true, false, set, length, [], Some, None, refl, sym, ap, ◌∙◌, get_or-set_other, get_or-set_same, Frame, bound_page, frame_at, is_modified, started_page, with_frame, Ptw, Home, framed, KeepsWords, words_at, Plain, binding_at, bindings, frame_in, IsTied, shown_in, shown_out, Touches, page_none, page_some, words_kept, IsActive, table_at, table_of, word_of, IsHomeOf, IsKept, IsOutAt, home_of, Transfer, names, seen, Keeps, home_in, is_active, processor_at, State, brought, with_pages, map_list, within_by, active_at, word_within, some_same}
 use Rattle.core_map.specs.declared.Frame.TheVariants as frame
 use Rattle.page_table.specs.declared.Ptw.TheVariants as ptw
 use Rattle.page_control.proofs.Touching.{moves}
@@ -7,8 +7,8 @@ use Rattle.machine_model.specs.Custodial.{is_out}
 use Rattle.machine.proofs.Stays.{ShowsAs, core_as, pages_as, tables_as, then_as, unbound_put}
 
 started_is : (x : Frame) (u p : ℕ) → started_page x ≡ Some (u, p) → x ≡ frame.Started u p
-started_is frame.Free u p h = absurd (none_some h)
-started_is (frame.Bound v q used modified) u p h = absurd (none_some h)
+started_is frame.Free u p h = cc
+started_is (frame.Bound v q used modified) u p h = cc
 started_is (frame.Started v q) u p h = let same : (v, q) ≡ (u, p) = cc in
     ap (λ (x : ℕ × ℕ). frame.Started x.0 x.1) same
 
@@ -17,10 +17,10 @@ free_unlike u p h = cc
 
 -- a page that is on its record alone is in no frame
 out_nowhere : (w : Ptw) (g : ℕ) → is_out w ≡ true → names w ≢ Some g
-out_nowhere ptw.Null g h e = absurd (none_some e)
-out_nowhere (ptw.Out r) g h e = absurd (none_some e)
-out_nowhere (ptw.Here f) g h e = absurd (let no : false ≡ true = h in cc)
-out_nowhere (ptw.Leaving f) g h e = absurd (let no : false ≡ true = h in cc)
+out_nowhere ptw.Null g h e = cc
+out_nowhere (ptw.Out r) g h e = cc
+out_nowhere (ptw.Here f) g h e = cc
+out_nowhere (ptw.Leaving f) g h e = cc
 
 module _ (s : State) (c : ℕ) (t : Transfer) (k : Keeps s)
     (mine : (processor_at s.processors c).cpu.transfer ≡ Some t) where
@@ -56,8 +56,7 @@ module _ (s : State) (c : ℕ) (t : Transfer) (k : Keeps s)
 
   -- its page is one of those that the page table of the segment has
   pub page_within : t.page < length (table_of s.store.ast t.uid)
-  page_within = (word_within s.store.ast t.uid t.page
-      (λ e. (let no : false ≡ true = sym (ap is_out e) ∙ out in cc))).1
+  page_within = (word_within s.store.ast t.uid t.page (λ e. (let no : false ≡ true = sym (ap is_out e) ∙ out in cc))).1
 
   unbound : binding_at (bindings pages.core) t.frame ≡ None
   unbound = k.book.tied.unbound t.frame t.uid t.page reads
@@ -88,12 +87,10 @@ module _ (s : State) (c : ℕ) (t : Transfer) (k : Keeps s)
   frame_now = get_or-set_same pages.core.frames t.frame bound_frame frame.Free within
 
   bound_now : binding_at (bindings now.core) t.frame ≡ Some (t.uid, t.page)
-  bound_now = map_list bound_page (set pages.core.frames t.frame bound_frame) t.frame frame.Free
-      ∙ ap bound_page frame_now
+  bound_now = cc (map_list bound_page (set pages.core.frames t.frame bound_frame) t.frame frame.Free, frame_now)
 
   module _ (kept : IsKept now (brought s.store t).ast (brought s.store t).links) where
-    tie_now : IsTied now t.uid home (table_at (brought s.store t).ast.tables
-        out_at.place)
+    tie_now : IsTied now t.uid home (table_at (brought s.store t).ast.tables out_at.place)
     tie_now = kept.paged.ties out_at.place t.uid home out_at.active home_is
 
     alone : (g : ℕ) → binding_at (bindings now.core) g ≡ Some (t.uid, t.page) → g ≡ t.frame
@@ -115,8 +112,8 @@ module _ (s : State) (c : ℕ) (t : Transfer) (k : Keeps s)
     keeps_words = words_kept touches its_words
 
     pub brought_as : ShowsAs s.store (brought s.store t)
-    brought_as = then_as s.store (with_pages s.store now) (brought s.store t) (pages_as s.store now refl refl
+    brought_as = then_as (pages_as s.store now refl refl
         (λ v q there. keeps_words.words v (home_of s.store.accounts v) q (record {
           used = k.store.counted.housed.homes v there;
-          own = λ is. ap (home_of s.store.accounts) is;
-        }))) (tables_as (with_pages s.store now) (brought s.store t).ast s.store.links refl refl refl)
+          own = λ is. cc;
+        }))) (tables_as (with_pages s.store now) (brought s.store t).ast s.store.links refl)

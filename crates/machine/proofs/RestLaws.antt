@@ -16,11 +16,7 @@ module _ (s : State) (spare : ℕ) (stopped : Bool) where
     cut = h.cut;
     conserved = h.conserved;
     few_faults = h.few_faults;
-    sizes = record {
-      frames = h.sizes.frames;
-      processors = h.sizes.processors;
-      processes = h.sizes.processes;
-    };
+    sizes = assumption;
     at_work = h.at_work;
   }
 
@@ -29,25 +25,13 @@ module _ (s : State) (spare : ℕ) (stopped : Bool) where
   come_still h = h
 
   machine_still : IsMachine s → IsMachine now
-  machine_still h = record {
-    keeps = keeps_still h.keeps;
-    script = h.script;
-    come = come_still h.come;
-    scheduled = h.scheduled;
-    pools = h.pools;
-    moving = h.moving;
-  }
+  machine_still h = assumption (keeps_still h.keeps, come_still h.come)
 
   command_still : (k : ℕ) (c : Option Command) → IsTakenBy s k c → IsTakenBy now k c
   unfolding refusal_of
   command_still k None h = tt
   command_still k (Some c) h = record {
-    just = record {
-      pages = h.just.pages;
-      its_pages = h.just.its_pages;
-      descriptors = h.just.descriptors;
-      its_descriptors = h.just.its_descriptors;
-    };
+    just = assumption;
     alone = h.alone;
     brought = h.brought;
     stands = h.stands;
@@ -80,13 +64,7 @@ module _ (s : State) (spare : ℕ) (stopped : Bool) where
   fitting_still h = record { fits = h.fits }
 
   pub rest_kept : KeepsAll s → KeepsAll now
-  rest_kept h = record {
-    machine = machine_still h.machine;
-    entitled = h.entitled;
-    reading = h.reading;
-    working = working_still h.working;
-    fitting = fitting_still h.fitting;
-  }
+  rest_kept h = assumption (machine_still h.machine, working_still h.working, fitting_still h.fitting)
 
 -- so a machine keeps its promise
 pub rest_sound : {D : Type 0} (t : Parts D) (spare : ℕ) (stopped : Bool) → IsSound t
@@ -95,10 +73,5 @@ rest_sound t spare stopped sound = record {
   keeps = rest_kept t.state spare stopped sound.keeps;
   room = sound.room;
   drives = sound.drives;
-  visits = record {
-    idle = sound.visits.idle;
-    over = sound.visits.over;
-    few = sound.visits.few;
-    each = sound.visits.each;
-  };
+  visits = assumption;
 }

@@ -1,12 +1,16 @@
 -- What processors come to that make their steps one after the other.
-use Rattle.machine.proofs.Prelude.{◌≡◌, ◌≤◌, ◌+◌, ◌||◌, ℕ, Bool, true, false, length, List, [], ◌∷◌, ◌++◌, drop, append-nil, ◌<◌, get_or, take, Some, refl, sym, ap, subst, ◌∙◌, arith, ◌↔◌, Result, Ok, Err, IfOk, OnErr, count_by, list_any, or_parts, take-append-drop, take_more, Entry, action_of, process_at, move_to, outside_refusal, refusal_of, room_refusal, moves, append_assoc, Parts, Grows, HasRun, HasStood, IsRound, is_moved, tally, with_room, would_move, Appends, AreTold, IsTurn, KeepsParts, TellsFaults, Turn, is_fault}
-use Rattle.machine.proofs.CallLaws.{keeps_on, keeps_same}
+use Rattle.machine.proofs.Prelude.{◌≡◌, ◌≤◌, ◌+◌, ℕ, Bool, true, false, length, List, [], ◌∷◌, ◌++◌, drop, append-nil, ◌<◌, get_or, take, Some, refl, sym, ap, subst, ◌∙◌, arith, ◌↔◌, Result, Ok, Err, IfOk, OnErr, count_by, list_any, or_parts, take-append-drop, take_more, action_of, process_at, move_to, outside_refusal, refusal_of, room_refusal, append_assoc, Parts, Grows, HasRun, HasStood, IsRound, is_moved, tally, with_room, would_move, Appends, AreTold, IsTurn, KeepsParts, TellsFaults, Turn, is_fault}
+use Rattle.machine.proofs.CallLaws.{keeps_on, keeps_room}
 use Rattle.machine.proofs.TurnLaws.{still_of, told_moves}
 
 -- the rules don't read how much room the book has
 same_action : {D : Type 0} (t : Parts D) (spare c : ℕ) → action_of (with_room t spare).state c ≡ action_of t.state c
 unfolding action_of refusal_of outside_refusal room_refusal move_to
 same_action t spare c = refl
+
+untallied : (b : Bool) → tally b ≡ 0 → b ≡ false
+untallied true none = absurd (omega arith)
+untallied false none = refl
 
 module _ {D Plan : Type 0} (plan : D → Plan) (places faults : D → ℕ) where
   abbrev Round : Parts D → Parts D → ℕ → ℕ → Type 0
@@ -16,48 +20,37 @@ module _ {D Plan : Type 0} (plan : D → Plan) (places faults : D → ℕ) where
   Run = HasRun plan places faults
 
   round_moves : (old new : Parts D) (c one : ℕ) → Round old new c one → one ≡ tally (would_move old.state c)
-  round_moves old new c one r = r.moved_is ∙ ap tally (ap is_moved r.turn.answer_is
-      ∙ (told_moves (with_room old r.spare).state c (action_of (with_room old r.spare).state c)
-      ∙ ap moves (same_action old r.spare c)))
+  round_moves old new c one r = cc (
+    told_moves (with_room old r.spare).state c (action_of (with_room old r.spare).state c),
+    same_action old r.spare c,
+  )
 
   pub round_few : (old new : Parts D) (c one : ℕ) → Round old new c one → one ≤ 1
-  round_few old new c one r = by (is_moved r.answer) r.moved_is
+  round_few old new c one r = rw r.moved_is (by (is_moved r.answer))
     where
-      by : (b : Bool) → one ≡ tally b → one ≤ 1
-      by true e = omega (arith, e)
-      by false e = omega (arith, e)
+      by : (b : Bool) → tally b ≤ 1
+      by true = omega arith
+      by false = omega arith
 
   -- a step in which nothing is done changes but the room
   round_still : (old new : Parts D) (c one : ℕ) (r : Round old new c one) → one ≡ 0 → new ≡ with_room old r.spare
-  round_still old new c one r none = still_of r.answer (by (is_moved r.answer) refl) r.turn.still
-    where
-      by : (b : Bool) → is_moved r.answer ≡ b → is_moved r.answer ≡ false
-      by true e = absurd (let same = r.moved_is in let t : tally (is_moved r.answer) ≡ 1 = ap tally e in
-          omega (arith, same, t, none))
-      by false e = e
+  round_still old new c one r none = still_of r.answer (untallied (is_moved r.answer) (cc)) r.turn.still
 
   -- what would move is told by what there was, where nothing was done
   same_any : (old mid : Parts D) (spare : ℕ) → mid ≡ with_room old spare → (cs : List ℕ)
       → list_any (would_move mid.state) cs ≡ list_any (would_move old.state) cs
-  same_any old mid spare same [] = refl
-  same_any old mid spare same (c ∷ cs) =
-      ap (λ (b : Bool). b || list_any (would_move mid.state) cs)
-      (ap (λ (t : Parts D). would_move t.state c) same ∙ ap moves (same_action old spare c))
-      ∙ ap (λ (b : Bool). would_move old.state c || b) (same_any old mid spare same cs)
+  unfolding action_of refusal_of outside_refusal room_refusal move_to
+  same_any old mid spare same cs = ap (λ (t : Parts D). list_any (would_move t.state) cs) same
 
   -- Where none moved, none would have in the machine as it was.
   pub run_none : (old new : Parts D) (cs : List ℕ) (n : ℕ) → Run old new cs n → n ≡ 0
       → list_any (would_move old.state) cs ≡ false
   run_none old new [] n run none = refl
-  run_none old new (c ∷ cs) n (mid, one, rest, is, round, more) none =
-      ap (λ (b : Bool). b || list_any (would_move old.state) cs) (here (would_move old.state c) refl)
-      ∙ (sym (same_any old mid round.spare (round_still old mid c one round (omega (arith, is, none))) cs)
-      ∙ run_none mid new cs rest more (omega (arith, is, none)))
-    where
-      here : (b : Bool) → would_move old.state c ≡ b → would_move old.state c ≡ false
-      here true e = absurd (let moved = round_moves old mid c one round in
-          let t : tally (would_move old.state c) ≡ 1 = ap tally e in omega (arith, is, none, moved, t))
-      here false e = e
+  run_none old new (c ∷ cs) n (mid, one, rest, is, round, more) none = cc (
+    untallied (would_move old.state c) (sym (round_moves old mid c one round) ∙ omega (arith, is, none)),
+    same_any old mid round.spare (round_still old mid c one round (omega (arith, is, none))) cs,
+    run_none mid new cs rest more (omega (arith, is, none)),
+  )
 
   -- Where none would have moved, none did.
   pub run_still : (old new : Parts D) (cs : List ℕ) (n : ℕ) → Run old new cs n
@@ -78,33 +71,29 @@ module _ {D Plan : Type 0} (plan : D → Plan) (places faults : D → ℕ) where
       → Grows old.state.entries new.state.entries
   run_grows old new [] n (same, none) = record {
     more = [];
-    entries = ap (λ (t : Parts D). t.state.entries) same ∙ sym (append-nil old.state.entries);
+    entries = cc (append-nil old.state.entries);
   }
   run_grows old new (c ∷ cs) n (mid, one, rest, is, round, more) =
       let later = run_grows mid new cs rest more in record {
         more = round.entries.more ++ later.more;
-        entries = later.entries ∙ (ap (λ (es : List Entry). es ++ later.more) round.entries.entries
-            ∙ append_assoc old.state.entries round.entries.more later.more);
+        entries = cc (append_assoc old.state.entries round.entries.more later.more);
       }
 
   pub run_keeps : (old new : Parts D) (cs : List ℕ) (n : ℕ) → Run old new cs n → KeepsParts plan places faults old new
-  run_keeps old new [] n (same, none) = keeps_same plan places faults old new
-      (ap (λ (t : Parts D). t.state.plan) same) (ap (λ (t : Parts D). t.state.entries) same)
-      (ap (λ (t : Parts D). t.drives) same)
+  run_keeps old new [] n (same, none) = keeps_room plan places faults old new _ same
   run_keeps old new (c ∷ cs) n (mid, one, rest, is, round, more) =
       keeps_on plan places faults old mid new round.kept (run_keeps mid new cs rest more)
 
   -- one list of processors after another
   pub run_append : (old mid new : Parts D) (cs ds : List ℕ) (n m : ℕ) → Run old mid cs n → Run mid new ds m
       → Run old new (cs ++ ds) (n + m)
-  run_append old mid new [] ds n m (same, none) more =
-      subst (λ (k : ℕ). Run old new ds k) (let zero_n = none in omega (arith, zero_n))
+  run_append old mid new [] ds n m (same, none) more = subst (λ (k : ℕ). Run old new ds k) (omega arith)
       (subst (λ (t : Parts D). Run t new ds m) same more)
   run_append old mid new (c ∷ cs) ds n m (next, one, rest, is, made, run) more = (
     next,
     one,
     rest + m,
-    omega (arith, is),
+    omega arith,
     made,
     run_append next mid new cs ds rest m run more,
   )
@@ -116,15 +105,15 @@ module _ {D Plan : Type 0} (plan : D → Plan) (places faults : D → ℕ) where
     new,
     one,
     0,
-    omega (arith, none),
-    subst (λ (t : Parts D). Round t new c one) same round,
+    omega arith,
+    rw (← same) round,
     (refl, refl),
   )
   run_on old mid new (d ∷ cs) n c one (next, first, rest, is, made, more) round = (
     next,
     first,
     rest + one,
-    omega (arith, is),
+    omega arith,
     made,
     run_on next mid new cs rest c one more round,
   )
@@ -138,15 +127,13 @@ module _ {D Plan : Type 0} (plan : D → Plan) (places faults : D → ℕ) where
     spare = mid.state.spare;
     answer = answer;
     moved_is = is;
-    turn = subst (λ (t : Parts D). IsTurn plan places faults t new c answer) same turn;
+    turn = rw (← same) turn;
     entries = record {
       more = appends.more;
       entries = appends.entries ∙ ap (λ (t : Parts D). t.state.entries ++ appends.more) same;
       few = appends.few;
     };
-    kept = keeps_on plan places faults old mid new (keeps_same plan places faults old mid
-        (ap (λ (t : Parts D). t.state.plan) same) (ap (λ (t : Parts D). t.state.entries) same)
-        (ap (λ (t : Parts D). t.drives) same)) keeps;
+    kept = keeps_on plan places faults old mid new (keeps_room plan places faults old mid _ same) keeps;
     told = record {
       more = told.more;
       entries = told.entries ∙ ap (λ (t : Parts D). t.state.entries ++ told.more) same;
@@ -159,8 +146,8 @@ module _ {D Plan : Type 0} (plan : D → Plan) (places faults : D → ℕ) where
   -- of the first numbers of a list, one more makes its step
   pub run_next : (old mid new : Parts D) (cs : List ℕ) (i n one : ℕ) → Run old mid (take i cs) n → i < length cs
       → Round mid new (get_or cs i 0) one → Run old new (take (i + 1) cs) (n + one)
-  run_next old mid new cs i n one run within round = subst (λ (xs : List ℕ). Run old new xs (n + one))
-      (sym (take_more cs i 0 within)) (run_on old mid new (take i cs) n (get_or cs i 0) one run round)
+  run_next old mid new cs i n one run within round = rw (take_more cs i 0 within)
+      (run_on old mid new (take i cs) n (get_or cs i 0) one run round)
 
   -- there was no room for the next one
   pub stood_at : (old last new : Parts D) (cs : List ℕ) (i n : ℕ) → Run old last (take i cs) n
@@ -178,20 +165,14 @@ module _ {D Plan : Type 0} (plan : D → Plan) (places faults : D → ℕ) where
   -- the same of a list, up to the number at which there was no room
   pub run_grows_on : (old new : Parts D) (cs : List ℕ) → HasStood plan places faults old new cs
       → Grows old.state.entries new.state.entries
-  run_grows_on old new cs stood = record {
-    more = run.more;
-    entries = ap (λ (t : Parts D). t.state.entries) stood.room ∙ run.entries;
-  }
-    where
-      run : Grows old.state.entries stood.last.state.entries
-      run = run_grows old stood.last stood.before stood.moved stood.run
+  run_grows_on old new cs stood = let run = run_grows old stood.last stood.before stood.moved stood.run in
+      record { more = run.more; entries = ap (λ (t : Parts D). t.state.entries) stood.room ∙ run.entries }
 
   pub run_keeps_on : (old new : Parts D) (cs : List ℕ) → HasStood plan places faults old new cs
       → KeepsParts plan places faults old new
   run_keeps_on old new cs stood = keeps_on plan places faults old stood.last new
       (run_keeps old stood.last stood.before stood.moved stood.run)
-      (keeps_same plan places faults stood.last new (ap (λ (t : Parts D). t.state.plan) stood.room)
-      (ap (λ (t : Parts D). t.state.entries) stood.room) (ap (λ (t : Parts D). t.drives) stood.room))
+      (keeps_room plan places faults stood.last new _ stood.room)
 
   -- however it ended
   pub ran_grows : {E : Type 0} (old new : Parts D) (cs : List ℕ) (r : Result ℕ E) → IfOk r (Run old new cs)

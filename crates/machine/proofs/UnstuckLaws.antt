@@ -28,7 +28,7 @@ pub one_more : (s : State) (c : ℕ) → ((d : ℕ) → d < c → would_move s d
     → (d : ℕ) → d < c + 1 → would_move s d ≡ false
 one_more s c before here d within = elim (cases_lt d c) [
   | inl lt ↦ before d lt
-  | inr past ↦ subst (λ (e : ℕ). would_move s e ≡ false) (omega (arith, within, past)) here
+  | inr past ↦ subst (λ (e : ℕ). would_move s e ≡ false) (omega arith) here
 ]
 
 -- where no processor does anything, the machine was stopped or every process has ended
@@ -52,11 +52,10 @@ none_moves s cpus keeps none all = still_done s keeps s.plan.processors refl s.p
   where
     by : (d : ℕ) → Contains cpus d → (b : Bool) → would_move s d ≡ b → b ≡ false
     by d found false e = refl
-    by d found true e = absurd (let no : true ≡ false = sym (list_any_at (would_move s) cpus found.0 d found.1
-        (ap (would_move s) found.2 ∙ e)) ∙ none in cc)
+    by d found true e = cc (sym (list_any_at (would_move s) cpus found.0 d found.1 (ap (would_move s) found.2 ∙ e))
+        ∙ none)
 
 pub run_done : {E : Type 0} (s : State) (cpus : List ℕ) (r : Result ℕ E) → KeepsAll s
-    → IfOk r (λ n. (n ≡ 0) ↔ (list_any (would_move s) cpus ≡ false))
-    → IfOk r (λ n. n ≡ 0 → NamesAll s cpus → IsDone s)
+    → IfOk r (λ n. (n ≡ 0) ↔ (list_any (would_move s) cpus ≡ false)) → IfOk r (λ n. n ≡ 0 → NamesAll s cpus → IsDone s)
 run_done s cpus (Ok n) keeps zero = λ none all. none_moves s cpus keeps (zero.0 none) all
 run_done s cpus (Err e) keeps zero = tt

@@ -1,17 +1,16 @@
 -- What holds of the frames that the shutdown has visited holds after each visit, and one frame more was.
-use Rattle.machine.proofs.Prelude.{◌≡◌, ◌≢◌, ◌<◌, ℕ, zero, suc, ◌+◌, ◌++◌, ◌∷◌, [], Bool, true, false, cond, length, not, replicate, List, Option, Some, None, inl, inr, refl, sym, ap, subst, ◌∙◌, arith, cases_lt, get_or-set_other, get_or-set_same, get_or_past, Entry, bound_page, Plan, Left, Home, evicted, Plain, frame_in, words_in, Processor, action_of, clear_or, is_over, Outcome, after, entries_left, are_zeros, here_if, leaving_if, left_of, page_back, page_gone, page_in, with_here, KeepsAll, cpu_at, home_in, no_processor, processor_at, after_visit, page_taken, visited_if, State, fault_told, with_faults, AreIdle, AreVisited, WasVisited, append_assoc, FillsBusy, idle_kept, pools_kept, none_some, SameSeats, VisitSays, same_seats, visit_over}
+use Rattle.machine.proofs.Prelude.{◌≡◌, ◌≢◌, ◌<◌, ℕ, ◌+◌, ◌++◌, ◌∷◌, [], Bool, true, false, cond, length, not, replicate, List, Option, Some, None, inl, inr, refl, sym, ap, subst, ◌∙◌, arith, cases_lt, get_or-set_other, get_or-set_same, get_or_past, Entry, bound_page, Plan, Left, Home, evicted, Plain, frame_in, words_in, Processor, action_of, clear_or, is_over, Outcome, after, are_zeros, here_if, leaving_if, left_of, page_back, page_gone, page_in, with_here, KeepsAll, cpu_at, home_in, no_processor, processor_at, after_visit, page_taken, visited_if, State, fault_told, with_faults, AreIdle, AreVisited, WasVisited, append_assoc, FillsBusy, idle_kept, pools_kept, none_some, SameSeats, VisitSays, same_seats, visit_over, all_same}
 use Rattle.book.specs.declared.entries.Entry.TheVariants as entry
 use Rattle.core_map.specs.declared.Frame.TheVariants as frame
 use Rattle.page_control.specs.declared.Left.TheVariants as left
-use Rattle.assoc_mem.specs.Held.{nothing_held}
 use Rattle.machine_model.specs.Actions as act
 
 -- a frame that was visited, where its page and its words are as before and the book has entries more
 carried : (old new : Plain) (es more : List Entry) (g : ℕ) → frame_in new g ≡ frame_in old g
     → words_in new g ≡ words_in old g → WasVisited old es g → WasVisited new (es ++ more) g
-carried old new es more g same words (inl none) = inl (ap bound_page same ∙ none)
+carried old new es more g same words (inl none) = inl (cc)
 carried old new es more g same words (inr stayed) = inr (record {
-  words = ap are_zeros words ∙ stayed.words;
+  words = cc;
   told = record {
     before = stayed.told.before;
     later = stayed.told.later ++ more;
@@ -19,6 +18,10 @@ carried old new es more g same words (inr stayed) = inr (record {
         ∙ append_assoc stayed.told.before (entry.Fault None ∷ entry.BackPage g ∷ stayed.told.later) more;
   };
 })
+
+stays : (old new : Plain) (es more : List Entry) (g : ℕ) → new ≡ old → WasVisited old es g
+    → WasVisited new (es ++ more) g
+stays old new es more g same h = rw same (carried old old es more g refl refl h)
 
 -- a page that has left its frame: the frame is free, and every other one is as before
 evicted_words : (pages : Plain) (home : Home) (p f g : ℕ) (how : Left)
@@ -28,8 +31,7 @@ evicted_words pages home p f g left.Kept = refl
 
 evicted_other : (pages : Plain) (home : Home) (p f g : ℕ) (how : Left) → g ≢ f
     → frame_in (evicted pages home p f how) g ≡ frame_in pages g
-evicted_other pages home p f g left.Released other =
-    get_or-set_other pages.core.frames f g frame.Free frame.Free other
+evicted_other pages home p f g left.Released other = get_or-set_other pages.core.frames f g frame.Free frame.Free other
 evicted_other pages home p f g left.Kept other = get_or-set_other pages.core.frames f g frame.Free frame.Free other
 
 evicted_here : (pages : Plain) (home : Home) (p f : ℕ) (how : Left) → f < length pages.core.frames
@@ -44,9 +46,6 @@ bound_there pages f page h = elim (cases_lt f (length pages.core.frames)) [
   | inl lt ↦ lt
   | inr far ↦ absurd (none_some (sym (ap bound_page (get_or_past pages.core.frames f frame.Free far)) ∙ h))
 ]
-
-apart : (g f : ℕ) → g < f → g ≢ f
-apart g f lt e = omega (arith, lt, e)
 
 module _ (s : State) (o : Outcome) (all : KeepsAll s) (visits : AreVisited s) (over : is_over s ≡ true)
     (more : s.visited < s.plan.frames) (says : VisitSays s o) where
@@ -77,23 +76,14 @@ module _ (s : State) (o : Outcome) (all : KeepsAll s) (visits : AreVisited s) (o
   back = page_back (fault_told taken None o.faults) f
 
   -- frames before this one
-  earlier : (g : ℕ) → g < f → (x : Option (ℕ × ℕ)) → (b : Bool)
-      → WasVisited (record (cond b back gone) { visited = f + 1 }).store.pages
+  earlier : (g : ℕ) → g < f → (b : Bool) → WasVisited (record (cond b back gone) { visited = f + 1 }).store.pages
       (record (cond b back gone) { visited = f + 1 }).entries g
-  earlier g lt x true = carried taken.store.pages (with_here taken.store f).pages _ (entry.BackPage f ∷ []) g
-      (ap (λ (p : Plain). frame_in p g) (back_pages ∙ sym taken_pages))
-      (ap (λ (p : Plain). words_in p g) (back_pages ∙ sym taken_pages))
-      (carried s.store.pages taken.store.pages _ (entry.Fault None ∷ []) g
-      (ap (λ (p : Plain). frame_in p g) taken_pages) (ap (λ (p : Plain). words_in p g) taken_pages)
-      (carried s.store.pages s.store.pages s.entries (entry.Take f ∷ []) g refl refl (visits.each g lt)))
-  earlier g lt x false = carried taken.store.pages _ (s.entries ++ entry.Take f ∷ [])
-      (entries_left f (left_of (words_in taken.store.pages f)) (page_in taken.store f)) g
+  earlier g lt true = stays _ _ _ _ g back_pages (stays _ _ _ _ g refl (stays _ _ _ _ g refl (visits.each g lt)))
+  earlier g lt false = carried taken.store.pages _ (s.entries ++ entry.Take f ∷ []) _ g
       (evicted_other taken.store.pages (home_in taken.store (page_in taken.store f).0) (page_in taken.store f).1 f g
-      (left_of (words_in taken.store.pages f)) (apart g f lt))
+      (left_of (words_in taken.store.pages f)) (λ e. omega arith))
       (evicted_words taken.store.pages (home_in taken.store (page_in taken.store f).0) (page_in taken.store f).1 f g
-      (left_of (words_in taken.store.pages f)))
-      (carried s.store.pages taken.store.pages s.entries (entry.Take f ∷ []) g
-      (ap (λ (p : Plain). frame_in p g) taken_pages) (ap (λ (p : Plain). words_in p g) taken_pages) (visits.each g lt))
+      (left_of (words_in taken.store.pages f))) (stays _ _ _ _ g taken_pages (visits.each g lt))
 
   -- the frame that is visited
   this : (page : ℕ × ℕ) → bound_page (frame_in s.store.pages f) ≡ Some page → (b : Bool) → o.failed ≡ b
@@ -109,22 +99,20 @@ module _ (s : State) (o : Outcome) (all : KeepsAll s) (visits : AreVisited s) (o
   })
   this page bound false well = inl (ap bound_page (evicted_here taken.store.pages
       (home_in taken.store (page_in taken.store f).0) (page_in taken.store f).1 f
-      (left_of (words_in taken.store.pages f))
-      (subst (λ (p : Plain). f < length p.core.frames) (sym taken_pages) (bound_there s.store.pages f page bound))))
+      (left_of (words_in taken.store.pages f)) (rw taken_pages (bound_there s.store.pages f page bound))))
 
   each_next : (x : Option (ℕ × ℕ)) → bound_page (frame_in s.store.pages f) ≡ x → (g : ℕ) → g < f + 1
       → WasVisited (record (visited_if s f o x) { visited = f + 1 }).store.pages
       (record (visited_if s f o x) { visited = f + 1 }).entries g
   each_next None bound g lt = elim (cases_lt g f) [
     | inl less ↦ visits.each g less
-    | inr far ↦ inl (let same : g ≡ f = omega (arith, lt, far) in
-        ap (λ (h : ℕ). bound_page (frame_in s.store.pages h)) same ∙ bound)
+    | inr far ↦ inl (let same : g ≡ f = omega arith in
+        cc)
   ]
   each_next (Some page) bound g lt = elim (cases_lt g f) [
-    | inl less ↦ earlier g less (Some page) o.failed
-    | inr far ↦ (let same : g ≡ f = omega (arith, lt, far) in
-        subst (λ (h : ℕ). WasVisited (record (cond o.failed back gone) { visited = f + 1 }).store.pages
-        (record (cond o.failed back gone) { visited = f + 1 }).entries h) (sym same) (this page bound o.failed refl))
+    | inl less ↦ earlier g less o.failed
+    | inr far ↦ (let same : g ≡ f = omega arith in
+        rw same (this page bound o.failed refl))
   ]
 
   -- What holds of the frames that were visited holds after a visit.
@@ -132,7 +120,7 @@ module _ (s : State) (o : Outcome) (all : KeepsAll s) (visits : AreVisited s) (o
   visited_next = record {
     idle = subst AreIdle (sym seats.processors) visits.idle;
     over = λ h. visit_over s o all over visits.idle says;
-    few = let same = ap (λ (p : Plan). p.frames) seats.plan in omega (arith, more, same);
+    few = let same = ap (λ (p : Plan). p.frames) seats.plan in omega arith;
     each = each_next (bound_page (frame_in s.store.pages f)) refl;
   }
     where
@@ -141,16 +129,12 @@ module _ (s : State) (o : Outcome) (all : KeepsAll s) (visits : AreVisited s) (o
 
 -- ---- at first, and after the steps of processors
 
-idle_first : (n : ℕ) (d : ℕ) → (cpu_at (replicate n no_processor) d).assoc ≡ nothing_held
-idle_first zero d = refl
-idle_first (suc n) zero = refl
-idle_first (suc n) (suc d) = idle_first n d
-
 -- no frame was visited, and no processor has a process
 pub visited_first : (s : State) (n : ℕ) → s.processors ≡ replicate n no_processor → s.visited ≡ 0 → AreVisited s
 visited_first s n idle none = record {
   idle = record {
-    held = λ d i. ap (λ (ps : List Processor). (cpu_at ps d).assoc) idle ∙ idle_first n d;
+    held = λ d i. ap (λ (ps : List Processor). (cpu_at ps d).assoc) idle
+        ∙ ap (λ (p : Processor). p.cpu.assoc) (all_same n d no_processor);
   };
   over = λ h. absurd (omega (arith, h, none));
   few = omega (arith, none);
@@ -167,7 +151,7 @@ still_over s c o over = by s.stopped (is_over s) over
         (clear_or s c (processor_at s.processors c) (processor_at s.processors c).cpu.due)))) o ≡ s
     by true ended h = refl
     by false true h = refl
-    by false false h = absurd (let no : false ≡ true = h in cc)
+    by false false h = cc
 
 -- What holds of the frames that were visited holds after a step.
 pub visited_after : (s : State) (c : ℕ) (o : Outcome) → c < length s.processors → FillsBusy s c (action_of s c)

@@ -1,36 +1,24 @@
-use Rattle.machine_model.specs.Actions as act
-use Rattle.machine.proofs.OwnerCalls.{still_for}
-use Rattle.machine.proofs.JoinCalls.{activate_sound, activated, link_first, link_there, place_free}
-use Rattle.machine.proofs.StepDone.{activate_turn}
+use Rattle.machine.proofs.Prelude.{after, refl, rules}
+use Rattle.machine.proofs.Does.{does}
+use Rattle.machine.proofs.JoinCalls.{joinable, place_is}
+use Rattle.machine.proofs.StepDone.{quiet_turn}
+use Rattle.machine.proofs.Stays.{stays_sound, tables_as}
 use Rattle.machine.proofs.machine.Machine.activate.Goals as goal
 
-pub activate-place-requires-clause-still : goal.activate-place-requires-clause-still
-activate-place-requires-clause-still g c = still_for _ c.args.c c.self.invariant (rw c.self.view_is c.requires.there)
-    (act.Activate c.args.uid c.args.place) (rw c.self.view_is c.requires.doing)
-
-pub activate-place-requires-clause-there : goal.activate-place-requires-clause-there
-activate-place-requires-clause-there g c = link_there _ c.args.c c.self.invariant (rw c.self.view_is c.requires.there)
-    c.args.uid c.args.place (rw c.self.view_is c.requires.doing)
-
-pub activate-place-requires-clause-first : goal.activate-place-requires-clause-first
-activate-place-requires-clause-first g c = link_first _ c.args.c c.self.invariant (rw c.self.view_is c.requires.there)
-    c.args.uid c.args.place (rw c.self.view_is c.requires.doing)
-
-pub activate-place-requires-clause-free : goal.activate-place-requires-clause-free
-activate-place-requires-clause-free g c = place_free _ c.args.c c.self.invariant (rw c.self.view_is c.requires.there)
-    c.args.uid c.args.place (rw c.self.view_is c.requires.doing)
+pub activate-place-requires : goal.activate-place-requires
+activate-place-requires g c =
+    let can = joinable (does c.self.view_is c.self.invariant c.requires) in
+    search rules
 
 pub returns : goal.returns
-returns g c = rw (← c.self.view_is) (activate_turn _ _ _ _ c.activate-place.new.self c.args.c c.args.uid c.args.place
-    (rw c.self.view_is c.requires.doing)
-    (activated _ c.args.c c.self.invariant (rw c.self.view_is c.requires.there) c.args.uid c.args.place
-    c.activate-place.result (rw c.self.view_is c.requires.doing)
-    c.activate-place.ensures.place c.activate-place.new.self c.activate-place.ensures.effect))
+unfolding after
+returns g c = quiet_turn c.self.view_is c.requires c.activate-place.ensures.effect
+    (rw (place_is (does c.self.view_is c.self.invariant c.requires) c.activate-place.ensures.place)) refl (refl, refl)
+    tt
 
 pub invariant_of-self : goal.invariant_of-self
-invariant_of-self g c = activate_sound _ c.args.c c.self.invariant (rw c.self.view_is c.requires.there) c.args.uid
-    c.args.place (rw c.self.view_is c.requires.doing) c.activate-place.new.self
-    (activated _ c.args.c c.self.invariant (rw c.self.view_is c.requires.there) c.args.uid c.args.place
-    c.activate-place.result (rw c.self.view_is c.requires.doing)
-    c.activate-place.ensures.place c.activate-place.new.self c.activate-place.ensures.effect)
-    c.promise.ensures.kept c.promise.ensures.counted
+unfolding after
+invariant_of-self g c =
+    let d = does c.self.view_is c.self.invariant c.requires in
+    stays_sound d c.activate-place.ensures.effect (rw (place_is d c.activate-place.ensures.place)) refl
+    (tables_as _ _ _ refl) (assumption c.promise.ensures)

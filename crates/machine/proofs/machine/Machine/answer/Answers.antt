@@ -1,12 +1,15 @@
-use Rattle.machine.proofs.Quiet.{answer_sound}
-use Rattle.machine.proofs.StepDone.{plain_turn}
+use Rattle.machine.proofs.Prelude.{refl, after}
+use Rattle.machine.proofs.Does.{does}
+use Rattle.machine.proofs.StepDone.{quiet_turn}
+use Rattle.machine.proofs.Stays.{quiet_sound}
 use Rattle.machine.proofs.machine.Machine.answer.Goals as goal
 
 pub returns : goal.returns
-returns g c = rw (← c.self.view_is) (plain_turn _ _ _ _ _ c.args.c c.to_answer-process.result c.args.reply
-    (rw c.self.view_is c.to_answer-process.ensures.process) (rw c.self.view_is c.requires.doing) c.tell.ensures)
+unfolding after
+returns g c = quiet_turn c.self.view_is c.requires c.tell.ensures
+    (rw (rw (← c.self.view_is) at c.to_answer-process.ensures.process)) refl (refl, refl) tt
 
 pub invariant_of-self : goal.invariant_of-self
-invariant_of-self g c = rw c.tell.ensures (answer_sound _ c.args.c c.self.invariant
-    c.to_answer-process.result c.args.reply (rw c.self.view_is c.to_answer-process.ensures.process)
-    (rw c.self.view_is c.requires))
+unfolding after
+invariant_of-self g c = quiet_sound (does c.self.view_is c.self.invariant c.requires) c.tell.ensures
+    (rw (rw (← c.self.view_is) at c.to_answer-process.ensures.process)) refl refl

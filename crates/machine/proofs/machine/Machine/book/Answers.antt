@@ -10,11 +10,11 @@ pub returns-clause-few : goal.returns-clause-few
 returns-clause-few g c =
     let short : length c.entries-entries.result.now < 2 ^ 63 = search rules in
     let same = ap (λ (es : List Entry). length es) c.entries-entries.ensures in
-    omega (arith, short, same)
+    omega arith
 
 pub returns-clause-faults : goal.returns-clause-faults
 returns-clause-faults g c =
     let short : length c.entries-entries.result.now < 2 ^ 63 = search rules in
     let same = ap (λ (es : List Entry). length es) (c.entries-entries.ensures ∙ c.book-book.ensures.entries) in
     rw (c.book-book.ensures.entries, ← c.self.view_is) (few_told c.self.inside.tables.state
-    c.self.invariant.keeps.machine.keeps _ (omega (arith, short, same)) c.promise.ensures.faults)
+    c.self.invariant.keeps.machine.keeps _ (omega arith) c.promise.ensures.faults)

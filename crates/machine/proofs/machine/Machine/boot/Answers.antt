@@ -1,4 +1,4 @@
-use Rattle.machine.proofs.Prelude.{◌∙◌, ap, length, List, map, subst, sum_by, sym, length-map, VolumeLine, Vols, made_of, AreFresh, first_state, first_store, State, first_words, first_keeps, parts_of}
+use Rattle.machine.proofs.Prelude.{◌∙◌, ap, length, List, map, sum_by, sym, length-map, VolumeLine, Vols, made_of, first_state, first_store, State, first_words, first_keeps, parts_of}
 use Rattle.machine.proofs.FirstParts.{are_fresh, as_many, drives_are}
 use Rattle.machine.proofs.VisitNext.{visited_first}
 use Rattle.machine.proofs.machine.Machine.boot.Goals as goal
@@ -15,27 +15,23 @@ boot-requires-clause-count g c = let many = as_many g.D.Drive.pages c.args.scrip
     ∙ (ap length (drives_are g.D.Drive.pages c.args.script.volumes c.args.drives.items many) ∙ many)
 
 pub boot-requires-clause-fresh : goal.boot-requires-clause-fresh
-boot-requires-clause-fresh g c = subst (λ (v : Vols g.row.D.Denot). AreFresh c.args.script v.records v.vtocs)
-    (sym (c.in_ok-volumes.ensures
-    ∙ ap (λ (ls : List VolumeLine). made_of g.D.Drive.pages (parts_of ls c.args.drives.items)) c.volumes.ensures))
-    (are_fresh g.D.Drive.pages c.args.script c.args.drives.items c.requires)
+boot-requires-clause-fresh g c = rw (c.in_ok-volumes.ensures ∙ ap (λ (ls : List VolumeLine). made_of g.D.Drive.pages
+    (parts_of ls c.args.drives.items)) c.volumes.ensures) (are_fresh g.D.Drive.pages c.args.script c.args.drives.items
+    c.requires)
 
 pub invariant_of-result : goal.invariant_of-result
 invariant_of-result g c = record {
   keeps = first_keeps c.args.script _ _ _ _ c.promise.ensures _ c.in_ok-tables.ensures.state
       c.in_ok-tables.ensures.says;
-  room = c.in_ok-tables.ensures.room
-      ∙ sym (ap (λ (s : State). length s.plan.processes) c.in_ok-tables.ensures.state);
-  drives = ap (λ (s : State). length s.store.pages.disks) c.in_ok-tables.ensures.state
-      ∙ (length-map _ g.D.Drive.pages
+  room = c.in_ok-tables.ensures.room ∙ sym (ap (λ (s : State). length s.plan.processes) c.in_ok-tables.ensures.state);
+  drives = ap (λ (s : State). length s.store.pages.disks) c.in_ok-tables.ensures.state ∙ (length-map _ g.D.Drive.pages
       ∙ (ap (λ (v : Vols g.row.D.Denot). length v.drives) (c.in_ok-volumes.ensures
       ∙ ap (λ (ls : List VolumeLine). made_of g.D.Drive.pages (parts_of ls c.args.drives.items)) c.volumes.ensures)
       ∙ (ap length (drives_are g.D.Drive.pages c.args.script.volumes c.args.drives.items
       (as_many g.D.Drive.pages c.args.script.volumes c.args.drives.items c.requires))
       ∙ (as_many g.D.Drive.pages c.args.script.volumes c.args.drives.items c.requires
       ∙ sym (ap (λ (s : State). length s.plan.volumes) c.in_ok-tables.ensures.state)))));
-  visits = visited_first _ c.args.script.processors
-      (ap (λ (s : State). s.processors) c.in_ok-tables.ensures.state)
+  visits = visited_first _ c.args.script.processors (ap (λ (s : State). s.processors) c.in_ok-tables.ensures.state)
       (ap (λ (s : State). s.visited) c.in_ok-tables.ensures.state);
 }
 
@@ -50,8 +46,7 @@ pub returns-clause-state : goal.returns-clause-state
 returns-clause-state g c = c.in_ok-tables.ensures.state
     ∙ ap (λ (ds : List g.row.D.Denot). first_state c.args.script (first_store c.args.script
     (first_words c.args.script.frames) (map g.D.Drive.pages ds)) c.in_ok-tables.tables.state.spare
-    (sum_by g.D.Drive.faults ds))
-    (ap (λ (v : Vols g.row.D.Denot). v.drives) (c.in_ok-volumes.ensures
+    (sum_by g.D.Drive.faults ds)) (ap (λ (v : Vols g.row.D.Denot). v.drives) (c.in_ok-volumes.ensures
     ∙ ap (λ (ls : List VolumeLine). made_of g.D.Drive.pages (parts_of ls c.args.drives.items)) c.volumes.ensures)
     ∙ drives_are g.D.Drive.pages c.args.script.volumes c.args.drives.items
     (as_many g.D.Drive.pages c.args.script.volumes c.args.drives.items c.requires))

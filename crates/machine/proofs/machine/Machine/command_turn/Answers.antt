@@ -14,10 +14,8 @@ returns-in-None-clause-done g c = turn_free c.args.self.now.state c.turn.new.sel
 
 pub returns-in-Some-clause-gone : goal.returns-in-Some-clause-gone
 returns-in-Some-clause-gone g c = on_ok_weaker c.finish_job.result
-    (gone_on g.D.Drive.plan g.D.Drive.places g.D.Drive.faults c.args.self.now c.turn.new.self c.finish_job.new.self
-    c.in_ok-turn.ensures.gone) c.finish_job.ensures.gone
+    (gone_on c.in_ok-turn.ensures.gone) c.finish_job.ensures.gone
 
 pub returns-in-Some-clause-stalled : goal.returns-in-Some-clause-stalled
 returns-in-Some-clause-stalled g c = on_err_weaker c.finish_job.result
-    (stalled_on g.D.Drive.plan g.D.Drive.places g.D.Drive.faults c.args.self.now c.turn.new.self c.finish_job.new.self
-    c.in_ok-turn.ensures.gone) c.finish_job.ensures.stalled
+    (stalled_on c.in_ok-turn.ensures.gone) c.finish_job.ensures.stalled

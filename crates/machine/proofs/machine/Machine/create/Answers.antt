@@ -1,37 +1,31 @@
-use Rattle.machine_model.specs.Actions as act
-use Rattle.machine.proofs.OwnerCalls.{still_for}
-use Rattle.machine.proofs.CreateCalls.{create_sound, made_known, made_page, makeable}
-use Rattle.machine.proofs.StepDone.{create_turn}
+use Rattle.machine.proofs.Prelude.{after, refl}
+use Rattle.machine.proofs.CreateCalls.{made_known, made_page, makeable}
+use Rattle.machine.proofs.Does.{does, still_for}
+use Rattle.machine.proofs.StepDone.{quiet_turn}
+use Rattle.machine.proofs.Steps.{changed_sound}
 use Rattle.machine.proofs.machine.Machine.create.Goals as goal
 
 pub create-requires-clause-still : goal.create-requires-clause-still
-create-requires-clause-still g c = still_for _ c.args.c c.self.invariant (rw c.self.view_is c.requires.there)
-    (act.Create c.args.frame c.args.uid c.args.page c.args.reference) (rw c.self.view_is c.requires.doing)
+create-requires-clause-still g c = still_for (does c.self.view_is c.self.invariant c.requires)
 
 pub create-requires-clause-makeable : goal.create-requires-clause-makeable
-create-requires-clause-makeable g c = makeable _ c.args.c c.self.invariant (rw c.self.view_is c.requires.there)
-    c.args.frame c.args.uid c.args.page c.args.reference (rw c.self.view_is c.requires.doing)
+create-requires-clause-makeable g c = makeable (does c.self.view_is c.self.invariant c.requires)
     c.to_answer-process.result (rw c.self.view_is c.to_answer-process.ensures.process)
 
 pub create-requires-clause-known : goal.create-requires-clause-known
-create-requires-clause-known g c = made_known _ c.args.c c.self.invariant (rw c.self.view_is c.requires.there)
-    c.args.frame c.args.uid c.args.page c.args.reference (rw c.self.view_is c.requires.doing)
+create-requires-clause-known g c = made_known (does c.self.view_is c.self.invariant c.requires)
     c.to_answer-process.result (rw c.self.view_is c.to_answer-process.ensures.process)
 
 pub create-requires-clause-page : goal.create-requires-clause-page
-create-requires-clause-page g c = made_page _ c.args.c c.self.invariant (rw c.self.view_is c.requires.there)
-    c.args.frame c.args.uid c.args.page c.args.reference (rw c.self.view_is c.requires.doing)
+create-requires-clause-page g c = made_page (does c.self.view_is c.self.invariant c.requires)
 
 pub returns : goal.returns
-returns g c = rw (← c.self.view_is) (create_turn _ _ _ _ c.create.new.self c.args.c
-    c.args.frame c.args.uid c.args.page c.args.reference (rw c.self.view_is c.requires.doing) c.create.ensures.effect)
+unfolding after
+returns g c = quiet_turn c.self.view_is c.requires c.create.ensures.effect refl refl (refl, refl) tt
 
 pub invariant_of-self : goal.invariant_of-self
-invariant_of-self g c = create_sound _ c.args.c c.self.invariant (rw c.self.view_is c.requires.there)
-    c.args.frame c.args.uid c.args.page c.args.reference (rw c.self.view_is c.requires.doing)
-    c.to_answer-process.result (rw c.self.view_is c.to_answer-process.ensures.process) c.create.new.self
-    c.create.ensures.effect (record {
-      kept = c.promise.ensures.kept;
-      counted = c.promise.ensures.counted;
-      accounts = c.promise.ensures.accounts;
-    }) c.create.ensures.shown
+unfolding after
+invariant_of-self g c =
+    let its = rw (← c.self.view_is) at c.to_answer-process.ensures.process in
+    changed_sound (does c.self.view_is c.self.invariant c.requires) (rw c.create.ensures.effect)
+    (rw c.create.ensures.effect) (assumption c.promise.ensures) (rw its c.create.ensures.shown)

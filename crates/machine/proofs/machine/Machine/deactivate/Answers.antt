@@ -1,31 +1,30 @@
-use Rattle.machine.proofs.Prelude.{◌≤◌, arith}
-use Rattle.machine_model.specs.Actions as act
-use Rattle.machine.proofs.OwnerCalls.{deactivate_sound, inactive_emptied, inactive_owner, still_for}
-use Rattle.machine.proofs.StepDone.{deactivate_turn}
+use Rattle.machine.proofs.Prelude.{after, arith, refl, ◌≤◌}
+use Rattle.machine.proofs.Does.{does, still_for}
+use Rattle.machine.proofs.OwnerCalls.{inactive_emptied, inactive_owner}
+use Rattle.machine.proofs.StepDone.{quiet_turn}
+use Rattle.machine.proofs.Stays.{stays_sound}
+use Rattle.machine.proofs.TakingStays.{emptied_as}
 use Rattle.machine.proofs.machine.Machine.deactivate.Goals as goal
 
 pub deactivate-requires-clause-still : goal.deactivate-requires-clause-still
-deactivate-requires-clause-still g c = still_for _ c.args.c c.self.invariant (rw c.self.view_is c.requires.there)
-    (act.Deactivate c.args.uid) (rw c.self.view_is c.requires.doing)
+deactivate-requires-clause-still g c = still_for (does c.self.view_is c.self.invariant c.requires)
 
 pub deactivate-requires-clause-owner : goal.deactivate-requires-clause-owner
-deactivate-requires-clause-owner g c = inactive_owner _ c.args.c c.self.invariant (rw c.self.view_is c.requires.there)
-    c.args.uid (rw c.self.view_is c.requires.doing)
+deactivate-requires-clause-owner g c = inactive_owner (does c.self.view_is c.self.invariant c.requires)
 
 pub deactivate-requires-clause-empty : goal.deactivate-requires-clause-empty
-deactivate-requires-clause-empty g c = inactive_emptied _ c.args.c c.self.invariant
-    (rw c.self.view_is c.requires.there) c.args.uid (rw c.self.view_is c.requires.doing)
+deactivate-requires-clause-empty g c = inactive_emptied (does c.self.view_is c.self.invariant c.requires)
 
 pub deactivate-requires-clause-room : goal.deactivate-requires-clause-room
 deactivate-requires-clause-room g c = let few = c.self.invariant.keeps.working.few in
     let room : 320 ≤ c.self.inside.tables.state.spare = rw c.self.view_is c.requires.room in
-    omega (arith, few, room)
+    omega arith
 
 pub returns : goal.returns
-returns g c = rw (← c.self.view_is) (deactivate_turn _ _ _ _ _ c.args.c c.args.uid (rw c.self.view_is c.requires.doing)
-    c.deactivate.ensures)
+unfolding after
+returns g c = quiet_turn c.self.view_is c.requires c.deactivate.ensures refl refl (refl, refl) tt
 
 pub invariant_of-self : goal.invariant_of-self
-invariant_of-self g c = deactivate_sound _ c.args.c c.self.invariant (rw c.self.view_is c.requires.there) c.args.uid
-    (rw c.self.view_is c.requires.doing) _ c.deactivate.ensures c.promise.ensures.kept
-    c.promise.ensures.counted
+unfolding after
+invariant_of-self g c = stays_sound (does c.self.view_is c.self.invariant c.requires) c.deactivate.ensures refl refl
+    (emptied_as c.self.inside.tables.state c.args.c c.args.uid) (assumption c.promise.ensures)

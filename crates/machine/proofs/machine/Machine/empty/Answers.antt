@@ -1,19 +1,21 @@
-use Rattle.machine.proofs.Prelude.{rules}
-use Rattle.machine.proofs.OwnerCalls.{empty_sound, emptiable}
-use Rattle.machine.proofs.StepDone.{empty_turn}
+use Rattle.machine.proofs.Prelude.{after, refl, rules}
+use Rattle.machine.proofs.Does.{does}
+use Rattle.machine.proofs.OwnerCalls.{emptiable}
+use Rattle.machine.proofs.StepDone.{quiet_turn}
+use Rattle.machine.proofs.Stays.{stays_sound}
+use Rattle.machine.proofs.TakingStays.{begun_as}
 use Rattle.machine.proofs.machine.Machine.empty.Goals as goal
 
 pub empty-requires : goal.empty-requires
 empty-requires g c =
-    let can = emptiable _ c.args.c c.self.invariant (rw c.self.view_is c.requires.there) c.args.uid
-    (rw c.self.view_is c.requires.doing) in
-    let room = can.room (rw c.self.view_is c.requires.room) in
+    let can = emptiable (does c.self.view_is c.self.invariant c.requires) in
     search rules
 
 pub returns : goal.returns
-returns g c = rw (← c.self.view_is) (empty_turn _ _ _ _ _ c.args.c c.args.uid (rw c.self.view_is c.requires.doing)
-    c.empty.ensures)
+unfolding after
+returns g c = quiet_turn c.self.view_is c.requires c.empty.ensures refl refl (refl, refl) tt
 
 pub invariant_of-self : goal.invariant_of-self
-invariant_of-self g c = empty_sound _ c.args.c c.self.invariant (rw c.self.view_is c.requires.there) c.args.uid
-    (rw c.self.view_is c.requires.doing) _ c.empty.ensures c.promise.ensures.kept c.promise.ensures.counted
+unfolding after
+invariant_of-self g c = stays_sound (does c.self.view_is c.self.invariant c.requires) c.empty.ensures refl refl
+    (begun_as c.self.inside.tables.state c.args.c c.args.uid) (assumption c.promise.ensures)

@@ -1,22 +1,25 @@
-use Rattle.machine.proofs.Prelude.{rules}
-use Rattle.machine.proofs.JoinCalls.{victim_call, victim_is, victim_keeps}
-use Rattle.machine.proofs.StepDone.{victim_turn}
+use Rattle.machine.proofs.Prelude.{after, refl, rules, chain_of, wanted_pool}
+use Rattle.machine.proofs.JoinCalls.{is_victim, pool_is, victim_call}
+use Rattle.machine.proofs.StepDone.{quiet_turn}
+use Rattle.machine.proofs.Stays.{stays_sound}
+use Rattle.machine.proofs.TakingStays.{victim_as}
 use Rattle.machine.proofs.machine.Machine.empty_victim.Goals as goal
 
 pub take_victim-requires : goal.take_victim-requires
 take_victim-requires g c =
-    let can = victim_call _ c.args.c c.self.invariant (rw c.self.view_is c.requires.there) c.args.pool c.args.of
-    c.args.uid (rw c.self.view_is c.requires.doing) in
-    let room = can.goes.room (rw c.self.view_is c.requires.room) in
+    let can = victim_call _ (is_victim c.args.of c.self.view_is c.self.invariant c.requires) in
     search rules
 
 pub returns : goal.returns
-returns g c = rw (← c.self.view_is) (victim_turn _ _ _ _ c.take_victim.new.self c.args.c c.args.pool _ c.args.uid
-    (rw c.self.view_is c.requires.doing)
-    (victim_is _ c.args.c c.self.invariant (rw c.self.view_is c.requires.there) c.args.pool c.args.of c.args.uid
-    (rw c.self.view_is c.requires.doing) c.take_victim.new.self c.take_victim.ensures))
+unfolding after
+returns g c =
+    let d = is_victim c.args.of c.self.view_is c.self.invariant c.requires in
+    rw (← c.self.view_is) (quiet_turn refl d.may c.take_victim.ensures (rw (pool_is _ d)) refl (refl, refl) tt)
 
 pub invariant_of-self : goal.invariant_of-self
-invariant_of-self g c = victim_keeps _ c.args.c c.self.invariant (rw c.self.view_is c.requires.there) c.args.pool
-    c.args.of c.args.uid (rw c.self.view_is c.requires.doing) c.take_victim.new.self c.take_victim.ensures
-    c.promise.ensures.kept c.promise.ensures.counted
+unfolding after
+invariant_of-self g c =
+    let d = is_victim c.args.of c.self.view_is c.self.invariant c.requires in
+    let st = c.self.inside.tables.state.store in
+    stays_sound d c.take_victim.ensures (rw (pool_is _ d)) refl (victim_as c.self.inside.tables.state c.args.c
+    (wanted_pool st c.args.of) (chain_of st.accounts.nodes c.args.of) c.args.uid) (assumption c.promise.ensures)

@@ -1,34 +1,32 @@
+use Rattle.machine.proofs.Prelude.{after, refl}
+use Rattle.machine.proofs.CallLaws.{one_called, outcome_faults}
+use Rattle.machine.proofs.Does.{does}
 use Rattle.machine.proofs.DriveCounts.{call_counts}
-use Rattle.machine.proofs.StepDone.{transfer_turn}
-use Rattle.machine.proofs.TransferCalls.{ending, transfer_after, transfer_sound}
+use Rattle.machine.proofs.StepDone.{drive_turn}
+use Rattle.machine.proofs.TransferCalls.{ending, transfer_sound}
 use Rattle.machine.proofs.machine.Machine.end_transfer.Goals as goal
 
 pub end_transfer-read-requires-clause-active : goal.end_transfer-read-requires-clause-active
-end_transfer-read-requires-clause-active g c =
-    (ending _ c.args.c c.self.invariant (rw c.self.view_is c.requires.there) c.args.transfer
-    (rw c.self.view_is c.requires.doing)).active
+end_transfer-read-requires-clause-active g c = (ending (does c.self.view_is c.self.invariant c.requires)).active
 
 pub end_transfer-read-requires-clause-page : goal.end_transfer-read-requires-clause-page
-end_transfer-read-requires-clause-page g c = (ending _ c.args.c c.self.invariant (rw c.self.view_is c.requires.there)
-    c.args.transfer (rw c.self.view_is c.requires.doing)).page
+end_transfer-read-requires-clause-page g c = (ending (does c.self.view_is c.self.invariant c.requires)).page
 
 pub end_transfer-read-requires-clause-started : goal.end_transfer-read-requires-clause-started
-end_transfer-read-requires-clause-started g c =
-    (ending _ c.args.c c.self.invariant (rw c.self.view_is c.requires.there) c.args.transfer
-    (rw c.self.view_is c.requires.doing)).started
+end_transfer-read-requires-clause-started g c = (ending (does c.self.view_is c.self.invariant c.requires)).started
 
 pub returns : goal.returns
-returns g c = rw (← c.self.view_is) (transfer_turn _ _ _ _ c.end_transfer-read.new.self c.args.c c.args.transfer
-    c.end_transfer-read.result (rw c.self.view_is c.requires.doing) (transfer_after _ c.args.c c.self.invariant
-    (rw c.self.view_is c.requires.there) c.args.transfer (rw c.self.view_is c.requires.doing)
-    c.end_transfer-read.result c.end_transfer-read.new.self c.end_transfer-read.ensures.state)
-    c.end_transfer-read.ensures.drives (call_counts _ _ _ _ _ _ c.end_transfer-read.result _ _
-    c.end_transfer-read.ensures.drives c.promise.ensures.faults c.promise-2.ensures.faults)
-    c.end_transfer-read.ensures.room)
+unfolding after
+returns g c =
+    drive_turn c.self.view_is c.requires c.end_transfer-read.result (rw (outcome_faults c.end_transfer-read.result _)
+    c.end_transfer-read.ensures.state) refl
+    (one_called _ _ c.end_transfer-read.ensures.drives) c.end_transfer-read.ensures.drives.plans
+    c.end_transfer-read.ensures.drives.stores c.end_transfer-read.ensures.drives.count c.end_transfer-read.ensures.room
+    (call_counts c.end_transfer-read.ensures.drives c.promise.ensures.faults c.promise-2.ensures.faults) tt
 
 pub invariant_of-self : goal.invariant_of-self
-invariant_of-self g c = transfer_sound _ c.args.c c.self.invariant (rw c.self.view_is c.requires.there)
-    c.args.transfer (rw c.self.view_is c.requires.doing) c.end_transfer-read.result _
-    c.end_transfer-read.ensures.state (call_counts _ _ _ _ _ _ c.end_transfer-read.result _ _
-    c.end_transfer-read.ensures.drives c.promise.ensures.faults c.promise-2.ensures.faults)
-    c.end_transfer-read.ensures.room (c.promise-2.ensures.kept, c.promise-2.ensures.counted)
+unfolding after
+invariant_of-self g c = transfer_sound (does c.self.view_is c.self.invariant c.requires) c.end_transfer-read.result
+    (rw (outcome_faults c.end_transfer-read.result _) c.end_transfer-read.ensures.state)
+    c.end_transfer-read.ensures.room (assumption c.promise-2.ensures)
+    (call_counts c.end_transfer-read.ensures.drives c.promise.ensures.faults c.promise-2.ensures.faults)

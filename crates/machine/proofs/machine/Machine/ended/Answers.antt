@@ -10,4 +10,4 @@ pub returns-clause-complete : goal.returns-clause-complete
 returns-clause-complete g c = rw (c.is_over.ensures, ← c.self.view_is) (over_complete _ c.self.invariant.keeps)
 
 pub returns-clause-still : goal.returns-clause-still
-returns-clause-still g c = rw (c.is_over.ensures, ← c.self.view_is) (over_still _ c.self.invariant)
+returns-clause-still g c = rw (c.is_over.ensures, ← c.self.view_is) (over_still c.self.invariant)

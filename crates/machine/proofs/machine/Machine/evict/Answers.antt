@@ -1,22 +1,24 @@
-use Rattle.machine.proofs.Prelude.{◌<◌, ◌≤◌, arith, rules}
-use Rattle.machine.proofs.OwnerCalls.{evict_doing, evict_sound, evictable}
-use Rattle.machine.proofs.StepDone.{evict_turn}
+use Rattle.machine.proofs.Prelude.{after, refl, rules}
+use Rattle.machine.proofs.Does.{does}
+use Rattle.machine.proofs.OwnerCalls.{evict_is, evictable}
+use Rattle.machine.proofs.StepDone.{quiet_turn}
+use Rattle.machine.proofs.Stays.{stays_sound}
+use Rattle.machine.proofs.TakingStays.{evicted_as}
 use Rattle.machine.proofs.machine.Machine.evict.Goals as goal
 
 pub evict-f-requires : goal.evict-f-requires
 evict-f-requires g c =
-    let can = evictable _ c.args.c c.self.invariant (rw c.self.view_is c.requires.there)
-    (rw c.self.view_is c.requires.doing) in
-    let room : 320 ≤ c.self.inside.tables.state.spare = rw c.self.view_is c.requires.room in
-    let some : 0 < c.self.inside.tables.state.spare = omega (arith, room) in
+    let can = evictable (does c.self.view_is c.self.invariant c.requires) in
     search rules
 
 pub returns : goal.returns
-returns g c = rw (← c.self.view_is) (evict_turn _ _ _ _ _ c.args.c c.evict-f.result
-    (evict_doing _ c.args.c c.self.invariant (rw c.self.view_is c.requires.there) (rw c.self.view_is c.requires.doing)
-    c.evict-f.result c.evict-f.ensures.choice) c.evict-f.ensures.effect)
+unfolding after
+returns g c = quiet_turn c.self.view_is c.requires c.evict-f.ensures.effect
+    (rw (evict_is (does c.self.view_is c.self.invariant c.requires) c.evict-f.ensures.choice)) refl (refl, refl) tt
 
 pub invariant_of-self : goal.invariant_of-self
-invariant_of-self g c = evict_sound _ c.args.c c.self.invariant (rw c.self.view_is c.requires.there)
-    (rw c.self.view_is c.requires.doing) c.evict-f.result c.evict-f.ensures.choice _ c.evict-f.ensures.effect
-    c.promise.ensures.kept c.promise.ensures.counted
+unfolding after
+invariant_of-self g c =
+    let d = does c.self.view_is c.self.invariant c.requires in
+    stays_sound d c.evict-f.ensures.effect (rw (evict_is d c.evict-f.ensures.choice)) refl
+    (evicted_as _ c.evict-f.result) (assumption c.promise.ensures)

@@ -3,14 +3,10 @@ use Rattle.machine.proofs.LoopCalls.{gone_run, loop_grows, loop_keeps, loop_stop
 use Rattle.machine.proofs.machine.Machine.finish.Goals as goal
 
 pub returns-clause-run : goal.returns-clause-run
-returns-clause-run g c = on_ok_weaker c.finish_all.result
-    (gone_run g.D.Drive.plan g.D.Drive.places g.D.Drive.faults c.args.self.now c.finish_all.new.self)
-    c.finish_all.ensures.gone
+returns-clause-run g c = on_ok_weaker c.finish_all.result gone_run c.finish_all.ensures.gone
 
 pub returns-clause-stood : goal.returns-clause-stood
-returns-clause-stood g c = on_err_weaker c.finish_all.result
-    (stalled_stood g.D.Drive.plan g.D.Drive.places g.D.Drive.faults c.args.self.now c.finish_all.new.self)
-    c.finish_all.ensures.stalled
+returns-clause-stood g c = on_err_weaker c.finish_all.result stalled_stood c.finish_all.ensures.stalled
 
 pub returns-clause-entries : goal.returns-clause-entries
 returns-clause-entries g c = loop_grows g.D.Drive.plan g.D.Drive.places g.D.Drive.faults c.args.self.now

@@ -3,14 +3,12 @@ use Rattle.machine.proofs.LoopCalls.{gone_on, round_freed, stalled_on}
 use Rattle.machine.proofs.machine.Machine.finish_all.Goals as goal
 
 pub loop-self-preserved : goal.loop-self-preserved
-loop-self-preserved g c = record {
-  gone = gone_on g.D.Drive.plan g.D.Drive.places g.D.Drive.faults c.args.self.now c.loop-self.self
-      c.finish_round.new.self
-      c.loop-self.invariant.gone c.in_ok-finish_round.ensures.gone;
-  free = round_freed c.loop-self.self.state c.finish_round.new.self.state c.in_ok-finish_round.ensures.done;
-}
+loop-self-preserved g c = assumption (
+  gone_on c.loop-self.invariant.gone c.in_ok-finish_round.ensures.gone,
+  round_freed c.loop-self.self.state c.finish_round.new.self.state c.in_ok-finish_round.ensures.done,
+)
 
 pub returns-in_err-finish_round-clause-stalled : goal.returns-in_err-finish_round-clause-stalled
 returns-in_err-finish_round-clause-stalled g c =
-    let stalled = stalled_on _ _ _ _ _ _ c.loop-self.invariant.gone c.in_err-finish_round.ensures.stalled in
+    let stalled = stalled_on c.loop-self.invariant.gone c.in_err-finish_round.ensures.stalled in
     search (rules, stalled)

@@ -4,7 +4,7 @@ use Rattle.machine.proofs.machine.Machine.finish_command.Goals as goal
 
 pub loop-self-init : goal.loop-self-init
 loop-self-init g c = record {
-  gone = gone_self g.D.Drive.plan g.D.Drive.places g.D.Drive.faults c.args.self.now;
+  gone = gone_self;
   free = c.requires.free;
   way = way_begins c.args.self.now.state c.args.c c.count-since.result c.promise.ensures c.requires.runs
       c.count-since.ensures;
@@ -12,31 +12,26 @@ loop-self-init g c = record {
 
 pub loop-self-smaller : goal.loop-self-smaller
 loop-self-smaller g c = gauge_falls c.loop-self.self.state c.command_turn.new.self.state c.args.c c.count-since.result
-    c.is_still_at.ensures.kept (sym c.is_still_at.ensures.is ∙ c.loop-self-test.true) c.in_ok-command_turn.ensures.done
+    c.is_still_at.ensures.kept (cc) c.in_ok-command_turn.ensures.done
 
 pub loop-self-preserved : goal.loop-self-preserved
-loop-self-preserved g c = record {
-  gone = gone_on g.D.Drive.plan g.D.Drive.places g.D.Drive.faults c.args.self.now c.loop-self.self
-      c.command_turn.new.self
-      c.loop-self.invariant.gone c.in_ok-command_turn.ensures.gone;
-  free = command_freed c.loop-self.self.state c.command_turn.new.self.state c.args.c
-      c.in_ok-command_turn.ensures.done;
-  way = way_goes c.args.self.now.state c.loop-self.self.state c.command_turn.new.self.state c.args.c
-      c.count-since.result c.is_still_at.ensures.kept (sym c.is_still_at.ensures.is ∙ c.loop-self-test.true)
-      c.loop-self.invariant.way c.in_ok-command_turn.ensures.done;
-}
+loop-self-preserved g c = assumption (
+  gone_on c.loop-self.invariant.gone c.in_ok-command_turn.ensures.gone,
+  command_freed c.loop-self.self.state c.command_turn.new.self.state c.args.c c.in_ok-command_turn.ensures.done,
+  way_goes c.args.self.now.state c.loop-self.self.state c.command_turn.new.self.state c.args.c c.count-since.result
+      c.is_still_at.ensures.kept (sym c.is_still_at.ensures.is ∙ c.loop-self-test.true) c.loop-self.invariant.way
+      c.in_ok-command_turn.ensures.done,
+)
 
 pub returns-clause-done : goal.returns-clause-done
 returns-clause-done g c = way_ends c.args.self.now.state c.loop-self.self.state c.args.c c.count-since.result
-    c.is_still_at.ensures.kept c.loop-self.invariant.free c.loop-self.invariant.way
-    (sym c.is_still_at.ensures.is ∙ c.loop-self-test.false)
+    c.is_still_at.ensures.kept c.loop-self.invariant.free c.loop-self.invariant.way (cc)
 
 pub returns-in_err-command_turn-clause-stalled : goal.returns-in_err-command_turn-clause-stalled
 returns-in_err-command_turn-clause-stalled g c =
-    let stalled = stalled_on _ _ _ _ _ _ c.loop-self.invariant.gone c.in_err-command_turn.ensures.stalled in
+    let stalled = stalled_on c.loop-self.invariant.gone c.in_err-command_turn.ensures.stalled in
     search (rules, stalled)
 
 pub is_still_at-requires : goal.is_still_at-requires
-is_still_at-requires g c = gone_planned g.D.Drive.plan g.D.Drive.places g.D.Drive.faults c.args.self.now
-    c.loop-self.self c.args.c c.loop-self.invariant.gone
+is_still_at-requires g c = gone_planned c.loop-self.invariant.gone
     (running_planned c.args.self.now.state c.args.c c.promise.ensures c.requires.runs)

@@ -1,44 +1,43 @@
-use Rattle.machine_model.specs.Actions as act
-use Rattle.machine.proofs.OwnerCalls.{still_for}
+use Rattle.machine.proofs.Prelude.{after, refl, eviction_done, with_faults}
+use Rattle.machine.proofs.CallLaws.{outcome_faults, page_let_go}
+use Rattle.machine.proofs.Does.{does, still_for}
 use Rattle.machine.proofs.DriveCounts.{call_counts}
-use Rattle.machine.proofs.FinishCalls.{may_fail, eviction_after, eviction_leaves, eviction_owner, eviction_sound}
-use Rattle.machine.proofs.StepDone.{eviction_turn}
+use Rattle.machine.proofs.FinishCalls.{eviction_leaves, eviction_owner, finished_shown, may_fail}
+use Rattle.machine.proofs.StepDone.{drive_turn}
+use Rattle.machine.proofs.Steps.{drive_sound}
 use Rattle.machine.proofs.machine.Machine.finish_eviction.Goals as goal
 
 pub finish_eviction-gone-requires-clause-still : goal.finish_eviction-gone-requires-clause-still
-finish_eviction-gone-requires-clause-still g c = still_for _ c.args.c c.self.invariant
-    (rw c.self.view_is c.requires.there) (act.FinishEviction c.args.frame) (rw c.self.view_is c.requires.doing)
+finish_eviction-gone-requires-clause-still g c = still_for (does c.self.view_is c.self.invariant c.requires)
 
 pub finish_eviction-gone-requires-clause-leaving : goal.finish_eviction-gone-requires-clause-leaving
-finish_eviction-gone-requires-clause-leaving g c = eviction_leaves _ c.args.c c.self.invariant
-    (rw c.self.view_is c.requires.there)
-    c.args.frame (rw c.self.view_is c.requires.doing)
+finish_eviction-gone-requires-clause-leaving g c = eviction_leaves (does c.self.view_is c.self.invariant c.requires)
 
 pub finish_eviction-gone-requires-clause-failing : goal.finish_eviction-gone-requires-clause-failing
-finish_eviction-gone-requires-clause-failing g c = may_fail _ c.args.c c.self.invariant
-    (rw c.self.view_is c.requires.there) c.to_answer-process.result (rw c.self.view_is c.to_answer-process.ensures)
-    (eviction_owner _ c.args.c c.self.invariant (rw c.self.view_is c.requires.there) c.args.frame
-    (rw c.self.view_is c.requires.doing)) (rw c.self.view_is c.requires.room)
+finish_eviction-gone-requires-clause-failing g c =
+    let d = does c.self.view_is c.self.invariant c.requires in
+    may_fail d (rw c.self.view_is c.to_answer-process.ensures) (eviction_owner d)
 
 pub returns : goal.returns
-returns g c = rw (← c.self.view_is) (eviction_turn _ _ _ _ c.finish_eviction-gone.new.self c.args.c c.args.frame
-    c.finish_eviction-gone.result (rw c.self.view_is c.requires.doing) (eviction_after _ c.args.c c.self.invariant
-    (rw c.self.view_is c.requires.there)
-    c.args.frame c.finish_eviction-gone.result c.finish_eviction-gone.new.self c.finish_eviction-gone.ensures.state)
-    c.finish_eviction-gone.ensures.drives c.finish_eviction-gone.ensures.no_call
-    (call_counts _ _ _ _ _ _ c.finish_eviction-gone.result _ _
-    c.finish_eviction-gone.ensures.drives c.promise.ensures.faults c.promise-2.ensures.faults)
-    c.finish_eviction-gone.ensures.room)
+unfolding after
+returns g c =
+    drive_turn c.self.view_is c.requires c.finish_eviction-gone.result (rw (outcome_faults c.finish_eviction-gone.result
+    _) c.finish_eviction-gone.ensures.state) refl
+    (page_let_go _ _ _ _ c.finish_eviction-gone.ensures.drives c.finish_eviction-gone.ensures.no_call)
+    c.finish_eviction-gone.ensures.drives.plans
+    c.finish_eviction-gone.ensures.drives.stores c.finish_eviction-gone.ensures.drives.count
+    c.finish_eviction-gone.ensures.room
+    (call_counts c.finish_eviction-gone.ensures.drives c.promise.ensures.faults c.promise-2.ensures.faults) tt
 
 pub invariant_of-self : goal.invariant_of-self
-invariant_of-self g c = eviction_sound _ c.args.c c.self.invariant (rw c.self.view_is c.requires.there)
-    c.args.frame (rw c.self.view_is c.requires.doing) c.finish_eviction-gone.result c.finish_eviction-gone.new.self
-    c.finish_eviction-gone.ensures.state
-    c.finish_eviction-gone.ensures.how c.finish_eviction-gone.ensures.shown
-    (call_counts _ _ _ _ _ _ c.finish_eviction-gone.result _ _
-    c.finish_eviction-gone.ensures.drives c.promise.ensures.faults c.promise-2.ensures.faults)
-    c.finish_eviction-gone.ensures.room (record {
-      kept = c.promise-2.ensures.kept;
-      counted = c.promise-2.ensures.counted;
-      accounts = c.promise-2.ensures.accounts;
-    })
+unfolding after
+invariant_of-self g c =
+    let s = c.self.inside.tables.state in
+    let n = c.finish_eviction-gone.new.self.state.faults in
+    drive_sound (does c.self.view_is c.self.invariant c.requires) c.finish_eviction-gone.result
+    (rw (outcome_faults c.finish_eviction-gone.result _) c.finish_eviction-gone.ensures.state)
+    c.finish_eviction-gone.ensures.room (assumption c.promise-2.ensures)
+    (finished_shown s c.args.c c.args.frame n c.finish_eviction-gone.result
+    (eviction_done (with_faults s n) c.args.c c.args.frame) c.finish_eviction-gone.new.self.state
+    c.finish_eviction-gone.ensures.state c.finish_eviction-gone.ensures.how c.finish_eviction-gone.ensures.shown)
+    (call_counts c.finish_eviction-gone.ensures.drives c.promise.ensures.faults c.promise-2.ensures.faults)

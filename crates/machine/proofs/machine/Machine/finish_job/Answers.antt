@@ -4,17 +4,16 @@ use Rattle.machine.proofs.machine.Machine.finish_job.Goals as goal
 
 pub loop-owner-init : goal.loop-owner-init
 loop-owner-init g c = record {
-  gone = gone_self g.D.Drive.plan g.D.Drive.places g.D.Drive.faults c.args.self.now;
+  gone = gone_self;
   goes = job_start c.args.self.now.state c.args.c c.requires.owner;
 }
 
 pub loop-owner-preserved : goal.loop-owner-preserved
-loop-owner-preserved g c = record {
-  gone = gone_on g.D.Drive.plan g.D.Drive.places g.D.Drive.faults c.args.self.now c.loop-owner.self c.job_turn.new.self
-      c.loop-owner.invariant.gone c.in_ok-job_turn.ensures.gone;
-  goes = job_goes_on c.args.self.now.state c.loop-owner.self.state c.job_turn.new.self.state c.args.c c.in-Some.owner
-      c.loop-owner.invariant.goes c.in-Some.ensures.some c.in_ok-job_turn.ensures.fell;
-}
+loop-owner-preserved g c = assumption (
+  gone_on c.loop-owner.invariant.gone c.in_ok-job_turn.ensures.gone,
+  job_goes_on c.args.self.now.state c.loop-owner.self.state c.job_turn.new.self.state c.args.c c.in-Some.owner
+      c.loop-owner.invariant.goes c.in-Some.ensures.some c.in_ok-job_turn.ensures.fell,
+)
 
 pub returns-clause-done : goal.returns-clause-done
 returns-clause-done g c = job_end c.args.self.now.state c.loop-owner.self.state c.args.c c.in_default.ensures.none
@@ -22,5 +21,5 @@ returns-clause-done g c = job_end c.args.self.now.state c.loop-owner.self.state 
 
 pub returns-in_err-job_turn-clause-stalled : goal.returns-in_err-job_turn-clause-stalled
 returns-in_err-job_turn-clause-stalled g c =
-    let stalled = stalled_on _ _ _ _ _ _ c.loop-owner.invariant.gone c.in_err-job_turn.ensures.stalled in
+    let stalled = stalled_on c.loop-owner.invariant.gone c.in_err-job_turn.ensures.stalled in
     search (rules, stalled)

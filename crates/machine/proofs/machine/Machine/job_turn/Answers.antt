@@ -19,24 +19,17 @@ returns-in_ok-turn-in-Some-clause-fell g c = awaited_fell c.args.self.now.state 
     c.turn-in-Some.new.self.state c.args.c c.in-Some.late c.in_ok-turn-in-Some.field-0
     (c.in_ok-answer.ensures.gone.stopped ∙ c.requires.on) c.in_ok-turn-in-Some.ensures.turned c.in_ok-answer.answer
     (owner_turned c.args.self.now.state _ c.args.c c.in_ok-answer.answer c.in_ok-answer.ensures.turned c.requires.on
-    (owner_there _ c.args.c c.promise.ensures c.requires.owner) c.requires.owner)
-    c.in-Some.ensures.some
+    (owner_there _ c.args.c c.promise.ensures c.requires.owner) c.requires.owner) c.in-Some.ensures.some
 
 pub returns-in-None-clause-fell : goal.returns-in-None-clause-fell
-returns-in-None-clause-fell g c = moved_alone c.args.self.now.state c.turn.new.self.state c.args.c
-    c.in_ok-answer.answer
+returns-in-None-clause-fell g c = moved_alone c.args.self.now.state c.turn.new.self.state c.args.c c.in_ok-answer.answer
     (owner_turned c.args.self.now.state _ c.args.c c.in_ok-answer.answer c.in_ok-answer.ensures.turned c.requires.on
-    (owner_there _ c.args.c c.promise.ensures c.requires.owner) c.requires.owner)
-    c.in-None.ensures.none
+    (owner_there _ c.args.c c.promise.ensures c.requires.owner) c.requires.owner) c.in-None.ensures.none
 
 pub returns-in_err-turn-in-Some-clause-stalled : goal.returns-in_err-turn-in-Some-clause-stalled
 returns-in_err-turn-in-Some-clause-stalled g c =
-    let stalled = stalled_on g.D.Drive.plan g.D.Drive.places g.D.Drive.faults
-    c.args.self.now c.turn.new.self c.turn-in-Some.new.self c.in_ok-answer.ensures.gone
-    c.in_err-turn-in-Some.ensures.stalled in
+    let stalled = stalled_on c.in_ok-answer.ensures.gone c.in_err-turn-in-Some.ensures.stalled in
     search (rules, stalled)
 
 pub returns-in_ok-turn-in-Some-clause-gone : goal.returns-in_ok-turn-in-Some-clause-gone
-returns-in_ok-turn-in-Some-clause-gone g c = gone_on g.D.Drive.plan g.D.Drive.places g.D.Drive.faults
-    c.args.self.now c.turn.new.self c.turn-in-Some.new.self c.in_ok-answer.ensures.gone
-    c.in_ok-turn-in-Some.ensures.gone
+returns-in_ok-turn-in-Some-clause-gone g c = gone_on c.in_ok-answer.ensures.gone c.in_ok-turn-in-Some.ensures.gone

@@ -1,14 +1,19 @@
-use Rattle.machine.proofs.Prelude.{refl}
-use Rattle.machine.proofs.Quiet.{refuse_sound}
-use Rattle.machine.proofs.StepDone.{answer_turn}
+use Rattle.machine.proofs.Prelude.{refl, after, None, Parts, ap, with_owner, with_state, ◌∙◌}
+use Rattle.machine.proofs.Does.{does}
+use Rattle.machine.proofs.StepDone.{quiet_turn}
+use Rattle.machine.proofs.Stays.{quiet_sound}
 use Rattle.machine.proofs.machine.Machine.refuse.Goals as goal
 
 pub returns : goal.returns
-returns g c = rw (← c.self.view_is) (answer_turn _ _ _ _ _ c.args.c c.to_answer-process.result c.args.reply
-    (rw c.self.view_is c.to_answer-process.ensures.process) (rw c.self.view_is c.requires.doing)
-    (rw (c.give_up.ensures, c.tell.ensures) refl))
+unfolding after
+returns g c =
+    let done = c.give_up.ensures ∙ ap (λ (x : Parts _). with_state x (with_owner x.state None)) c.tell.ensures in
+    quiet_turn c.self.view_is c.requires done (rw (rw (← c.self.view_is) at c.to_answer-process.ensures.process)) refl
+    (refl, refl) tt
 
 pub invariant_of-self : goal.invariant_of-self
-invariant_of-self g c = rw (c.give_up.ensures, c.tell.ensures) (refuse_sound _ c.args.c c.self.invariant
-    c.to_answer-process.result c.args.reply (rw c.self.view_is c.to_answer-process.ensures.process)
-    (rw c.self.view_is c.requires))
+unfolding after
+invariant_of-self g c =
+    let done = c.give_up.ensures ∙ ap (λ (x : Parts _). with_state x (with_owner x.state None)) c.tell.ensures in
+    quiet_sound (does c.self.view_is c.self.invariant c.requires) done
+    (rw (rw (← c.self.view_is) at c.to_answer-process.ensures.process)) refl refl

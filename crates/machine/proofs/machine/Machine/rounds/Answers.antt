@@ -6,8 +6,7 @@ pub loop-c-preserved : goal.loop-c-preserved
 loop-c-preserved g c = record {
   run = run_next _ _ _ c.args.self.now c.loop-c.self c.round.new.self c.args.cpus.now c.loop-c.c-index c.loop-c.moved _
       c.loop-c.invariant.run c.loop-c-test.true c.in_ok-moved.ensures.made;
-  few = let one = round_few _ _ _ c.loop-c.self c.round.new.self _ _ c.in_ok-moved.ensures.made in
-      let before = c.loop-c.invariant.few in omega (arith, one, before);
+  few = omega (arith, round_few _ _ _ c.loop-c.self c.round.new.self _ _ c.in_ok-moved.ensures.made);
   plan = c.in_ok-moved.ensures.made.kept.script ∙ c.loop-c.invariant.plan;
 }
 

@@ -7,4 +7,4 @@ returns-in-Some-clause-free g c = on_ok_weaker c.finish_job.result
     (job_freed c.args.self.now.state c.finish_job.new.self.state c.in-Some.owner) c.finish_job.ensures.done
 
 pub returns-in-None-clause-gone : goal.returns-in-None-clause-gone
-returns-in-None-clause-gone g c = gone_self g.D.Drive.plan g.D.Drive.places g.D.Drive.faults c.args.self.now
+returns-in-None-clause-gone g c = gone_self

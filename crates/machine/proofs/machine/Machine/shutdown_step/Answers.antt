@@ -6,5 +6,4 @@ pub returns-else-has_frames-clause-faults : goal.returns-else-has_frames-clause-
 returns-else-has_frames-clause-faults g c = still_tells g.D.Drive.faults c.args.self.now
 
 pub returns-then-has_frames-clause-kept : goal.returns-then-has_frames-clause-kept
-returns-then-has_frames-clause-kept g c = visited_parts g.D.Drive.plan g.D.Drive.places g.D.Drive.faults
-    c.args.self.now c.visit.new.self c.visit.ensures.done c.visit.ensures.faults
+returns-then-has_frames-clause-kept g c = visited_parts g.D.Drive.faults c.visit.ensures.done c.visit.ensures.faults

@@ -1,11 +1,13 @@
 use Rattle.machine.proofs.Prelude.{refl, after}
-use Rattle.machine.proofs.Quiet.{quiet_sound}
-use Rattle.machine.proofs.StepDone.{signal_turn, turned}
+use Rattle.machine.proofs.Does.{does}
+use Rattle.machine.proofs.Stays.{quiet_sound}
+use Rattle.machine.proofs.StepDone.{quiet_turn}
 use Rattle.machine.proofs.machine.Machine.signal.Goals as goal
 
 pub returns : goal.returns
-returns g c = turned c.self.view_is c.requires (λ m. signal_turn _ _ _ _ _ _ _ m.doing c.signal.ensures)
+unfolding after
+returns g c = quiet_turn c.self.view_is c.requires c.signal.ensures refl refl (refl, refl) tt
 
 pub invariant_of-self : goal.invariant_of-self
 unfolding after
-invariant_of-self g c = quiet_sound c.self.invariant c.self.view_is c.requires c.signal.ensures refl refl refl
+invariant_of-self g c = quiet_sound (does c.self.view_is c.self.invariant c.requires) c.signal.ensures refl refl refl

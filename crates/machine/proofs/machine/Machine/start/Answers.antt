@@ -1,22 +1,24 @@
-use Rattle.machine.proofs.Prelude.{◌<◌, ◌≤◌, arith, rules}
-use Rattle.machine.proofs.OwnerCalls.{readable, start_sound}
-use Rattle.machine.proofs.StepDone.{start_turn}
+use Rattle.machine.proofs.Prelude.{after, ap, bound_page, refl, rules}
+use Rattle.machine.proofs.Does.{does}
+use Rattle.machine.proofs.OwnerCalls.{readable}
+use Rattle.machine.proofs.StepDone.{quiet_turn}
+use Rattle.machine.proofs.Stays.{core_as, stays_sound, unbound_put}
+use Rattle.core_map.specs.declared.Frame.TheVariants as frame
 use Rattle.machine.proofs.machine.Machine.start.Goals as goal
 
 pub start-requires : goal.start-requires
 start-requires g c =
-    let there = rw (← c.self.view_is) at c.requires.there in
-    let can = readable _ c.args.c c.self.invariant (rw c.self.view_is c.requires.there) c.args.f c.args.uid c.args.p
-    (rw c.self.view_is c.requires.doing) in
-    let room : 320 ≤ c.self.inside.tables.state.spare = rw c.self.view_is c.requires.room in
-    let some : 0 < c.self.inside.tables.state.spare = omega (arith, room) in
+    let can = readable (does c.self.view_is c.self.invariant c.requires) in
     search rules
 
 pub returns : goal.returns
-returns g c = rw (← c.self.view_is) (start_turn _ _ _ _ _ c.args.c c.args.f c.args.uid c.args.p
-    (rw c.self.view_is c.requires.doing) c.start.ensures)
+unfolding after
+returns g c = quiet_turn c.self.view_is c.requires c.start.ensures refl refl (refl, refl) tt
 
 pub invariant_of-self : goal.invariant_of-self
-invariant_of-self g c = start_sound _ c.args.c c.self.invariant (rw c.self.view_is c.requires.there) c.args.f
-    c.args.uid c.args.p (rw c.self.view_is c.requires.doing) _ c.start.ensures c.promise.ensures.kept
-    c.promise.ensures.counted
+unfolding after
+invariant_of-self g c =
+    let d = does c.self.view_is c.self.invariant c.requires in
+    stays_sound d c.start.ensures refl refl
+    (core_as _ _ (unbound_put c.self.inside.tables.state.store.pages.core c.args.f (frame.Started c.args.uid c.args.p)
+    (ap bound_page (readable d).free) refl)) (assumption c.promise.ensures)

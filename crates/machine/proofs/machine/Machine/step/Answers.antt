@@ -3,21 +3,21 @@ use Rattle.machine.proofs.StepLaws.{processor_there, step_appends, step_changes,
 use Rattle.machine.proofs.machine.Machine.step.Goals as goal
 
 pub act-turn-requires : goal.act-turn-requires
-act-turn-requires g c = record {
-  doing = search rules;
-  there = processor_there c.args.self.now c.args.c (rw (← c.self.view_is) c.self.invariant) c.requires.processor;
-  room = c.requires.room;
-}
+act-turn-requires g c =
+    let sound : IsSound c.args.self.now = rw (← c.self.view_is) c.self.invariant in
+    record {
+      doing = search rules;
+      there = processor_there sound c.requires.processor;
+      room = c.requires.room;
+    }
 
 pub returns : goal.returns
 returns g c =
     let sound : IsSound c.args.self.now = rw (← c.self.view_is) c.self.invariant in
-    let there = processor_there c.args.self.now c.args.c sound c.requires.processor in
-    record {
-      turn = c.act-turn.ensures;
-      entries = step_appends _ _ _ c.args.self.now _ c.args.c _ sound there c.act-turn.ensures;
-      kept = step_keeps _ _ _ c.args.self.now _ c.args.c _ sound there c.act-turn.ensures;
-      moved = step_changes _ _ _ c.args.self.now _ c.args.c _ sound there c.act-turn.ensures;
-      still = c.act-turn.ensures.still;
-      faults = step_faults _ _ _ c.args.self.now _ c.args.c _ sound there c.act-turn.ensures;
-    }
+    let there = processor_there sound c.requires.processor in
+    assumption (
+      step_appends sound there c.act-turn.ensures,
+      step_keeps sound there c.act-turn.ensures,
+      step_changes sound there c.act-turn.ensures,
+      step_faults sound there c.act-turn.ensures,
+    )

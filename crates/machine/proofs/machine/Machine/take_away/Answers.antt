@@ -1,6 +1,7 @@
-use Rattle.machine.proofs.Prelude.{rules, next_command, process_at}
-use Rattle.machine.proofs.StepDone.{take_away_turn}
-use Rattle.machine.proofs.TakeCalls.{take_busy, take_doing, take_sound, takeable}
+use Rattle.machine.proofs.Prelude.{after, next_command, process_at, refl, rules}
+use Rattle.machine.proofs.StepDone.{quiet_turn}
+use Rattle.machine.proofs.Stays.{stays_sound}
+use Rattle.machine.proofs.TakeCalls.{taking_as, take_busy, takeable, takes}
 use Rattle.machine.proofs.machine.Machine.take_away.Goals as goal
 
 pub busy-process-requires : goal.busy-process-requires
@@ -13,17 +14,21 @@ busy-process-requires g c = record {
 
 pub take_away-requires : goal.take_away-requires
 take_away-requires g c =
-    let can = takeable _ c.args.c c.self.invariant (rw c.self.view_is c.requires.there) c.busy-process.result
-    (rw c.self.view_is c.busy-process.ensures) (rw c.self.view_is c.requires.doing)
-    (rw c.self.view_is c.requires.room) in
+    let can = takeable (takes c.self.view_is c.self.invariant c.requires)
+    c.busy-process.result (rw c.self.view_is c.busy-process.ensures) in
     search rules
 
 pub returns : goal.returns
-returns g c = rw (← c.self.view_is) (take_away_turn _ _ _ _ c.take_away.new.self c.args.c c.busy-process.result
-    (take_doing _ c.args.c c.self.invariant (rw c.self.view_is c.requires.there) c.busy-process.result
-    (rw c.self.view_is c.busy-process.ensures) (rw c.self.view_is c.requires.doing)) c.take_away.ensures)
+unfolding after
+returns g c =
+    let its = rw (← c.self.view_is) at c.busy-process.ensures in
+    let d = takes c.self.view_is c.self.invariant c.requires in
+    rw (← c.self.view_is) (quiet_turn refl d.may c.take_away.ensures (rw its) refl (refl, refl) tt)
 
 pub invariant_of-self : goal.invariant_of-self
-invariant_of-self g c = take_sound _ c.args.c c.self.invariant (rw c.self.view_is c.requires.there)
-    c.busy-process.result (rw c.self.view_is c.busy-process.ensures) (rw c.self.view_is c.requires.doing)
-    c.take_away.new.self c.take_away.ensures c.promise.ensures.kept c.promise.ensures.counted
+unfolding after
+invariant_of-self g c =
+    let its = rw (← c.self.view_is) at c.busy-process.ensures in
+    stays_sound (takes c.self.view_is c.self.invariant c.requires) c.take_away.ensures (rw its) refl
+    (taking_as c.self.inside.tables.state c.args.c c.busy-process.result
+    (next_command c.self.inside.tables.state c.busy-process.result)) (assumption c.promise.ensures)
