@@ -21,8 +21,7 @@ pub maps_alike : {A B : Type 0} (f : A → ℕ) (g : B → ℕ) (xs : List A) (y
 maps_alike f g [] [] e each = refl
 maps_alike f g [] (y ∷ ys) e each = absurd cc
 maps_alike f g (x ∷ xs) [] e each = absurd cc
-maps_alike f g (x ∷ xs) (y ∷ ys) e each =
-    ap (λ (n : ℕ). n ∷ map f xs) (each 0 x y refl refl)
+maps_alike f g (x ∷ xs) (y ∷ ys) e each = ap (λ (n : ℕ). n ∷ map f xs) (each 0 x y refl refl)
     ∙ ap (λ (ns : List ℕ). g y ∷ ns) (maps_alike f g xs ys (omega (arith, e)) (λ i a b. each (suc i) a b))
 
 -- an element of a list whose map is as it was, and the one that stood at its place
@@ -33,8 +32,7 @@ pub record Stood {A B : Type 0} (f : A → B) (old : List A) (v : ℕ) (x : A) :
 
 stood : {A B : Type 0} (f : A → B) (old : List A) (v : ℕ) (x : A) (before : Option A) → slice_get old v ≡ before
     → Some (f x) ≡ slice_get (map f old) v → Stood f old v x
-stood f old v x None at e =
-    absurd (none_some (sym (ap (option_map f) at) ∙ (sym (slice_get-map f old v) ∙ sym e)))
+stood f old v x None at e = absurd (none_some (sym (ap (option_map f) at) ∙ (sym (slice_get-map f old v) ∙ sym e)))
 stood f old v x (Some y) at e =
     let it : Some (f x) ≡ Some (f y) = e ∙ (slice_get-map f old v ∙ ap (option_map f) at) in
     record { was = y; there = at; same = cc }
@@ -207,8 +205,7 @@ all_counted entries drives few same = let most = count_by-le-length is_fault ent
 
 -- a machine that was booted over them has counted nothing, and tells of nothing
 pub counted_boot : {E : Type 0} (r : Result Machine E) (drives : List AnyDrive) → sum_by faults_in drives ≡ 0
-    → IfOk r (λ m. m.state.entries ≡ []) → IfOk r (λ m. m.drives ≡ drives)
-    → IfOk r (λ m. HaveCounted faults_in 0 0 m)
+    → IfOk r (λ m. m.state.entries ≡ []) → IfOk r (λ m. m.drives ≡ drives) → IfOk r (λ m. HaveCounted faults_in 0 0 m)
 counted_boot (Ok m) drives none entries same =
     let told : count_by is_fault m.state.entries ≡ 0 = ap (λ (es : List Entry). count_by is_fault es) entries in
     let sum : sum_by faults_in m.drives ≡ 0 = ap (λ (ds : List AnyDrive). sum_by faults_in ds) same ∙ none in

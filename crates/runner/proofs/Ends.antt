@@ -63,8 +63,7 @@ made_so status.ReadFault n src out h = absurd h
 made_so (status.Refused o) n src out h = absurd h
 
 pub ends_made : (src out : Change) (f : Finished) (n : ℕ) → Printed f.status out (made n) → f.machine ≡ None
-    → ConsumesFront src.before src.after 4194305
-    → Ends (Some (form.Make n)) src out f
+    → ConsumesFront src.before src.after 4194305 → Ends (Some (form.Make n)) src out f
 ends_made src out f n h without reads = ends_without (Some (form.Make n)) src out f f.status refl without
     (made_so f.status n src out h) reads
 
@@ -94,8 +93,7 @@ pub asks : (asked is : Option Form) (src out : Change) (f : Finished) → asked 
 asks asked is src out f e h = subst (λ (x : Option Form). Ends x src out f) (sym e) h
 
 pub asked_none : (asked : Option Form) (src out : Change) (f : Finished) → asked ≡ None → f.status ≡ status.Usage
-    → f.machine ≡ None → Writes out usage_text
-    → ConsumesFront src.before src.after 4194305 → Ends asked src out f
+    → f.machine ≡ None → Writes out usage_text → ConsumesFront src.before src.after 4194305 → Ends asked src out f
 asked_none asked src out f e s b text reads = asks asked None src out f e
     (ends_without None src out f status.Usage s b (refl, text) reads)
 

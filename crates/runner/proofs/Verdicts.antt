@@ -85,8 +85,7 @@ listed None P h = h
 listed (Some m) P h = h.1
 
 pub listed_so : (asked : Option Form) (src out : Change) (f : Finished) → Ends asked src out f → asked ≡ Some form.Run
-    → HasPrinted f.status
-    → IsSomeAnd f.machine (λ m. Printed f.status out (listing_of m.state.plan m.state.entries))
+    → HasPrinted f.status → IsSomeAnd f.machine (λ m. Printed f.status out (listing_of m.state.plan m.state.entries))
 listed_so asked src out f h run printed = each f.status printed
     (subst (λ (x : Option Form). EndsSo f.status x src out f.machine) run h.so)
   where
@@ -174,8 +173,7 @@ verdict_of status.Memory machine bytes src out fine told h run = memory refl
 
 -- the verdict of a call that ran a script
 pub verdict : (asked : Option Form) (src out : Change) (f : Finished) → Ends asked src out f → asked ≡ Some form.Run
-    → (Failed src → ⊥)
-    → IfSome src.before (λ bytes. Verdict f.status bytes out)
+    → (Failed src → ⊥) → IfSome src.before (λ bytes. Verdict f.status bytes out)
 verdict asked src out f h run fine = each src.before refl
   where
     each : (left : Option (List ℕ)) → src.before ≡ left → IfSome left (λ bytes. Verdict f.status bytes out)
@@ -185,8 +183,7 @@ verdict asked src out f h run fine = each src.before refl
 
 -- what each verdict has is there, or there was no memory
 pub by_verdict : (left : Option (List ℕ)) (s : Status) (out : Change) (Q : List ℕ → Type 0)
-    → IfSome left (λ bytes. Verdict s bytes out)
-    → ((bytes : List ℕ) → Verdict s bytes out → Q bytes) → IfSome left Q
+    → IfSome left (λ bytes. Verdict s bytes out) → ((bytes : List ℕ) → Verdict s bytes out → Q bytes) → IfSome left Q
 by_verdict None s out Q h get = tt
 by_verdict (Some bytes) s out Q h get = get bytes h
 
@@ -199,8 +196,7 @@ found_long s bytes out (printed p e few is) lt = absurd (omega arith)
 found_long s bytes out (broken p e few is) lt = absurd (omega arith)
 
 pub found_refused : (s : Status) (bytes : List ℕ) (out : Change) → Verdict s bytes out → (r : Refusal)
-    → length bytes ≤ 4194304 → script_of bytes ≡ Err r
-    → (s ≡ status.Script r) ⊎ (s ≡ status.Memory)
+    → length bytes ≤ 4194304 → script_of bytes ≡ Err r → (s ≡ status.Script r) ⊎ (s ≡ status.Memory)
 found_refused s bytes out (memory e) r le is = inr e
 found_refused s bytes out (long e l) r le is = absurd (omega arith)
 found_refused s bytes out (refused q e few was) r le is = let same : q ≡ r = cc in inl (e ∙ ap status.Script same)
@@ -208,8 +204,7 @@ found_refused s bytes out (printed p e few was) r le is = absurd cc
 found_refused s bytes out (broken p e few was) r le is = absurd cc
 
 pub found_done : (s : Status) (bytes : List ℕ) (out : Change) → Verdict s bytes out → (Failed out → ⊥) → (p : Plan)
-    → length bytes ≤ 4194304
-    → script_of bytes ≡ Ok p → (s ≡ status.Done) ⊎ (s ≡ status.Memory)
+    → length bytes ≤ 4194304 → script_of bytes ≡ Ok p → (s ≡ status.Done) ⊎ (s ≡ status.Memory)
 found_done s bytes out (memory e) fine p le is = inr e
 found_done s bytes out (long e l) fine p le is = absurd (omega arith)
 found_done s bytes out (refused r e few was) fine p le is = absurd cc
@@ -262,8 +257,7 @@ one_verdict bytes given v one is = (one v).0 is
 -- a fault of the input comes to its status, or there was no memory
 fault_so : (s : Status) (bytes : List ℕ) (src out : Change) (machine : Option Machine) → (Failed src → ⊥)
     → src.before ≡ Some bytes → EndsSo s (Some form.Check) src out machine
-    → (e : CheckFault) → length bytes ≤ 134217728 → IsVerdict bytes (Err e)
-    → IsStatusOf e s ⊎ (s ≡ status.Memory)
+    → (e : CheckFault) → length bytes ≤ 134217728 → IsVerdict bytes (Err e) → IsStatusOf e s ⊎ (s ≡ status.Memory)
 fault_so s bytes src out machine fine told so e few is = each s so
   where
     accepted_not : (n : ℕ) → IsJudgedSo src (Ok n) → ⊥

@@ -6,8 +6,7 @@ pub left-requires-clause-told : goal.left-requires-clause-told
 left-requires-clause-told g c =
     let ended = c.end_and_print-status.ensures.kept in
     let ran = c.run_workers-machine.ensures in
-    subst (λ (p : Plan). AreTold p c.end_and_print-status.new.machine.drives)
-    (sym (ended.script ∙ ran.script))
+    subst (λ (p : Plan). AreTold p c.end_and_print-status.new.machine.drives) (sym (ended.script ∙ ran.script))
     (told_still c.args.machine.state.plan c.args.machine.drives c.end_and_print-status.new.machine.drives
     (ended.plans ∙ ran.plans) (ended.stores ∙ ran.places) c.requires.told)
 
