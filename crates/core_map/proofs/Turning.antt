@@ -17,7 +17,7 @@ use Rattle.core_map.proofs.Passing.{found_none, found_first, passed_all, passed_
 use Rattle.laws.proofs.Numbers.{below_or_past}
 
 abbrev core_of : List Frame → ℕ → Core
-core_of frames hand = assumption
+core_of frames hand = record { frames = frames; hand = hand }
 
 -- what marks don't change is as before
 same_at : {X : Type 0} (t : Frame → X) → ((x : Frame) → t (unmarked x) ≡ t x)

@@ -30,7 +30,7 @@ pub(crate) fn end_unread<K: Sink>(unread: Unread, out: &mut K) -> Finished
     }
 }
 
-/// Reads a script from the source to its end, runs it, and writes its listing.
+/// Reads a script from the source to its end, runs it, and writes its listing. The text is given back before the run.
 pub(crate) fn read_and_run<R: Threads + Wait + Sync, S: Source, K: Sink, G: Gate + Sync>(
     rt: &R,
     alloc: Global,
@@ -47,7 +47,10 @@ pub(crate) fn read_and_run<R: Threads + Wait + Sync, S: Source, K: Sink, G: Gate
         Err(unread) => return end_unread(unread, out),
     };
     match read_script(alloc, &bytes) {
-        Ok(script) => run_script(rt, alloc, script, out, gate),
+        Ok(script) => {
+            drop(bytes);
+            run_script(rt, alloc, script, out, gate)
+        }
         Err(ScriptFault::Refused(refusal)) => write_refusal(alloc, refusal, out),
         Err(ScriptFault::Memory) => without_machine(Status::Memory),
     }

@@ -31,7 +31,11 @@ module _ {D : Type 0} {pages : D → List (List ℕ)} {old now : Paging D} {ast 
   rest_is = λ i. record {
     core = ap (λ (s : Paging D). s.core) b.effect i;
     frames = ap (λ (s : Paging D). s.frames) b.effect i;
-    volumes = assumption (ap (λ (s : Paging D). s.volumes.drives) b.effect i, b.back.records i, b.back.vtocs i);
+    volumes = record {
+      drives = ap (λ (s : Paging D). s.volumes.drives) b.effect i;
+      records = b.back.records i;
+      vtocs = b.back.vtocs i;
+    };
   }
 
   -- for the mover as it begins

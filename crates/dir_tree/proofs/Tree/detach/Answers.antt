@@ -63,7 +63,7 @@ returns-clause-tree c =
     let fewer : List Entry = remove c.self.inside.entries c.remove-superior.ensures.at in
     let lost : c.lose.new.self ≡ recounted c.in-Some.superior (λ n. n - 1) fewer =
     rw c.remove-superior.ensures.rest at c.lose.ensures in
-    rw (← c.self.view_is) (ap (λ (ns : List Node). assumption (c.self.inside.next))
+    rw (← c.self.view_is) (ap (λ (ns : List Node). record { nodes = ns; next = c.self.inside.next })
     (rw lost (newest_recounted c.in-Some.superior (λ n. n - 1) c.self.inside.nodes.items fewer ∙ (left_by c).1)))
 
 pub remove-requires : goal.remove-requires
