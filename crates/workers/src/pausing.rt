@@ -3,7 +3,7 @@
 use std::sync::atomic::{AtomicU32, Ordering};
 use std::thread;
 
-/// What ends the rest of the workers: it is rung where each processor has something to drop.
+/// What ends the rest of the workers that hear it.
 #[derive(Drop)]
 pub(crate) struct Bell {
     rings: AtomicU32,
@@ -25,6 +25,34 @@ impl Bell {
     /// How often it was rung, modulo 2^32.
     pub(crate) fn rings(&self) -> u32 {
         self.rings.load(Ordering::Relaxed)
+    }
+}
+
+/// The bells of a machine's workers.
+#[derive(Drop)]
+pub(crate) struct Bells {
+    /// Rung where each processor has something to drop.
+    pub(crate) signals: Bell,
+    /// Rung where a processor goes on after such a signal, so that who signalled looks whether all have dropped it.
+    pub(crate) drops: Bell,
+}
+
+impl Bells {
+    /// Bells that weren't rung yet.
+    pub(crate) fn new() -> Bells {
+        Bells {
+            signals: Bell::new(),
+            drops: Bell::new(),
+        }
+    }
+
+    /// Tells others that a worker went on which had gone on after so many signals; and how many there were by now.
+    pub(crate) fn went_on(&self, answered: u32) -> u32 {
+        let signals = self.signals.rings();
+        if signals != answered {
+            self.drops.ring();
+        }
+        signals
     }
 }
 

@@ -4,7 +4,7 @@ ghost use Rattle.std.specs.Prelude.{◌≡◌, ◌<◌, ◌≤◌, ℕ, All, len
 ghost use Rattle.machine.specs.Turns.{CountsAlike, HaveCounted};
 
 use crate::locked::{Locked, Run};
-use crate::pausing::Bell;
+use crate::pausing::Bells;
 use crate::working::work;
 use arrayvec::ArrayVec;
 use machine::Machine;
@@ -63,7 +63,7 @@ fn run_under_lock<N: Run + Send + Sync, D: Drive + Send, G: Gate + Sync, R: Thre
     ensures alike { HaveCounted D.faults N.counted N.told result }
 {
     let locked: Mutex<Locked<N, D>> = Mutex::new(Locked::of(machine));
-    let bell = Bell::new();
+    let bells = Bells::new();
     let workers = cpus.len();
     if workers > 0 {
         thread::for_each_mut(
@@ -72,7 +72,7 @@ fn run_under_lock<N: Run + Send + Sync, D: Drive + Send, G: Gate + Sync, R: Thre
             workers,
             &|_, cpu: &mut u32|
                 requires { cpu.old < N.cpus }
-            { work(rt, &locked, gate, &bell, *cpu) },
+            { work(rt, &locked, gate, &bells, *cpu) },
         );
     }
     locked.into_inner().into_machine()

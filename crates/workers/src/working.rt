@@ -3,7 +3,7 @@
 ghost use Rattle.std.specs.Prelude.{◌<◌};
 
 use crate::locked::{Locked, Run};
-use crate::pausing::{Bell, Pause};
+use crate::pausing::{Bell, Bells, Pause};
 use machine::Turn;
 use site_io::{Gate, Point};
 use std::sync::{Mutex, MutexGuard, Wait};
@@ -48,34 +48,39 @@ fn hold<'a, T, R: Wait>(rt: &R, lock: &'a Mutex<T>, bell: &Bell) -> MutexGuard<'
 
 /// Makes steps of processor `cpu`, one a hold of the lock, until its processes have ended, the machine is stopped, or
 /// too many steps in a row of the machine answered no command. Between two holds it passes the gate. After a step that
-/// waits other threads go first, for longer each time, until a signal asks each processor to drop something.
+/// waits other threads go first, for longer each time, until a signal asks each processor to drop something; and where
+/// this one signalled, until another goes on after it.
 pub(crate) fn work<N: Run, D: Drive, G: Gate, R: Threads + Wait + Sync>(
     rt: &R,
     locked: &Mutex<Locked<N, D>>,
     gate: &G,
-    bell: &Bell,
+    bells: &Bells,
     cpu: u32,
 )
     requires { cpu < N.cpus }
 {
     let mut pause = Pause::new();
-    let mut heard = bell.rings();
+    let mut answered = bells.signals.rings();
+    let mut bell = &bells.signals;
     for _ in 0..MOST_STEPS {
-        let Some(turn) = hold(rt, locked, bell).turn(cpu) else {
+        let heard = bell.rings();
+        let Some(turn) = hold(rt, locked, &bells.signals).turn(cpu) else {
             break;
         };
         match turn {
             Turn::Moved(point) => {
+                bell = &bells.signals;
                 if matches!(point, Point::Signalled) {
                     bell.ring();
+                    bell = &bells.drops;
                 }
+                answered = bells.went_on(answered);
                 gate.hold(rt, cpu, point);
                 pause = Pause::new();
             }
             Turn::Waits(_) => {
                 gate.hold(rt, cpu, Point::Other);
                 pause.rest(bell, heard, TURNS_FOR_STEP);
-                heard = bell.rings();
             }
             Turn::Ended | Turn::Stopped => break,
         }
