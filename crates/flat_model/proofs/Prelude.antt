@@ -51,7 +51,7 @@ unfoldable pub use Rattle.flat_model.specs.Commands.{after_command}
 pub use Rattle.flat_model.specs.Cuts.{cleared, cut_at, cut_once, without_branch, without_pages}
 pub use Rattle.flat_model.specs.Legal.{IsAnswer, after_do, after_fault, is_part, is_within, last_of}
 unfoldable pub use Rattle.flat_model.specs.Legal.{IsLawful, IsLegal, IsLegalFrom, after_entry, part, store_after, store_from}
-pub use Rattle.flat_model.specs.Making.{delete_of, deleted, made_at, made_in, made_of, make_in, new_branch, owner_row}
+pub use Rattle.flat_model.specs.Making.{delete_of, deleted, deletion_of, made_at, made_in, made_of, make_in, new_branch, owner_row}
 unfoldable pub use Rattle.flat_model.specs.Making.{after_delete, after_make, delete_reply, make_reply}
 pub use Rattle.flat_model.specs.Moves.{is_held_at, is_held_by, is_held_in, is_held_of}
 unfoldable pub use Rattle.flat_model.specs.Moves.{is_held_back}

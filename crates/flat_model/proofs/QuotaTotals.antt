@@ -4,6 +4,7 @@ use Rattle.flat_model.proofs.Prelude.{nat_tests, ◌≡◌, ◌≢◌, ◌≤◌
 use Rattle.script.specs.declared.commands.Command.TheVariants as command
 use Rattle.book.specs.declared.replies.Reply.TheVariants as reply
 use Rattle.flat_model.proofs.FieldLaws.{field_found}
+use Rattle.flat_model.proofs.RemoveLaws.{deletion_asked}
 use Rattle.flat_model.proofs.TreeLaws.{path_apart}
 use Rattle.book.specs.declared.entries.Entry.TheVariants as entry
 
@@ -296,8 +297,8 @@ module _ (t : Store) where
         none : n.quota ≡ 0
         none = elim (eqb_tells n.quota 0) [
           | inl e ↦ e.1
-          | inr m ↦ absurd (let no : false ≡ true = sym (ap (λ (b : Bool). takes_effect (cond b reply.Done
-              reply.HasQuota)) m.0) ∙ rest_of (list_any (is_inferior n.uid) t.nodes) reply.NotEmpty _ refl h in cc)
+          | inr m ↦ absurd (let free = (deletion_asked (list_any (is_inferior n.uid) t.nodes) (eqb n.quota 0) h).1 in
+              let no : false ≡ true = sym m.0 ∙ free in cc)
         ]
 
     move_total : (path : List (List ℕ)) (amount : ℤ) (r : Result Node Reply) → directory_at t.nodes path ≡ r

@@ -1,5 +1,5 @@
 -- A directory or a segment is taken out.
-use Rattle.flat_model.proofs.Prelude.{◌≡◌, ◌≢◌, ℕ, ◌/◌, Bool, true, false, cond, eqb, not, ◌&&◌, List, [], ◌∷◌, Some, None, Ok, Err, refl, sym, ap, ◌∙◌, arith, inl, inr, count_by, nat_le, list_any, cases_Bool, or_parts, nat_tests, sum_by-cons, Reply, Node, has_directory, is_inferior, node_in, taken_on, volume_in, without_node, has_segment, branch_at, takes_effect, without_branch, without_pages, after_delete, delete_reply, deleted, Words, is_page, is_stored, without_stored, Store, from_first}
+use Rattle.flat_model.proofs.Prelude.{deletion_of, ◌≡◌, ◌≢◌, ℕ, ◌/◌, Bool, true, false, cond, eqb, not, ◌&&◌, List, [], ◌∷◌, Some, None, Ok, Err, refl, sym, ap, ◌∙◌, arith, inl, inr, count_by, nat_le, list_any, cases_Bool, or_parts, nat_tests, sum_by-cons, Reply, Node, has_directory, is_inferior, node_in, taken_on, volume_in, without_node, has_segment, branch_at, takes_effect, without_branch, without_pages, after_delete, delete_reply, deleted, Words, is_page, is_stored, without_stored, Store, from_first}
 use Rattle.book.specs.declared.replies.Reply.TheVariants as reply
 use Rattle.flat_model.proofs.FieldLaws.{field_none, field_left}
 use Rattle.flat_model.proofs.TreeReplies.{not_first}
@@ -79,16 +79,15 @@ pub delete_done : (s : Store) (path : List (List ℕ)) (n : Node) → branch_at 
 unfolding after_delete
 delete_done s path n found = ap (deleted s) found
 
+-- what is deleted has no inferior and no quota
+pub deletion_asked : (full free : Bool) → takes_effect (deletion_of full free) ≡ true → (full ≡ false) × (free ≡ true)
+deletion_asked true free effect = cc
+deletion_asked false true effect = (refl, refl)
+deletion_asked false false effect = cc
+
 pub delete_asked : (s : Store) (path : List (List ℕ)) (n : Node) → branch_at s.nodes path ≡ Ok n
     → takes_effect (delete_reply s path) ≡ true
     → (list_any (is_inferior n.uid) s.nodes ≡ false) × (eqb n.quota 0 ≡ true)
 unfolding delete_reply
 delete_asked s path n found effect =
-    let first = not_first (list_any (is_inferior n.uid) s.nodes) reply.NotEmpty
-    (cond (eqb n.quota 0) reply.Done reply.HasQuota) refl (rw found at effect) in
-    (first.0, here (eqb n.quota 0) refl first.1)
-  where
-    here : (z : Bool) → eqb n.quota 0 ≡ z → takes_effect (cond z reply.Done reply.HasQuota) ≡ true
-        → eqb n.quota 0 ≡ true
-    here true e is = e
-    here false e is = cc
+    deletion_asked (list_any (is_inferior n.uid) s.nodes) (eqb n.quota 0) (rw found at effect)

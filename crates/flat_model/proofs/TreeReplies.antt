@@ -1,5 +1,5 @@
 -- What tree commands are answered, by what the path leads to.
-use Rattle.flat_model.proofs.Prelude.{◌≡◌, ℕ, ℤ, Bool, true, false, cond, eqb, List, [], ◌∷◌, ◌++◌, Some, Ok, Err, refl, sym, ap, ◌∙◌, count_by, nat_lt, is_positive, unsigned_abs, list_any, Named, Plan, Reply, takes_row, giver_of, over_in, tree_moved, Node, above, is_inferior, quota_in, used_by, takes_effect, branch_at, directory_at, node_at, parts_of, before_parts, segment_at, delete_reply, make_in, make_reply, status_reply, is_stored_from, acl_reply, done_or_over, move_reply, length_reply, truncate_reply, Store}
+use Rattle.flat_model.proofs.Prelude.{deletion_of, ◌≡◌, ℕ, ℤ, Bool, true, false, cond, eqb, List, [], ◌∷◌, ◌++◌, Some, Ok, Err, refl, sym, ap, ◌∙◌, count_by, nat_lt, is_positive, unsigned_abs, list_any, Named, Plan, Reply, takes_row, giver_of, over_in, tree_moved, Node, above, is_inferior, quota_in, used_by, takes_effect, branch_at, directory_at, node_at, parts_of, before_parts, segment_at, delete_reply, make_in, make_reply, status_reply, is_stored_from, acl_reply, done_or_over, move_reply, length_reply, truncate_reply, Store}
 use Rattle.book.specs.declared.replies.Reply.TheVariants as reply
 
 -- a command that takes effect wasn't refused
@@ -48,7 +48,7 @@ module _ (s : Store) (nodes : List Node) (path : List (List ℕ)) (same : s.node
   delete_refused r e = rw (same, e) refl
 
   pub delete_told : (n : Node) (b z : Bool) → branch_at nodes path ≡ Ok n → list_any (is_inferior n.uid) nodes ≡ b
-      → eqb n.quota 0 ≡ z → cond b reply.NotEmpty (cond z reply.Done reply.HasQuota) ≡ delete_reply s path
+      → eqb n.quota 0 ≡ z → deletion_of b z ≡ delete_reply s path
   unfolding delete_reply
   delete_told n b z e is quota = rw (same, e, is, quota) refl
 

@@ -73,10 +73,13 @@ made_of s volume directory pages rows (Some parts) = made_at s volume directory 
 unfoldable pub after_make : Store → List (List ℕ) → ℕ → Bool → ℕ → List Row → Store
 after_make s path volume directory pages rows = made_of s volume directory pages rows (parts_of path)
 
+-- what the deletion of a node is answered that has inferiors or not, and no quota or some
+abbrev pub deletion_of : Bool → Bool → Reply
+deletion_of full free = if full then reply.NotEmpty else if free then reply.Done else reply.HasQuota
+
 -- a node is deleted: root for the root's path; notempty where it has an inferior; hasquota where it has quota
 abbrev pub delete_of : List Node → Result Node Reply → Reply
-delete_of nodes (Ok n) = if list_any (is_inferior n.uid) nodes then reply.NotEmpty else if n.quota == 0 then reply.Done
-    else reply.HasQuota
+delete_of nodes (Ok n) = deletion_of (list_any (is_inferior n.uid) nodes) (n.quota == 0)
 delete_of nodes (Err r) = r
 
 unfoldable pub delete_reply : Store → List (List ℕ) → Reply

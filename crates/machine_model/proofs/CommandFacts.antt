@@ -1,5 +1,5 @@
 -- What a tree command is about, where nothing refuses it.
-use Rattle.machine_model.proofs.Prelude.{◌≡◌, ℕ, Bool, true, false, cond, eqb, List, Some, None, inl, inr, refl, sym, ap, ◌∙◌, Result, Ok, Err, list_any, eqb_tells, Reply, Node, is_inferior, node_in, branch_at, done_at, node_at, only_segment, segment_at, delete_of, delete_reply, length_of, length_reply, truncate_reply, is_refusal, refusal, Keeps, flat_of, refusal_of, uid_at_path, uid_of_node, State, branch_found, node_found, segment_found, not_both, branch_says, segment_says}
+use Rattle.machine_model.proofs.Prelude.{deletion_of, ◌≡◌, ℕ, Bool, true, false, cond, eqb, List, Some, None, inl, inr, refl, sym, ap, ◌∙◌, Result, Ok, Err, list_any, eqb_tells, Reply, Node, is_inferior, node_in, branch_at, done_at, node_at, only_segment, segment_at, delete_of, delete_reply, length_of, length_reply, truncate_reply, is_refusal, refusal, Keeps, flat_of, refusal_of, uid_at_path, uid_of_node, State, branch_found, node_found, segment_found, not_both, branch_says, segment_says}
 use Rattle.script.specs.declared.commands.Command.TheVariants as command
 use Rattle.book.specs.declared.replies.Reply.TheVariants as reply
 
@@ -92,17 +92,9 @@ module _ (s : State) (k : ℕ) (keeps : Keeps s) where
       }
         where
           alone : (list_any (is_inferior n.uid) (flat_of s).nodes ≡ false) × (n.quota ≡ 0)
-          alone = cases (list_any (is_inferior n.uid) (flat_of s).nodes) refl i
+          alone = cases (list_any (is_inferior n.uid) (flat_of s).nodes) (eqb n.quota 0) refl i
             where
-              none_is : (b : Bool) → eqb n.quota 0 ≡ b → refusal (cond b reply.Done reply.HasQuota) ≡ None → b ≡ true
-              none_is true x y = refl
-              none_is false x y = cc
-
-              zero_is : eqb n.quota 0 ≡ true → n.quota ≡ 0
-              zero_is x = elim (eqb_tells n.quota 0) [ inl y ↦ y.1 | inr y ↦ absurd (not_both x y.0) ]
-
-              cases : (b : Bool) → list_any (is_inferior n.uid) (flat_of s).nodes ≡ b
-                  → refusal (cond b reply.NotEmpty (cond (eqb n.quota 0) reply.Done reply.HasQuota)) ≡ None
-                  → (b ≡ false) × (n.quota ≡ 0)
-              cases true x y = cc
-              cases false x y = (refl, zero_is (none_is (eqb n.quota 0) refl y))
+              cases : (b z : Bool) → eqb n.quota 0 ≡ z → refusal (deletion_of b z) ≡ None → (b ≡ false) × (n.quota ≡ 0)
+              cases true z x y = cc
+              cases false true x y = (refl, elim (eqb_tells n.quota 0) [ inl e ↦ e.1 | inr e ↦ absurd (not_both x e.0) ])
+              cases false false x y = cc

@@ -113,8 +113,8 @@ truncate_plain (Ok n) h = refl
 truncate_plain (Err r) h = h
 
 delete_plain : (nodes : List Node) (x : Result Node Reply) → fails x ≡ false → is_device (delete_of nodes x) ≡ false
-delete_plain nodes (Ok n) h = two_of (list_any (is_inferior n.uid) nodes) reply.NotEmpty
-    (cond (eqb n.quota 0) reply.Done reply.HasQuota) refl (two_of (eqb n.quota 0) reply.Done reply.HasQuota refl refl)
+delete_plain nodes (Ok n) h = two_of (list_any (is_inferior n.uid) nodes) reply.NotEmpty _ refl
+    (two_of (eqb n.quota 0) reply.Done _ refl refl)
 delete_plain nodes (Err r) h = h
 
 move_plain : (s : Store) (amount : ℤ) (x : Result Node Reply) → fails x ≡ false → is_device (move_of s amount x) ≡ false

@@ -78,7 +78,7 @@ pub use Rattle.flat_model.specs.Commands.{effect_by, effect_of, effect_of_tree_c
 unfoldable pub use Rattle.flat_model.specs.Commands.{after_command}
 pub use Rattle.flat_model.specs.Legal.{IsAnswer, IsEnd, IsLawfulDo, MayFault, MayRelease, after_do, after_fault, have_ended, is_early, is_part, is_within, last_of, may_fail}
 unfoldable pub use Rattle.flat_model.specs.Legal.{IsComplete, IsLawful, IsLegal, IsLegalFrom, after_entry, part, store_after, store_from}
-pub use Rattle.flat_model.specs.Making.{delete_of, make_at, make_of}
+pub use Rattle.flat_model.specs.Making.{delete_of, deletion_of, make_at, make_of}
 unfoldable pub use Rattle.flat_model.specs.Making.{delete_reply, make_reply}
 pub use Rattle.flat_model.specs.Moves.{MayMove, awaits_by, awaits_in, is_held_in, moved}
 unfoldable pub use Rattle.flat_model.specs.Moves.{awaits_move, is_held_back}
