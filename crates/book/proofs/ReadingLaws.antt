@@ -229,36 +229,15 @@ word_only t w h = by_length (length t == 12) refl h
 
 -- ---- replies
 
+-- one of one word has its text alone
 abbrev reply_words : Reply → List (List ℕ)
-reply_words reply.Unknown = codes "unknown" ∷ []
-reply_words reply.Gone = codes "gone" ∷ []
-reply_words reply.NoAccess = codes "noaccess" ∷ []
-reply_words reply.Length = codes "length" ∷ []
-reply_words reply.Quota = codes "quota" ∷ []
-reply_words reply.NoRecord = codes "norecord" ∷ []
-reply_words reply.Device = codes "device" ∷ []
-reply_words reply.Done = codes "done" ∷ []
-reply_words reply.NoPath = codes "nopath" ∷ []
-reply_words reply.NotDir = codes "notdir" ∷ []
-reply_words reply.IsDir = codes "isdir" ∷ []
-reply_words reply.IsSeg = codes "isseg" ∷ []
-reply_words reply.Exists = codes "exists" ∷ []
-reply_words reply.Deep = codes "deep" ∷ []
-reply_words reply.Room = codes "room" ∷ []
-reply_words reply.NoEntry = codes "noentry" ∷ []
-reply_words reply.Full = codes "full" ∷ []
-reply_words reply.AclFull = codes "aclfull" ∷ []
-reply_words reply.Beyond = codes "beyond" ∷ []
-reply_words reply.NotEmpty = codes "notempty" ∷ []
-reply_words reply.HasQuota = codes "hasquota" ∷ []
-reply_words reply.Root = codes "root" ∷ []
-reply_words reply.TooLittle = codes "toolittle" ∷ []
 reply_words (reply.Word w) = codes "word" ∷ octal_digits 12 w ∷ []
 reply_words (reply.Made u) = codes "made" ∷ decimal u ∷ []
 reply_words (reply.Known n) = codes "known" ∷ decimal n ∷ []
 reply_words (reply.Over u) = codes "over" ∷ decimal u ∷ []
 reply_words (reply.SegIs u l s) = codes "seg" ∷ decimal u ∷ codes "length" ∷ decimal l ∷ codes "stored" ∷ decimal s ∷ []
 reply_words (reply.DirIs u q n) = codes "dir" ∷ decimal u ∷ codes "quota" ∷ decimal q ∷ codes "used" ∷ decimal n ∷ []
+reply_words r = bare_text r ∷ []
 
 join_reply : (x : List ℕ) (r : Reply) → join_with_byte 32 (x ∷ reply_words r) ≡ x ++ (32 ∷ reply_text r)
 unfolding reply_text bare_text
@@ -266,6 +245,7 @@ join_reply x reply.Unknown = refl
 join_reply x _ = refl
 
 reply_lacks : (r : Reply) → IsReply r → AllLack is_space (reply_words r)
+unfolding bare_text
 reply_lacks (reply.Word w) h = (
   refl,
   (

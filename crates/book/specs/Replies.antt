@@ -32,6 +32,16 @@ bare_text reply.Root = codes "root"
 bare_text reply.TooLittle = codes "toolittle"
 bare_text _ = []
 
+-- what a reply tells in numbers after the number of its kind; of one word four times 0
+abbrev pub reply_numbers : Reply → ℕ × ℕ × ℕ × ℕ
+reply_numbers (reply.Word w) = (1, w, 0, 0)
+reply_numbers (reply.Made u) = (2, u, 0, 0)
+reply_numbers (reply.Known n) = (3, n, 0, 0)
+reply_numbers (reply.Over u) = (4, u, 0, 0)
+reply_numbers (reply.SegIs uid length stored) = (5, uid, length, stored)
+reply_numbers (reply.DirIs uid quota used) = (6, uid, quota, used)
+reply_numbers _ = (0, 0, 0, 0)
+
 -- the replies of one word; the one that is given most stands first
 abbrev pub bare_replies : List Reply
 bare_replies =

@@ -8,7 +8,7 @@ mod runs;
 mod texts;
 
 pub use entries::Entry;
-pub use reading::read_entry;
-pub use replies::Reply;
+pub use reading::{bare_reply, read_entry};
+pub use replies::{Reply, is_same_reply};
 pub use runs::{Book, NoMemory};
 pub use texts::entry_text;

@@ -100,8 +100,8 @@ fn named_reply(replies: &[Reply], word: &[u8]) -> Option<Reply>
     None
 }
 
-/// A reply of one word.
-fn bare_reply(word: &[u8]) -> Option<Reply>
+/// The reply that is this word, of those of one word. (Source: own.)
+pub fn bare_reply(word: &[u8]) -> Option<Reply>
     ensures { result ≡ bare_reply word.now }
 {
     let replies = [

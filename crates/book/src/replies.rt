@@ -1,5 +1,5 @@
-ghost use Rattle.std.specs.Prelude.{◌≡◌, Some};
-ghost use Rattle.book.specs.Replies.{bare_text, reply_text};
+ghost use Rattle.std.specs.Prelude.{◌≡◌, ◌↔◌, IsTrue, Some};
+ghost use Rattle.book.specs.Replies.{bare_text, reply_numbers, reply_text};
 
 use mword::Word;
 use std::fmt;
@@ -101,6 +101,51 @@ pub(crate) fn bare_text(reply: &Reply) -> &'static str
         Reply::TooLittle => "toolittle",
         _ => "",
     }
+}
+
+/// What a reply tells in numbers after the number of its kind; of one word four times 0.
+fn numbers(reply: &Reply) -> (u32, u64, u32, u32)
+    ensures { result ≡ reply_numbers reply.now }
+{
+    match *reply {
+        Reply::Word(word) => (1, word.value(), 0, 0),
+        Reply::Made(uid) => (2, u64::from(uid), 0, 0),
+        Reply::Known(number) => (3, u64::from(number), 0, 0),
+        Reply::Over(account) => (4, u64::from(account), 0, 0),
+        Reply::SegIs {
+            uid,
+            length,
+            stored,
+        } => (5, u64::from(uid), length, stored),
+        Reply::DirIs { uid, quota, used } => (6, u64::from(uid), quota, used),
+        _ => (0, 0, 0, 0),
+    }
+}
+
+/// Whether two replies tell the same numbers.
+#[tactic(auto, using(crate::proofs::SameReplies::same_four, std::proofs::lemmas::Grind::common_steps))]
+fn tell_same(left: &Reply, right: &Reply) -> bool
+    ensures { IsTrue result ↔ reply_numbers left.now ≡ reply_numbers right.now }
+{
+    let left = numbers(left);
+    let right = numbers(right);
+    left.0 == right.0 && left.1 == right.1 && left.2 == right.2 && left.3 == right.3
+}
+
+/// Whether two replies have the same word.
+#[tactic(auto, using(crate::proofs::SameReplies::same_bytes))]
+fn read_same(left: &Reply, right: &Reply) -> bool
+    ensures { IsTrue result ↔ bare_text left.now ≡ bare_text right.now }
+{
+    bare_text(left).as_bytes() == bare_text(right).as_bytes()
+}
+
+/// Whether two replies are one. (Source: own.)
+#[tactic(auto, using(crate::proofs::SameReplies::same_reply, std::proofs::lemmas::Grind::common_steps))]
+pub fn is_same_reply(left: &Reply, right: &Reply) -> bool
+    ensures { IsTrue result ↔ left.now ≡ right.now }
+{
+    tell_same(left, right) && read_same(left, right)
 }
 
 impl fmt::Display for Reply {

@@ -1,7 +1,6 @@
 mod Prelude
 pub mod BootLaws
 pub mod ChangeLaws
-pub mod CodeLaws
 pub mod CutLaws
 pub mod DropLaws
 pub mod EffectLaws

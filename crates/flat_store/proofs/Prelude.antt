@@ -104,7 +104,6 @@ unfoldable pub use Rattle.flat_model.specs.Sizes.{after_length, length_reply}
 pub use Rattle.flat_model.specs.Store.{Progress, Store, at_first, entries_in, entries_of, known_uid, numbers_of, progress_of, records_in, records_of, root_of, with_numbers, with_progress}
 unfoldable pub use Rattle.flat_model.specs.Store.{boot}
 pub use Rattle.tree_commands.specs.Shown.{HasMoved, HasRowSet, ShowsTree}
-pub use Rattle.flat_store.specs.Replies.{reply_code}
 pub use Rattle.flat_store.specs.Roomy.{IsLeast, filled_by, is_roomy, shifted, with_drained}
 pub use Rattle.flat_store.specs.Shown.{AreFlat, AreInside, Cuts, Gauge, Held, HoldPages, Holds, IsHeld, IsReached, IsShown, Kept, Paged, Puts, Sheds, Shows, answered, drained, entries_gauge, filled, gauge_at, has_room, is_full, is_key, may_write, numbers_at, page_at, page_reply, pages_in, progress_at, records_gauge, word_in, words_in}
 unfoldable pub use Rattle.flat_store.specs.Zeros.{HasZeroPage, KeepsZeroPage}

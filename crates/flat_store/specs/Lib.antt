@@ -1,4 +1,3 @@
-pub mod Replies
 pub mod Roomy
 pub mod Shown
 pub mod Zeros

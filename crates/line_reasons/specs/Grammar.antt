@@ -3,7 +3,7 @@ use Rattle.std.specs.Prelude.{ℕ, ◌-◌, Bool, ◌||◌, if◌then◌else◌,
 use Rattle.std.specs.List.{slice_split}
 use Rattle.std.specs.Option.{option_map}
 use Rattle.std.specs.Str.{bytes_eq}
-use Rattle.book.specs.Reading.{is_space, number_of, word_of, dotted_of}
+use Rattle.book.specs.Reading.{bare_reply, is_space, number_of, word_of, dotted_of}
 use Rattle.line_reasons.specs.declared.grammar.FixedWord.{FixedWord}
 use Rattle.line_reasons.specs.declared.grammar.FixedWord.TheVariants as word
 use Rattle.line_reasons.specs.declared.grammar.Due.{Due}
@@ -33,21 +33,6 @@ behind_first w =
     else if bytes_eq w (codes "fault") then Some due.Process
     else option_map (λ n. due.Numbers n) (numbers_behind w)
 
--- the replies of one word: those that a reference may have too, and those of the tree
-unfoldable pub is_plain_reply : List ℕ → Bool
-is_plain_reply w =
-    bytes_eq w (codes "done") || (bytes_eq w (codes "unknown") || (bytes_eq w (codes "gone")
-    || (bytes_eq w (codes "noaccess") || (bytes_eq w (codes "length") || (bytes_eq w (codes "quota")
-    || (bytes_eq w (codes "norecord") || bytes_eq w (codes "device")))))))
-
-unfoldable pub is_tree_reply : List ℕ → Bool
-is_tree_reply w =
-    bytes_eq w (codes "nopath") || (bytes_eq w (codes "notdir") || (bytes_eq w (codes "isdir")
-    || (bytes_eq w (codes "isseg") || (bytes_eq w (codes "exists") || (bytes_eq w (codes "deep")
-    || (bytes_eq w (codes "room") || (bytes_eq w (codes "noentry") || (bytes_eq w (codes "full")
-    || (bytes_eq w (codes "aclfull") || (bytes_eq w (codes "beyond") || (bytes_eq w (codes "notempty")
-    || (bytes_eq w (codes "hasquota") || (bytes_eq w (codes "root") || bytes_eq w (codes "toolittle"))))))))))))))
-
 -- what follows the first word of a reply
 unfoldable pub behind_reply : List ℕ → Option Due
 behind_reply w =
@@ -56,7 +41,7 @@ behind_reply w =
     then Some (due.Numbers 1)
     else if bytes_eq w (codes "seg") then Some (due.Uid word.Length word.Stored)
     else if bytes_eq w (codes "dir") then Some (due.Uid word.Quota word.Used)
-    else if is_plain_reply w || is_tree_reply w then Some (due.Numbers 0)
+    else if is_some (bare_reply w) then Some (due.Numbers 0)
     else None
 
 -- a field is this word

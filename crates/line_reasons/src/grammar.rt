@@ -1,9 +1,11 @@
 ghost use Rattle.std.specs.Prelude.{◌≡◌, is_some};
 ghost use Rattle.line_reasons.specs.Grammar.{numbers_behind};
-ghost use Rattle.line_reasons.specs.Grammar.{behind_first, is_plain_reply, is_tree_reply, is_page_or_seg};
+ghost use Rattle.line_reasons.specs.Grammar.{behind_first, is_page_or_seg};
 ghost use Rattle.line_reasons.specs.Grammar.{behind_reply, reads, is_fit, behind, or_end};
+ghost use Rattle.book.specs.Reading.{bare_reply};
 
 use crate::fields::{is_command, is_number, is_number_or_none, is_word};
+use book::bare_reply;
 
 /// A word that stands between the numbers of what a segment or a directory is like.
 #[derive(Clone, Copy, Debug, PartialEq, Eq)]
@@ -109,43 +111,6 @@ fn behind_first(word: &[u8]) -> Option<Due>
     }
 }
 
-/// Whether a word is a reply of a reference, or one that any command may have, all by itself.
-#[tactic(auto, unfolding(crate::specs::Grammar::is_plain_reply))]
-fn is_plain_reply(word: &[u8]) -> bool
-    ensures { result ≡ is_plain_reply word.now }
-{
-    word == b"done".as_slice()
-        || word == b"unknown".as_slice()
-        || word == b"gone".as_slice()
-        || word == b"noaccess".as_slice()
-        || word == b"length".as_slice()
-        || word == b"quota".as_slice()
-        || word == b"norecord".as_slice()
-        || word == b"device".as_slice()
-}
-
-/// Whether a word is a refusal of a tree command, all by itself.
-#[tactic(auto, unfolding(crate::specs::Grammar::is_tree_reply))]
-fn is_tree_reply(word: &[u8]) -> bool
-    ensures { result ≡ is_tree_reply word.now }
-{
-    word == b"nopath".as_slice()
-        || word == b"notdir".as_slice()
-        || word == b"isdir".as_slice()
-        || word == b"isseg".as_slice()
-        || word == b"exists".as_slice()
-        || word == b"deep".as_slice()
-        || word == b"room".as_slice()
-        || word == b"noentry".as_slice()
-        || word == b"full".as_slice()
-        || word == b"aclfull".as_slice()
-        || word == b"beyond".as_slice()
-        || word == b"notempty".as_slice()
-        || word == b"hasquota".as_slice()
-        || word == b"root".as_slice()
-        || word == b"toolittle".as_slice()
-}
-
 /// What follows the first word of a reply. `None` exactly where no reply begins so.
 #[tactic(auto, unfolding(crate::specs::Grammar::behind_reply))]
 fn behind_reply(word: &[u8]) -> Option<Due>
@@ -162,7 +127,7 @@ fn behind_reply(word: &[u8]) -> Option<Due>
         Some(Due::Uid(FixedWord::Length, FixedWord::Stored))
     } else if word == b"dir".as_slice() {
         Some(Due::Uid(FixedWord::Quota, FixedWord::Used))
-    } else if is_plain_reply(word) || is_tree_reply(word) {
+    } else if bare_reply(word).is_some() {
         Some(Due::Numbers(0))
     } else {
         None
