@@ -1,11 +1,6 @@
 -- The access to a segment is taken away while another processor holds its descriptor: until that has cleared, the
 -- process reads on, and the command that takes the access away waits.
-use Rattle.machine_model.proofs.Prelude.{◌≡◌, [], ◌∷◌, Some, None, refl, codes, ProcessPlan, State, action_of, Waits, ForClear, book_of, machine_with, process_for, row_for, ran, stepped}
-use Rattle.mnames.specs.declared.modes.Mode.TheVariants as mode
-use Rattle.script.specs.declared.commands.Command.TheVariants as command
-use Rattle.book.specs.declared.entries.Entry.TheVariants as entry
-use Rattle.book.specs.declared.replies.Reply.TheVariants as reply
-use Rattle.assoc_mem.specs.declared.What.TheVariants as what
+use Rattle.machine_model.proofs.Prelude.{◌≡◌, [], ◌∷◌, Some, None, refl, codes, ProcessPlan, State, action_of, Waits, ForClear, book_of, machine_with, process_for, row_for, ran, stepped, Mode as mode, Command as command, Entry as entry, Reply as reply, What as what}
 
 abbrev smith : ProcessPlan
 smith = process_for (codes "Smith") (

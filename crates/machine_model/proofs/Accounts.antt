@@ -1,10 +1,6 @@
 -- A directory with a quota of its own, and one below the root: each page is charged where it belongs, and a page of
 -- zeros is given back as it leaves its frame.
-use Rattle.machine_model.proofs.Prelude.{◌≡◌, [], ◌∷◌, Some, None, refl, codes, pos, ProcessPlan, State, book_of, machine_with, process_for, until}
-use Rattle.script.specs.declared.commands.Command.TheVariants as command
-use Rattle.book.specs.declared.entries.Entry.TheVariants as entry
-use Rattle.book.specs.declared.replies.Reply.TheVariants as reply
-use Rattle.assoc_mem.specs.declared.What.TheVariants as what
+use Rattle.machine_model.proofs.Prelude.{◌≡◌, [], ◌∷◌, Some, None, refl, codes, pos, ProcessPlan, State, book_of, machine_with, process_for, until, Command as command, Entry as entry, Reply as reply, What as what}
 
 abbrev script : ProcessPlan
 script = process_for (codes "Smith") (

@@ -1,8 +1,6 @@
 -- The machine keeps its promise where a segment becomes active, is connected, or is active no more, where a page is
 -- made, and where a word is reached through a frame.
-use Rattle.machine_model.proofs.Prelude.{◌≡◌, ◌≢◌, ◌<◌, ℕ, ◌%◌, Bool, true, false, cond, count_by, List, [], ◌∷◌, ◌++◌, length, Option, Some, None, refl, sym, ap, subst, ◌∙◌, arith, length-set, Plan, Reference, binding_at, frame_in, referred, word_put, Frame, after_reference, bound_page, started_page, IsOneToOne, entry_at, uid_at, leads_at, place_of, sdws_at, table_of, read_at, alters, new_word, word_reply, MayActivate, MayDeactivate, NoneDue, gone_seg, KeepsBook, is_pending, seen, deactivated_one, emptied, seg_gone, segs_gone, IsAtWork, Keeps, StoreSays, is_fault, cut_of_owner, flat_of, frames_of_owner, process_at, processor_at, run_at, Seen, shown, CutDescriptor, Owner, State, Storage, activated_at, connected_to, looking, old_word, page_created, page_made, pages_after, told, went_through, with_owner, with_pages, with_store, without_first_cut, map_kept}
-use Rattle.book.specs.declared.entries.Entry.TheVariants as entry
-use Rattle.core_map.specs.declared.Frame.TheVariants as frame
+use Rattle.machine_model.proofs.Prelude.{◌≡◌, ◌≢◌, ◌<◌, ℕ, ◌%◌, Bool, true, false, cond, count_by, List, [], ◌∷◌, ◌++◌, length, Option, Some, None, refl, sym, ap, subst, ◌∙◌, arith, length-set, Plan, Reference, binding_at, frame_in, referred, word_put, Frame, after_reference, bound_page, started_page, IsOneToOne, entry_at, uid_at, leads_at, place_of, sdws_at, table_of, read_at, alters, new_word, word_reply, MayActivate, MayDeactivate, NoneDue, gone_seg, KeepsBook, is_pending, seen, deactivated_one, emptied, seg_gone, segs_gone, IsAtWork, Keeps, StoreSays, is_fault, cut_of_owner, flat_of, frames_of_owner, process_at, processor_at, run_at, Seen, shown, CutDescriptor, Owner, State, Storage, activated_at, connected_to, looking, old_word, page_created, page_made, pages_after, told, went_through, with_owner, with_pages, with_store, without_first_cut, map_kept, Entry as entry, Frame as frame, page_referred}
 use Rattle.machine_model.proofs.ActiveLaws.{activate_keeps, deactivate_keeps}
 use Rattle.machine_model.proofs.ActiveSeen.{activate_seen, blank_less, deactivate_seen, inactive_blank, names_table, words_less, words_more, words_new}
 use Rattle.machine_model.proofs.AnswerLaws.{owner_keeps}
@@ -16,7 +14,6 @@ use Rattle.machine_model.proofs.TellKept.{CanTell, told_keeps, works_counted}
 use Rattle.machine_model.proofs.TieLaws.{none_some}
 use Rattle.machine_model.proofs.TransferKept.{kept_with, quiet_faults}
 use Rattle.machine_model.proofs.TransferLaws.{CanMake, here_keeps}
-use Rattle.page_control.proofs.Facts.{page_referred}
 
 -- ---- a segment becomes active
 
@@ -144,8 +141,8 @@ pub created_kept : (s : State) (c f u p : ℕ) (r : Reference) → Keeps s → C
     → CanTell (page_made s f u p r) c (process_at s c) None (word_reply 0 r.kind)
     → StoreSays (page_created s c f u p r) → Keeps (page_created s c f u p r)
 created_kept s c f u p r k can within active inner idle quiet tell says = kept_with (page_created s c f u p r)
-    (owner_keeps (seen (told now c None (word_reply 0 r.kind))) None
-    (told_keeps now c (process_at s c) None (word_reply 0 r.kind) book tell) idle nobody quiet) says (omega (
+    (owner_keeps
+    (told_keeps book tell) idle nobody quiet) says (omega (
       arith,
       faults_push s.entries (entry.Here f u p),
       faults_push (s.entries ++ entry.Here f u p ∷ [])
@@ -190,8 +187,7 @@ pub through_kept : (s : State) (c f : ℕ) (r : Reference) → Keeps s
     → CanTell (with_store s (with_pages s.store (pages_after s.store.pages f r))) c (process_at s c) (Some f)
     (word_reply (old_word s.store.pages f r) r.kind) → StoreSays (went_through s c f r) → Keeps (went_through s c f r)
 through_kept s c f r k can says = kept_with (went_through s c f r)
-    (told_keeps (with_store s (with_pages s.store (pages_after s.store.pages f r))) c (process_at s c) (Some f)
-    (word_reply (old_word s.store.pages f r) r.kind) (subst KeepsBook (sym (through_seen s f r)) k.book) can) says
+    (told_keeps (subst KeepsBook (sym (through_seen s f r)) k.book) can) says
     (omega (
       arith,
       faults_push s.entries (entry.Do (process_at s c) (run_at s.runs (process_at s c)).place c (Some f)

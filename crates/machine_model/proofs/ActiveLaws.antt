@@ -1,7 +1,5 @@
 -- A segment becomes active, or is it no more.
-use Rattle.machine_model.proofs.Prelude.{◌≡◌, ◌≢◌, ℕ, Bool, true, false, [], ◌∷◌, ◌++◌, Option, Some, None, inl, inr, refl, sym, ap, subst, ◌∙◌, eqb_tells, Entry, Ptw, IsLawful, after_entry, IsAllowed, MayActivate, MayDeactivate, Custody, page_of, uid_of_page, HasNoPage, at_put, custody_next, activated, deactivated, KeepsBook, IsOwned, IsRun, IsTied, is_pending, names, is_out, Seen, flat, shown, frame_use, bound_use, progress_of, FillsOnline, pending_after}
-use Rattle.book.specs.declared.entries.Entry.TheVariants as entry
-use Rattle.page_table.specs.declared.Ptw.TheVariants as ptw
+use Rattle.machine_model.proofs.Prelude.{◌≡◌, ◌≢◌, ℕ, Bool, true, false, [], ◌∷◌, ◌++◌, Option, Some, None, inl, inr, refl, sym, ap, subst, ◌∙◌, eqb_tells, Entry, Ptw, IsLawful, after_entry, IsAllowed, MayActivate, MayDeactivate, Custody, page_of, uid_of_page, HasNoPage, at_put, custody_next, activated, deactivated, KeepsBook, IsOwned, IsRun, IsTied, is_pending, names, is_out, Seen, flat, shown, frame_use, bound_use, progress_of, FillsOnline, pending_after, Entry as entry, Ptw as ptw}
 use Rattle.machine_model.proofs.BookNext.{book_next}
 use Rattle.machine_model.proofs.OwnedLaws.{like_active, owned_like}
 use Rattle.machine_model.proofs.TieLaws.{not_there, page_used}
@@ -48,7 +46,7 @@ activity_keeps : (v : Seen) (u : ℕ) (words : ℕ → ℕ → Ptw) (active : Bo
     → pending_after (is_pending v.owner) e ≡ is_pending v.owner
     → ((j : ℕ) → IsRun (progress_of (after_entry v.plan (flat v) e) j) (v.runs j))
     → KeepsBook (record v { active = at_put v.active u active; words = words; entries = v.entries ++ e ∷ [] })
-activity_keeps v u words active e k change lawful allowed online next pending runs = book_next v e _ refl refl k
+activity_keeps v u words active e k change lawful allowed online next pending runs = book_next refl refl k
     (assumption (
       (λ i. record (shown v) {
         active = at_put v.active u active;

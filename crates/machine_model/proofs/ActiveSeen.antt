@@ -1,10 +1,5 @@
 -- What custody sees of a machine where a segment becomes active, or is it no more.
-use Rattle.machine_model.proofs.Prelude.{◌≡◌, ◌≢◌, ◌<◌, ℕ, zero, suc, ◌+◌, Bool, true, false, not, ◌||◌, cond, eqb, List, [], ◌∷◌, ◌++◌, length, set, get_or, replicate, Option, Some, None, inl, inr, refl, sym, ap, subst, ◌∙◌, arith, list_any, position_or_len, cases_Bool, or_parts, eqb-true, eqb_tells, leb_tells, get_or_past, get_or-set_same, get_or-set_other, length-set, position_or_len-set, Ptw, ActiveSegs, IsOneToOne, entry_at, table_at, uid_at, uid_in, Sdw, is_for, leads, leads_at, place_of, word_of, filed_word, made_active, table_for, at_put, activated, no_more_active, names, led_to, seen, descriptor_of, is_active, State, passed_there}
-use Rattle.page_table.specs.declared.Ptw.TheVariants as ptw
-use Rattle.active_segs.specs.declared.Entry.{Entry}
-use Rattle.active_segs.specs.Active.{deactivated}
-use Rattle.descriptor_seg.specs.declared.Sdw.TheVariants as sdw
-use Rattle.book.specs.declared.entries.Entry.TheVariants as entry
+use Rattle.machine_model.proofs.Prelude.{◌≡◌, ◌≢◌, ◌<◌, ℕ, zero, suc, ◌+◌, Bool, true, false, not, ◌||◌, cond, eqb, List, [], ◌∷◌, ◌++◌, length, set, get_or, replicate, Option, Some, None, inl, inr, refl, sym, ap, subst, ◌∙◌, arith, list_any, position_or_len, cases_Bool, or_parts, eqb-true, eqb_tells, leb_tells, get_or_past, get_or-set_same, get_or-set_other, length-set, position_or_len-set, Ptw, ActiveSegs, IsOneToOne, entry_at, table_at, uid_at, uid_in, Sdw, is_for, leads, leads_at, place_of, word_of, filed_word, made_active, table_for, at_put, activated, no_more_active, names, led_to, seen, descriptor_of, is_active, State, passed_there, Ptw as ptw, Active as Entry, active_deactivated as deactivated, Sdw as sdw, Entry as entry, true_from_ne_false}
 use Rattle.machine_model.proofs.Places.{by_place}
 use Rattle.machine_model.proofs.TieLaws.{none_some}
 use Rattle.machine_model.proofs.WordLaws.{found}
@@ -28,11 +23,7 @@ module _ {X : Type 0} (p : X → Bool) where
       by false rest e = omega (arith, rest e)
 
   pub within_some : (xs : List X) → position_or_len p xs < length xs → list_any p xs ≡ true
-  within_some xs h = by (list_any p xs) refl
-    where
-      by : (b : Bool) → list_any p xs ≡ b → b ≡ true
-      by true e = refl
-      by false e = absurd (omega (arith, none_length xs e))
+  within_some xs h = true_from_ne_false (list_any p xs) (λ e. omega (arith, none_length xs e))
 
   -- an element stands for one that passes where it does
   any_same : (xs : List X) (i : ℕ) (y d : X) → p y ≡ p (get_or xs i d) → list_any p (set xs i y) ≡ list_any p xs

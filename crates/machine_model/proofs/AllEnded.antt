@@ -1,7 +1,6 @@
 -- Once no process is ready or running each has ended, and the book is complete.
-use Rattle.machine_model.proofs.Prelude.{◌≡◌, ◌≢◌, ◌<◌, ℕ, zero, suc, ◌+◌, Bool, true, false, not, ◌||◌, cond, eqb, length, List, [], ◌∷◌, get_or, set, Option, Some, None, is_some, inl, inr, refl, sym, ap, subst, ◌∙◌, arith, replicate, filter, list_any, eqb_tells, get_or-set_other, get_or-set_same, Plan, command_at, Command, Entry, Reply, has, after_command, effect_of, gone_on, is_end, takes_effect, tries_on, IsAnswer, IsComplete, IsEnd, IsLawful, IsLegal, IsLegalFrom, MayFault, after_do, after_entry, after_fault, is_part, last_of, part, store_after, store_from, Progress, Store, at_first, boot, progress_of, with_progress, has_process, is_empty, is_over, KeepsAll, cpu_at, flat_of, run_at, HasTurn, MayRun, State, Processor, effect_advances, and_parts, not_both, going_within}
-use Rattle.script.specs.declared.commands.Command.TheVariants as command
-use Rattle.book.specs.declared.entries.Entry.TheVariants as entry
+use Rattle.machine_model.proofs.Prelude.{◌≡◌, ◌≢◌, ◌<◌, ℕ, zero, suc, ◌+◌, Bool, true, false, not, ◌||◌, cond, eqb, length, List, [], ◌∷◌, get_or, set, Option, Some, None, is_some, inl, inr, refl, sym, ap, subst, ◌∙◌, arith, replicate, filter, list_any, eqb_tells, get_or-set_other, get_or-set_same, Plan, command_at, Command, Entry, Reply, has, after_command, effect_of, gone_on, is_end, takes_effect, tries_on, IsAnswer, IsComplete, IsEnd, IsLawful, IsLegal, IsLegalFrom, MayFault, after_do, after_entry, after_fault, is_part, last_of, part, store_after, store_from, Progress, Store, at_first, boot, progress_of, with_progress, has_process, is_empty, is_over, KeepsAll, cpu_at, flat_of, run_at, HasTurn, MayRun, State, Processor, effect_advances, and_parts, not_both, going_within, Command as command, Entry as entry, true_from_ne_false}
+use Rattle.machine_model.proofs.RunLaws.{base_same}
 use Rattle.machine_model.proofs.TieLaws.{none_some}
 
 -- ---- nobody is ready or running
@@ -41,11 +40,7 @@ module _ (s : State) (all : KeepsAll s) (over : is_over s ≡ true) where
   ]
 
   ends : (k : ℕ) → k < length s.plan.processes → HasTurn s.plan s.runs k → (run_at s.runs k).ended ≡ true
-  ends k planned turn = by (run_at s.runs k).ended refl
-    where
-      by : (b : Bool) → (run_at s.runs k).ended ≡ b → b ≡ true
-      by true e = refl
-      by false e = absurd (none_may k (assumption))
+  ends k planned turn = true_from_ne_false (run_at s.runs k).ended (λ e. none_may k (assumption))
 
   -- each process has ended
   pub over_ended : (k : ℕ) → k < length s.plan.processes → (run_at s.runs k).ended ≡ true
@@ -67,13 +62,6 @@ module _ (p : Plan) (s : Store) (k : ℕ) (going : (progress_of s k).ended ≡ f
   IsItsEnd (entry.Do j place cpu frame r) = (j ≡ k) × (command_at p j place ≡ Some command.End)
   IsItsEnd _ = ⊥
 
-  base_same : (c : Command) (r : Reply) (j : ℕ) → (cond (takes_effect r) (effect_of p s j c) s).processes ≡ s.processes
-  base_same c r j = by (takes_effect r)
-    where
-      by : (x : Bool) → (cond x (effect_of p s j c) s).processes ≡ s.processes
-      by true = (effect_advances p s j c).processes
-      by false = refl
-
   end_of : (c : Command) → is_end c ≡ true → c ≡ command.End
   end_of command.End h = refl
   end_of _ h = cc
@@ -94,7 +82,7 @@ module _ (p : Plan) (s : Store) (k : ℕ) (going : (progress_of s k).ended ≡ f
 
       at : (i : ℕ) → get_or (set (cond (takes_effect r) (effect_of p s j c) s).processes j now) i ended_progress
           ≡ get_or (set s.processes j now) i ended_progress
-      at i = cc (base_same c r j)
+      at i = cc (base_same p s j c r)
 
       here : k ≡ j → progress_of (after_command p s j c r) k ≡ now
       here e = cc (at k, get_or-set_same s.processes j now ended_progress (going_within s j its))
@@ -143,11 +131,7 @@ module _ (p : Plan) (k : ℕ) where
       → progress_of (after_command p s j c r) k ≡ progress_of s k
   unfolding after_command
   other_do s j c r n = ap (λ (qs : List Progress). get_or (set qs j (gone_on (progress_of s j) c r)) k ended_progress)
-      (by (takes_effect r)) ∙ get_or-set_other s.processes j k (gone_on (progress_of s j) c r) ended_progress n
-    where
-      by : (x : Bool) → (cond x (effect_of p s j c) s).processes ≡ s.processes
-      by true = (effect_advances p s j c).processes
-      by false = refl
+      (base_same p s j c r) ∙ get_or-set_other s.processes j k (gone_on (progress_of s j) c r) ended_progress n
 
   stays_ended : (s : Store) (e : Entry) → (progress_of s k).ended ≡ true → IsLawful p s e
       → (is_part k e ≡ false) × ((progress_of (after_entry p s e) k).ended ≡ true)

@@ -1,8 +1,5 @@
 -- A command is answered, a drive's failure is told, or the owner of the supervisor changes.
-use Rattle.machine_model.proofs.Prelude.{◌≡◌, ℕ, List, ◌++◌, Option, Some, refl, sym, ap, ◌∙◌, command_at, Command, Reply, gone_on, IsLawful, IsLawfulDo, MayFault, after_entry, progress_of, MayDo, at_put, custody_next, is_try, released_by, with_seat, answered, counted, KeepsBook, HoldsRight, IsRun, is_pending, Seen, flat, shown, seat_of, Processor, Run, Owner}
-use Rattle.book.specs.declared.entries.Entry.TheVariants as entry
-use Rattle.custody_model.specs.Allowed.{next_command}
-use Rattle.machine_model.specs.Changes.{failed}
+use Rattle.machine_model.proofs.Prelude.{◌≡◌, ℕ, List, ◌++◌, Option, Some, refl, sym, ap, ◌∙◌, command_at, Command, Reply, gone_on, IsLawful, IsLawfulDo, MayFault, after_entry, progress_of, MayDo, at_put, custody_next, is_try, released_by, with_seat, answered, counted, KeepsBook, HoldsRight, IsRun, is_pending, Seen, flat, shown, seat_of, Processor, Run, Owner, Entry as entry, next_of as next_command, changes_failed as failed}
 use Rattle.machine_model.proofs.BookNext.{book_apart, book_next}
 use Rattle.machine_model.proofs.HeldLaws.{right_like, under_way_alike}
 use Rattle.machine_model.proofs.OwnedLaws.{IsIdle, like_seat, owned_like, owned_idle}
@@ -23,8 +20,7 @@ pub record CanAnswer (v : Seen) (c k place : ℕ) (f : Option ℕ) (r : Reply) (
 pub answer_keeps : (v : Seen) (c k place : ℕ) (f : Option ℕ) (r : Reply) (run : Run) → KeepsBook v
     → CanAnswer v c k place f r run → KeepsBook (answered v c k place f r run)
 unfolding IsLawful after_entry custody_next
-answer_keeps v c k place f r run keeps can =
-    book_next v (entry.Do k place c f r) (answered v c k place f r run) refl refl keeps (record {
+answer_keeps v c k place f r run keeps can = book_next refl refl keeps (record {
       lawful = can.lawful;
       allowed = can.allowed;
       online = tt;
@@ -58,7 +54,7 @@ fault_keeps v o k may = book_apart v (entry.Fault o) k may tt tt refl refl (runs
 -- ---- the owner
 
 -- the supervisor is taken or given up, where nothing goes
-pub owner_keeps : (v : Seen) (owner : Option Owner) → KeepsBook v → IsIdle v.owner → IsIdle owner
+pub owner_keeps : {v : Seen} {owner : Option Owner} → KeepsBook v → IsIdle v.owner → IsIdle owner
     → is_pending v.owner ≡ is_pending owner → KeepsBook (record v { owner = owner })
-owner_keeps v owner k was now pending = owner_next v owner k (cc) pending
+owner_keeps {v} {owner} k was now pending = owner_next v owner k (cc) pending
     (owned_idle (shown v) v.owner owner k.going_owned was now)

@@ -1,7 +1,5 @@
 -- The machine keeps its promise where a write failed: all that was still going comes back, and the process is told.
-use Rattle.machine_model.proofs.Prelude.{◌≡◌, ◌<◌, ◌≤◌, ℕ, zero, suc, count_by, List, [], ◌∷◌, ◌++◌, length, set, get_or, Option, Some, None, refl, sym, ap, subst, ◌∙◌, arith, length-set, ◌^◌, min, Rose, bound_page, frame_in, Sdw, place_of, sdws_at, MayFault, page_at, back, back_seg, KeepsBook, seen, here_if, page_back, pages_back, seg_back, segs_back, with_relink, write_failed, AreThere, Keeps, StoreSays, is_fault, cut_of_owner, flat_of, frames_of_owner, process_at, run_at, Seen, CutDescriptor, State, Storage, fault_told, looking, told, with_owner, without_first_cut, without_first_frame}
-use Rattle.book.specs.declared.entries.Entry.TheVariants as entry
-use Rattle.book.specs.declared.replies.Reply.TheVariants as reply
+use Rattle.machine_model.proofs.Prelude.{◌≡◌, ◌<◌, ◌≤◌, ℕ, zero, suc, count_by, List, [], ◌∷◌, ◌++◌, length, set, get_or, Option, Some, None, refl, sym, ap, subst, ◌∙◌, arith, length-set, ◌^◌, min, Rose, bound_page, frame_in, Sdw, place_of, sdws_at, MayFault, page_at, back, back_seg, KeepsBook, seen, here_if, page_back, pages_back, seg_back, segs_back, with_relink, write_failed, AreThere, Keeps, StoreSays, is_fault, cut_of_owner, flat_of, frames_of_owner, process_at, run_at, Seen, CutDescriptor, State, Storage, fault_told, looking, told, with_owner, without_first_cut, without_first_frame, Entry as entry, Reply as reply}
 use Rattle.machine_model.proofs.ActiveSeen.{active_place}
 use Rattle.machine_model.proofs.AnswerLaws.{fault_keeps}
 use Rattle.machine_model.proofs.ChainLaws.{GoesOn, back_on, first_finish, first_finish_seg, uncut_on, goes_with}
@@ -149,7 +147,7 @@ module _ (s : State) (c faults : ℕ) (fs : List ℕ) (ds : List CutDescriptor) 
       → StoreSays (with_owner (told now c None reply.Device) None)
       → Keeps (with_owner (told now c None reply.Device) None)
   failed_with now is book can says = kept_with (with_owner (told now c None reply.Device) None)
-      (told_keeps (with_owner now None) c (process_at now c) None reply.Device book can) says
+      (told_keeps book can) says
       few (cc (length-set now.processors c _, same_processors, k.sizes.processors, same_plan))
       (cc (length-set now.runs (process_at now c) _, same_runs, k.sizes.processes, same_plan)) (λ o h. cc)
     where

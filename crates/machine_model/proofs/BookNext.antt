@@ -14,9 +14,9 @@ pub record Books (v : Seen) (e : Entry) (now : Seen) : Type 0 where
   pub under_way : AreUnderWay now.reads now.processors
   pub runs : (k : ℕ) → IsRun (progress_of (after_entry v.plan (flat v) e) k) (now.runs k)
 
-pub book_next : (v : Seen) (e : Entry) (now : Seen) → now.plan ≡ v.plan → now.entries ≡ v.entries ++ e ∷ []
+pub book_next : {v : Seen} {e : Entry} {now : Seen} → now.plan ≡ v.plan → now.entries ≡ v.entries ++ e ∷ []
     → KeepsBook v → Books v e now → KeepsBook now
-book_next v e now plan entries k b = record {
+book_next {v} {e} {now} plan entries k b = record {
   legal = rw (plan, entries) (legal_push v.plan v.entries e k.legal b.lawful);
   clean = rw (plan, entries) (clean_push v.plan v.entries e k.clean (rw (← k.held) b.allowed));
   held = b.next ∙ (ap (λ (c : Custody). custody_next v.plan (flat v) c e) k.held ∙
@@ -39,8 +39,7 @@ pub book_apart : (v : Seen) (e : Entry) → KeepsBook v → IsLawful v.plan (fla
     → custody_next v.plan (flat v) (shown v) e ≡ shown v → pending_after (is_pending v.owner) e ≡ is_pending v.owner
     → ((j : ℕ) → IsRun (progress_of (after_entry v.plan (flat v) e) j) (v.runs j))
     → KeepsBook (record v { entries = v.entries ++ e ∷ [] })
-book_apart v e k lawful allowed online next pending runs =
-    book_next v e (record v { entries = v.entries ++ e ∷ [] }) refl refl k (assumption (
+book_apart v e k lawful allowed online next pending runs = book_next refl refl k (assumption (
       lawful,
       allowed,
       online,

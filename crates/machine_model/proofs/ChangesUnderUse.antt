@@ -1,11 +1,6 @@
 -- An initializer makes two segments, which share the one place of their pool. Then one is truncated, shortened and
 -- forgotten by one process, and the other deleted by another, which reads it once more.
-use Rattle.machine_model.proofs.Prelude.{◌≡◌, [], ◌∷◌, Some, None, refl, codes, pos, true, ProcessPlan, State, book_of, machine_of, plan_with, process_for, anyone, ran}
-use Rattle.mnames.specs.declared.modes.Mode.TheVariants as mode
-use Rattle.script.specs.declared.commands.Command.TheVariants as command
-use Rattle.book.specs.declared.entries.Entry.TheVariants as entry
-use Rattle.book.specs.declared.replies.Reply.TheVariants as reply
-use Rattle.assoc_mem.specs.declared.What.TheVariants as what
+use Rattle.machine_model.proofs.Prelude.{◌≡◌, [], ◌∷◌, Some, None, refl, codes, pos, true, ProcessPlan, State, book_of, machine_of, plan_with, process_for, anyone, ran, Mode as mode, Command as command, Entry as entry, Reply as reply, What as what}
 
 abbrev initializer : ProcessPlan
 initializer = process_for (codes "Initializer") (

@@ -1,11 +1,5 @@
 -- The signal of what was taken is given, and a processor clears.
-use Rattle.machine_model.proofs.Prelude.{◌≡◌, ℕ, Bool, true, false, cond, not, eqb, List, [], ◌∷◌, map, filter, Option, Some, None, refl, sym, ap, subst, ◌∙◌, arith, HeldPage, HeldSeg, What, names_seg, names_page, IsLawful, after_entry, DescriptorUse, SomethingGoes, NamesAllGoing, NoneDue, Seat, leads_to, is_uid, names_frame, names_descriptor, names_number, cleared, at_put, custody_next, cleared_at, told_at, dropped, warned, done_dropping, Phase, KeepsBook, HoldsRight, AreHeldPages, AreHeldSegs, AreOfProcess, is_pending, says, waits_for, Seen, shown, seat_of, descriptor_use, cut_uid, Processor, Owner, few_kept}
-use Rattle.assoc_mem.specs.declared.What.TheVariants as what
-use Rattle.book.specs.declared.entries.Entry.TheVariants as entry
-use Rattle.custody_model.specs.Custody.{bound_page}
-use Rattle.custody_model.specs.Next.{told}
-use Rattle.machine_model.specs.Changes.{signalled}
-use Rattle.machine_model.specs.declared.Phase.TheVariants as phase
+use Rattle.machine_model.proofs.Prelude.{◌≡◌, ℕ, Bool, true, false, cond, not, eqb, List, [], ◌∷◌, map, filter, Option, Some, None, refl, sym, ap, subst, ◌∙◌, arith, HeldPage, HeldSeg, What, names_seg, names_page, IsLawful, after_entry, DescriptorUse, SomethingGoes, NamesAllGoing, NoneDue, Seat, leads_to, is_uid, names_frame, names_descriptor, names_number, cleared, at_put, custody_next, cleared_at, told_at, dropped, warned, done_dropping, Phase, KeepsBook, HoldsRight, AreHeldPages, AreHeldSegs, AreOfProcess, is_pending, says, waits_for, Seen, shown, seat_of, descriptor_use, cut_uid, Processor, Owner, few_kept, What as what, Entry as entry, custody_bound_page as bound_page, next_told as told, signal_given as signalled, Phase as phase}
 use Rattle.machine_model.proofs.BookNext.{book_next}
 use Rattle.machine_model.proofs.DueLaws.{HasSaid, none_due, owned_signal, owned_clear}
 use Rattle.machine_model.proofs.HeldLaws.{pages_kept, right_like, segs_kept, under_way_alike, kept_step}
@@ -125,7 +119,7 @@ pub record CanSignal (v : Seen) (c : ℕ) (w : What) (owner : Option Owner) : Ty
 pub signal_keeps : (v : Seen) (c : ℕ) (w : What) (owner : Option Owner) → KeepsBook v → CanSignal v c w owner
     → KeepsBook (signalled v c w owner)
 unfolding IsLawful after_entry custody_next
-signal_keeps v c w owner k can = book_next v (entry.Signal c w) (signalled v c w owner) refl refl k (record {
+signal_keeps v c w owner k can = book_next refl refl k (record {
   lawful = tt;
   allowed = record { online = can.online; none_due = none; something = goes.0; all = goes.1 };
   online = tt;
@@ -156,7 +150,7 @@ signal_keeps v c w owner k can = book_next v (entry.Signal c w) (signalled v c w
 pub clear_keeps : (v : Seen) (c : ℕ) (w : What) → KeepsBook v → (v.processors c).cpu.due ≡ Some w
     → KeepsBook (cleared_at v c w)
 unfolding IsLawful after_entry custody_next
-clear_keeps v c w k due = book_next v (entry.Clear c w) (cleared_at v c w) refl refl k (record {
+clear_keeps v c w k due = book_next refl refl k (record {
   lawful = tt;
   allowed = due;
   online = tt;

@@ -1,6 +1,5 @@
 -- What is left of a command's premises follows from what its job took.
-use Rattle.machine_model.proofs.Prelude.{Command, ℕ, Some, Keeps, process_at, State, IsTakenFor}
-use Rattle.script.specs.declared.commands.Command.TheVariants as command
+use Rattle.machine_model.proofs.Prelude.{Command, ℕ, Some, Keeps, process_at, State, IsTakenFor, Command as command}
 use Rattle.machine_model.proofs.CommitAsks.{RestsCommit}
 use Rattle.machine_model.proofs.CommitRests.{acl_rests, delete_rests, end_rests, terminate_rests}
 use Rattle.machine_model.proofs.TruncateRests.{truncate_rests}

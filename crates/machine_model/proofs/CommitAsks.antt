@@ -1,11 +1,5 @@
 -- What the step asks of a command that takes effect: what the store says after it, and that it may be answered.
-use Rattle.machine_model.proofs.Prelude.{cond_both, [], ◌≡◌, ℕ, true, false, length, map, List, ◌∷◌, ◌++◌, Option, Some, None, inl, refl, sym, ap, subst, ◌∙◌, length-set, list_all, reference_of, Command, Entry, IsTree, Ptw, effect_by, effect_of, reply_by, reply_to_command, takes_effect, store_after, Store, progress_of, MayTakeEffect, CutDescriptor, Outcome, after, committed, committed_at, cut_entry, gone_entries, left_after, with_deleted, with_effect, with_truncated, without_page, IsRun, seen, Keeps, StoreSays, flat_of, frames_of_owner, is_active, process_at, run_at, reply_of, uid_of_command, Says, with_command, shown, State, Storage, told, with_owner, tree_free, effect_total, OfNode, refusal_of, TakesSome}
-use Rattle.script.specs.declared.commands.Command.TheVariants as command
-use Rattle.book.specs.declared.entries.Entry.TheVariants as entry
-use Rattle.core_map.specs.declared.Frame.TheVariants as frame
-use Rattle.page_table.specs.declared.Ptw.TheVariants as ptw
-use Rattle.storage_ops.specs.Shown.{answered}
-use Rattle.machine_model.specs.Actions as act
+use Rattle.machine_model.proofs.Prelude.{cond_both, [], ◌≡◌, ℕ, true, false, length, map, List, ◌∷◌, ◌++◌, Option, Some, None, inl, refl, sym, ap, subst, ◌∙◌, length-set, list_all, reference_of, Command, Entry, IsTree, Ptw, effect_by, effect_of, reply_by, reply_to_command, takes_effect, store_after, Store, progress_of, MayTakeEffect, CutDescriptor, Outcome, after, committed, committed_at, cut_entry, gone_entries, left_after, with_deleted, with_effect, with_truncated, without_page, IsRun, seen, Keeps, StoreSays, flat_of, frames_of_owner, is_active, process_at, run_at, reply_of, uid_of_command, Says, with_command, shown, State, Storage, told, with_owner, tree_free, effect_total, OfNode, refusal_of, TakesSome, Command as command, Entry as entry, Frame as frame, Ptw as ptw, shown_answered as answered, Action as act}
 use Rattle.machine_model.proofs.CommitKept.{effected}
 use Rattle.machine_model.proofs.FlatAlike.{IsAlike, all_still, alike_by, done_alike, is_still, one_still, refused_alike}
 use Rattle.machine_model.proofs.SaysLaws.{none_rest, quotas, says_is}
@@ -119,7 +113,7 @@ module _ (s : State) (c : ℕ) (o : Outcome) (keeps : Keeps s) (cmd : Command) (
   commit_says : Says s c o act.Commit → StoreSays (committed s c k cmd)
   unfolding after
   commit_says says = let stays_same = left_store (told (effected s k cmd) c None (reply_of s k cmd)) c cmd in
-      says_is s c o act.Commit (committed s c k cmd) keeps says (cc)
+      says_is keeps says (cc)
       (subst (λ (x : Option Command). IsAlike (with_command s k x (flat_of s)) (flat_of (committed s c k cmd)))
       (sym sp.next) (left_like _ (told (effected s k cmd) c None (reply_of s k cmd)) c cmd told_like))
       (ap (λ (x : Option Command). quotas (with_command s k x (flat_of s))) sp.next ∙ total)

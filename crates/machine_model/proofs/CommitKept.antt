@@ -1,8 +1,5 @@
 -- The machine keeps its promise where a tree command takes effect.
-use Rattle.machine_model.proofs.Prelude.{◌≡◌, ◌<◌, ℕ, Bool, true, false, cond, count_by, List, [], ◌∷◌, ◌++◌, map, length, set, Option, Some, None, inl, refl, sym, ap, subst, ◌∙◌, arith, get_or-set_same, length-set, Command, Entry, Row, parts_of, Store, progress_of, MayLeave, queued_by, gone_segs, counted, gone_seg, left, committed, cut_entry, gone_entries, inactive_entries, left_after, with_effect, with_made, IsRun, KeepsBook, is_pending, seen, Keeps, StoreSays, is_fault, cut_of_owner, flat_of, frames_of_owner, next_command, no_processor, no_run, or_zero, process_at, processor_at, run_at, reply_of, uid_of_command, Seen, shown, Processor, Run, CutDescriptor, Owner, State, Storage, booked, left_at, queued, run_after, told, told_by, with_owner, with_store, without_first_cut, append-nil, append_assoc}
-use Rattle.script.specs.declared.commands.Command.TheVariants as command
-use Rattle.book.specs.declared.entries.Entry.TheVariants as entry
-use Rattle.machine_model.specs.Changes.{emptied}
+use Rattle.machine_model.proofs.Prelude.{◌≡◌, ◌<◌, ℕ, Bool, true, false, cond, count_by, List, [], ◌∷◌, ◌++◌, map, length, set, Option, Some, None, inl, refl, sym, ap, subst, ◌∙◌, arith, get_or-set_same, length-set, Command, Entry, Row, parts_of, Store, progress_of, MayLeave, queued_by, gone_segs, counted, gone_seg, left, committed, cut_entry, gone_entries, inactive_entries, left_after, with_effect, with_made, IsRun, KeepsBook, is_pending, seen, Keeps, StoreSays, is_fault, cut_of_owner, flat_of, frames_of_owner, next_command, no_processor, no_run, or_zero, process_at, processor_at, run_at, reply_of, uid_of_command, Seen, shown, Processor, Run, CutDescriptor, Owner, State, Storage, booked, left_at, queued, run_after, told, told_by, with_owner, with_store, without_first_cut, append-nil, append_assoc, Command as command, Entry as entry, changes_emptied as emptied}
 use Rattle.machine_model.proofs.AnswerLaws.{owner_keeps}
 use Rattle.machine_model.proofs.ChainLaws.{GoesOn, gone_segs_keep}
 use Rattle.machine_model.proofs.KeepLaws.{faults_push, quiet_push}
@@ -59,7 +56,7 @@ segs_over s ds k on = let gone = gone_segs_keep (seen s) [] ds k on in subst Kee
 
 pub idle_over : (s : State) → KeepsBook (seen s) → IsIdle s.owner → is_pending s.owner ≡ false
     → KeepsBook (record (seen s) { owner = None; entries = s.entries ++ [] })
-idle_over s k idle still = rw (append-nil s.entries) (owner_keeps (seen s) None k idle nobody still)
+idle_over s k idle still = rw (append-nil s.entries) (owner_keeps k idle nobody still)
 
 -- ---- the effect on what custody sees
 
@@ -130,8 +127,7 @@ module _ (s : State) (c k : ℕ) (cmd : Command) (keeps : Keeps s) (pages : Take
         → CanTell (with_owner now None) c (process_at s c) None (reply_of s k cmd)
         → StoreSays (committed s c k cmd) → Keeps (committed s c k cmd)
     commit_kept stays its tell says = subst Keeps (sym same)
-        (kept_with (with_owner (told now c None (reply_of s k cmd)) None)
-        (told_keeps (with_owner now None) c (process_at s c) None (reply_of s k cmd) effected_book tell)
+        (kept_with (with_owner (told now c None (reply_of s k cmd)) None) (told_keeps effected_book tell)
         (subst StoreSays same says) (omega (
           arith,
           faults_push now.entries (entry.Do (process_at s c) (run_at s.runs (process_at s c)).place c None
@@ -189,8 +185,7 @@ module _ (s : State) (c k : ℕ) (keeps : Keeps s) (none : frames_of_owner s.own
       process_still = process_counted s.processors c _ tell.there ∙ process
 
       book : KeepsBook (seen ended)
-      book = told_keeps ending c k None (reply_of s k command.End)
-          (effected_book s c k command.End keeps tt none over) tell
+      book = told_keeps (effected_book s c k command.End keeps tt none over) tell
 
       over_now : (progress_of (flat_of ended) k).ended ≡ true
       over_now = (book.runs k).ended ∙ (ap (λ (r : Run). r.ended)

@@ -1,8 +1,5 @@
 -- How counts over the lists of an outline change as one element changes.
-use Rattle.machine_model.proofs.Prelude.{◌≡◌, ◌≤◌, ◌<◌, ℕ, ◌+◌, zero, suc, Bool, true, false, not, cond, ◌||◌, eqb, List, [], ◌∷◌, length, Option, Some, None, is_some, set, get_or, count_by, Contains, refl, sym, ap, ◌∙◌, arith, list_any, nat_tests, get_or-set_same, length-set, Contains-get_or, list_any_at, sum_by-set, sum_by-cons, count_by-le-length, Frame, is_free, entry_at, off_chain, IsOffChain, is_for, Transfer, Runner, runner_at, no_runner, idle_links, off_links, readers, dues, has_free, eqb_self}
-use Rattle.core_map.specs.declared.Frame.TheVariants as frame
-use Rattle.active_segs.specs.declared.Entry.{Entry}
-use Rattle.machine_model.specs.Measures.{is_active}
+use Rattle.machine_model.proofs.Prelude.{◌≡◌, ◌≤◌, ◌<◌, ℕ, ◌+◌, zero, suc, Bool, true, false, not, cond, ◌||◌, eqb, List, [], ◌∷◌, length, Option, Some, None, is_some, set, get_or, count_by, Contains, refl, sym, ap, ◌∙◌, arith, list_any, nat_tests, get_or-set_same, length-set, Contains-get_or, list_any_at, sum_by-set, sum_by-cons, count_by-le-length, Frame, is_free, entry_at, off_chain, IsOffChain, is_for, Transfer, Runner, runner_at, no_runner, idle_links, off_links, readers, dues, has_free, eqb_self, Frame as frame, Active as Entry, measures_is_active as is_active, false_from_ne_true}
 
 -- ---- any list
 
@@ -92,16 +89,12 @@ activation_falls entries place uid superior chain there idle free lt =
 off_now : (chain : List ℕ) (o : Option Entry) → off_chain chain o ≡ true → (v : ℕ) → Contains chain v
     → is_for v o ≡ false
 off_now chain None off v there = refl
-off_now chain (Some e) off v there = by (eqb e.uid v) refl
+off_now chain (Some e) off v there = false_from_ne_true (eqb e.uid v) (λ h. (let no = sym (ap not (other h)) ∙ off in absurd cc))
   where
     other : eqb e.uid v ≡ true → list_any (λ u. eqb u e.uid) chain ≡ true
     other h =
         let same : e.uid ≡ v = grind (arith, nat_tests) in
         list_any_at (λ u. eqb u e.uid) chain there.0 v there.1 (rw (there.2, same) (eqb_self v))
-
-    by : (b : Bool) → eqb e.uid v ≡ b → b ≡ false
-    by false h = refl
-    by true h = let no = sym (ap not (other h)) ∙ off in absurd cc
 
 -- a segment off the chain that becomes inactive is one less of those, and leaves the links as they were
 pub emptying_off : (entries : List (Option Entry)) (place : ℕ) (chain : List ℕ) → IsOffChain entries chain place

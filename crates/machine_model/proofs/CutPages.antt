@@ -1,10 +1,6 @@
 -- A segment is truncated in the middle of a page, twice: the cut page comes back while it keeps a word, and is stored
 -- no more once it is all zeros.
-use Rattle.machine_model.proofs.Prelude.{◌≡◌, [], ◌∷◌, Some, None, refl, codes, ProcessPlan, State, book_of, machine_with, process_for, until}
-use Rattle.script.specs.declared.commands.Command.TheVariants as command
-use Rattle.book.specs.declared.entries.Entry.TheVariants as entry
-use Rattle.book.specs.declared.replies.Reply.TheVariants as reply
-use Rattle.assoc_mem.specs.declared.What.TheVariants as what
+use Rattle.machine_model.proofs.Prelude.{◌≡◌, [], ◌∷◌, Some, None, refl, codes, ProcessPlan, State, book_of, machine_with, process_for, until, Command as command, Entry as entry, Reply as reply, What as what}
 use Rattle.machine_model.proofs.Examples.{one_written}
 
 abbrev script : ProcessPlan

@@ -1,17 +1,11 @@
 -- The machine keeps its promise where a `delete` takes effect: the pages of the node have left their frames, its
 -- descriptors are gone, and it is active no more.
-use Rattle.machine_model.proofs.Prelude.{not_both, cond_both, [], ◌≡◌, ◌≢◌, ◌<◌, ℕ, Bool, not, not-true, and_parts, list_all, Command, frame_entry, inactive_entries, told, true, false, cond, if◌then◌else◌, count_by, List, ◌∷◌, ◌++◌, map, length, Option, Some, None, refl, sym, ap, subst, ◌∙◌, arith, length-set, Path, Entry, reads_of, Ptw, erased, framed, Plain, binding_at, bindings, word_of, read_at, MayDeactivate, has, at_put, gone_segs, gones, page_at, page_or_zero, no_more_active, gone, gone_seg, committed, cut_entry, frames_freed, gone_entries, AreDistinct, KeepsBook, is_pending, names, seen, with_inactive, Keeps, StoreSays, is_fault, cut_of_owner, frames_of_owner, home_in, is_active, process_at, run_at, reply_of, uid_of_command, Seen, flat, shown, CutDescriptor, State, Storage, booked, with_owner, with_pages, with_store, without_first_cut, without_first_frame, append-nil, append_assoc, Core, has_head, has_tail}
-use Rattle.script.specs.declared.commands.Command.TheVariants as command
-use Rattle.book.specs.declared.entries.Entry.TheVariants as entry
-use Rattle.core_map.specs.declared.Frame.TheVariants as frame
-use Rattle.page_table.specs.declared.Ptw.TheVariants as ptw
-use Rattle.machine_model.specs.Commits.{lost}
+use Rattle.machine_model.proofs.Prelude.{not_both, cond_both, [], ◌≡◌, ◌≢◌, ◌<◌, ℕ, Bool, not, not-true, and_parts, list_all, Command, frame_entry, inactive_entries, told, true, false, cond, if◌then◌else◌, count_by, List, ◌∷◌, ◌++◌, map, length, Option, Some, None, refl, sym, ap, subst, ◌∙◌, arith, length-set, Path, Entry, reads_of, Ptw, erased, framed, Plain, binding_at, bindings, word_of, read_at, MayDeactivate, has, at_put, gone_segs, gones, page_at, page_or_zero, no_more_active, gone, gone_seg, committed, cut_entry, frames_freed, gone_entries, AreDistinct, KeepsBook, is_pending, names, seen, with_inactive, Keeps, StoreSays, is_fault, cut_of_owner, frames_of_owner, home_in, is_active, process_at, run_at, reply_of, uid_of_command, Seen, flat, shown, CutDescriptor, State, Storage, booked, with_owner, with_pages, with_store, without_first_cut, without_first_frame, append-nil, append_assoc, Core, has_head, has_tail, Command as command, Entry as entry, Frame as frame, Ptw as ptw, commits_lost as lost, list_all-append, core_map_with_frame as with_frame}
 use Rattle.machine_model.proofs.ActiveLaws.{deactivate_keeps}
 use Rattle.machine_model.proofs.ActiveSeen.{active_less, blank_less, deactivate_seen, words_less}
 use Rattle.machine_model.proofs.ChainLaws.{GoesOn, IsDone, gone_done, idle_done, going_word, gone_segs_keep, gones_keep, LeavesRest}
 use Rattle.machine_model.proofs.CommitKept.{effected}
 use Rattle.machine_model.proofs.EffectLaws.{frame_entry_has}
-use Rattle.std.proofs.lemmas.List.Folds.{list_all-append}
 use Rattle.machine_model.proofs.FinishKept.{bound_within}
 use Rattle.machine_model.proofs.KeepLaws.{faults_push, quiet_push}
 use Rattle.machine_model.proofs.LeaveSeen.{unread_put}
@@ -21,7 +15,6 @@ use Rattle.machine_model.proofs.Places.{by_place, by_places}
 use Rattle.machine_model.proofs.SeenLaws.{bound_put, reads_put}
 use Rattle.machine_model.proofs.TellKept.{CanTell, told_keeps}
 use Rattle.machine_model.proofs.TransferKept.{kept_with}
-use Rattle.core_map.specs.CoreMap.{with_frame}
 
 -- ---- frames that are freed
 
@@ -170,8 +163,7 @@ pub told_commit : (s : State) (c k : ℕ) (cmd : Command) → Keeps s
     → StoreSays (with_owner (told (effected s k cmd) c None (reply_of s k cmd)) None)
     → Keeps (with_owner (told (effected s k cmd) c None (reply_of s k cmd)) None)
 told_commit s c k cmd keeps book tell says =
-    kept_with (with_owner (told (effected s k cmd) c None (reply_of s k cmd)) None)
-    (told_keeps (with_owner (effected s k cmd) None) c (process_at s c) None (reply_of s k cmd) book tell) says
+    kept_with (with_owner (told (effected s k cmd) c None (reply_of s k cmd)) None) (told_keeps book tell) says
     (let one = faults_push (effected s k cmd).entries
     (entry.Do (process_at s c) (run_at s.runs (process_at s c)).place c None (reply_of s k cmd)) in
     let quiet = no_faults s.entries (gone_entries s (uid_of_command s.store k cmd) cmd)

@@ -1,9 +1,5 @@
 -- Directories and segments are deleted, and what they were is told afterwards.
-use Rattle.machine_model.proofs.Prelude.{◌≡◌, [], ◌∷◌, None, refl, codes, pos, negsuc, ProcessPlan, State, book_of, machine_with, process_for, until}
-use Rattle.script.specs.declared.commands.Command.TheVariants as command
-use Rattle.book.specs.declared.entries.Entry.TheVariants as entry
-use Rattle.book.specs.declared.replies.Reply.TheVariants as reply
-use Rattle.assoc_mem.specs.declared.What.TheVariants as what
+use Rattle.machine_model.proofs.Prelude.{◌≡◌, [], ◌∷◌, None, refl, codes, pos, negsuc, ProcessPlan, State, book_of, machine_with, process_for, until, Command as command, Entry as entry, Reply as reply, What as what}
 
 abbrev script : ProcessPlan
 script = process_for (codes "Smith") (

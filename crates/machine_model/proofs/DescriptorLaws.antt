@@ -1,8 +1,5 @@
 -- A descriptor is connected, cut, gone, or back.
-use Rattle.machine_model.proofs.Prelude.{◌≡◌, ℕ, Bool, true, false, cond, List, [], ◌∷◌, ◌++◌, Option, Some, None, refl, sym, ap, subst, ◌∙◌, What, IsLawful, after_entry, known_uid, DescriptorUse, NamesAllGoing, NobodyHoldsSeg, is_current_descriptor, is_going_descriptor, names_descriptor, leads_to, reconnected, Fine, NoneDue, at_put_two, custody_next, nobody_holds_seg, nobody_holds_going_seg, cut, gone_seg, back_seg, connected, Aim, KeepsBook, HoldsRight, IsAimed, AreApart, has_cut, is_pending, waits_for, Seen, flat, shown, descriptor_use, cut_uid, cut_use, is_cut_at, frames_of_owner, cut_of_owner, CutDescriptor, Owner, Entry, IsAllowed, FillsOnline, pending_after, IsRun, progress_of, or_parts}
-use Rattle.book.specs.declared.entries.Entry.TheVariants as entry
-use Rattle.custody_model.specs.declared.DescriptorUse.TheVariants as descriptor
-use Rattle.custody_model.specs.Custody.{cut as descriptor_cut}
+use Rattle.machine_model.proofs.Prelude.{◌≡◌, ℕ, Bool, true, false, cond, List, [], ◌∷◌, ◌++◌, Option, Some, None, refl, sym, ap, subst, ◌∙◌, What, IsLawful, after_entry, known_uid, DescriptorUse, NamesAllGoing, NobodyHoldsSeg, is_current_descriptor, is_going_descriptor, names_descriptor, leads_to, reconnected, Fine, NoneDue, at_put_two, custody_next, nobody_holds_seg, nobody_holds_going_seg, cut, gone_seg, back_seg, connected, Aim, KeepsBook, HoldsRight, IsAimed, AreApart, has_cut, is_pending, waits_for, Seen, flat, shown, descriptor_use, cut_uid, cut_use, is_cut_at, frames_of_owner, cut_of_owner, CutDescriptor, Owner, Entry, IsAllowed, FillsOnline, pending_after, IsRun, progress_of, or_parts, Entry as entry, DescriptorUse as descriptor, custody_cut as descriptor_cut}
 use Rattle.machine_model.proofs.BookNext.{book_next}
 use Rattle.machine_model.proofs.DueLaws.{HasLeftCut, owned_left_cut}
 use Rattle.machine_model.proofs.HeldLaws.{right_alike, right_descriptor}
@@ -61,7 +58,7 @@ leads_cut (descriptor.Going u) = refl
 pub cut_keeps : (v : Seen) (c : ℕ) (aim : Aim) (w : What) (d : CutDescriptor) → KeepsBook v → CanCut v aim w d
     → KeepsBook (cut v c aim w d)
 unfolding IsLawful after_entry custody_next
-cut_keeps v c aim w d k can = book_next v (entry.Cut d.process d.number) (cut v c aim w d) refl refl k (record {
+cut_keeps v c aim w d k can = book_next refl refl k (record {
   lawful = tt;
   allowed = current;
   online = tt;
@@ -157,8 +154,7 @@ module _ (v : Seen) (d : CutDescriptor) (owner : Option Owner) (k : KeepsBook v)
       → descriptor_use (linked d.process d.number) (cut_uid (cut_of_owner owner) d.process d.number) ≡ made
       → ((j n : ℕ) → (j ≡ d.process → n ≡ d.number → ⊥) → linked j n ≡ v.linked j n)
       → KeepsBook (record v { linked = linked; owner = owner; entries = v.entries ++ e ∷ [] })
-  finished_keeps e linked made lawful allowed online next pending runs goes here same =
-      book_next v e _ refl refl k (record {
+  finished_keeps e linked made lawful allowed online next pending runs goes here same = book_next refl refl k (record {
         lawful = lawful;
         allowed = allowed;
         online = online;
@@ -212,7 +208,7 @@ pub record CanConnect (v : Seen) (k n u : ℕ) : Type 0 where
 
 pub connect_keeps : (v : Seen) (j n u : ℕ) → KeepsBook v → CanConnect v j n u → KeepsBook (connected v j n u)
 unfolding IsLawful after_entry custody_next
-connect_keeps v j n u k can = book_next v (entry.Connect j n u) (connected v j n u) refl refl k (record {
+connect_keeps v j n u k can = book_next refl refl k (record {
   lawful = tt;
   allowed = record { known = can.known; active = can.active; free = is };
   online = tt;

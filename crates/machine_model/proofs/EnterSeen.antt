@@ -1,10 +1,5 @@
 -- A processor that takes the supervisor needs it: its command is no reference, or the tables lack something for it.
-use Rattle.machine_model.proofs.Prelude.{◌≡◌, ◌<◌, ℕ, Bool, true, false, not, cond, ◌&&◌, ◌||◌, eqb, length, List, Option, Some, None, is_some, inl, inr, refl, sym, ap, subst, ◌∙◌, nat_le, ◌*◌, ◌/◌, new_word, permits, reference_of, Command, Reference, frame_of, seg_of, HeldSeg, uid_of, Ptw, has_record, Sdw, kst_at, sdws_at, word_of, Move, Transfer, by_descriptor, by_held, by_page, by_seg, by_word, word_reply, names, IsEntitledToAll, MayAnswer, MayEnter, MayLose, seen, Keeps, page_fits, want_lack, Want, Refer, Other, Runner, runner_at, want_at, around, outline_of, runner_by, want_by, want_of, want_of_reference, IsMachine, IsReading, cpu_at, descriptor_of, flat_of, frames_of_owner, is_active, is_connected, next_command, or_zero, process_at, processor_at, Owner, State, MayFailBy}
-use Rattle.page_table.specs.declared.Ptw.TheVariants as ptw
-use Rattle.descriptor_seg.specs.declared.Sdw.TheVariants as sdw
-use Rattle.processor.specs.declared.Move.TheVariants as move
-use Rattle.book.specs.declared.replies.Reply.TheVariants as reply
-use Rattle.machine_model.specs.Actions as act
+use Rattle.machine_model.proofs.Prelude.{◌≡◌, ◌<◌, ℕ, Bool, true, false, not, cond, ◌&&◌, ◌||◌, eqb, length, List, Option, Some, None, is_some, inl, inr, refl, sym, ap, subst, ◌∙◌, nat_le, ◌*◌, ◌/◌, new_word, permits, reference_of, Command, Reference, frame_of, seg_of, HeldSeg, uid_of, Ptw, has_record, Sdw, kst_at, sdws_at, word_of, Move, Transfer, by_descriptor, by_held, by_page, by_seg, by_word, word_reply, names, IsEntitledToAll, MayAnswer, MayEnter, MayLose, seen, Keeps, page_fits, want_lack, Want, Refer, Other, Runner, runner_at, want_at, around, outline_of, runner_by, want_by, want_of, want_of_reference, IsMachine, IsReading, cpu_at, descriptor_of, flat_of, frames_of_owner, is_active, is_connected, next_command, or_zero, process_at, processor_at, Owner, State, MayFailBy, Ptw as ptw, Sdw as sdw, Move as move, Reply as reply, Action, by_move, come_to, move_of, refer_or_take, Action as act, and-false}
 use Rattle.machine_model.proofs.FailLaws.{fails_more}
 use Rattle.machine_model.proofs.FrameSeen.{not_here, stored_outlined}
 use Rattle.machine_model.proofs.MoveAsks.{held_active, known}
@@ -15,7 +10,7 @@ use Rattle.machine_model.proofs.StepAsks.{ReadsFor, reads_for}
 use Rattle.machine_model.proofs.StepGoes.{may_answer}
 use Rattle.machine_model.proofs.WantLaws.{IsReferring, is_refer, linked_here, refers, tree_wants, want_here}
 
-is_take : act.Action → Bool
+is_take : Action → Bool
 is_take act.TakeSupervisor = true
 is_take _ = false
 
@@ -24,7 +19,7 @@ is_fault move.Fault = true
 is_fault _ = false
 
 -- a move by which the supervisor is taken is a fault
-take_faults : (o : Option Owner) (r : Reference) (x : Move) → act.by_move o r x ≡ act.TakeSupervisor → x ≡ move.Fault
+take_faults : (o : Option Owner) (r : Reference) (x : Move) → by_move o r x ≡ act.TakeSupervisor → x ≡ move.Fault
 unfolding is_take
 take_faults o r move.Fault h = refl
 take_faults o r _ h = cc
@@ -47,14 +42,10 @@ module _ (s : State) (c : ℕ) (m : IsMachine s) (entitled : IsEntitledToAll s) 
       && not makes))) (not_here s keeps u p (ap names e))
       ∙ (ap (λ (b : Bool). not ((outline_of s).stored u p) && not b) (sym same) ∙ by (eqb (new_word 0 r.kind) 0) h)
     where
-      and_false : (b : Bool) → (b && false) ≡ false
-      and_false true = refl
-      and_false false = refl
-
       by : (b : Bool) → cond b (move.Plain (word_reply 0 r.kind)) move.Fault ≡ move.Fault
           → (not ((outline_of s).stored u p) && not (not b)) ≡ false
       by true i = cc
-      by false i = and_false (not ((outline_of s).stored u p))
+      by false i = and-false (not ((outline_of s).stored u p))
   word_lacks u p makes (ptw.Out n) active e same h = cc (
     not_here s keeps u p (ap names e),
     stored_outlined s keeps u p active,
@@ -88,15 +79,11 @@ module _ (s : State) (c : ℕ) (m : IsMachine s) (entitled : IsEntitledToAll s) 
         by _ _ _ j = cc
 
     -- a fault where all is there that the reference wants
-    lacking : act.move_of s (cpu_at s.processors c) k r ≡ move.Fault
+    lacking : move_of s (cpu_at s.processors c) k r ≡ move.Fault
         → (is_connected (descriptor_of s.store.links k r.number) && page_fits (outline_of s) None u p makes) ≡ false
     unfolding is_fault
     lacking h = by (seg_of (cpu_at s.processors c).assoc r.number) refl h
       where
-        and_false : (b : Bool) → (b && false) ≡ false
-        and_false true = refl
-        and_false false = refl
-
         seg : (w : Sdw) → descriptor_of s.store.links k r.number ≡ w → is_fault (by_descriptor w) ≡ true
             → (is_connected (descriptor_of s.store.links k r.number) && page_fits (outline_of s) None u p makes) ≡ false
         seg sdw.Fault e i = cc
@@ -107,7 +94,7 @@ module _ (s : State) (c : ℕ) (m : IsMachine s) (entitled : IsEntitledToAll s) 
             ≡ move.Fault
             → (is_connected (descriptor_of s.store.links k r.number) && page_fits (outline_of s) None u p makes) ≡ false
         by None e i = seg (descriptor_of s.store.links k r.number) refl (ap is_fault i)
-        by (Some x) e i = cc (held_lacks x e i, and_false (is_connected (descriptor_of s.store.links k r.number)))
+        by (Some x) e i = cc (held_lacks x e i, and-false (is_connected (descriptor_of s.store.links k r.number)))
 
   -- ---- a reference that faults
 
@@ -120,7 +107,7 @@ module _ (s : State) (c : ℕ) (m : IsMachine s) (entitled : IsEntitledToAll s) 
   reading_none : (runner_at (outline_of s).runners c).reading ≡ None
   reading_none = cc (at_outline s c, seen_reading (around s) (processor_at s.processors c))
 
-  reference_enters : act.move_of s (cpu_at s.processors c) k r ≡ move.Fault → MayEnter s c
+  reference_enters : move_of s (cpu_at s.processors c) k r ≡ move.Fault → MayEnter s c
   unfolding is_refer
   reference_enters h = by (want_of_reference (around s) k r) refl
     where
@@ -139,18 +126,18 @@ module _ (s : State) (c : ℕ) (m : IsMachine s) (entitled : IsEntitledToAll s) 
       ∙ ap (λ (o : Option ℕ). (runner_by (around s) (processor_at s.processors c) o).want) none
 
   pub may_enter : s.owner ≡ None → (cpu_at s.processors c).transfer ≡ None
-      → act.come_to s (cpu_at s.processors c) (process_at s c) (next_command s (process_at s c)) ≡ act.TakeSupervisor
+      → come_to s (cpu_at s.processors c) (process_at s c) (next_command s (process_at s c)) ≡ act.TakeSupervisor
       → MayEnter s c
   unfolding is_refer
   may_enter none rest takes = by (cpu_at s.processors c).process refl
     where
       command_enters : (cmd : Command) → Speaks s c (process_at s c) cmd → (x : Option Reference)
-          → reference_of cmd ≡ x → act.refer_or_take s (cpu_at s.processors c) (process_at s c) x ≡ act.TakeSupervisor
+          → reference_of cmd ≡ x → refer_or_take s (cpu_at s.processors c) (process_at s c) x ≡ act.TakeSupervisor
           → MayEnter s c
       command_enters cmd sp None is h = inr (λ xs v q b i. tree_wants s.store.accounts.nodes cmd xs v q b
           (cc (want_here s c (process_at s c) sp.its)))
       command_enters cmd sp (Some r) is h = reference_enters s c m entitled none rest cmd sp r is
-          (take_faults s.owner r (act.move_of s (cpu_at s.processors c) (process_at s c) r) h)
+          (take_faults s.owner r (move_of s (cpu_at s.processors c) (process_at s c) r) h)
 
       its : (k : ℕ) → (cpu_at s.processors c).process ≡ Some k → (cpu_at s.processors c).process ≡ Some (process_at s c)
       its k e = cc

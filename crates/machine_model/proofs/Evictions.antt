@@ -1,9 +1,5 @@
 -- A segment of six pages in four frames: pages take turns in the frames, and one is read in again.
-use Rattle.machine_model.proofs.Prelude.{◌≡◌, [], ◌∷◌, Some, None, refl, State, book_of, machine_with, until}
-use Rattle.script.specs.declared.commands.Command.TheVariants as command
-use Rattle.book.specs.declared.entries.Entry.TheVariants as entry
-use Rattle.book.specs.declared.replies.Reply.TheVariants as reply
-use Rattle.assoc_mem.specs.declared.What.TheVariants as what
+use Rattle.machine_model.proofs.Prelude.{◌≡◌, [], ◌∷◌, Some, None, refl, State, book_of, machine_with, until, Command as command, Entry as entry, Reply as reply, What as what}
 use Rattle.machine_model.proofs.Examples.{six_pages, six_written}
 
 abbrev machine : State

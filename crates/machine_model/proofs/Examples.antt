@@ -1,10 +1,5 @@
 -- What several examples of a machine's book share: scripts, and the entries with which their books begin.
-use Rattle.machine_model.proofs.Prelude.{ℕ, List, [], ◌∷◌, None, codes, ProcessPlan, Command, Entry, process_for, row_for}
-use Rattle.mnames.specs.declared.modes.Mode.TheVariants as mode
-use Rattle.script.specs.declared.commands.Command.TheVariants as command
-use Rattle.book.specs.declared.entries.Entry.TheVariants as entry
-use Rattle.book.specs.declared.replies.Reply.TheVariants as reply
-use Rattle.assoc_mem.specs.declared.What.TheVariants as what
+use Rattle.machine_model.proofs.Prelude.{ℕ, List, [], ◌∷◌, None, codes, ProcessPlan, Command, Entry, process_for, row_for, Mode as mode, Command as command, Entry as entry, Reply as reply, What as what}
 
 -- ---- scripts
 

@@ -1,9 +1,6 @@
 -- The write of a page of a segment that has to make room in its pool fails: the page and the descriptor come back, and
 -- the process is told. The segment is used through both.
-use Rattle.machine_model.proofs.Prelude.{◌≡◌, [], ◌∷◌, Some, None, refl, State, book_of, machine_with, until, failed}
-use Rattle.book.specs.declared.entries.Entry.TheVariants as entry
-use Rattle.book.specs.declared.replies.Reply.TheVariants as reply
-use Rattle.assoc_mem.specs.declared.What.TheVariants as what
+use Rattle.machine_model.proofs.Prelude.{◌≡◌, [], ◌∷◌, Some, None, refl, State, book_of, machine_with, until, failed, Entry as entry, Reply as reply, What as what}
 use Rattle.machine_model.proofs.Examples.{two_segments, room_wanted}
 
 abbrev machine : State

@@ -1,10 +1,6 @@
 -- The write of a page that has to leave its frame fails: the page comes back, and the process is told. The next one
 -- goes.
-use Rattle.machine_model.proofs.Prelude.{◌≡◌, [], ◌∷◌, Some, None, refl, ProcessPlan, State, book_of, machine_with, until, failed}
-use Rattle.script.specs.declared.commands.Command.TheVariants as command
-use Rattle.book.specs.declared.entries.Entry.TheVariants as entry
-use Rattle.book.specs.declared.replies.Reply.TheVariants as reply
-use Rattle.assoc_mem.specs.declared.What.TheVariants as what
+use Rattle.machine_model.proofs.Prelude.{◌≡◌, [], ◌∷◌, Some, None, refl, ProcessPlan, State, book_of, machine_with, until, failed, Command as command, Entry as entry, Reply as reply, What as what}
 use Rattle.machine_model.proofs.Examples.{four_pages, four_written}
 
 abbrev script : ProcessPlan

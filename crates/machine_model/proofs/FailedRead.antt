@@ -1,10 +1,6 @@
 -- The read of a page into a frame fails: the frame is free again, and the process is told. The next read of the page
 -- ends well.
-use Rattle.machine_model.proofs.Prelude.{◌≡◌, [], ◌∷◌, Some, None, refl, State, book_of, machine_with, until, failed}
-use Rattle.script.specs.declared.commands.Command.TheVariants as command
-use Rattle.book.specs.declared.entries.Entry.TheVariants as entry
-use Rattle.book.specs.declared.replies.Reply.TheVariants as reply
-use Rattle.assoc_mem.specs.declared.What.TheVariants as what
+use Rattle.machine_model.proofs.Prelude.{◌≡◌, [], ◌∷◌, Some, None, refl, State, book_of, machine_with, until, failed, Command as command, Entry as entry, Reply as reply, What as what}
 use Rattle.machine_model.proofs.Examples.{six_pages, six_written}
 
 abbrev machine : State

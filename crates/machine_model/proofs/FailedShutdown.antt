@@ -1,10 +1,6 @@
 -- The shutdown writes what is left in the frames: a page whose write fails stays, and a page of zeros is given back
 -- without a write.
-use Rattle.machine_model.proofs.Prelude.{◌≡◌, [], ◌∷◌, Some, None, refl, codes, ProcessPlan, State, book_of, machine_with, process_for, until, visited, visit_failed}
-use Rattle.script.specs.declared.commands.Command.TheVariants as command
-use Rattle.book.specs.declared.entries.Entry.TheVariants as entry
-use Rattle.book.specs.declared.replies.Reply.TheVariants as reply
-use Rattle.assoc_mem.specs.declared.What.TheVariants as what
+use Rattle.machine_model.proofs.Prelude.{◌≡◌, [], ◌∷◌, Some, None, refl, codes, ProcessPlan, State, book_of, machine_with, process_for, until, visited, visit_failed, Command as command, Entry as entry, Reply as reply, What as what}
 
 abbrev script : ProcessPlan
 script = process_for (codes "Smith") (

@@ -1,8 +1,6 @@
 -- What the entries of a step tell of the drives: one failure at the most, of the processor's process, just where a call
 -- failed, and before a process is told of one.
-use Rattle.machine_model.proofs.Prelude.{◌≡◌, ◌≤◌, ◌<◌, ℕ, ◌+◌, Bool, true, false, cond, List, [], ◌∷◌, ◌++◌, count_by, length, Option, Some, None, inl, inr, ◌⊎◌, refl, sym, ap, subst, ◌∙◌, arith, list_all, sum_by-cons, Entry, action_of, Outcome, after, is_fault, KeepsAll, process_at, State, calls_drive, not_both, and_parts}
-use Rattle.book.specs.declared.entries.Entry.TheVariants as entry
-use Rattle.book.specs.declared.replies.Reply.TheVariants as reply
+use Rattle.machine_model.proofs.Prelude.{◌≡◌, ◌≤◌, ◌<◌, ℕ, ◌+◌, Bool, true, false, cond, List, [], ◌∷◌, ◌++◌, count_by, length, Option, Some, None, inl, inr, ◌⊎◌, refl, sym, ap, subst, ◌∙◌, arith, list_all, sum_by-cons, Entry, action_of, Outcome, after, is_fault, KeepsAll, process_at, State, calls_drive, not_both, and_parts, Entry as entry, Reply as reply}
 use Rattle.machine_model.proofs.BookAfter.{AreQuiet, HasBooked, TellsFailure, is_quiet, told_after}
 
 abbrev tally : Bool → ℕ
@@ -38,11 +36,10 @@ rest_of [] = []
 rest_of (e ∷ es) = es
 
 -- of entries in which nothing is told, none tells a process of a failure
-quiet_untold : (es xs ys : List Entry) (k place c : ℕ) (f : Option ℕ) → AreQuiet es
+quiet_untold : {es : List Entry} (xs ys : List Entry) (k place c : ℕ) (f : Option ℕ) → AreQuiet es
     → es ≡ xs ++ entry.Do k place c f reply.Device ∷ ys → ⊥
-quiet_untold es [] ys k place c f h e = not_both (and_parts false (list_all is_quiet ys) (subst AreQuiet e h)).0 refl
-quiet_untold es (x ∷ xs) ys k place c f h e =
-    quiet_untold (xs ++ entry.Do k place c f reply.Device ∷ ys) xs ys k place c
+quiet_untold [] ys k place c f h e = not_both (and_parts false (list_all is_quiet ys) (subst AreQuiet e h)).0 refl
+quiet_untold (x ∷ xs) ys k place c f h e = quiet_untold xs ys k place c
     f (and_parts (is_quiet x) _ (subst AreQuiet e h)).1 refl
 
 -- a process is told of a failure after the one that is told
@@ -101,7 +98,7 @@ told_right k more calls failed (inl both) = let quiet = both.0 in record {
   each = λ called did. cc (both.1 called);
   only = λ some. absurd (omega (arith, quiet_none more quiet));
   its = λ xs ys process e. absurd (omega (arith, quiet_none more quiet, told_counts more xs ys process e));
-  later = λ xs ys j place c f e. absurd (quiet_untold more xs ys j place c f quiet e);
+  later = λ xs ys j place c f e. absurd (quiet_untold xs ys j place c f quiet e);
 }
 told_right k more calls failed (inr told) = record {
   each = λ called did. told_counts more told.1.before (told.1.between ++ told.1.last ∷ []) (Some k) told.1.is;

@@ -1,9 +1,5 @@
 -- What a job has taken isn't what its command wants, after each step.
-use Rattle.machine_model.proofs.Prelude.{◌≡◌, ◌<◌, ℕ, Bool, true, false, not, ◌&&◌, cond, eqb, is_some, length, List, [], ◌∷◌, get_or, map, set, Option, Some, None, inl, inr, refl, sym, ap, subst, ◌∙◌, arith, cond_both, eqb_tells, command_at, alters, reference_of, Command, Reference, Reply, What, Node, uid_of, kst_at, who_at, after_reference, Frame, Segment, Move, Transfer, Aim, Phase, Processor, action_of, is_over, Outcome, after, waits_for, waits_in, IsEntitledToAll, Commands, IsReplied, rule_of, IsFitting, Keeps, Other, Runner, want_at, around, bare, outline_of, runner_by, stage_of, want_by, want_known, want_of, want_of_command, work_of, FitsStage, FitsWork, IsKept, IsMachine, IsReading, turn_of, cpu_at, next_command, or_zero, process_at, processor_at, run_at, Owner, State, Storage, ActiveSegs, old_word, pages_after, told, with_pages, with_store, IsWorking, referred, word_put, new_word, ◌%◌, not_both, map_kept}
-use Rattle.core_map.specs.declared.Frame.TheVariants as frame
-use Rattle.processor.specs.declared.Move.TheVariants as move
-use Rattle.machine_model.specs.declared.Phase.TheVariants as phase
-use Rattle.machine_model.specs.Actions as act
+use Rattle.machine_model.proofs.Prelude.{◌≡◌, ◌<◌, ℕ, Bool, true, false, not, ◌&&◌, cond, eqb, is_some, length, List, [], ◌∷◌, get_or, map, set, Option, Some, None, inl, inr, refl, sym, ap, subst, ◌∙◌, arith, cond_both, eqb_tells, command_at, alters, reference_of, Command, Reference, Reply, What, Node, uid_of, kst_at, who_at, after_reference, Frame, Segment, Move, Transfer, Aim, Phase, Processor, action_of, is_over, Outcome, after, waits_for, waits_in, IsEntitledToAll, Commands, IsReplied, rule_of, IsFitting, Keeps, Other, Runner, want_at, around, bare, outline_of, runner_by, stage_of, want_by, want_known, want_of, want_of_command, work_of, FitsStage, FitsWork, IsKept, IsMachine, IsReading, turn_of, cpu_at, next_command, or_zero, process_at, processor_at, run_at, Owner, State, Storage, ActiveSegs, old_word, pages_after, told, with_pages, with_store, IsWorking, referred, word_put, new_word, ◌%◌, not_both, map_kept, Frame as frame, Move as move, Phase as phase, Action, by_move, clear_or, come_to, go_on_with, has_had_its_turn, is_empty, load_or_idle, move_of, own_or_run, refer_or_take, run_process, take_or_wait, transfer_or, Action as act, Plain}
 use Rattle.machine_model.proofs.ActionCases.{action_by}
 use Rattle.machine_model.proofs.WorkStep.{other_next, set_process}
 use Rattle.machine_model.proofs.ForeseeAll.{foresees}
@@ -110,13 +106,9 @@ bare_frames fs f b =
 
 pages_frames : (s : State) (f : ℕ) (r : Reference)
     → map bare (pages_after s.store.pages f r).core.frames ≡ map bare s.store.pages.core.frames
-pages_frames s f r = by (alters r.kind)
-  where
-    by : (b : Bool) → map bare (cond b (word_put s.store.pages f (r.offset % 1024)
-        (new_word (old_word s.store.pages f r) r.kind)) (referred s.store.pages f false)).core.frames
-        ≡ map bare s.store.pages.core.frames
-    by true = bare_frames s.store.pages.core.frames f true
-    by false = bare_frames s.store.pages.core.frames f false
+pages_frames s f r = cond_both (alters r.kind) _ _
+    (λ (x : Plain). map bare x.core.frames ≡ map bare s.store.pages.core.frames)
+    (λ e. bare_frames s.store.pages.core.frames f true) (λ e. bare_frames s.store.pages.core.frames f false)
 
 frames_by : (s now : State) → map bare now.store.pages.core.frames ≡ map bare s.store.pages.core.frames
     → (outline_of now).frames ≡ (outline_of s).frames
@@ -153,19 +145,19 @@ module _ (s : State) (c : ℕ) (o : Outcome) (m : IsMachine s) (working : IsWork
             (λ k e. (rw (← (ap or_zero e)) (other_next s c m.keeps working other q _ h m its)));
       })
 
-  abbrev Fits : act.Action → Type 0
+  abbrev Fits : Action → Type 0
   Fits a = Keeps (after s c a o) → IsFitting (after s c a o)
 
   abbrev p : Processor
   p = processor_at s.processors c
 
   module _ (q : Owner) (mine : s.owner ≡ Some q) (rest : p.cpu.transfer ≡ None) where
-    take_fits : (x : Option Owner) → s.owner ≡ x → Fits (act.take_or_wait x)
+    take_fits : (x : Option Owner) → s.owner ≡ x → Fits (take_or_wait x)
     unfolding after
     take_fits None e kept = cc
     take_fits (Some v) e kept = fitting
 
-    move_fits : p.cpu.process ≡ Some (process_at s c) → (r : Reference) (x : Move) → Fits (act.by_move s.owner r x)
+    move_fits : p.cpu.process ≡ Some (process_at s c) → (r : Reference) (x : Move) → Fits (by_move s.owner r x)
     unfolding after
     move_fits its r (move.Through f) kept =
         told_fits (with_pages s.store (pages_after s.store.pages f r)) (Some f) _ its
@@ -175,39 +167,39 @@ module _ (s : State) (c : ℕ) (o : Outcome) (m : IsMachine s) (working : IsWork
     move_fits its r _ kept = seat_fits _ _ kept refl refl refl refl refl
 
     come_fits : p.cpu.process ≡ Some (process_at s c) → (x : Option Command)
-        → Fits (act.come_to s p.cpu (process_at s c) x)
+        → Fits (come_to s p.cpu (process_at s c) x)
     come_fits its None kept = take_fits s.owner refl kept
     come_fits its (Some cmd) kept = by (reference_of cmd) kept
       where
-        by : (y : Option Reference) → Fits (act.refer_or_take s p.cpu (process_at s c) y)
+        by : (y : Option Reference) → Fits (refer_or_take s p.cpu (process_at s c) y)
         by None = take_fits s.owner refl
-        by (Some r) = move_fits its r (act.move_of s p.cpu (process_at s c) r)
+        by (Some r) = move_fits its r (move_of s p.cpu (process_at s c) r)
 
-    run_fits : (x : Option ℕ) → p.cpu.process ≡ x → Fits (act.run_process s p x)
+    run_fits : (x : Option ℕ) → p.cpu.process ≡ x → Fits (run_process s p x)
     unfolding after
     run_fits None e kept = by s.ready kept
       where
-        by : (xs : List ℕ) → Fits (act.load_or_idle s xs)
+        by : (xs : List ℕ) → Fits (load_or_idle s xs)
         by [] i = fitting
         by (k ∷ ks) i = seat_fits _ _ i refl refl refl refl refl
-    run_fits (Some n) e kept = cond_both (act.has_had_its_turn p && not (act.is_empty s.ready)) act.Leave
-        (act.come_to s p.cpu n (next_command s n)) Fits (λ h i. seat_fits _ _ i refl refl refl refl refl)
+    run_fits (Some n) e kept = cond_both (has_had_its_turn p && not (is_empty s.ready)) act.Leave
+        (come_to s p.cpu n (next_command s n)) Fits (λ h i. seat_fits _ _ i refl refl refl refl refl)
         (λ h. rw (← (ap or_zero e)) (come_fits (e ∙ ap (λ (x : Option ℕ). Some (or_zero x)) (sym e))
         (next_command s (process_at s c)))) kept
 
-    own_fits : (x : Option Owner) → s.owner ≡ x → Fits (act.own_or_run s c p x)
+    own_fits : (x : Option Owner) → s.owner ≡ x → Fits (own_or_run s c p x)
     own_fits None e kept = cc
-    own_fits (Some v) e kept = cond_both (eqb v.cpu c) (act.go_on_with s (or_zero p.cpu.process) v v.phase)
-        (act.run_process s p p.cpu.process) Fits (λ h. absurd (elim (eqb_tells v.cpu c) [
+    own_fits (Some v) e kept = cond_both (eqb v.cpu c) (go_on_with s (or_zero p.cpu.process) v v.phase)
+        (run_process s p p.cpu.process) Fits (λ h. absurd (elim (eqb_tells v.cpu c) [
           | inl y ↦ other v e y.1
           | inr n ↦ not_both h n.0
         ])) (λ h. run_fits p.cpu.process refl) kept
 
-    transfer_fits : (x : Option Transfer) → p.cpu.transfer ≡ x → Fits (act.transfer_or s c p x)
+    transfer_fits : (x : Option Transfer) → p.cpu.transfer ≡ x → Fits (transfer_or s c p x)
     transfer_fits (Some t) e kept = cc
     transfer_fits None e kept = own_fits s.owner refl kept
 
-    clear_fits : (x : Option What) → Fits (act.clear_or s c p x)
+    clear_fits : (x : Option What) → Fits (clear_or s c p x)
     unfolding after
     clear_fits (Some w) kept = seat_fits _ _ kept refl refl refl refl refl
     clear_fits None kept = transfer_fits p.cpu.transfer refl kept
@@ -224,7 +216,7 @@ stopped_fits : (s : State) (c : ℕ) (o : Outcome) → IsFitting s → s.stopped
     → IsFitting (after s c (action_of s c) o)
 unfolding after action_of
 stopped_fits s c o fitting e = subst (λ (b : Bool). IsFitting (after s c (cond b act.IsStopped (cond (is_over s)
-    act.HasEnded (cond (not (processor_at s.processors c).cpu.online) act.Online (act.clear_or s c
+    act.HasEnded (cond (not (processor_at s.processors c).cpu.online) act.Online (clear_or s c
     (processor_at s.processors c) (processor_at s.processors c).cpu.due)))) o)) (sym e) fitting
 
 module _ (s : State) (c : ℕ) (o : Outcome) (m : IsMachine s) (entitled : IsEntitledToAll s) (reading : IsReading s)

@@ -1,8 +1,5 @@
 -- A machine that keeps its promise finds what its actions ask of its outline.
-use Rattle.machine_model.proofs.Prelude.{◌≡◌, ◌≢◌, ◌<◌, ℕ, length, suc, List, [], Some, sym, ap, subst, ◌∙◌, arith, What, Mover, Phase, FitsPhase, IsShaped, IsEntitledToAll, HasMoved, IsFitting, Foresees, IsLook, full_there, IsMovedFor, MovesForNext, MovesIn, tables_of, outline_of, IsMachine, IsReading, cpu_at, next_command, process_at, processor_at, Owner, State, IsAtWork, IsWorking, some_unwrapped}
-use Rattle.machine_model.specs.declared.Aim.TheVariants as aim
-use Rattle.machine_model.specs.declared.Phase.TheVariants as phase
-use Rattle.machine_model.specs.Actions as act
+use Rattle.machine_model.proofs.Prelude.{◌≡◌, ◌≢◌, ◌<◌, ℕ, length, suc, List, [], Some, sym, ap, subst, ◌∙◌, arith, What, Mover, Phase, FitsPhase, IsShaped, IsEntitledToAll, HasMoved, IsFitting, Foresees, IsLook, full_there, IsMovedFor, MovesForNext, MovesIn, tables_of, outline_of, IsMachine, IsReading, cpu_at, next_command, process_at, processor_at, Owner, State, IsAtWork, IsWorking, some_unwrapped, Aim as aim, Phase as phase, look_of, Action as act}
 use Rattle.machine_model.proofs.EnterSeen.{may_enter, may_lose}
 use Rattle.machine_model.proofs.ForeseeLaws.{has_answer, looks_empty, off_quiet}
 use Rattle.machine_model.proofs.LookSeen.{look_seen}
@@ -21,7 +18,7 @@ module _ (s : State) (c : ℕ) (m : IsMachine s) (entitled : IsEntitledToAll s) 
       omega arith
 
   looks : (o : Owner) → s.owner ≡ Some o → o.phase ≡ phase.Looking → o.cpu ≡ c
-      → IsLook s c (act.look_of s (process_at s c) (next_command s (process_at s c)))
+      → IsLook s c (look_of s (process_at s c) (next_command s (process_at s c)))
   looks o mine is same = let one = speaks s c (process_at s c) m there (some_unwrapped (cpu_at s.processors c).process
       (subst (λ (d : ℕ). IsAtWork (processor_at s.processors d)) same (m.keeps.at_work o mine)).busy) in
       look_seen s c m one.0 one.1 o mine is same

@@ -1,9 +1,5 @@
 -- What a step must find of the machine, as far as it follows from the whole promise alone.
-use Rattle.machine_model.proofs.Prelude.{◌≡◌, ◌<◌, ℕ, true, false, is_some, length, [], Option, Some, None, refl, sym, subst, ◌∙◌, Command, What, started_page, Frame, IsOwned, MayAnswer, seen, Keeps, IsMachine, cpu_at, or_zero, process_at, shown, Owner, State, frame_in}
-use Rattle.core_map.specs.declared.Frame.TheVariants as frame
-use Rattle.machine_model.specs.declared.Phase.TheVariants as phase
-use Rattle.machine_model.specs.Actions as act
-use Rattle.machine_model.specs.Foreseen.{IsReading}
+use Rattle.machine_model.proofs.Prelude.{◌≡◌, ◌<◌, ℕ, true, false, is_some, length, [], Option, Some, None, refl, sym, subst, ◌∙◌, Command, What, started_page, Frame, IsOwned, MayAnswer, seen, Keeps, IsMachine, cpu_at, or_zero, process_at, shown, Owner, State, frame_in, Frame as frame, Phase as phase, ForeseenIsReading as IsReading, ForTransfer, Action as act}
 use Rattle.machine_model.proofs.LookFacts.{LookFinds}
 use Rattle.machine_model.proofs.OwnerLaws.{looking_idle}
 use Rattle.machine_model.proofs.StepGoes.{may_answer}
@@ -31,7 +27,7 @@ pub looks_empty : (s : State) → Keeps s → (o : Owner) → s.owner ≡ Some o
 looks_empty s k o mine looks = (looking_idle (shown (seen s)) o (rw (← mine) k.book.going_owned) looks).frames
 
 -- a transfer that a look waits for is under way
-pub waits_reading : (s : State) (k : ℕ) (cmd : Command) (f : ℕ) → LookFinds s k cmd (act.Waits (act.ForTransfer f))
+pub waits_reading : (s : State) (k : ℕ) (cmd : Command) (f : ℕ) → LookFinds s k cmd (act.Waits (ForTransfer f))
     → IsReading s f
 waits_reading s k cmd f h = by (frame_in s.store.pages f) refl h
   where

@@ -1,9 +1,5 @@
 -- A page is taken, has left its frame, is stored no more, or is back.
-use Rattle.machine_model.proofs.Prelude.{◌≡◌, ◌≢◌, ℕ, true, false, [], ◌∷◌, ◌++◌, Option, Some, None, refl, sym, ap, subst, ◌∙◌, What, Ptw, IsLawful, after_entry, MayRelease, DescriptorUse, FrameUse, NamesAllGoing, NobodyHoldsPage, is_current_frame, is_going_frame, names_frame, page_of, given_back, IsInNoFrame, Fine, NoneDue, at_put, at_put_two, custody_next, nobody_holds_going_page, taken, gone, released, back, Aim, KeepsBook, HoldsRight, IsAimed, names, is_pending, waits_for, Seen, flat, shown, frame_use, bound_use, read_use, descriptor_use, cut_uid, frames_of_owner, cut_of_owner, Owner}
-use Rattle.book.specs.declared.entries.Entry.TheVariants as entry
-use Rattle.page_table.specs.declared.Ptw.TheVariants as ptw
-use Rattle.custody_model.specs.declared.FrameUse.TheVariants as frame
-use Rattle.custody_model.specs.Custody.{taken as page_taken}
+use Rattle.machine_model.proofs.Prelude.{◌≡◌, ◌≢◌, ℕ, true, false, [], ◌∷◌, ◌++◌, Option, Some, None, refl, sym, ap, subst, ◌∙◌, What, Ptw, IsLawful, after_entry, MayRelease, DescriptorUse, FrameUse, NamesAllGoing, NobodyHoldsPage, is_current_frame, is_going_frame, names_frame, page_of, given_back, IsInNoFrame, Fine, NoneDue, at_put, at_put_two, custody_next, nobody_holds_going_page, taken, gone, released, back, Aim, KeepsBook, HoldsRight, IsAimed, names, is_pending, waits_for, Seen, flat, shown, frame_use, bound_use, read_use, descriptor_use, cut_uid, frames_of_owner, cut_of_owner, Owner, Entry as entry, Ptw as ptw, FrameUse as frame, custody_taken as page_taken}
 use Rattle.machine_model.proofs.BookNext.{book_apart, book_next}
 use Rattle.machine_model.proofs.DueLaws.{HasLeft, owned_left}
 use Rattle.machine_model.proofs.HeldLaws.{right_frame}
@@ -34,7 +30,7 @@ pub record CanTake (v : Seen) (aim : Aim) (w : What) (f u p : ℕ) : Type 0 wher
 pub take_keeps : (v : Seen) (c : ℕ) (aim : Aim) (w : What) (f u p : ℕ) → KeepsBook v → CanTake v aim w f u p
     → KeepsBook (taken v c aim w f u p)
 unfolding IsLawful after_entry custody_next
-take_keeps v c aim w f u p k can = book_next v (entry.Take f) (taken v c aim w f u p) refl refl k (record {
+take_keeps v c aim w f u p k can = book_next refl refl k (record {
   lawful = tt;
   allowed = current;
   online = tt;
@@ -102,7 +98,7 @@ module _ (v : Seen) (f u p : ℕ) (owner : Option Owner) (k : KeepsBook v) (can 
   -- the page has left its frame, and its word is one that names no frame
   pub gone_keeps : (word : Ptw) → names word ≡ None → KeepsBook (gone v f u p word owner)
   unfolding IsLawful after_entry custody_next
-  gone_keeps word nowhere = book_next v (entry.GonePage f) (gone v f u p word owner) refl refl k (record {
+  gone_keeps word nowhere = book_next refl refl k (record {
     lawful = tt;
     allowed = record { going = ap is_going_frame leaving.2; nobody = leaving_nobody };
     online = tt;
@@ -137,7 +133,7 @@ module _ (v : Seen) (f u p : ℕ) (owner : Option Owner) (k : KeepsBook v) (can 
   -- it stays
   pub back_keeps : KeepsBook (back v f u p owner)
   unfolding IsLawful after_entry custody_next
-  back_keeps = book_next v (entry.BackPage f) (back v f u p owner) refl refl k (record {
+  back_keeps = book_next refl refl k (record {
     lawful = tt;
     allowed = record { going = ap is_going_frame leaving.2; nobody = leaving_nobody };
     online = tt;

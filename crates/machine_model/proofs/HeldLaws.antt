@@ -1,6 +1,6 @@
 -- What processors hold agrees with frames and descriptors, where an entry is filled in or dropped, and where a frame or
 -- a descriptor that nobody holds is used otherwise.
-use Rattle.machine_model.proofs.Prelude.{◌≡◌, ◌≢◌, ℕ, suc, ◌+◌, ◌≤◌, Bool, true, false, cond, eqb, leb, List, [], ◌∷◌, ◌++◌, map, filter, length, drop, Option, Some, None, inl, inr, refl, sym, ap, subst, ◌∙◌, arith, eqb_tells, nat_tests, HeldPage, HeldSeg, What, Held, filled, DescriptorUse, has, leads_to, filled_in, at_put, at_put_two, AreHeldPages, AreHeldSegs, AreOfProcess, HoldsRight, AreUnderWay, Processor, or_parts}
+use Rattle.machine_model.proofs.Prelude.{◌≡◌, ◌≢◌, ℕ, suc, ◌+◌, ◌≤◌, Bool, true, false, cond, eqb, leb, List, [], ◌∷◌, ◌++◌, map, filter, length, drop, Option, Some, None, inl, inr, refl, sym, ap, subst, ◌∙◌, arith, eqb_tells, nat_tests, HeldPage, HeldSeg, What, Held, filled, DescriptorUse, has, leads_to, filled_in, at_put, at_put_two, AreHeldPages, AreHeldSegs, AreOfProcess, HoldsRight, AreUnderWay, Processor, or_parts, cond_both}
 use Rattle.machine_model.proofs.Places.{by_place, by_places}
 
 -- ---- a fill
@@ -59,11 +59,8 @@ pages_rest bound (x ∷ xs) held = held.1
 
 pub pages_filled : (bound : ℕ → Option (ℕ × ℕ)) (es : List HeldPage) (e : HeldPage) → AreHeldPages bound es
     → bound e.frame ≡ Some (e.uid, e.page) → AreHeldPages bound (filled es e)
-pages_filled bound es e held is = by (eqb (length es) 16)
-  where
-    by : (b : Bool) → AreHeldPages bound (cond b (drop 1 es) es ++ e ∷ [])
-    by true = pages_push bound (drop 1 es) e (pages_rest bound es held) is
-    by false = pages_push bound es e held is
+pages_filled bound es e held is = pages_push bound _ e (cond_both (eqb (length es) 16) (drop 1 es) es
+    (AreHeldPages bound) (λ i. pages_rest bound es held) (λ i. held)) is
 
 segs_push : (descriptor : ℕ → ℕ → DescriptorUse) (k : ℕ) (es : List HeldSeg) (e : HeldSeg) → AreHeldSegs descriptor k es
     → leads_to (descriptor k e.number) ≡ Some e.uid → AreHeldSegs descriptor k (es ++ e ∷ [])
@@ -78,11 +75,8 @@ segs_rest descriptor k (x ∷ xs) held = held.1
 pub segs_filled : (descriptor : ℕ → ℕ → DescriptorUse) (k : ℕ) (es : List HeldSeg) (e : HeldSeg)
     → AreHeldSegs descriptor k es
     → leads_to (descriptor k e.number) ≡ Some e.uid → AreHeldSegs descriptor k (filled es e)
-segs_filled descriptor k es e held is = by (eqb (length es) 16)
-  where
-    by : (b : Bool) → AreHeldSegs descriptor k (cond b (drop 1 es) es ++ e ∷ [])
-    by true = segs_push descriptor k (drop 1 es) e (segs_rest descriptor k es held) is
-    by false = segs_push descriptor k es e held is
+segs_filled descriptor k es e held is = segs_push descriptor k _ e (cond_both (eqb (length es) 16) (drop 1 es) es
+    (AreHeldSegs descriptor k) (λ i. segs_rest descriptor k es held) (λ i. held)) is
 
 -- ---- what is dropped
 

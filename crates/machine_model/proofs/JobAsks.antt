@@ -1,7 +1,5 @@
 -- What the owner's job asks where a write fails, and where a segment becomes inactive, follows from what it rests on.
-use Rattle.machine_model.proofs.Prelude.{◌≡◌, ◌<◌, ℕ, Bool, true, false, ◌&&◌, List, [], ◌∷◌, ◌++◌, length, Option, Some, None, inl, inr, refl, sym, ap, subst, ◌∙◌, get_or-set_same, reference_of, Command, Reference, reply_to_command, takes_effect, after_entry, after_fault, may_fail, store_after, Progress, Store, progress_of, store_after-push, MayAnswerBy, Outcome, IsRun, seen, pages_back, write_failed, IsFaithful, Keeps, StoreSays, copy_failed, cpu_at, cut_of_owner, flat_of, frames_of_owner, next_command, process_at, processor_at, or_zero, run_at, shown, State, fault_told, with_owner, MayFailBy, Processor, length-set, Rose, Cpu, Transfer, frame_lost, transfer_failed, no_processor, Run, HasTurn, is_its_end, going_within}
-use Rattle.book.specs.declared.entries.Entry.TheVariants as entry
-use Rattle.book.specs.declared.replies.Reply.TheVariants as reply
+use Rattle.machine_model.proofs.Prelude.{◌≡◌, ◌<◌, ℕ, Bool, true, false, ◌&&◌, List, [], ◌∷◌, ◌++◌, length, Option, Some, None, inl, inr, refl, sym, ap, subst, ◌∙◌, get_or-set_same, reference_of, Command, Reference, reply_to_command, takes_effect, after_entry, after_fault, may_fail, store_after, Progress, Store, progress_of, store_after-push, MayAnswerBy, Outcome, IsRun, seen, pages_back, write_failed, IsFaithful, Keeps, StoreSays, copy_failed, cpu_at, cut_of_owner, flat_of, frames_of_owner, next_command, process_at, processor_at, or_zero, run_at, shown, State, fault_told, with_owner, MayFailBy, Processor, length-set, Rose, Cpu, Transfer, frame_lost, transfer_failed, no_processor, Run, HasTurn, is_its_end, going_within, Entry as entry, Reply as reply}
 use Rattle.machine_model.proofs.FlatAlike.{one_still, IsAlike, alike_shown, fault_alike}
 use Rattle.machine_model.proofs.MovingKept.{copy_failing}
 use Rattle.machine_model.proofs.StepKept.{CanLose, CanFailWrite, CanFailCopy}
@@ -9,7 +7,8 @@ use Rattle.machine_model.proofs.BackKept.{all_back}
 use Rattle.machine_model.proofs.FailLaws.{fails_more, may_fail_is}
 use Rattle.machine_model.proofs.RunLaws.{runs_failed}
 use Rattle.machine_model.proofs.SaysLaws.{back_on, pages_are_back, segs_are_back}
-use Rattle.machine_model.proofs.ScheduleKept.{IsAnswering, Sits, all_pages_back, all_segs_back, sits_on, still}
+use Rattle.machine_model.proofs.JobStays.{is_back}
+use Rattle.machine_model.proofs.ScheduleKept.{IsAnswering, Sits, sits, still}
 use Rattle.machine_model.proofs.SpeakLaws.{Speaks, can_tell}
 use Rattle.machine_model.proofs.TellKept.{CanTell}
 
@@ -76,10 +75,7 @@ module _ (s : State) (c : ℕ) (o : Outcome) (cmd : Command) (keeps : Keeps s) (
   fault_state = fault_told s (Some (process_at s c)) o.faults
 
   back_sits : Sits s back
-  back_sits = sits_on (still refl refl refl refl)
-      (sits_on (all_pages_back fault_state (frames_of_owner s.owner)) (sits_on
-      (all_segs_back (pages_back fault_state (frames_of_owner s.owner)) (cut_of_owner s.owner))
-      (still refl refl refl refl)))
+  back_sits = let all = is_back s c o.faults in still all.plan all.runs all.ready all.processors
 
   back_flat : flat_of back ≡ after_fault (flat_of s) (Some (process_at s c))
   back_flat = (back_on (pages_are_back fault_state (frames_of_owner s.owner))

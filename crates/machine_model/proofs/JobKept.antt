@@ -1,13 +1,7 @@
 -- The machine keeps its promise through the phases of a job: a page is evicted, a segment's pages and descriptors are
 -- taken, the signal is given, and what was taken goes, or comes back where a drive failed.
-use Rattle.machine_model.proofs.Prelude.{◌≡◌, ℕ, suc, ◌+◌, Bool, true, false, cond, eqb, List, [], ◌∷◌, ◌++◌, map, length, set, Option, Some, None, inl, inr, refl, sym, ap, subst, ◌∙◌, arith, eqb_tells, What, Plan, after_entry, store_after, Store, Frame, is_idle, passed_over, round_frames, unmarked, bound_page, started_page, binding_at, read_at, Aim, Phase, dropped, told_at, FitsPhase, IsShaped, KeepsBook, is_pending, is_pending_in, says, says_in, waits_in, seen, eviction_begun, owner_signalled, phase_signalled, signalled, told_from, with_choice, AreThere, HadRights, IsAtWork, IsConserved, IsFaithful, Keeps, StoreSays, cut_of_owner, frames_of_owner, processor_at, Seen, shown, Processor, Owner, State, with_store, map_kept}
-use Rattle.assoc_mem.specs.declared.What.TheVariants as what
-use Rattle.book.specs.declared.entries.Entry.TheVariants as entry
-use Rattle.page_table.specs.declared.Ptw.TheVariants as ptw
-use Rattle.core_map.specs.declared.Frame.TheVariants as frame
-use Rattle.core_map.specs.Clock.{frame_in}
-use Rattle.machine_model.specs.declared.Aim.TheVariants as aim
-use Rattle.machine_model.specs.declared.Phase.TheVariants as phase
+use Rattle.machine_model.proofs.Prelude.{◌≡◌, ℕ, suc, ◌+◌, Bool, true, false, cond, eqb, List, [], ◌∷◌, ◌++◌, map, length, set, Option, Some, None, inl, inr, refl, sym, ap, subst, ◌∙◌, arith, eqb_tells, What, Plan, after_entry, store_after, Store, Frame, is_idle, passed_over, round_frames, unmarked, bound_page, started_page, binding_at, read_at, Aim, Phase, dropped, told_at, FitsPhase, IsShaped, KeepsBook, is_pending, is_pending_in, says, says_in, waits_in, seen, eviction_begun, owner_signalled, phase_signalled, signalled, told_from, with_choice, AreThere, HadRights, IsAtWork, IsConserved, IsFaithful, Keeps, StoreSays, cut_of_owner, frames_of_owner, processor_at, Seen, shown, Processor, Owner, State, with_store, map_kept, What as what, Entry as entry, Ptw as ptw, Frame as frame, core_frame as frame_in, Aim as aim, Phase as phase, eqb_self}
+use Rattle.machine_model.proofs.ChoiceLaws.{choice_bindings, choice_reads}
 use Rattle.machine_model.proofs.ClearLaws.{signal_keeps}
 use Rattle.machine_model.proofs.DueLaws.{HasSaid}
 use Rattle.machine_model.proofs.FrameLaws.{take_keeps}
@@ -17,34 +11,14 @@ use Rattle.machine_model.proofs.OwnedLaws.{IsIdle}
 use Rattle.machine_model.proofs.OwnerLaws.{bound_here, idle_names}
 use Rattle.machine_model.proofs.TakeSeen.{take_one_seen}
 use Rattle.machine_model.proofs.TransferKept.{kept_with, quiet_faults}
-use Rattle.page_control.proofs.Turns.{page_unmarked}
 
 -- ---- the clock
-
-module _ {B : Type 0} (g : Frame → B) (same : (x : Frame) → g (unmarked x) ≡ g x) where
-  passed_alike : (xs : List Frame) (fs : List ℕ) → map g (passed_over xs fs) ≡ map g xs
-  unfolding passed_over
-  passed_alike xs [] = refl
-  passed_alike xs (f ∷ fs) = by (is_idle (frame_in xs f)) (passed_alike (set xs f (unmarked (frame_in xs f))) fs)
-    where
-      by : (b : Bool) → map g (passed_over (set xs f (unmarked (frame_in xs f))) fs)
-          ≡ map g (set xs f (unmarked (frame_in xs f)))
-          → map g (cond b xs (passed_over (set xs f (unmarked (frame_in xs f))) fs)) ≡ map g xs
-      by true rest = refl
-      by false rest = rest ∙ map_kept g xs f frame.Free (unmarked (frame_in xs f)) (same (frame_in xs f))
-
-started_unmarked : (x : Frame) → started_page (unmarked x) ≡ started_page x
-started_unmarked frame.Free = refl
-started_unmarked (frame.Started u p) = refl
-started_unmarked (frame.Bound u p used modified) = refl
 
 -- custody doesn't see the marks and the hand
 pub choice_seen : (s : State) (f : ℕ) → seen (with_store s (with_choice s.store f)) ≡ seen s
 choice_seen s f = λ i. record (seen s) {
-  bound = λ g. binding_at (passed_alike bound_page page_unmarked s.store.pages.core.frames
-      (round_frames s.store.pages.core) i) g;
-  reads = λ g. read_at (passed_alike started_page started_unmarked s.store.pages.core.frames
-      (round_frames s.store.pages.core) i) g;
+  bound = λ g. binding_at (choice_bindings s.store.pages.core f i) g;
+  reads = λ g. read_at (choice_reads s.store.pages.core f i) g;
 }
 
 -- ---- an eviction begins
@@ -76,7 +50,7 @@ evict_kept s c f u p o k mine same idle bound says = kept_with (eviction_begun s
     here_still = bound_here (seen now) f u p book idle.frames bound_still
 
     own : eqb f f ≡ true
-    own = elim (eqb_tells f f) [ inl e ↦ e.0 | inr n ↦ absurd (n.1 refl) ]
+    own = eqb_self f
 
     made : Owner
     made = record {

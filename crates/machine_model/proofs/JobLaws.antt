@@ -1,8 +1,5 @@
 -- Each step of the owner makes the measure of its job fall.
-use Rattle.machine_model.proofs.Prelude.{◌≡◌, ◌≤◌, ◌<◌, ℕ, ◌+◌, Bool, true, false, cond, List, [], ◌∷◌, length, Option, None, set, ◌&&◌, refl, ap, le_refl, le_of_eq, arith, get_or-set_same, Frame, Want, Refer, Truncate, Length, Other, Runner, no_runner, Work, EvictFrame, EmptyPlace, CommitCommand, Stage, Look, Taken, Waiting, Copying, Keeper, Outline, runner_at, want_at, at_stage, IsSmall, idle_links, off_links, readers, has_free, frame_lack, room_lack, work_left, stage_left, rank_of, job_left, job_rank, IsIn, JobStep, activates, connects, takes_segment, takes_frame, takes_for_commit, signals, frees_frame, frees_page, empties, empties_at_once, begins_move, copies, commits_move, HasMoved, gives_up, starts, answers, AreAlike, with_link, with_runners, IsKept, FitsStage, FitsWork}
-use Rattle.core_map.specs.declared.Frame.TheVariants as frame
-use Rattle.active_segs.specs.declared.Entry.{Entry}
-use Rattle.machine_model.specs.Measures.{chain_of, unlinked, parts_of}
+use Rattle.machine_model.proofs.Prelude.{◌≡◌, ◌≤◌, ◌<◌, ℕ, ◌+◌, Bool, true, false, cond, List, [], ◌∷◌, length, Option, None, set, ◌&&◌, refl, ap, le_refl, le_of_eq, arith, get_or-set_same, Frame, Want, Refer, Truncate, Length, Other, Runner, no_runner, Work, EvictFrame, EmptyPlace, CommitCommand, Stage, Look, Taken, Waiting, Copying, Keeper, Outline, runner_at, want_at, at_stage, IsSmall, idle_links, off_links, readers, has_free, frame_lack, room_lack, work_left, stage_left, rank_of, job_left, job_rank, IsIn, JobStep, activates, connects, takes_segment, takes_frame, takes_for_commit, signals, frees_frame, frees_page, empties, empties_at_once, begins_move, copies, commits_move, HasMoved, gives_up, starts, answers, AreAlike, with_link, with_runners, IsKept, FitsStage, FitsWork, Frame as frame, Active as Entry, wanted_chain as chain_of, measures_unlinked as unlinked, measures_parts_of as parts_of}
 use Rattle.machine_model.proofs.CountLaws.{activation_falls, emptying_off, emptying_idle, freed_is_free, readers_like, readers_set, dues_few, idle_few, off_few}
 use Rattle.machine_model.proofs.RankLaws.{falls_idle, falls_off, falls_link, falls_room, falls_frame, falls_stage}
 
@@ -114,10 +111,10 @@ pub alike_self : (xs : List Runner) (c : ℕ) → AreAlike xs xs c
 alike_self xs c = assumption
 
 -- a job comes to a later stage, and nothing but what others hold changes
-stage_falls : (s : Outline) (c : ℕ) (runners : List Runner) (a b : Stage) → IsIn s c a → AreAlike s.runners runners c
+stage_falls : (s : Outline) {c : ℕ} {runners : List Runner} (a b : Stage) → IsIn s c a → AreAlike s.runners runners c
     → IsKept (with_runners (at_stage s c b) runners) → frame_lack b s.frames ≤ frame_lack a s.frames
     → stage_left b < stage_left a → job_rank (with_runners (at_stage s c b) runners) < job_rank s
-stage_falls s c runners a b owner alike kept frame less =
+stage_falls s {c} {runners} a b owner alike kept frame less =
     between s (with_runners (at_stage s c b) runners) c a b owner refl
     (falls_stage _ _ (small_of (with_runners (at_stage s c b) runners) c b kept refl)
     (le_of_eq (readers_like s.runners runners alike.count alike.reading))
@@ -170,19 +167,18 @@ job_falls s c t k l (activates place uid superior can) = between s _ c Look Look
 job_falls s c t k l (connects chain uid page makes owner want off) =
     connect_falls s c chain uid page makes k l owner want off
 job_falls s c t k l (takes_segment place frames runners can of few alike) =
-    stage_falls s c runners Look (Taken (EmptyPlace place frames)) can.look alike l (le_refl _) (omega arith)
-job_falls s c t k l (takes_frame f can) =
-    stage_falls s c s.runners Look (Taken (EvictFrame f)) can.look (alike_self s.runners c) l
+    stage_falls s Look (Taken (EmptyPlace place frames)) can.look alike l (le_refl _) (omega arith)
+job_falls s c t k l (takes_frame f can) = stage_falls s Look (Taken (EvictFrame f)) can.look (alike_self s.runners c) l
     (full_lacks s.frames can.full) (omega arith)
 job_falls s c t k l (takes_for_commit runners owner alike) =
-    stage_falls s c runners Look (Taken CommitCommand) owner alike l (le_refl _) (omega arith)
+    stage_falls s Look (Taken CommitCommand) owner alike l (le_refl _) (omega arith)
 job_falls s c t k l (signals (EvictFrame f) runners owner alike) =
-    stage_falls s c runners (Taken (EvictFrame f)) (Waiting (EvictFrame f)) owner alike l (le_refl _) (omega arith)
+    stage_falls s (Taken (EvictFrame f)) (Waiting (EvictFrame f)) owner alike l (le_refl _) (omega arith)
 job_falls s c t k l (signals (EmptyPlace place rest) runners owner alike) =
-    stage_falls s c runners (Taken (EmptyPlace place rest)) (Waiting (EmptyPlace place rest)) owner alike l (le_refl _)
+    stage_falls s (Taken (EmptyPlace place rest)) (Waiting (EmptyPlace place rest)) owner alike l (le_refl _)
     (omega arith)
 job_falls s c t k l (signals CommitCommand runners owner alike) =
-    stage_falls s c runners (Taken CommitCommand) (Waiting CommitCommand) owner alike l (le_refl _) (omega arith)
+    stage_falls s (Taken CommitCommand) (Waiting CommitCommand) owner alike l (le_refl _) (omega arith)
 job_falls s c t k l (frees_frame f stored full owner due may) =
     let lacks = freed_lacks s.frames f ((k.job.fits c (Waiting (EvictFrame f)) owner).0.0) in
     between s _ c (Waiting (EvictFrame f)) Look owner refl
@@ -209,9 +205,9 @@ job_falls s c t k l (empties_at_once place can) =
     (falls_off _ _ (small_of _ c Look l can.look) (le_refl _) (emptying_idle s.entries place chain can.off can.within)
     (emptying_off s.entries place chain can.off can.within))
 job_falls s c t k l (begins_move left owner few) =
-    stage_falls s c s.runners Look (Copying left) owner (alike_self s.runners c) l (le_refl _) (omega arith)
+    stage_falls s Look (Copying left) owner (alike_self s.runners c) l (le_refl _) (omega arith)
 job_falls s c t k l (copies left fewer owner less) =
-    stage_falls s c s.runners (Copying left) (Copying fewer) owner (alike_self s.runners c) l (le_refl _) (omega arith)
+    stage_falls s (Copying left) (Copying fewer) owner (alike_self s.runners c) l (le_refl _) (omega arith)
 job_falls s c t k l (commits_move left stored full owner has) = between s _ c (Copying left) Look owner refl
     (falls_room _ _ (small_of _ c Look l refl) (le_refl _) (le_refl _) (le_refl _) (le_refl _)
     (room_falls s c full has))

@@ -1,11 +1,5 @@
 -- What a command's job has taken stays just what it takes, entry by entry, while the others go on.
-use Rattle.machine_model.proofs.Prelude.{◌≡◌, ℕ, true, false, List, [], ◌∷◌, ◌++◌, Option, Some, None, refl, sym, ap, subst, ◌∙◌, Plan, Command, Entry, Node, node_at, store_after, Store, uid_of, kst_at, DescriptorUse, FrameUse, custody_after, Custody, is_going_descriptor, is_going_frame, leads_to, page_of, custody_next, custody_after-push, Aim, Phase, holding, Keeps, or_zero, refusal_of, uid_of_command, uid_of_node, State, Storage, GoesJust, IsAlone, IsTakenBy, IsTakenFor, TakenIn, TakenTo, TakesDescriptor, TakesPage, WasBrought, FailsBy, FailsIn, TakesSome, is_active, ◌/◌, append-nil, append_assoc, page_is}
-use Rattle.script.specs.declared.commands.Command.TheVariants as command
-use Rattle.book.specs.declared.entries.Entry.TheVariants as entry
-use Rattle.custody_model.specs.declared.FrameUse.TheVariants as frame
-use Rattle.custody_model.specs.Next.{with_frame}
-use Rattle.machine_model.specs.declared.Aim.TheVariants as aim
-use Rattle.machine_model.specs.declared.Phase.TheVariants as phase
+use Rattle.machine_model.proofs.Prelude.{◌≡◌, ℕ, true, false, List, [], ◌∷◌, ◌++◌, Option, Some, None, refl, sym, ap, subst, ◌∙◌, Plan, Command, Entry, Node, node_at, store_after, Store, uid_of, kst_at, DescriptorUse, FrameUse, custody_after, Custody, is_going_descriptor, is_going_frame, leads_to, page_of, custody_next, custody_after-push, Aim, Phase, holding, Keeps, or_zero, refusal_of, uid_of_command, uid_of_node, State, Storage, GoesJust, IsAlone, IsTakenBy, IsTakenFor, TakenIn, TakenTo, TakesDescriptor, TakesPage, WasBrought, FailsBy, FailsIn, TakesSome, is_active, ◌/◌, append-nil, append_assoc, page_is, Command as command, Entry as entry, FrameUse as frame, next_with_frame as with_frame, Aim as aim, Phase as phase}
 use Rattle.machine_model.proofs.OutLaws.{NoneOut}
 use Rattle.machine_model.proofs.Places.{by_place}
 use Rattle.machine_model.proofs.TieLaws.{none_some}
@@ -113,8 +107,8 @@ same_uid old now k c nodes known = by c
     by (command.Status path) = path_same path
     by _ = refl
 
-alone_same : (old now : List Node) (u : ℕ) (c : Command) → now ≡ old → IsAlone old u c → IsAlone now u c
-alone_same old now u c same h = rw same h
+alone_same : {old : List Node} (now : List Node) (u : ℕ) (c : Command) → now ≡ old → IsAlone old u c → IsAlone now u c
+alone_same now u c same h = rw same h
 
 -- ---- what a job has taken
 
@@ -142,8 +136,7 @@ taken_for : (s now : State) (k : ℕ) (c : Command) → LeavesTaken s now → Ta
 taken_for s now k c l some h = record {
   just = rw same (l.just (TakesPage c (uid_of_command s.store k c)) (TakesDescriptor c k (uid_of_command s.store k c))
       h.just);
-  alone = rw same (alone_same s.store.accounts.nodes now.store.accounts.nodes (uid_of_command s.store k c) c l.nodes
-      h.alone);
+  alone = rw same (alone_same now.store.accounts.nodes (uid_of_command s.store k c) c l.nodes h.alone);
   brought = rw same (brought_on s.store now.store (uid_of_command s.store k c) c (λ e. l.active _ ∙ e) l.out h.brought);
   stands = l.stands k c some h.stands;
 }

@@ -1,11 +1,5 @@
 -- Each step keeps what is true of an outline, where its sizes stay, and where what a command's effect leaves is kept.
-use Rattle.machine_model.proofs.Prelude.{◌≡◌, ◌≢◌, ◌≤◌, ◌<◌, ℕ, zero, suc, ◌+◌, ◌-◌, Bool, true, false, not, cond, ◌&&◌, eqb, List, [], ◌∷◌, length, Option, Some, None, is_some, set, get_or, Contains, refl, sym, ap, subst, ◌∙◌, inl, inr, arith, list_any, eqb_tells, get_or-set_other, length-set, list_any_at, Frame, entry_at, uid_in, off_chain, IsOffChain, Transfer, Want, Refer, Truncate, Runner, no_runner, Work, EvictFrame, EmptyPlace, CommitCommand, Stage, Look, Taken, Waiting, Copying, Keeper, Outline, Turn, runner_at, want_at, at_stage, with_runner, with_frame, with_entry, is_of, is_here, dues, Comes, Clears, Loads, Leaves, Commands, rule_of, owns, IsIn, JobStep, activates, connects, takes_segment, takes_frame, takes_for_commit, signals, frees_frame, frees_page, empties, empties_at_once, gives_up, starts, answers, begins_move, copies, commits_move, AreAlike, AreOf, CanStart, is_wanted_here, with_link, with_runners, with_stored, without_owner, now_reading, entry_for, IsAnswered, Step, comes, clears, reads, loses, works, loads, leaves, fills, replies, faults, enters, IsReplied, with_bound, not_reading, IsKept, HasSizes, AreTied, HasJob, FitsStage, FitsWork, AreSpared, EndsChain, is_wanted, is_spared, first_false, not_both, second_false}
-use Rattle.core_map.specs.declared.Frame.TheVariants as frame
-use Rattle.active_segs.specs.declared.Entry.{Entry}
-use Rattle.machine_model.specs.Outline.{frame_in}
-use Rattle.machine_model.specs.Measures.{chain_of}
-use Rattle.machine_model.specs.Finishing.{is_bound, page_of, uid_of}
-use Rattle.machine_model.specs.OutlineKept.{IsAtWork}
+use Rattle.machine_model.proofs.Prelude.{◌≡◌, ◌≢◌, ◌≤◌, ◌<◌, ℕ, zero, suc, ◌+◌, ◌-◌, Bool, true, false, not, cond, ◌&&◌, eqb, List, [], ◌∷◌, length, Option, Some, None, is_some, set, get_or, Contains, refl, sym, ap, subst, ◌∙◌, inl, inr, arith, list_any, eqb_tells, get_or-set_other, length-set, list_any_at, Frame, entry_at, uid_in, off_chain, IsOffChain, Transfer, Want, Refer, Truncate, Runner, no_runner, Work, EvictFrame, EmptyPlace, CommitCommand, Stage, Look, Taken, Waiting, Copying, Keeper, Outline, Turn, runner_at, want_at, at_stage, with_runner, with_frame, with_entry, is_of, is_here, dues, Comes, Clears, Loads, Leaves, Commands, rule_of, owns, IsIn, JobStep, activates, connects, takes_segment, takes_frame, takes_for_commit, signals, frees_frame, frees_page, empties, empties_at_once, gives_up, starts, answers, begins_move, copies, commits_move, AreAlike, AreOf, CanStart, is_wanted_here, with_link, with_runners, with_stored, without_owner, now_reading, entry_for, IsAnswered, Step, comes, clears, reads, loses, works, loads, leaves, fills, replies, faults, enters, IsReplied, with_bound, not_reading, IsKept, HasSizes, AreTied, HasJob, FitsStage, FitsWork, AreSpared, EndsChain, is_wanted, is_spared, first_false, not_both, second_false, Frame as frame, Active as Entry, outline_frame_in as frame_in, wanted_chain as chain_of, finishing_is_bound as is_bound, finishing_page_of as page_of, finishing_uid_of as uid_of, OutlineKeptIsAtWork as IsAtWork, false_from_ne_true, eqb_self}
 use Rattle.machine_model.proofs.CountLaws.{dues_set}
 use Rattle.machine_model.proofs.RuleLaws.{tells}
 use Rattle.machine_model.proofs.StepLaws.{inside, none_due}
@@ -28,9 +22,9 @@ same_stage : (t : Outline) (c d : ℕ) (a b : Stage) → IsIn t c a → IsIn t d
 same_stage t c d a b h i = ap keeper_stage (sym h ∙ i)
 
 -- a job of one owner in one stage
-job_of : (t : Outline) (c : ℕ) (stage : Stage) → IsIn t c stage → IsAtWork t.runners c → FitsStage t (want_at t c) stage
+job_of : {t : Outline} (c : ℕ) (stage : Stage) → IsIn t c stage → IsAtWork t.runners c → FitsStage t (want_at t c) stage
     → HasJob t
-job_of t c stage owner work fits = record {
+job_of {t} c stage owner work fits = record {
   at_work = λ d b h. rw (← (same_cpu t c d stage b owner h)) work;
   fits = λ d b h. rw (← (same_cpu t c d stage b owner h)) (subst (λ (x : Stage). FitsStage t (want_at t c) x)
       (same_stage t c d stage b owner h) fits);
@@ -38,15 +32,15 @@ job_of t c stage owner work fits = record {
 }
 
 -- nobody owns the supervisor, and nothing is due
-job_none : (t : Outline) → t.owner ≡ None → dues t.runners ≡ 0 → HasJob t
-job_none t none quiet = record {
+job_none : {t : Outline} → t.owner ≡ None → dues t.runners ≡ 0 → HasJob t
+job_none none quiet = record {
   at_work = λ d b h. (let no = sym none ∙ h in absurd cc);
   fits = λ d b h. (let no = sym none ∙ h in absurd cc);
   quiet = λ n. quiet;
 }
 
-work_alike : (xs ys : List Runner) (c : ℕ) → AreAlike xs ys c → IsAtWork xs c → IsAtWork ys c
-work_alike xs ys c alike work = record {
+work_alike : {xs ys : List Runner} {c : ℕ} → AreAlike xs ys c → IsAtWork xs c → IsAtWork ys c
+work_alike {c} alike work = record {
   within = rw alike.count work.within;
   running = cc (alike.running c);
   clear = cc;
@@ -88,9 +82,6 @@ apart_from chain (Some e) uid there off h =
     or_this d None = d
     or_this d (Some n) = n
 
-    eqb_self : (n : ℕ) → eqb n n ≡ true
-    eqb_self n = elim (eqb_tells n n) [ inl i ↦ i.0 | inr i ↦ absurd (i.1 refl) ]
-
 of_uid : (x : Frame) (uid page : ℕ) → is_of uid page x ≡ true → uid_of (page_of x) ≡ Some uid
 of_uid frame.Free uid page h = let no = h in absurd cc
 of_uid (frame.Started u q) uid page h = let no = h in absurd cc
@@ -100,11 +91,7 @@ of_uid (frame.Bound u q used modified) uid page h = elim (eqb_tells u uid) [
 ]
 
 not_wanted_uid : (x : Frame) (uid page : ℕ) → uid_of (page_of x) ≢ Some uid → is_of uid page x ≡ false
-not_wanted_uid x uid page other = by (is_of uid page x) refl
-  where
-    by : (b : Bool) → is_of uid page x ≡ b → b ≡ false
-    by false h = refl
-    by true h = absurd (other (of_uid x uid page h))
+not_wanted_uid x uid page other = false_from_ne_true (is_of uid page x) (λ h. other (of_uid x uid page h))
 
 unwanted_uid : (w : Want) (x : Frame) (o : Option Entry) → EndsChain w → off_chain (chain_of w) o ≡ true
     → uid_of (page_of x) ≡ uid_in o → is_wanted w x ≡ false
@@ -221,8 +208,8 @@ due_set s c x lt still none =
 
 -- ---- a step of the owner
 
-kept : (t : Outline) → HasSizes t → AreTied t.runners t.frames → HasJob t → IsKept t
-kept t sizes tied job = assumption
+kept : {t : Outline} → HasSizes t → AreTied t.runners t.frames → HasJob t → IsKept t
+kept sizes tied job = assumption
 
 -- the frames that were taken, without the first, which is free
 rest_spared : (frames : List Frame) (w : Want) (f : ℕ) (rest : List ℕ) → AreSpared frames w (f ∷ rest)
@@ -239,10 +226,9 @@ link_kept s c k sizes owner =
     let work = k.job.at_work c Look owner in
     let x : Runner = record (runner_at s.runners c) { linked = true } in
     let same = at_set s.runners c (record (runner_at s.runners c) { linked = true }) c work.within in
-    kept (with_link s c) sizes
-    (tied_same s.runners (set s.runners c (record (runner_at s.runners c) { linked = true })) s.frames
+    kept sizes (tied_same
     (ties_set s.runners c (record (runner_at s.runners c) { linked = true }) work.within (λ h. h) refl refl) k.tied)
-    (job_of (with_link s c) c Look owner (record {
+    (job_of c Look owner (record {
       within = rw (length-set s.runners c (record (runner_at s.runners c) { linked = true })) work.within;
       running = same (λ y. y.running ≡ true) (λ e. work.running) (λ n. absurd (n refl));
       clear = same (λ y. y.due ≡ false) (λ e. work.clear) (λ n. absurd (n refl));
@@ -253,120 +239,95 @@ start_kept : (s : Outline) (c f uid page : ℕ) → IsKept s → HasSizes (witho
     → CanStart s c f uid page → IsKept (without_owner (now_reading s c f uid page))
 start_kept s c f uid page k sizes can =
     let work = k.job.at_work c Look can.look in
-    kept (without_owner (now_reading s c f uid page)) sizes (tied_started s.runners s.frames c f uid page
+    kept sizes (tied_started s.runners s.frames c f uid page
     (record (runner_at s.runners c) { reading = Some (record { frame = f; uid = uid; page = page }) }) work.within
-    can.within can.free work.idle (k.tied.runners_online c work.running) work.running refl k.tied)
-    (job_none (without_owner (now_reading s c f uid page)) refl
+    can.within can.free work.idle (k.tied.runners_online c work.running) work.running refl k.tied) (job_none refl
     (due_set s c (record (runner_at s.runners c) { reading = Some (record { frame = f; uid = uid; page = page }) })
     work.within (λ h. h) (k.job.fits c Look can.look)))
 
 job_keeps : (s : Outline) (c : ℕ) (t : Outline) → IsKept s → HasSizes t → (IsAnswered s c t → IsKept t) → JobStep s c t
     → IsKept t
-job_keeps s c t k sizes given (activates place uid superior can) =
-    kept (with_entry s place (entry_for uid superior)) sizes k.tied
-    (job_of (with_entry s place (entry_for uid superior)) c Look can.look (k.job.at_work c Look can.look)
-    (k.job.fits c Look can.look))
+job_keeps s c t k sizes given (activates place uid superior can) = kept sizes k.tied
+    (job_of c Look can.look (k.job.at_work c Look can.look) (k.job.fits c Look can.look))
 job_keeps s c t k sizes given (connects chain uid page makes owner want off) = link_kept s c k sizes owner
 job_keeps s c t k sizes given (takes_segment place frames runners can of few alike) =
     let back = sym alike.want in
-    kept (with_runners (at_stage s c (Taken (EmptyPlace place frames))) runners) sizes
-    (tied_same s.runners runners s.frames (ties_alike s.runners runners c alike) k.tied)
-    (job_of (with_runners (at_stage s c (Taken (EmptyPlace place frames))) runners) c
-    (Taken (EmptyPlace place frames)) refl (work_alike s.runners runners c alike (k.job.at_work c Look can.look)) (
+    kept sizes (tied_same (ties_alike alike) k.tied) (job_of c
+    (Taken (EmptyPlace place frames)) refl (work_alike alike (k.job.at_work c Look can.look)) (
       rw (← back) (spared_all s (want_at s c) place frames (k.sizes.chains c) can.off of),
       few,
       can.within,
       rw (← back) can.off,
     ))
-job_keeps s c t k sizes given (takes_frame f can) = kept (at_stage s c (Taken (EvictFrame f))) sizes k.tied
-    (job_of (at_stage s c (Taken (EvictFrame f))) c (Taken (EvictFrame f)) refl (k.job.at_work c Look can.look) (
+job_keeps s c t k sizes given (takes_frame f can) = kept sizes k.tied
+    (job_of c (Taken (EvictFrame f)) refl (k.job.at_work c Look can.look) (
       (
         can.within,
         spared_by (want_at s c) (frame_in s.frames f) can.bound (unwanted s.frames f (want_at s c) can.away),
       ),
       tt,
     ))
-job_keeps s c t k sizes given (takes_for_commit runners owner alike) =
-    kept (with_runners (at_stage s c (Taken CommitCommand)) runners) sizes
-    (tied_same s.runners runners s.frames (ties_alike s.runners runners c alike) k.tied)
-    (job_of (with_runners (at_stage s c (Taken CommitCommand)) runners) c (Taken CommitCommand) refl
-    (work_alike s.runners runners c alike (k.job.at_work c Look owner)) tt)
-job_keeps s c t k sizes given (signals w runners owner alike) =
-    kept (with_runners (at_stage s c (Waiting w)) runners) sizes
-    (tied_same s.runners runners s.frames (ties_alike s.runners runners c alike) k.tied)
-    (job_of (with_runners (at_stage s c (Waiting w)) runners) c (Waiting w) refl
-    (work_alike s.runners runners c alike (k.job.at_work c (Taken w) owner))
+job_keeps s c t k sizes given (takes_for_commit runners owner alike) = kept sizes (tied_same (ties_alike alike) k.tied)
+    (job_of c (Taken CommitCommand) refl (work_alike alike (k.job.at_work c Look owner)) tt)
+job_keeps s c t k sizes given (signals w runners owner alike) = kept sizes (tied_same (ties_alike alike) k.tied)
+    (job_of c (Waiting w) refl (work_alike alike (k.job.at_work c (Taken w) owner))
     (fits_alike s (with_runners (at_stage s c (Waiting w)) runners) (want_at s c) (runner_at runners c).want w
     alike.want refl refl (k.job.fits c (Taken w) owner)))
 job_keeps s c t k sizes given (frees_frame f stored full owner due may) =
     let taken = (k.job.fits c (Waiting (EvictFrame f)) owner).0 in
-    kept (with_stored (at_stage (with_frame s f frame.Free) c Look) stored full) sizes
-    (freed_tied s (want_at s c) f k taken.0 taken.1)
-    (job_of (with_stored (at_stage (with_frame s f frame.Free) c Look) stored full) c Look refl
+    kept sizes (freed_tied s (want_at s c) f k taken.0 taken.1) (job_of c Look refl
     (k.job.at_work c (Waiting (EvictFrame f)) owner) due)
 job_keeps s c t k sizes given (frees_page place f rest stored full owner due may) =
     let fits = k.job.fits c (Waiting (EmptyPlace place (f ∷ rest))) owner in
     let few = fits.1 in
-    kept (with_stored (at_stage (with_frame s f frame.Free) c (Waiting (EmptyPlace place rest))) stored full) sizes
-    (freed_tied s (want_at s c) f k fits.0.0.0 fits.0.0.1)
-    (job_of (with_stored (at_stage (with_frame s f frame.Free) c (Waiting (EmptyPlace place rest))) stored full) c
+    kept sizes (freed_tied s (want_at s c) f k fits.0.0.0 fits.0.0.1) (job_of c
     (Waiting (EmptyPlace place rest)) refl (k.job.at_work c (Waiting (EmptyPlace place (f ∷ rest))) owner)
     (rest_spared s.frames (want_at s c) f rest fits.0, omega arith, fits.2, fits.3))
-job_keeps s c t k sizes given (empties place runners owner due alike none) =
-    kept (with_runners (at_stage (with_entry s place None) c Look) runners) sizes
-    (tied_same s.runners runners s.frames (ties_alike s.runners runners c alike) k.tied)
-    (job_of (with_runners (at_stage (with_entry s place None) c Look) runners) c Look refl
-    (work_alike s.runners runners c alike (k.job.at_work c (Waiting (EmptyPlace place [])) owner)) none)
-job_keeps s c t k sizes given (empties_at_once place can) = kept (with_entry s place None) sizes k.tied
-    (job_of (with_entry s place None) c Look can.look (k.job.at_work c Look can.look) (k.job.fits c Look can.look))
-job_keeps s c t k sizes given (begins_move left owner few) = kept (at_stage s c (Copying left)) sizes k.tied
-    (job_of (at_stage s c (Copying left)) c (Copying left) refl (k.job.at_work c Look owner)
-    (k.job.fits c Look owner, few))
+job_keeps s c t k sizes given (empties place runners owner due alike none) = kept sizes
+    (tied_same (ties_alike alike) k.tied) (job_of c Look refl
+    (work_alike alike (k.job.at_work c (Waiting (EmptyPlace place [])) owner)) none)
+job_keeps s c t k sizes given (empties_at_once place can) = kept sizes k.tied
+    (job_of c Look can.look (k.job.at_work c Look can.look) (k.job.fits c Look can.look))
+job_keeps s c t k sizes given (begins_move left owner few) = kept sizes k.tied
+    (job_of c (Copying left) refl (k.job.at_work c Look owner) (k.job.fits c Look owner, few))
 job_keeps s c t k sizes given (copies left fewer owner less) =
     let fits = k.job.fits c (Copying left) owner in
     let few = fits.1 in
-    kept (at_stage s c (Copying fewer)) sizes k.tied
-    (job_of (at_stage s c (Copying fewer)) c (Copying fewer) refl (k.job.at_work c (Copying left) owner)
-    (fits.0, omega arith))
-job_keeps s c t k sizes given (commits_move left stored full owner has) =
-    kept (with_stored (at_stage s c Look) stored full) sizes k.tied
-    (job_of (with_stored (at_stage s c Look) stored full) c Look refl (k.job.at_work c (Copying left) owner)
-    (k.job.fits c (Copying left) owner).0)
+    kept sizes k.tied (job_of c (Copying fewer) refl (k.job.at_work c (Copying left) owner) (fits.0, omega arith))
+job_keeps s c t k sizes given (commits_move left stored full owner has) = kept sizes k.tied
+    (job_of c Look refl (k.job.at_work c (Copying left) owner) (k.job.fits c (Copying left) owner).0)
 job_keeps s c t k sizes given (gives_up chain uid page makes owner want fits) =
-    kept (without_owner s) sizes k.tied (job_none (without_owner s) refl (k.job.fits c Look owner))
+    kept sizes k.tied (job_none refl (k.job.fits c Look owner))
 job_keeps s c t k sizes given (starts f uid page can) = start_kept s c f uid page k sizes can
 job_keeps s c t k sizes given (answers stage _ owner due answered) = given answered
 
 -- ---- a step of a processor
 
 not_owner : (s : Outline) (c : ℕ) (b : Stage) → owns s.owner c ≡ false → IsIn s c b → ⊥
-not_owner s c b out owner = not_both (cc (own_self c)) out
-  where
-    own_self : (i : ℕ) → eqb i i ≡ true
-    own_self i = elim (eqb_tells i i) [ inl x ↦ x.0 | inr x ↦ absurd (x.1 refl) ]
+not_owner s c b out owner = not_both (cc (eqb_self c)) out
 
 read_none : (o : Option Transfer) → is_some o ≡ false → o ≡ None
 read_none None h = refl
 read_none (Some r) h = let no = h in absurd cc
 
 -- one processor changes that isn't the owner, and keeps what ties it to the frames
-one_kept : (s t : Outline) (c : ℕ) (x : Runner) → IsKept s → HasSizes t → c < length s.runners → t.owner ≡ s.owner
+one_kept : {s t : Outline} (c : ℕ) (x : Runner) → IsKept s → HasSizes t → c < length s.runners → t.owner ≡ s.owner
     → t.runners ≡ set s.runners c x → t.frames ≡ s.frames → t.entries ≡ s.entries → ((b : Stage) → IsIn s c b → ⊥)
     → ((runner_at s.runners c).due ≡ false → x.due ≡ false) → AreTied (set s.runners c x) s.frames → IsKept t
-one_kept s t c x k sizes lt owner runners frames entries other due tied = kept t sizes (rw runners (rw frames tied))
+one_kept {s} {t} c x k sizes lt owner runners frames entries other due tied = kept sizes (rw runners (rw frames tied))
     (job_other s t c x k.job owner runners other (λ none. cc (due_set s c x lt due none))
     (λ w b h. fits_still s t w b frames entries (λ none. cc (due_set s c x lt due none)) h))
 
 -- a transfer ends, and its frame changes
-ended_kept : (s t : Outline) (c : ℕ) (r : Transfer) (x : Runner) (y : Frame) → IsKept s → HasSizes t
+ended_kept : {s t : Outline} (c : ℕ) (r : Transfer) (x : Runner) (y : Frame) → IsKept s → HasSizes t
     → (runner_at s.runners c).reading ≡ Some r → t.owner ≡ s.owner → t.runners ≡ set s.runners c x
     → t.frames ≡ set s.frames r.frame y → t.entries ≡ s.entries → x.online ≡ true → x.reading ≡ None
     → x.due ≡ (runner_at s.runners c).due → is_started y ≡ false → IsKept t
-ended_kept s t c r x y k sizes reading owner runners frames entries online over due now =
+ended_kept {s} {t} c r x y k sizes reading owner runners frames entries online over due now =
     let lt = inside s.runners c (k.tied.runners_online c (k.tied.readers_run c r reading)) in
     let tie = k.tied.read c r reading in
     let still : (runner_at s.runners c).due ≡ false → x.due ≡ false = λ h. due ∙ h in
-    kept t sizes (rw runners (rw frames (tied_ended s.runners s.frames c r x y lt reading online over now k.tied)))
+    kept sizes (rw runners (rw frames (tied_ended s.runners s.frames c r x y lt reading online over now k.tied)))
     (job_other s t c x k.job owner runners
     (λ b h. not_both (cc) (ap (λ (o : Option Transfer). is_some o) (k.job.at_work c b h).idle))
     (λ none. ap dues runners ∙ due_set s c x lt still none)
@@ -377,49 +338,41 @@ look_kept : (s : Outline) (c : ℕ) → IsKept s → HasSizes (at_stage s c Look
     → rule_of s c ≡ Commands → s.owner ≡ None → IsKept (at_stage s c Look)
 look_kept s c k sizes lt h none =
     let told = tells s c Commands h in
-    kept (at_stage s c Look) sizes k.tied (job_of (at_stage s c Look) c Look refl
+    kept sizes k.tied (job_of c Look refl
     (assumption (read_none (runner_at s.runners c).reading told.1)) (k.job.quiet none))
 
 -- Each step keeps what is true of an outline. That the sizes stay, and that what a command's effect leaves is kept, is
 -- the machine's to say.
 pub step_keeps : (s : Outline) (c : ℕ) (turn : Turn) (t : Outline) → IsKept s → c < length s.runners → HasSizes t
     → (IsAnswered s c t → IsKept t) → (rule_of s c ≡ Commands → IsReplied s c t → IsKept t) → Step s c turn t → IsKept t
-step_keeps s c turn t k lt sizes given told (comes h) =
-    one_kept s (with_runner s c (record (runner_at s.runners c) { online = true })) c
+step_keeps s c turn t k lt sizes given told (comes h) = one_kept c
     (record (runner_at s.runners c) { online = true }) k sizes lt refl refl refl refl
-    (λ b i. not_both (k.tied.runners_online c (k.job.at_work c b i).running) (tells s c Comes h)) (λ d. d)
-    (tied_same s.runners (set s.runners c (record (runner_at s.runners c) { online = true })) s.frames
+    (λ b i. not_both (k.tied.runners_online c (k.job.at_work c b i).running) (tells s c Comes h)) (λ d. d) (tied_same
     (ties_set s.runners c (record (runner_at s.runners c) { online = true }) lt (λ d. refl) refl refl) k.tied)
-step_keeps s c turn t k lt sizes given told (clears x h cleared) =
-    one_kept s (with_runner s c x) c x k sizes lt refl refl refl refl
-    (λ b i. not_both (tells s c Clears h).1 (k.job.at_work c b i).clear) (λ d. cleared.due)
-    (tied_same s.runners (set s.runners c x) s.frames
+step_keeps s c turn t k lt sizes given told (clears x h cleared) = one_kept c x k sizes lt refl refl refl refl
+    (λ b i. not_both (tells s c Clears h).1 (k.job.at_work c b i).clear) (λ d. cleared.due) (tied_same
     (ties_set s.runners c x lt (λ d. cc) cleared.running cleared.reading) k.tied)
 step_keeps s c turn t k lt sizes given told (reads r used modified h is) =
-    ended_kept s (not_reading (with_bound s r used modified) c) c r (record (runner_at s.runners c) { reading = None })
+    ended_kept c r (record (runner_at s.runners c) { reading = None })
     (frame.Bound r.uid r.page used modified) k sizes is refl refl refl refl
     (k.tied.runners_online c (k.tied.readers_run c r is)) refl refl refl
-step_keeps s c turn t k lt sizes given told (loses r x left h is lost fewer) =
-    ended_kept s (record (with_runner (with_frame s r.frame frame.Free) c x) { left = left }) c r x frame.Free k sizes
+step_keeps s c turn t k lt sizes given told (loses r x left h is lost fewer) = ended_kept c r x frame.Free k sizes
     is refl
     refl refl refl (lost.online ∙ k.tied.runners_online c (k.tied.readers_run c r is)) lost.reading lost.due refl
 step_keeps s c turn t k lt sizes given told (works _ h step) = job_keeps s c t k sizes given step
 step_keeps s c turn t k lt sizes given told (loads x h some loaded) =
     let rule = tells s c Loads h in
-    one_kept s (record (with_runner s c x) { ready = s.ready - 1 }) c x k sizes lt refl refl refl refl
-    (λ b i. not_owner s c b rule.2 i) (λ d. loaded.due)
+    one_kept c x k sizes lt refl refl refl refl (λ b i. not_owner s c b rule.2 i) (λ d. loaded.due)
     (tied_quiet s.runners c x s.frames lt loaded.online loaded.reading
     (read_none (runner_at s.runners c).reading rule.1) k.tied)
 step_keeps s c turn t k lt sizes given told (leaves x h left) =
     let rule = tells s c Leaves h in
-    one_kept s (record (with_runner s c x) { ready = s.ready + 1 }) c x k sizes lt refl refl refl refl
-    (λ b i. not_owner s c b rule.2 i) (λ d. left.due)
+    one_kept c x k sizes lt refl refl refl refl (λ b i. not_owner s c b rule.2 i) (λ d. left.due)
     (tied_quiet s.runners c x s.frames lt left.online left.reading (read_none (runner_at s.runners c).reading rule.1)
     k.tied)
 step_keeps s c turn t k lt sizes given told (fills x h filled) =
-    one_kept s (with_runner s c x) c x k sizes lt refl refl refl refl (λ b i. not_owner s c b (tells s c Commands h).2
-    i) (λ d. cc) (tied_same s.runners (set s.runners c x) s.frames
-    (ties_set s.runners c x lt (λ d. cc) filled.running filled.reading) k.tied)
+    one_kept c x k sizes lt refl refl refl refl (λ b i. not_owner s c b (tells s c Commands h).2
+    i) (λ d. cc) (tied_same (ties_set s.runners c x lt (λ d. cc) filled.running filled.reading) k.tied)
 step_keeps s c turn t k lt sizes given told (replies _ h replied) = told h replied
 step_keeps s c turn t k lt sizes given told (faults chain uid page makes h none want lacks) =
     look_kept s c k sizes lt h none

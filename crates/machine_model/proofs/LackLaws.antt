@@ -1,9 +1,5 @@
 -- What the tables lack for a command, as frames, transfers and stored pages change.
-use Rattle.machine_model.proofs.Prelude.{◌≡◌, ◌≢◌, ◌≤◌, ◌<◌, ℕ, Bool, true, false, not, cond, ◌||◌, ◌&&◌, eqb, List, length, Option, Some, None, set, refl, sym, ap, ◌∙◌, ◌⊎◌, inl, inr, le_refl, arith, list_any, eqb_tells, none-some, Frame, Transfer, Want, Refer, Truncate, Length, Other, Outline, Runner, with_frame, is_of, is_here, reads_page, page_fits, wanted_fits, wanted_link, want_lack, lack, with_stored, is_wanted, is_spared, and_from, or_left, and_parts}
-use Rattle.core_map.specs.declared.Frame.TheVariants as frame
-use Rattle.machine_model.specs.Jobs.{page_or_zero}
-use Rattle.machine_model.specs.Outline.{frame_in}
-use Rattle.machine_model.specs.Finishing.{MayRelease, page_of}
+use Rattle.machine_model.proofs.Prelude.{◌≡◌, ◌≢◌, ◌≤◌, ◌<◌, ℕ, Bool, true, false, not, cond, ◌||◌, ◌&&◌, eqb, List, length, Option, Some, None, set, refl, sym, ap, ◌∙◌, ◌⊎◌, inl, inr, le_refl, arith, list_any, eqb_tells, none-some, Frame, Transfer, Want, Refer, Truncate, Length, Other, Outline, Runner, with_frame, is_of, is_here, reads_page, page_fits, wanted_fits, wanted_link, want_lack, lack, with_stored, is_wanted, is_spared, and_from, or_left, and_parts, Frame as frame, jobs_page_or_zero as page_or_zero, outline_frame_in as frame_in, FinishingMayRelease as MayRelease, finishing_page_of as page_of}
 use Rattle.machine_model.proofs.CountLaws.{any_set}
 
 -- ---- less lacks where more fits

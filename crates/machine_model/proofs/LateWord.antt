@@ -1,11 +1,6 @@
 -- A word is written through an entry of a page that is on its way out: the page is tested for zeros only after the
 -- last clear, so the word is kept.
-use Rattle.machine_model.proofs.Prelude.{◌≡◌, [], ◌∷◌, Some, None, refl, codes, ProcessPlan, State, book_of, machine_with, process_for, row_for, ran, stepped}
-use Rattle.mnames.specs.declared.modes.Mode.TheVariants as mode
-use Rattle.script.specs.declared.commands.Command.TheVariants as command
-use Rattle.book.specs.declared.entries.Entry.TheVariants as entry
-use Rattle.book.specs.declared.replies.Reply.TheVariants as reply
-use Rattle.assoc_mem.specs.declared.What.TheVariants as what
+use Rattle.machine_model.proofs.Prelude.{◌≡◌, [], ◌∷◌, Some, None, refl, codes, ProcessPlan, State, book_of, machine_with, process_for, row_for, ran, stepped, Mode as mode, Command as command, Entry as entry, Reply as reply, What as what}
 
 abbrev smith : ProcessPlan
 smith = process_for (codes "Smith") (

@@ -1,7 +1,5 @@
 -- The victim of a pool has no active inferior: the ways down from a segment come to an end.
-use Rattle.machine_model.proofs.Prelude.{◌≡◌, ◌≢◌, ◌<◌, ◌≤◌, ℕ, zero, suc, ◌+◌, Bool, true, false, count_by, List, eqb, not, length, Option, Some, None, inl, inr, refl, sym, ap, subst, ◌∙◌, arith, nat_lt, range_with_len, list_any, eqb_tells, leb_tells, Node, node_in, ActiveSegs, HasNoInferior, entry_at, superior_at, uid_at, uid_in, first_off_chain, is_inferior_in, is_inferior_of, leaf_below, leaf_of, least_inferior, least_inferior_of, off_chain, round_pool, stead_of, victim_of, place_of, node_superior, Keeps, flat_of, is_active, State, lt_from, not_both, passed_there}
-use Rattle.active_segs.specs.declared.Entry.{Entry}
-use Rattle.active_segs.specs.Active.{IsTree, superior_in}
+use Rattle.machine_model.proofs.Prelude.{◌≡◌, ◌≢◌, ◌<◌, ◌≤◌, ℕ, zero, suc, ◌+◌, Bool, true, false, count_by, List, eqb, not, length, Option, Some, None, inl, inr, refl, sym, ap, subst, ◌∙◌, arith, nat_lt, range_with_len, list_any, eqb_tells, leb_tells, Node, node_in, ActiveSegs, HasNoInferior, entry_at, superior_at, uid_at, uid_in, first_off_chain, is_inferior_in, is_inferior_of, leaf_below, leaf_of, least_inferior, least_inferior_of, off_chain, round_pool, stead_of, victim_of, place_of, node_superior, Keeps, flat_of, is_active, State, lt_from, not_both, passed_there, Active as Entry, ActiveIsTree as IsTree, active_superior_in as superior_in, eqb_self}
 use Rattle.machine_model.proofs.ActiveSeen.{active_place}
 use Rattle.machine_model.proofs.FindLaws.{find_true, position_at, position_none}
 use Rattle.machine_model.proofs.PoolRoom.{count_all, count_new, range_has, range_length}
@@ -50,7 +48,7 @@ module _ (entries : List (Option Entry)) (tree : IsTree entries) where
       ]
 
   tells_inferior : (u : ℕ) (o : Option Entry) → superior_in o ≡ Some u → is_inferior_of u o ≡ true
-  tells_inferior u o h = ap (is_inferior_in u) h ∙ elim (eqb_tells u u) [ inl e ↦ e.0 | inr n ↦ absurd (n.1 refl) ]
+  tells_inferior u o h = ap (is_inferior_in u) h ∙ eqb_self u
 
   -- where nothing is found there is no inferior
   none_below : (place u : ℕ) → uid_at entries place ≡ Some u → least_inferior entries place ≡ None

@@ -14,6 +14,7 @@ pub mod BootKept
 pub mod ChainFacts
 pub mod ChainLaws
 pub mod ChangesUnderUse
+pub mod ChoiceLaws
 pub mod ClearLaws
 pub mod ComingKept
 pub mod ComingLaws
@@ -61,6 +62,7 @@ pub mod InsideLaws
 pub mod JobAsks
 pub mod JobKept
 pub mod JobLaws
+pub mod JobStays
 pub mod JustLaws
 pub mod JustTaken
 pub mod KeepLaws

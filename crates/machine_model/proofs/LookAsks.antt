@@ -1,10 +1,6 @@
 -- What the actions of a look ask follows from the promise, from what the look finds, and from what the calls of the
 -- store say.
-use Rattle.machine_model.proofs.Prelude.{or_zero, cases_Bool, eqb-true, and_parts, ◌≡◌, ◌<◌, ◌≤◌, ℕ, zero, suc, ◌+◌, ◌^◌, Bool, true, false, cond, eqb, List, is_some, is_none, sum, take, [], ◌∷◌, length, get_or, Option, Some, None, inl, inr, refl, sym, ap, subst, ◌∙◌, arith, ◌/◌, IsSomeAnd, IfSome, eqb_tells, leb_tells, sum_by-cons, reference_of, Command, Reference, Reply, Node, node_in, pool_for, pool_of, IsTree, IsMember, found_member, chain_of, uid_of, entry_at, IsInPool, first_of, kst_at, leads, place_of, table_of, word_of, reply_to_command, is_held_back, word_reply, known_uid, MayActivate, MayAnswerBy, MayJoin, stores, pages_of, pool_of_node, Outcome, seen, Keeps, IsMachine, flat_of, free_place, is_active, first_inactive, places_in, process_at, uid_of_number, Says, shown, State, page_made, older}
-use Rattle.book.specs.declared.entries.Entry.TheVariants as entry
-use Rattle.page_table.specs.declared.Ptw.TheVariants as ptw
-use Rattle.active_segs.specs.declared.Entry.{Entry}
-use Rattle.machine_model.specs.Actions as act
+use Rattle.machine_model.proofs.Prelude.{or_zero, cases_Bool, eqb-true, and_parts, ◌≡◌, ◌<◌, ◌≤◌, ℕ, zero, suc, ◌+◌, ◌^◌, Bool, true, false, cond, eqb, List, is_some, is_none, sum, take, [], ◌∷◌, length, get_or, Option, Some, None, inl, inr, refl, sym, ap, subst, ◌∙◌, arith, ◌/◌, IsSomeAnd, IfSome, eqb_tells, leb_tells, sum_by-cons, reference_of, Command, Reference, Reply, Node, node_in, pool_for, pool_of, IsTree, IsMember, found_member, chain_of, uid_of, entry_at, IsInPool, first_of, kst_at, leads, place_of, table_of, word_of, reply_to_command, is_held_back, word_reply, known_uid, MayActivate, MayAnswerBy, MayJoin, stores, pages_of, pool_of_node, Outcome, seen, Keeps, IsMachine, flat_of, free_place, is_active, first_inactive, places_in, process_at, uid_of_number, Says, shown, State, page_made, older, Entry as entry, Ptw as ptw, Active as Entry, Action as act}
 use Rattle.machine_model.proofs.ActiveSeen.{active_place}
 use Rattle.machine_model.proofs.ChainFacts.{chain_active, first_there, superior_active}
 use Rattle.machine_model.proofs.CommandFacts.{truncate_stands}

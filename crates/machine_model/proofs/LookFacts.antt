@@ -1,14 +1,6 @@
 -- What a look of the owner finds for the command of its process, when it comes to each of its actions.
-use Rattle.machine_model.proofs.Prelude.{cond_both, cases_Bool, not_both, ◌≡◌, ◌≢◌, ◌<◌, ℕ, ◌*◌, Bool, true, false, cond, eqb, is_some, List, [], position, Option, Some, None, ◌⊎◌, inl, inr, refl, sym, ap, ◌∙◌, ◌%◌, ◌/◌, Mode, who_of, reference_of, Command, Reference, Reply, access_of, Node, node_in, chain_of, Frame, Core, frame_at, is_started, least_free_frame, started_page, clock_choice, Ptw, Sdw, frame_in, uid_at, victim_of, word_of, reply_by, reply_to_command, new_word, permits, reply_to_reference, known_uid, is_refusal, activate_first, activate_in, any_page, bring_cut, create_unless, descriptors_taken, empty_victim, empty_when_read, evict_or_wait, first_taken, frame_read_from, frames_taken, into_frame, look_at_descriptor, look_at_word, look_for, look_for_reference, look_inside, look_of, look_to_change, look_to_take, look_unless, pool_of_node, take_or_commit, unless_read, what_taken, with_chain, with_cut_page, look_to_create, move_or, is_out, descriptor_of, first_inactive, flat_of, frame_reading, free_place, is_active, is_page_of, or_zero, is_of_room, is_outside, only, outside_refusal, refusal_of, room_refusal, uid_of_command, uid_of_number, move_to, State, reply_to_tree_command, ◌∷◌, subst, nat_le}
-use Rattle.script.specs.declared.commands.Command.TheVariants as command
-use Rattle.book.specs.declared.replies.Reply.TheVariants as reply
-use Rattle.core_map.specs.declared.Frame.TheVariants as frame
-use Rattle.page_table.specs.declared.Ptw.TheVariants as ptw
-use Rattle.descriptor_seg.specs.declared.Sdw.TheVariants as sdw
-use Rattle.machine_model.specs.Actions as act
-use Rattle.machine_model.specs.Actions.{room_for}
+use Rattle.machine_model.proofs.Prelude.{cond_both, cases_Bool, not_both, ◌≡◌, ◌≢◌, ◌<◌, ℕ, ◌*◌, Bool, true, false, cond, eqb, is_some, List, [], position, Option, Some, None, ◌⊎◌, inl, inr, refl, sym, ap, ◌∙◌, ◌%◌, ◌/◌, Mode, who_of, reference_of, Command, Reference, Reply, access_of, Node, node_in, chain_of, Frame, Core, frame_at, is_started, least_free_frame, started_page, clock_choice, Ptw, Sdw, frame_in, uid_at, victim_of, word_of, reply_by, reply_to_command, new_word, permits, reply_to_reference, known_uid, is_refusal, activate_first, activate_in, any_page, bring_cut, create_unless, descriptors_taken, empty_victim, empty_when_read, evict_or_wait, first_taken, frame_read_from, frames_taken, into_frame, look_at_descriptor, look_at_word, look_for, look_for_reference, look_inside, look_of, look_to_change, look_to_take, look_unless, pool_of_node, take_or_commit, unless_read, what_taken, with_chain, with_cut_page, look_to_create, move_or, is_out, descriptor_of, first_inactive, flat_of, frame_reading, free_place, is_active, is_page_of, or_zero, is_of_room, is_outside, only, outside_refusal, refusal_of, room_refusal, uid_of_command, uid_of_number, move_to, State, reply_to_tree_command, ◌∷◌, subst, nat_le, Command as command, Reply as reply, Frame as frame, Ptw as ptw, Sdw as sdw, actions_room_for as room_for, same_Some, Action, ForTransfer, Action as act}
 use Rattle.machine_model.proofs.FindLaws.{position_at}
-use Rattle.std.proofs.lemmas.Option.{same_Some}
 
 -- ---- what is found
 
@@ -173,8 +165,8 @@ pub record FindsNoVictim (s : State) (k : ℕ) (cmd : Command) : Type 0 where
   pub full : free_place s.store.ast (pool_of_node (node_in s.store.accounts.nodes wanted)) ≡ None
   pub victim : victim_of s.store.ast (pool_of_node (node_in s.store.accounts.nodes wanted)) chain ≡ None
 
-abbrev pub LookFinds : State → ℕ → Command → act.Action → Type 0
-LookFinds s k cmd (act.Waits (act.ForTransfer f)) = is_some (started_page (frame_in s.store.pages f)) ≡ true
+abbrev pub LookFinds : State → ℕ → Command → Action → Type 0
+LookFinds s k cmd (act.Waits (ForTransfer f)) = is_some (started_page (frame_in s.store.pages f)) ≡ true
 LookFinds s k cmd (act.Answer r) = IsRefused s k cmd r
 LookFinds s k cmd act.GiveUp = FindsAll s k cmd ⊎ (FindsNoFrame s ⊎ FindsNoVictim s k cmd)
 LookFinds s k cmd (act.Activate u place) = FindsPlace s k cmd u place
@@ -206,7 +198,7 @@ module _ (s : State) (k : ℕ) (cmd : Command) where
       by None e = cc
       by (Some page) e = refl
 
-  unless_finds : (u : ℕ) (test : ℕ → Bool) (a : act.Action) → (frame_reading core u test ≡ None → LookFinds s k cmd a)
+  unless_finds : (u : ℕ) (test : ℕ → Bool) (a : Action) → (frame_reading core u test ≡ None → LookFinds s k cmd a)
       → LookFinds s k cmd (unless_read (frame_reading core u test) a)
   unless_finds u test a h = by (frame_reading core u test) refl
     where
@@ -234,7 +226,7 @@ module _ (s : State) (k : ℕ) (cmd : Command) where
         by None i = inr (inl (assumption))
         by (Some f) i = started_found f i
 
-    room_finds : (into : ℕ → act.Action)
+    room_finds : (into : ℕ → Action)
         → ((f : ℕ) → least_free_frame core ≡ Some f → frame_reading core u (λ q. eqb q p) ≡ None
         → LookFinds s k cmd (into f)) → LookFinds s k cmd (room_for core u p into)
     room_finds into h = unless_finds u (λ q. eqb q p) (into_frame core (least_free_frame core) into)
@@ -284,7 +276,7 @@ module _ (s : State) (k : ℕ) (cmd : Command) where
     place_finds v e (Some place) i = record { chain = chain; link = link_of v e; free = i }
     place_finds v e None i = victim_finds v e i (victim_of s.store.ast (pool v) chain) refl
 
-    chain_finds : (otherwise : act.Action) → (first_inactive s.store.ast chain ≡ None → LookFinds s k cmd otherwise)
+    chain_finds : (otherwise : Action) → (first_inactive s.store.ast chain ≡ None → LookFinds s k cmd otherwise)
         → LookFinds s k cmd (with_chain s.store about otherwise)
     chain_finds otherwise h = by (first_inactive s.store.ast chain) refl
       where

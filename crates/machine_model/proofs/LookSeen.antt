@@ -1,17 +1,9 @@
 -- A look of the owner finds what its outline asks of its actions.
-use Rattle.machine_model.proofs.Prelude.{passed_there, ◌≡◌, ◌<◌, ℕ, zero, suc, Bool, true, false, not, cond, ◌&&◌, ◌||◌, eqb, List, [], ◌∷◌, length, get_or, map, Option, Some, None, Ok, ◌⊎◌, inl, inr, refl, sym, ap, subst, ◌∙◌, arith, ◌/◌, list_any, length-map, new_word, reference_of, Command, Reference, Node, node_in, found_member, chain_of, segment_at, is_free, least_free_frame, Frame, Ptw, store_frame, has_record, entry_at, uid_at, uid_in, off_chain, victim_of, known_uid, place_of, word_of, has, no_call, is_out, names, AreOf, CanActivate, CanEmpty, CanEvict, CanStart, IsIn, IsWantedPage, is_wanted_here, IsLook, KeepsLink, MayAnswer, MayConnect, MayEmpty, WantsPage, lack_of, seen, deactivation_begun, took, victim_taken, with_hand_moved, Keeps, has_free, is_here, page_fits, want_lack, wanted_chain, Want, Refer, Truncate, Length, Look, runner_at, want_at, around, bare, cut_page, is_linked, outline_of, want_by, want_lengthened, want_truncated, IsMachine, cpu_at, descriptor_of, first_inactive, flat_of, frames_from, is_active, is_connected, next_command, or_zero, process_at, processor_at, trailers_in, outside_refusal, refusal_of, uid_of_command, uid_of_number, shown, Owner, State, with_store, has_head, has_tail}
-use Rattle.script.specs.declared.commands.Command.TheVariants as command
-use Rattle.core_map.specs.declared.Frame.TheVariants as frame
-use Rattle.page_table.specs.declared.Ptw.TheVariants as ptw
-use Rattle.active_segs.specs.declared.Entry.{Entry}
-use Rattle.machine_model.specs.declared.Aim.TheVariants as aim
-use Rattle.machine_model.specs.declared.Phase.TheVariants as phase
-use Rattle.machine_model.specs.Actions as act
-use Rattle.machine_model.specs.Finishing.{is_bound, page_of}
-use Rattle.machine_model.specs.Outline.{frame_in}
+use Rattle.machine_model.proofs.Prelude.{passed_there, ◌≡◌, ◌<◌, ℕ, zero, suc, Bool, true, false, not, cond, ◌&&◌, ◌||◌, eqb, List, [], ◌∷◌, length, get_or, map, Option, Some, None, Ok, ◌⊎◌, inl, inr, refl, sym, ap, subst, ◌∙◌, arith, ◌/◌, list_any, length-map, new_word, reference_of, Command, Reference, Node, node_in, found_member, chain_of, segment_at, is_free, least_free_frame, Frame, Ptw, store_frame, has_record, entry_at, uid_at, uid_in, off_chain, victim_of, known_uid, place_of, word_of, has, no_call, is_out, names, AreOf, CanActivate, CanEmpty, CanEvict, CanStart, IsIn, IsWantedPage, is_wanted_here, IsLook, KeepsLink, MayAnswer, MayConnect, MayEmpty, WantsPage, lack_of, seen, deactivation_begun, took, victim_taken, with_hand_moved, Keeps, has_free, is_here, page_fits, want_lack, wanted_chain, Want, Refer, Truncate, Length, Look, runner_at, want_at, around, bare, cut_page, is_linked, outline_of, want_by, want_lengthened, want_truncated, IsMachine, cpu_at, descriptor_of, first_inactive, flat_of, frames_from, is_active, is_connected, next_command, or_zero, process_at, processor_at, trailers_in, outside_refusal, refusal_of, uid_of_command, uid_of_number, shown, Owner, State, with_store, has_head, has_tail, Command as command, Frame as frame, Ptw as ptw, Active as Entry, Aim as aim, Phase as phase, finishing_is_bound as is_bound, finishing_page_of as page_of, outline_frame_in as frame_in, Action, ForTransfer, look_of, Action as act}
 use Rattle.machine_model.proofs.ActiveSeen.{active_place}
 use Rattle.machine_model.proofs.ChainFacts.{chain_active, first_there}
-use Rattle.machine_model.proofs.ComingKept.{SameRuns, all_taken, segment}
+use Rattle.machine_model.proofs.ComingKept.{runs_stay}
+use Rattle.machine_model.proofs.JobStays.{all_taken, emptying, emptying_victim}
 use Rattle.machine_model.proofs.CommandFacts.{LeadsToSegment, length_stands, truncate_stands}
 use Rattle.machine_model.proofs.FindLaws.{choice_bound, free_frame, position_at, position_none, first_idle}
 use Rattle.machine_model.proofs.ForeseeLaws.{has_answer, waits_reading}
@@ -30,7 +22,8 @@ use Rattle.machine_model.proofs.SpeakLaws.{Speaks}
 use Rattle.machine_model.proofs.TakeLists.{listed_bound}
 use Rattle.machine_model.proofs.TieLaws.{none_some}
 use Rattle.machine_model.proofs.TransferKept.{active_at}
-use Rattle.machine_model.proofs.VictimLaws.{some_there, has_victim, member_contains, one_read, victim_is_off}
+use Rattle.machine_model.proofs.ChoiceLaws.{one_read}
+use Rattle.machine_model.proofs.VictimLaws.{some_there, has_victim, member_contains, victim_is_off}
 use Rattle.machine_model.proofs.WantLaws.{linked_here, refer_wants, want_here}
 
 -- ---- frames
@@ -371,8 +364,8 @@ module _ (s : State) (c : ℕ) (m : IsMachine s) (cmd : Command) (sp : Speaks s 
   empty_finds u finds = may_empty (deactivation_begun s c u) u finds.active (cc (
     length_want finds.path finds.pages finds.is finds.stands u finds.uid,
     used (entry_at s.store.ast.entries (place_of s.store.ast.entries u)) (active_place s.store.ast u finds.active).1,
-  )) (tree_link s (deactivation_begun s c u) c k sp.its (segment s c u (frames_from s.store.ast u 0)
-      (trailers_in s.store u)) cmd sp.next (ap reference_of finds.is))
+  )) (tree_link s (deactivation_begun s c u) c k sp.its (runs_stay (emptying s c u)) cmd sp.next
+      (ap reference_of finds.is))
     where
       used : (o : Option Entry) → uid_in o ≡ Some u → off_chain [] o ≡ true
       used None h = cc
@@ -389,19 +382,15 @@ module _ (s : State) (c : ℕ) (m : IsMachine s) (cmd : Command) (sp : Speaks s 
       off_there : off_chain (chain_of nodes finds.link.about) (entry_at s.store.ast.entries finds.place) ≡ true
       off_there = victim_is_off s keeps finds.link.about pool finds.place victim
 
-      runs : SameRuns s (victim_taken s c pool chain u)
-      runs = let begun = segment (with_store s (with_hand_moved s.store pool chain)) c u
-          (frames_from (with_hand_moved s.store pool chain).ast u 0)
-          (trailers_in (with_hand_moved s.store pool chain) u) in
-          record { plan = begun.plan; runs = begun.runs }
-
       link : KeepsLink s (victim_taken s c pool chain u) c
       link = elim finds.link.case.case [
-        | inl x ↦ fault_link s (victim_taken s c pool chain u) c k sp.its runs cmd x.0 sp.next x.1 x.4
+        | inl x ↦ fault_link s (victim_taken s c pool chain u) c k sp.its
+            (runs_stay (emptying_victim s c pool chain u)) cmd x.0 sp.next x.1 x.4
             (segment_faults (with_store s (with_hand_moved s.store pool chain)) c u
             (frames_from (with_hand_moved s.store pool chain).ast u 0)
             (trailers_in (with_hand_moved s.store pool chain) u) k x.0.number x.4)
-        | inr x ↦ tree_link s (victim_taken s c pool chain u) c k sp.its runs cmd sp.next (ap reference_of x.2)
+        | inr x ↦ tree_link s (victim_taken s c pool chain u) c k sp.its
+            (runs_stay (emptying_victim s c pool chain u)) cmd sp.next (ap reference_of x.2)
       ]
 
       used : (x : Entry) × (entry_at s.store.ast.entries finds.place ≡ Some x)
@@ -435,8 +424,8 @@ module _ (s : State) (c : ℕ) (m : IsMachine s) (cmd : Command) (sp : Speaks s 
   may : MayAnswer s c
   may = has_answer s c m sp.there (cc)
 
-  looks_like : (a : act.Action) → LookFinds s k cmd a → IsLook s c a
-  looks_like (act.Waits (act.ForTransfer f)) h = waits_reading s k cmd f h
+  looks_like : (a : Action) → LookFinds s k cmd a → IsLook s c a
+  looks_like (act.Waits (ForTransfer f)) h = waits_reading s k cmd f h
   looks_like (act.Answer r) h = may
   looks_like act.GiveUp (inl h) = all_finds h
   looks_like act.GiveUp (inr (inl h)) = absurd (no_frame h)
@@ -450,12 +439,12 @@ module _ (s : State) (c : ℕ) (m : IsMachine s) (cmd : Command) (sp : Speaks s 
   looks_like (act.EmptyVictim pool chain u) h = victim_finds pool chain u h
   looks_like (act.TakeAway fs pairs w) h = (
     h.2,
-    tree_link s (took s c aim.Committing w fs pairs) c k sp.its (all_taken s c aim.Committing w fs pairs) cmd sp.next
-        h.0.tree,
+    tree_link s (took s c aim.Committing w fs pairs) c k sp.its
+        (runs_stay (all_taken s c aim.Committing w fs pairs)) cmd sp.next h.0.tree,
   )
   looks_like (act.BeginMove u volume) h = tt
   looks_like act.Commit h = may
   looks_like _ h = absurd h
 
-  pub look_seen : IsLook s c (act.look_of s k (next_command s k))
-  look_seen = rw sp.next (looks_like (act.look_of s k (Some cmd)) (look_finds s k cmd))
+  pub look_seen : IsLook s c (look_of s k (next_command s k))
+  look_seen = rw sp.next (looks_like (look_of s k (Some cmd)) (look_finds s k cmd))

@@ -1,6 +1,5 @@
 -- A machine that keeps its promise keeps it through each step, where the calls of its store do what they say.
-use Rattle.machine_model.proofs.Prelude.{◌<◌, ℕ, length, sym, ap, subst, ◌∙◌, IsPlan, Plan, action_of, Outcome, after, Keeps, AsksMover, mover_of, IsMachine, KeepsAll, Says, State, next_command, process_at, IsEntitledToAll, IsReading, IsWorking}
-use Rattle.machine_model.specs.Actions as act
+use Rattle.machine_model.proofs.Prelude.{◌<◌, ℕ, length, sym, ap, subst, ◌∙◌, IsPlan, Plan, action_of, Outcome, after, Keeps, AsksMover, mover_of, IsMachine, KeepsAll, Says, State, next_command, process_at, IsEntitledToAll, IsReading, IsWorking, Action, Action as act}
 use Rattle.machine_model.proofs.EntitledKept.{MayEntitle, entitled_kept}
 use Rattle.machine_model.proofs.CommitRights.{commit_entitled, moved_entitled}
 use Rattle.machine_model.proofs.MoverTied.{action_asks, tie_kept}
@@ -26,14 +25,14 @@ module _ (s : State) (c : ℕ) (o : Outcome) (all : KeepsAll s) (there : c < len
   abbrev m : IsMachine s
   m = all.machine
 
-  entitles : (a : act.Action) → Keeps (after s c a o) → MayEntitle s c o a
+  entitles : (a : Action) → Keeps (after s c a o) → MayEntitle s c o a
   unfolding after
   entitles act.Commit kept = commit_entitled s c m.keeps there all.entitled (next_command s (process_at s c)) kept
   entitles (act.CommitMove x) kept = moved_entitled s c m.keeps there all.entitled x
   entitles _ kept = tt
 
   -- an action that may be done, of which the rules know what they do
-  done : (a : act.Action) → CanDo s c o a → Knows s c a → IsPast s c a → AsksMover a (mover_of s.owner)
+  done : (a : Action) → CanDo s c o a → Knows s c a → IsPast s c a → AsksMover a (mover_of s.owner)
       → KeepsMost (after s c a o)
   done a can knows past fits = record {
     machine = record {

@@ -1,12 +1,5 @@
 -- What a reference that a processor makes by itself asks follows from the promise, and from what it holds.
-use Rattle.machine_model.proofs.Prelude.{cases_Bool, eqb-true, and_parts, cond_both, eqb_self, ◌≡◌, ℕ, ◌*◌, Bool, true, false, ◌&&◌, ◌||◌, cond, eqb, suc, List, [], ◌∷◌, map, get_or, Option, Some, None, inl, inr, refl, sym, ap, subst, ◌∙◌, arith, ◌/◌, nat_le, find, option_map, eqb_tells, leb_tells, ProcessPlan, nobody, who_of, reference_of, Command, RefKind, Reference, Reply, HeldPage, HeldSeg, frame_of, is_number, is_page, seg_of, access_of, Node, node_in, Ptw, Sdw, uid_at, has_record, word_of, who_at, reply_to_command, is_stored, alters, new_word, permits, reply_to_reference, room_reply, stores_page, word_reply, written, Store, known_uid, DescriptorUse, IsPageAt, MayDo, is_word_or_done, stores, has, leads_to, Outcome, AreHeldPages, AreHeldSegs, names, AreEntitled, IsEntitled, IsEntitledToAll, led_to, seen, page_in, AreThere, Keeps, cpu_at, cut_of_owner, descriptor_of, flat_of, is_active, process_at, Says, Seen, cut_uid, cut_use, descriptor_use, is_cut_at, shown, State, Storage, old_word, CutDescriptor, not_both}
-use Rattle.script.specs.declared.commands.RefKind.TheVariants as kind
-use Rattle.book.specs.declared.replies.Reply.TheVariants as reply
-use Rattle.page_table.specs.declared.Ptw.TheVariants as ptw
-use Rattle.descriptor_seg.specs.declared.Sdw.TheVariants as sdw
-use Rattle.flat_model.specs.References.{after_reference}
-use Rattle.custody_model.specs.Custody.{bound_page}
-use Rattle.machine_model.specs.Actions as act
+use Rattle.machine_model.proofs.Prelude.{cases_Bool, eqb-true, and_parts, cond_both, eqb_self, ◌≡◌, ℕ, ◌*◌, Bool, true, false, ◌&&◌, ◌||◌, cond, eqb, suc, List, [], ◌∷◌, map, get_or, Option, Some, None, inl, inr, refl, sym, ap, subst, ◌∙◌, arith, ◌/◌, nat_le, find, option_map, eqb_tells, leb_tells, ProcessPlan, nobody, who_of, reference_of, Command, RefKind, Reference, Reply, HeldPage, HeldSeg, frame_of, is_number, is_page, seg_of, access_of, Node, node_in, Ptw, Sdw, uid_at, has_record, word_of, who_at, reply_to_command, is_stored, alters, new_word, permits, reply_to_reference, room_reply, stores_page, word_reply, written, Store, known_uid, DescriptorUse, IsPageAt, MayDo, is_word_or_done, stores, has, leads_to, Outcome, AreHeldPages, AreHeldSegs, names, AreEntitled, IsEntitled, IsEntitledToAll, led_to, seen, page_in, AreThere, Keeps, cpu_at, cut_of_owner, descriptor_of, flat_of, is_active, process_at, Says, Seen, cut_uid, cut_use, descriptor_use, is_cut_at, shown, State, Storage, old_word, CutDescriptor, not_both, RefKind as kind, Reply as reply, Ptw as ptw, Sdw as sdw, references_after_reference as after_reference, custody_bound_page as bound_page, same_Some, Action as act}
 use Rattle.machine_model.proofs.ActiveKept.{through_seen}
 use Rattle.machine_model.proofs.ChainLaws.{bound_shown}
 use Rattle.machine_model.proofs.FindLaws.{find_true}
@@ -21,7 +14,6 @@ use Rattle.machine_model.proofs.TakeSeen.{binding_is}
 use Rattle.machine_model.proofs.TellKept.{CanTell}
 use Rattle.machine_model.proofs.TransferKept.{active_at}
 use Rattle.machine_model.proofs.VictimLaws.{some_there}
-use Rattle.std.proofs.lemmas.Option.{same_Some}
 
 -- ---- what is held
 

@@ -1,14 +1,8 @@
 -- The move that segment control has under way is that of the supervisor's owner, after each action.
-use Rattle.machine_model.proofs.Prelude.{◌≡◌, ℕ, Bool, true, false, cond, eqb, not, ◌&&◌, List, [], ◌∷◌, position, Option, Some, None, refl, sym, ap, subst, ◌∙◌, cond_both, reference_of, Command, Reference, What, Ptw, bound_page, erased, frame_in, Move, Transfer, table_of, next_out, Aim, CutDescriptor, Phase, Processor, action_of, by_move, clear_or, come_to, copy_or_commit, finish_of, go_on_with, has_had_its_turn, is_empty, load_or_idle, look_of, once_cleared, own_or_run, refer_or_take, run_process, take_or_wait, transfer_or, Outcome, after, committed, committed_at, frames_freed, with_deleted, with_effect, with_truncated, without_page, cut_all, cut_one, emptied, here_if, leaving_if, owner_signalled, page_back, page_done, pages_back, seg_back, seg_gone, segment_taken, segs_back, segs_gone, take_all, take_one, took, with_choice, with_hand_moved, with_here, with_inactive, without_first_frame, write_failed, phase_signalled, eviction_done, AsksMover, mover_in, mover_of, copy_failed, page_copied, IsMachine, cut_of_owner, frames_from, frames_of_owner, home_in, is_active, is_due, next_command, process_at, processor_at, trailers_in, uid_of_command, Owner, State, Storage, fault_told, with_pages, with_store, with_faults, transferred, transfer_failed}
-use Rattle.script.specs.declared.commands.Command.TheVariants as command
-use Rattle.assoc_mem.specs.declared.What.TheVariants as what
-use Rattle.page_table.specs.declared.Ptw.TheVariants as ptw
-use Rattle.processor.specs.declared.Move.TheVariants as move
-use Rattle.machine_model.specs.declared.Aim.TheVariants as aim
-use Rattle.machine_model.specs.declared.Phase.TheVariants as phase
-use Rattle.machine_model.specs.Actions as act
-use Rattle.machine_model.proofs.ActionCases.{action_by}
-use Rattle.machine_model.proofs.EffectLaws.{effect_has, truncated_has}
+use Rattle.machine_model.proofs.Prelude.{◌≡◌, ℕ, Bool, true, false, cond, eqb, not, ◌&&◌, List, [], ◌∷◌, position, Option, Some, None, refl, sym, ap, subst, ◌∙◌, cond_both, reference_of, Command, Reference, What, Ptw, bound_page, erased, frame_in, Move, Transfer, table_of, next_out, Aim, CutDescriptor, Phase, Processor, action_of, by_move, clear_or, come_to, copy_or_commit, finish_of, go_on_with, has_had_its_turn, is_empty, load_or_idle, look_of, once_cleared, own_or_run, refer_or_take, run_process, take_or_wait, transfer_or, Outcome, after, committed, committed_at, frames_freed, with_deleted, with_effect, with_truncated, without_page, cut_all, cut_one, emptied, here_if, leaving_if, owner_signalled, page_back, page_done, pages_back, seg_back, seg_gone, segment_taken, segs_back, segs_gone, take_all, take_one, took, with_choice, with_hand_moved, with_here, with_inactive, without_first_frame, write_failed, phase_signalled, eviction_done, AsksMover, mover_in, mover_of, copy_failed, page_copied, IsMachine, cut_of_owner, frames_from, frames_of_owner, home_in, is_active, is_due, next_command, process_at, processor_at, trailers_in, uid_of_command, Owner, State, Storage, fault_told, with_pages, with_store, with_faults, transferred, transfer_failed, Command as command, What as what, Ptw as ptw, Move as move, Aim as aim, Phase as phase, Action, move_of, Action as act}
+use Rattle.machine_model.proofs.JobStays.{is_back, is_emptied}
+use Rattle.machine_model.proofs.ActionCases.{action_by, by_end}
+use Rattle.machine_model.proofs.EffectLaws.{effect_rests}
 use Rattle.machine_model.proofs.LookLaws.{IsLook, look_is}
 
 -- ---- what the rules know
@@ -21,7 +15,7 @@ move_asks : (x : Option Owner) (r : Reference) (y : Move) → AsksMover (by_move
 move_asks x r move.Fault = take_asks x
 move_asks x r _ = tt
 
-look_asks : (s : State) (a : act.Action) → IsLook s a → AsksMover a None
+look_asks : (s : State) (a : Action) → IsLook s a → AsksMover a None
 look_asks s (act.Waits why) h = tt
 look_asks s (act.Answer r) h = refl
 look_asks s act.GiveUp h = refl
@@ -45,7 +39,7 @@ finish_asks (aim.Deactivating u) (f ∷ fs) = refl
 finish_asks aim.Committing fs = refl
 
 module _ (s : State) (c : ℕ) where
-  abbrev Fits : act.Action → Type 0
+  abbrev Fits : Action → Type 0
   Fits a = AsksMover a (mover_of s.owner)
 
   abbrev p : Processor
@@ -57,7 +51,7 @@ module _ (s : State) (c : ℕ) where
     where
       by : (r : Option Reference) → Fits (refer_or_take s p.cpu k r)
       by None = take_asks s.owner
-      by (Some r) = move_asks s.owner r (act.move_of s p.cpu k r)
+      by (Some r) = move_asks s.owner r (move_of s p.cpu k r)
 
   load_asks : (x : List ℕ) → Fits (load_or_idle s x)
   load_asks [] = tt
@@ -101,7 +95,7 @@ module _ (s : State) (c : ℕ) where
 
 -- An action that a move excludes is done where segment control has none under way, and a step of a move is one of the
 -- move that it has.
-pub moving_fits : (s : State) (c : ℕ) (a : act.Action) → IsMachine s → action_of s c ≡ a → AsksMover a s.store.moving
+pub moving_fits : (s : State) (c : ℕ) (a : Action) → IsMachine s → action_of s c ≡ a → AsksMover a s.store.moving
 moving_fits s c a m is = rw is at (subst (AsksMover (action_of s c)) (sym m.moving) (action_asks s c))
 
 -- ---- no move is under way
@@ -137,18 +131,14 @@ all_taken : (s : State) (c : ℕ) (a : Aim) (w : What) (fs : List ℕ) (pairs : 
     → IsStill (took s c a w fs pairs)
 all_taken s c a w fs pairs h = all_cut (take_all s c a w fs) c a w pairs (taken s c a w fs h)
 
-segs_moving : (s : State) (ds : List CutDescriptor) → (segs_gone s ds).store.moving ≡ s.store.moving
-segs_moving s [] = refl
-segs_moving s (d ∷ ds) = segs_moving (seg_gone s d) ds
+gone : (s : State) (c u : ℕ) → IsStill s → IsStill (emptied s c u)
+gone s c u h = still ((is_emptied s c u).moving ∙ h.moving) refl
 
-is_emptied : (s : State) (c u : ℕ) → IsStill s → IsStill (emptied s c u)
-is_emptied s c u h = still (segs_moving s (cut_of_owner s.owner) ∙ h.moving) refl
-
-segment : (s : State) (c u : ℕ) (fs : List ℕ) (pairs : List (ℕ × ℕ)) → IsStill s
+segment : {s : State} (c u : ℕ) (fs : List ℕ) (pairs : List (ℕ × ℕ)) → IsStill s
     → IsStill (segment_taken s c u fs pairs)
-segment s c u [] [] h = is_emptied s c u h
-segment s c u [] (x ∷ xs) h = all_taken s c (aim.Deactivating u) (what.Seg u) [] (x ∷ xs) h
-segment s c u (f ∷ fs) pairs h = all_taken s c (aim.Deactivating u) (what.Seg u) (f ∷ fs) pairs h
+segment {s} c u [] [] h = gone s c u h
+segment {s} c u [] (x ∷ xs) h = all_taken s c (aim.Deactivating u) (what.Seg u) [] (x ∷ xs) h
+segment {s} c u (f ∷ fs) pairs h = all_taken s c (aim.Deactivating u) (what.Seg u) (f ∷ fs) pairs h
 
 signalled_mover : (x : Option Owner) → mover_of (owner_signalled x) ≡ mover_of x
 signalled_mover None = refl
@@ -166,49 +156,16 @@ fewer_mover (Some o) = refl
 
 -- ---- a write failed
 
-pages_moving : (s : State) (fs : List ℕ) → (pages_back s fs).store.moving ≡ s.store.moving
-pages_moving s [] = refl
-pages_moving s (f ∷ fs) = pages_moving (page_back s f) fs ∙ here_moving s.store f
-
-back_moving : (s : State) (ds : List CutDescriptor) → (segs_back s ds).store.moving ≡ s.store.moving
-back_moving s [] = refl
-back_moving s (d ∷ ds) = back_moving (seg_back s d) ds
-
 failed : (s : State) (c faults : ℕ) → IsStill s → IsStill (write_failed s c faults)
-failed s c faults h = still
-    (back_moving (pages_back (fault_told s (Some (process_at s c)) faults) (frames_of_owner s.owner))
-    (cut_of_owner s.owner)
-    ∙ (pages_moving (fault_told s (Some (process_at s c)) faults) (frames_of_owner s.owner) ∙ h.moving)) refl
+failed s c faults h = still ((is_back s c faults).moving ∙ h.moving) refl
 
 -- ---- a command takes effect
-
-page_cut : (st : Storage) (u p : ℕ) (w : Ptw) → (without_page st u p w).moving ≡ st.moving
-page_cut st u p ptw.Null = refl
-page_cut st u p _ = refl
-
-truncated : (st : Storage) (u words : ℕ) → (with_truncated st u words).moving ≡ st.moving
-truncated st u words = truncated_has (λ t. t.moving ≡ st.moving) (record {
-  without = λ t u p w h. page_cut t u p w ∙ h;
-  shortened = λ t f at h. h;
-  here = λ t f u p h. h;
-}) st u words refl
-
-deleted : (st : Storage) (u : ℕ) (frames : List ℕ) → (with_deleted st u frames).moving ≡ st.moving
-deleted st u frames = by (is_active st.ast u)
-  where
-    by : (b : Bool) → (cond b (with_inactive (with_pages st (erased (frames_freed st.pages frames) (home_in st u))) u)
-        (with_pages st (erased (frames_freed st.pages frames) (home_in st u)))).moving ≡ st.moving
-    by true = refl
-    by false = refl
-
-effect : (st : Storage) (k u : ℕ) (frames : List ℕ) (c : Command) → (with_effect st k u frames c).moving ≡ st.moving
-effect st k u frames c = effect_has (λ t. t.moving ≡ st.moving) st k u frames c (λ accounts links. refl)
-    (λ n. refl) (λ words. truncated st u words) (deleted st u frames)
 
 commits : (s : State) (c : ℕ) (x : Option Command) → IsStill s → IsStill (committed_at s c x)
 commits s c None h = h
 commits s c (Some cmd) h = by cmd
-    (effect s.store (process_at s c) (uid_of_command s.store (process_at s c) cmd) (frames_of_owner s.owner) cmd)
+    (effect_rests s.store (process_at s c) (uid_of_command s.store (process_at s c) cmd) (frames_of_owner s.owner)
+    cmd).moving
   where
     by : (x : Command)
         → (with_effect s.store (process_at s c) (uid_of_command s.store (process_at s c) x) (frames_of_owner s.owner)
@@ -225,39 +182,32 @@ IsTied s = s.store.moving ≡ mover_of s.owner
 tied : {s : State} → IsStill s → IsTied s
 tied h = cc
 
-tied_either : (b : Bool) (x y : State) → IsTied x → IsTied y → IsTied (cond b y x)
-tied_either true x y a b = b
-tied_either false x y a b = a
-
 module _ (s : State) (c : ℕ) (o : Outcome) (h : IsTied s) where
   idle : mover_of s.owner ≡ None → IsStill s
   idle none = still (h ∙ none) none
 
-  pub tie_kept : (a : act.Action) → AsksMover a (mover_of s.owner) → IsTied (after s c a o)
+  pub tie_kept : (a : Action) → AsksMover a (mover_of s.owner) → IsTied (after s c a o)
   unfolding after
-  tie_kept (act.EndTransfer t) asks = tied_either o.failed (transferred (with_faults s o.faults) c t)
-      (transfer_failed s c t o.faults) h h
+  tie_kept (act.EndTransfer t) asks = by_end IsTied o _ _ (λ e. h) (λ e. h)
   tie_kept act.TakeSupervisor asks = h ∙ asks
   tie_kept (act.Answer r) asks = h ∙ asks
   tie_kept act.GiveUp asks = h ∙ asks
   tie_kept (act.Create f u p r) asks = h ∙ asks
   tie_kept (act.Start f u p) asks = h ∙ asks
-  tie_kept (act.Evict f) asks = tied (taken (with_store s (with_choice s.store f)) c aim.Evicting (what.Page f)
-      (f ∷ []) (still (h ∙ asks) asks))
-  tie_kept (act.Empty u) asks = tied (segment s c u (frames_from s.store.ast u 0) (trailers_in s.store u) (idle asks))
-  tie_kept (act.EmptyVictim pool chain u) asks = tied (segment (with_store s (with_hand_moved s.store pool chain)) c u
+  tie_kept (act.Evict f) asks = tied (taken (with_store s (with_choice s.store f)) c aim.Evicting (what.Page f) (f ∷ []) (still (h ∙ asks) asks))
+  tie_kept (act.Empty u) asks = tied (segment c u (frames_from s.store.ast u 0) (trailers_in s.store u) (idle asks))
+  tie_kept (act.EmptyVictim pool chain u) asks = tied (segment c u
       (frames_from (with_store s (with_hand_moved s.store pool chain)).store.ast u 0)
       (trailers_in (with_store s (with_hand_moved s.store pool chain)).store u) (still (h ∙ asks) asks))
   tie_kept (act.TakeAway fs pairs w) asks = tied (all_taken s c aim.Committing w fs pairs (idle asks))
   tie_kept (act.BeginMove u volume) asks = refl
-  tie_kept (act.CopyPage m p) asks = tied_either o.failed (page_copied (with_faults s o.faults) c m p)
-      (copy_failed s c o.faults) refl refl
+  tie_kept (act.CopyPage m p) asks = by_end IsTied o (page_copied (with_faults s o.faults) c m p)
+      (copy_failed s c o.faults) (λ e. refl) (λ e. refl)
   tie_kept (act.CommitMove m) asks = refl
   tie_kept (act.Signal w) asks = h ∙ sym (signalled_mover s.owner)
-  tie_kept (act.FinishEviction f) asks = tied_either o.failed (eviction_done (with_faults s o.faults) c f)
-      (write_failed s c o.faults) (h ∙ asks) (tied (failed s c o.faults (idle asks)))
-  tie_kept (act.FinishPage f) asks = tied_either o.failed (page_done (with_faults s o.faults) f)
-      (write_failed s c o.faults) (h ∙ sym (fewer_mover s.owner)) (tied (failed s c o.faults (idle asks)))
-  tie_kept (act.Deactivate u) asks = tied (is_emptied s c u (idle asks))
+  tie_kept (act.FinishEviction f) asks = by_end IsTied o _ _ (λ e. h ∙ asks) (λ e. tied (failed s c o.faults (idle asks)))
+  tie_kept (act.FinishPage f) asks =
+      by_end IsTied o _ _ (λ e. h ∙ sym (fewer_mover s.owner)) (λ e. tied (failed s c o.faults (idle asks)))
+  tie_kept (act.Deactivate u) asks = tied (gone s c u (idle asks))
   tie_kept act.Commit asks = tied (commits s c (next_command s (process_at s c)) (idle asks))
   tie_kept _ asks = h

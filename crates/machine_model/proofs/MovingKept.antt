@@ -1,8 +1,5 @@
 -- The machine keeps its promise through the steps of a move.
-use Rattle.machine_model.proofs.Prelude.{◌≡◌, ◌≤◌, ℕ, false, List, [], ◌∷◌, ◌++◌, Option, Some, None, ◌⊎◌, inl, inr, refl, sym, ap, subst, ◌∙◌, arith, count_by, suc, zero, ◌^◌, min, Rose, IsLawful, MayFault, after_entry, MayMove, MayRehome, Custody, Fine, custody_next, Ptw, ptw_at, rehomed, rehomed_word, binding_at, bindings_modified, reads_modified, ActiveSegs, table_at, Mover, map_at, place_of, table_of, word_of, tabled, read_at, KeepsBook, is_out, is_pending, names, IsOwned, seen, IsAtWork, Keeps, StoreSays, is_fault, copy_failed, move_begun, move_committed, mover_to, moving, page_copied, past_page, volumes_in, without_move, flat_of, process_at, processor_at, run_at, Seen, bound_use, frame_use, shown, Owner, State, fault_told, looking, told, with_faults, with_store, length-set}
-use Rattle.book.specs.declared.entries.Entry.TheVariants as entry
-use Rattle.book.specs.declared.replies.Reply.TheVariants as reply
-use Rattle.page_table.specs.declared.Ptw.TheVariants as ptw
+use Rattle.machine_model.proofs.Prelude.{◌≡◌, ◌≤◌, ℕ, false, List, [], ◌∷◌, ◌++◌, Option, Some, None, ◌⊎◌, inl, inr, refl, sym, ap, subst, ◌∙◌, arith, count_by, suc, zero, ◌^◌, min, Rose, IsLawful, MayFault, after_entry, MayMove, MayRehome, Custody, Fine, custody_next, Ptw, ptw_at, rehomed, rehomed_word, binding_at, bindings_modified, reads_modified, ActiveSegs, table_at, Mover, map_at, place_of, table_of, word_of, tabled, read_at, KeepsBook, is_out, is_pending, names, IsOwned, seen, IsAtWork, Keeps, StoreSays, is_fault, copy_failed, move_begun, move_committed, mover_to, moving, page_copied, past_page, volumes_in, without_move, flat_of, process_at, processor_at, run_at, Seen, bound_use, frame_use, shown, Owner, State, fault_told, looking, told, with_faults, with_store, length-set, Entry as entry, Reply as reply, Ptw as ptw}
 use Rattle.machine_model.proofs.AnswerLaws.{fault_keeps, owner_keeps}
 use Rattle.machine_model.proofs.BookNext.{book_apart}
 use Rattle.machine_model.proofs.KeepLaws.{faults_push}
@@ -29,15 +26,14 @@ module _ (s : State) (c : ℕ) (k : Keeps s) (idle : IsIdle s.owner) (still : is
   at_work q r h here = rw (sym here ∙ ap (λ (x : Owner). x.cpu) (some_same q r h)) at works
 
   pub begun_kept : (u volume : ℕ) → StoreSays (move_begun s c u volume) → Keeps (move_begun s c u volume)
-  begun_kept u volume says = kept_with (move_begun s c u volume)
-      (owner_keeps (seen s) (Some (moving c (mover_to s.store u volume))) k.book idle
+  begun_kept u volume says = kept_with (move_begun s c u volume) (owner_keeps k.book idle
       (moving_idle c (mover_to s.store u volume)) still) says k.few_faults k.sizes.processors k.sizes.processes
       (λ r h. at_work (moving c (mover_to s.store u volume)) r h refl)
 
   pub copied_kept : (m : Mover) (p faults : ℕ) → s.faults ≤ faults
       → StoreSays (page_copied (with_faults s faults) c m p) → Keeps (page_copied (with_faults s faults) c m p)
   copied_kept m p faults rose says = kept_with (page_copied (with_faults s faults) c m p)
-      (owner_keeps (seen s) (Some (moving c (past_page m p))) k.book idle (moving_idle c (past_page m p)) still) says
+      (owner_keeps k.book idle (moving_idle c (past_page m p)) still) says
       (omega arith) k.sizes.processors k.sizes.processes (λ r h. at_work (moving c (past_page m p)) r h refl)
 
 -- ---- a copy failed
@@ -49,9 +45,7 @@ pub copy_failed_kept : (s : State) (c faults : ℕ) → Keeps s → IsIdle s.own
     → Rose s.faults faults → MayFault (flat_of s) (Some (process_at s c))
     → CanTell (copy_failing s c faults) c (process_at s c) None reply.Device → StoreSays (copy_failed s c faults)
     → Keeps (copy_failed s c faults)
-copy_failed_kept s c faults k idle still rose may can says = kept_with (copy_failed s c faults)
-    (owner_keeps (seen (told (copy_failing s c faults) c None reply.Device)) None
-    (told_keeps (copy_failing s c faults) c (process_at s c) None reply.Device
+copy_failed_kept s c faults k idle still rose may can says = kept_with (copy_failed s c faults) (owner_keeps (told_keeps
     (fault_keeps (seen s) (Some (process_at s c)) k.book may) can) idle nobody still) says few
     (length-set s.processors c _ ∙ k.sizes.processors) (length-set s.runs (process_at s c) _ ∙ k.sizes.processes)
     (λ o h. cc)
@@ -163,8 +157,7 @@ module _ (s : State) (c : ℕ) (m : Mover) (k : Keeps s) (idle : IsIdle s.owner)
   }
 
   before_keeps : KeepsBook before
-  before_keeps = owner_keeps (record (seen s) { words = words }) (Some (looking c))
-      (words_keep (seen s) words like k.book) idle (looks_idle c) still
+  before_keeps = owner_keeps (words_keep (seen s) words like k.book) idle (looks_idle c) still
 
   rehomes : MayRehome (shown (seen s)) m.uid → MayRehome (shown before) m.uid
   rehomes may = record {

@@ -1,8 +1,5 @@
 -- A process makes a segment, writes a word into it and reads it, and ends.
-use Rattle.machine_model.proofs.Prelude.{◌≡◌, [], ◌∷◌, Some, None, refl, State, book_of, machine_with, until}
-use Rattle.book.specs.declared.entries.Entry.TheVariants as entry
-use Rattle.book.specs.declared.replies.Reply.TheVariants as reply
-use Rattle.assoc_mem.specs.declared.What.TheVariants as what
+use Rattle.machine_model.proofs.Prelude.{◌≡◌, [], ◌∷◌, Some, None, refl, State, book_of, machine_with, until, Entry as entry, Reply as reply, What as what}
 use Rattle.machine_model.proofs.Examples.{one_page, one_written}
 
 abbrev machine : State

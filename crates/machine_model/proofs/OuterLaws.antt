@@ -1,6 +1,5 @@
 -- The measure of all commands, as one processor or all of them change.
-use Rattle.machine_model.proofs.Prelude.{◌≡◌, ◌≤◌, ◌<◌, ℕ, ◌+◌, not, cond, List, length, set, refl, ap, arith, count_by-le-length, Outline, Runner, no_runner, runner_at, over, offline, all_rank, HasSizes}
-use Rattle.machine_model.specs.Measures.{is_over}
+use Rattle.machine_model.proofs.Prelude.{◌≡◌, ◌≤◌, ◌<◌, ℕ, ◌+◌, not, cond, List, length, set, refl, ap, arith, count_by-le-length, Outline, Runner, no_runner, runner_at, over, offline, all_rank, HasSizes, measures_is_over as is_over}
 use Rattle.machine_model.proofs.CountLaws.{count_set, count_like}
 
 pub over_set : (xs : List Runner) (c : ℕ) (x : Runner) → c < length xs

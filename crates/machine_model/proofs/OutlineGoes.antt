@@ -1,10 +1,9 @@
 -- In an outline that is kept and hasn't ended, some processor moves: the owner of the supervisor, or who it waits for;
 -- where nobody owns it a processor that has a process, or else processor 0.
-use Rattle.machine_model.proofs.Prelude.{◌≡◌, ◌<◌, ℕ, true, false, eqb, length, position, Option, Some, None, is_some, refl, sym, ap, ◌∙◌, inl, inr, eqb_tells, Transfer, Runner, no_runner, Stage, Keeper, Outline, Turn, Moved, runner_at, Works, Loads, Commands, rule_of, owns, IsEnded, IsIn, Step, ends, awaits_clear, awaits_transfer, idles, waits, IsKept, HaveSteps, not_both}
+use Rattle.machine_model.proofs.Prelude.{◌≡◌, ◌<◌, ℕ, true, false, eqb, length, position, Option, Some, None, is_some, refl, sym, ap, ◌∙◌, inl, inr, eqb_tells, Transfer, Runner, no_runner, Stage, Keeper, Outline, Turn, Moved, runner_at, Works, Loads, Commands, rule_of, owns, IsEnded, IsIn, Step, ends, awaits_clear, awaits_transfer, idles, waits, IsKept, HaveSteps, not_both, UnstuckGoes as Goes, eqb_self}
 use Rattle.machine_model.proofs.FindLaws.{position_at, position_none}
 use Rattle.machine_model.proofs.RuleLaws.{tells}
 use Rattle.machine_model.proofs.StepLaws.{inside}
-use Rattle.machine_model.specs.Unstuck.{Goes}
 
 module _ (s : Outline) (k : IsKept s) (more : IsEnded s → ⊥) (all : HaveSteps s) where
   -- a step waits for the owner, for work, or as the owner; any other moves
@@ -44,10 +43,7 @@ module _ (s : Outline) (k : IsKept s) (more : IsEnded s → ⊥) (all : HaveStep
       there = (k.job.at_work c stage mine).within
 
       own : owns s.owner c ≡ true
-      own = cc (self c)
-        where
-          self : (i : ℕ) → eqb i i ≡ true
-          self i = elim (eqb_tells i i) [ inl x ↦ x.0 | inr x ↦ absurd (x.1 refl) ]
+      own = cc (eqb_self c)
 
       here : all.turn c ≡ Moved → Goes s all
       here e = record { cpu = c; there = there; moves = e }

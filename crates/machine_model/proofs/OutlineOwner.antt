@@ -1,10 +1,6 @@
 -- Each step of the owner of the supervisor is a step of the outline, where it finds what its actions ask; and so each
 -- step of the machine is.
-use Rattle.machine_model.proofs.Prelude.{◌≡◌, ◌≢◌, ◌≤◌, ℕ, zero, suc, Bool, true, false, not, cond, ◌&&◌, eqb, List, [], ◌∷◌, length, position, count_by, Option, Some, None, is_some, get_or, refl, sym, ap, subst, ◌∙◌, inl, inr, arith, ◌-◌, position_or_len, cases_lt, Decides-ltb, eqb_tells, get_or_past, position-Some, fails_before_first, Command, What, first_off_chain, hand_past, place_of, table_of, next_out, Transfer, Mover, Aim, Phase, copy_failed, page_copied, State, Owner, or_zero, no_processor, is_due, next_command, processor_at, cpu_at, process_at, frames_of_owner, frames_from, trailers_in, action_of, is_over, Outcome, after, turn_of, with_faults, with_store, deactivation_begun, eviction_done, page_done, segment_taken, took, write_failed, committed, committed_at, Moved, Runner, no_runner, Stage, Look, Copying, dues, Works, rule_of, IsIn, JobStep, Step, works, AreOf, CanEmpty, around, stage_of, outline_of, Foresees, HasDescriptor, IsLook, KeepsLink, MayAnswer, MayEmpty}
-use Rattle.assoc_mem.specs.declared.What.TheVariants as what
-use Rattle.machine_model.specs.declared.Aim.TheVariants as aim
-use Rattle.machine_model.specs.declared.Phase.TheVariants as phase
-use Rattle.machine_model.specs.Actions as act
+use Rattle.machine_model.proofs.Prelude.{◌≡◌, ◌≢◌, ◌≤◌, ℕ, zero, suc, Bool, true, false, not, cond, ◌&&◌, eqb, List, [], ◌∷◌, length, position, count_by, Option, Some, None, is_some, get_or, refl, sym, ap, subst, ◌∙◌, inl, inr, arith, ◌-◌, position_or_len, cases_lt, Decides-ltb, eqb_tells, get_or_past, position-Some, fails_before_first, Command, What, first_off_chain, hand_past, place_of, table_of, next_out, Transfer, Mover, Aim, Phase, copy_failed, page_copied, State, Owner, or_zero, no_processor, is_due, next_command, processor_at, cpu_at, process_at, frames_of_owner, frames_from, trailers_in, action_of, is_over, Outcome, after, turn_of, with_faults, with_store, deactivation_begun, eviction_done, page_done, segment_taken, took, write_failed, committed, committed_at, Moved, Runner, no_runner, Stage, Look, Copying, dues, Works, rule_of, IsIn, JobStep, Step, works, AreOf, CanEmpty, around, stage_of, outline_of, Foresees, HasDescriptor, IsLook, KeepsLink, MayAnswer, MayEmpty, What as what, Aim as aim, Phase as phase, Action, ForTransfer, clear_or, copy_or_commit, finish_of, go_on_with, look_of, once_cleared, own_or_run, run_process, transfer_or, Action as act}
 use Rattle.machine_model.proofs.CountLaws.{count_cons}
 use Rattle.machine_model.proofs.OutlineMove.{copy_failed_outlined, copy_outlined, move_outlined, begin_outlined}
 use Rattle.machine_model.proofs.OutlineReads.{at_outline, is_owner, seen_due}
@@ -87,9 +83,9 @@ module _ (s : State) (o : Owner) (out : Outcome) (f : Foresees s o.cpu) (rule : 
   taken_none : frames_of_owner s.owner ≡ []
   taken_none = cc (f.looking o owner looks)
 
-  look_goal : (a : act.Action) → IsLook s o.cpu a → Goal s o.cpu out a
+  look_goal : (a : Action) → IsLook s o.cpu a → Goal s o.cpu out a
   unfolding after
-  look_goal (act.Waits (act.ForTransfer g)) may = awaits_transfer_outlined s o g may.uid may.page rule owner looks
+  look_goal (act.Waits (ForTransfer g)) may = awaits_transfer_outlined s o g may.uid may.page rule owner looks
       may.started
   look_goal (act.Answer r) may =
       works _ rule (answer_outlined s o.cpu may.process Look r may.command (in_look s o owner looks) due_none may.can)
@@ -196,7 +192,7 @@ module _ (s : State) (o : Owner) (out : Outcome) (f : Foresees s o.cpu) (rule : 
           (f.leaves o g fs owner frames))
 
   finish_goal : (a : Aim) (w : What) (fs : List ℕ) → o.phase ≡ phase.Waiting a w → o.frames ≡ fs
-      → dues (outline_of s).runners ≡ 0 → Goal s o.cpu out (act.finish_of a fs)
+      → dues (outline_of s).runners ≡ 0 → Goal s o.cpu out (finish_of a fs)
   unfolding after
   finish_goal aim.Evicting w [] waits frames due = absurd (f.evicts o w owner waits frames)
   finish_goal aim.Evicting w (g ∷ fs) waits frames due = finish_eviction w fs g waits frames due
@@ -208,14 +204,14 @@ module _ (s : State) (o : Owner) (out : Outcome) (f : Foresees s o.cpu) (rule : 
       (in_stage s o (phase.Waiting aim.Committing w) owner waits) due may_answer
 
   cleared_goal : (a : Aim) (w : What) → o.phase ≡ phase.Waiting a w → (x : Option ℕ) → position is_due s.processors ≡ x
-      → Goal s o.cpu out (act.once_cleared x (act.finish_of a o.frames))
+      → Goal s o.cpu out (once_cleared x (finish_of a o.frames))
   unfolding after
   cleared_goal a w waits (Some d) is =
       awaits_clear_outlined s o a w d rule owner waits (position-Some is_due s.processors d no_processor is).1
   cleared_goal a w waits None is = finish_goal a w o.frames waits refl (dues_over s o.cpu f is)
 
   move_goal : (m : Mover) → o.phase ≡ phase.Moving m → (x : Option ℕ)
-      → next_out (table_of s.store.ast m.uid) m.next ≡ x → Goal s o.cpu out (act.copy_or_commit m x)
+      → next_out (table_of s.store.ast m.uid) m.next ≡ x → Goal s o.cpu out (copy_or_commit m x)
   unfolding after
   move_goal m moves (Some p) next = by out.failed
     where
@@ -229,10 +225,10 @@ module _ (s : State) (o : Owner) (out : Outcome) (f : Foresees s o.cpu) (rule : 
       by false = works _ rule (copy_outlined s o m p out.faults owner moves next)
   move_goal m moves None next = works _ rule (move_outlined s o m owner moves (f.moves o m owner moves refl))
 
-  phase_goal : (ph : Phase) → o.phase ≡ ph → Goal s o.cpu out (act.go_on_with s (process_at s o.cpu) o ph)
+  phase_goal : (ph : Phase) → o.phase ≡ ph → Goal s o.cpu out (go_on_with s (process_at s o.cpu) o ph)
   unfolding after
   phase_goal phase.Looking looks =
-      look_goal s o out f rule owner looks (act.look_of s (process_at s o.cpu) (next_command s (process_at s o.cpu)))
+      look_goal s o out f rule owner looks (look_of s (process_at s o.cpu) (next_command s (process_at s o.cpu)))
       (f.looks o owner looks refl)
   phase_goal (phase.Taken a w) taken = works _ rule (signal_outlined s o a w w owner taken)
   phase_goal (phase.Waiting a w) waits = cleared_goal a w waits (position is_due s.processors) refl
@@ -241,14 +237,14 @@ module _ (s : State) (o : Owner) (out : Outcome) (f : Foresees s o.cpu) (rule : 
 -- ---- the rules
 
 owner_goal : (s : State) (c : ℕ) (out : Outcome) → Foresees s c → IsAtRest s c → (x : Option Owner) → s.owner ≡ x
-    → Goal s c out (act.own_or_run s c (processor_at s.processors c) x)
+    → Goal s c out (own_or_run s c (processor_at s.processors c) x)
 owner_goal s c out f rest None none = run_goal s c out f rest (cc) (cpu_at s.processors c).process refl
 owner_goal s c out f rest (Some w) owner = by (eqb w.cpu c) refl
   where
     own : is_owner s.owner c ≡ eqb w.cpu c
     own = cc
 
-    mine : w.cpu ≡ c → eqb w.cpu c ≡ true → Goal s c out (act.go_on_with s (process_at s c) w w.phase)
+    mine : w.cpu ≡ c → eqb w.cpu c ≡ true → Goal s c out (go_on_with s (process_at s c) w w.phase)
     mine same is =
         let work = f.kept.job.at_work c _ (rw same at (in_job s w owner)) in
         let has = sym (running_at s c) ∙ work.running in
@@ -256,11 +252,11 @@ owner_goal s c out f rest (Some w) owner = by (eqb w.cpu c) refl
       where
         at_same : w.cpu ≡ c → Foresees s c → rule_of (outline_of s) c ≡ Works
             → is_some (cpu_at s.processors c).process ≡ true
-            → Goal s c out (act.go_on_with s (process_at s c) w w.phase)
+            → Goal s c out (go_on_with s (process_at s c) w w.phase)
         at_same same = rw (← same) (λ g h i. phase_goal s w out g h owner i w.phase refl)
 
-    by : (b : Bool) → eqb w.cpu c ≡ b → Goal s c out (cond b (act.go_on_with s (process_at s c) w w.phase)
-        (act.run_process s (processor_at s.processors c) (cpu_at s.processors c).process))
+    by : (b : Bool) → eqb w.cpu c ≡ b → Goal s c out (cond b (go_on_with s (process_at s c) w w.phase)
+        (run_process s (processor_at s.processors c) (cpu_at s.processors c).process))
     by true is = elim (eqb_tells w.cpu c) [
       | inl e ↦ mine e.1 is
       | inr n ↦ (let no = sym is ∙ n.0 in absurd cc)
@@ -269,19 +265,19 @@ owner_goal s c out f rest (Some w) owner = by (eqb w.cpu c) refl
 
 transfer_or_goal : (s : State) (c : ℕ) (out : Outcome) → Foresees s c → (cpu_at s.processors c).online ≡ true
     → (cpu_at s.processors c).due ≡ None → (x : Option Transfer) → (cpu_at s.processors c).transfer ≡ x
-    → Goal s c out (act.transfer_or s c (processor_at s.processors c) x)
+    → Goal s c out (transfer_or s c (processor_at s.processors c) x)
 transfer_or_goal s c out f on due (Some t) is = transfer_goal s c out t f (reads_rule s c t on due is) is
 transfer_or_goal s c out f on due None is = owner_goal s c out f (assumption) s.owner refl
 
 clear_or_goal : (s : State) (c : ℕ) (out : Outcome) → Foresees s c → (cpu_at s.processors c).online ≡ true
     → (x : Option What) → (cpu_at s.processors c).due ≡ x
-    → Goal s c out (act.clear_or s c (processor_at s.processors c) x)
+    → Goal s c out (clear_or s c (processor_at s.processors c) x)
 unfolding after
 clear_or_goal s c out f on (Some w) is = clear_outlined s c w (clears_rule s c w on is)
 clear_or_goal s c out f on None is = transfer_or_goal s c out f on is (cpu_at s.processors c).transfer refl
 
 online_goal : (s : State) (c : ℕ) (out : Outcome) → Foresees s c → (b : Bool) → (cpu_at s.processors c).online ≡ b
-    → Goal s c out (cond (not b) act.Online (act.clear_or s c (processor_at s.processors c)
+    → Goal s c out (cond (not b) act.Online (clear_or s c (processor_at s.processors c)
     (cpu_at s.processors c).due))
 unfolding after
 online_goal s c out f true is = clear_or_goal s c out f is (cpu_at s.processors c).due refl
@@ -289,7 +285,7 @@ online_goal s c out f false is = online_outlined s c (comes_rule s c is)
 
 over_goal : (s : State) (c : ℕ) (out : Outcome) → Foresees s c → (b : Bool) → is_over s ≡ b
     → Goal s c out (cond b act.HasEnded (cond (not (cpu_at s.processors c).online) act.Online
-    (act.clear_or s c (processor_at s.processors c) (cpu_at s.processors c).due)))
+    (clear_or s c (processor_at s.processors c) (cpu_at s.processors c).due)))
 unfolding after
 over_goal s c out f true is = end_outlined s c is
 over_goal s c out f false is = online_goal s c out f (cpu_at s.processors c).online refl
@@ -300,5 +296,5 @@ pub step_outlined : (s : State) (c : ℕ) (out : Outcome) → s.stopped ≡ fals
 unfolding action_of
 step_outlined s c out going f = subst (λ (b : Bool). Goal s c out (cond b act.IsStopped (cond (is_over s) act.HasEnded
     (cond (not (cpu_at s.processors c).online) act.Online
-    (act.clear_or s c (processor_at s.processors c) (cpu_at s.processors c).due))))) (sym going)
+    (clear_or s c (processor_at s.processors c) (cpu_at s.processors c).due))))) (sym going)
     (over_goal s c out f (is_over s) refl)

@@ -1,10 +1,5 @@
 -- Each step of the machine is a step of its outline, where the machine finds what its actions ask.
-use Rattle.machine_model.proofs.Prelude.{◌≡◌, ◌<◌, ℕ, ◌*◌, ◌/◌, Bool, true, false, not, cond, ◌&&◌, eqb, nat_lt, nat_le, List, [], ◌∷◌, length, count_by, Option, Some, None, is_some, refl, sym, ap, subst, ◌∙◌, inl, inr, arith, Decides-ltb, reference_of, Command, Reference, RefKind, What, HeldSeg, Held, frame_of, seg_of, Ptw, Sdw, sdw_at, new_word, permits, word_reply, Transfer, Move, by_descriptor, by_held, by_page, by_seg, by_word, State, Owner, or_zero, next_command, processor_at, cpu_at, process_at, run_at, sdws_at, word_of, transfer_failed, transferred, uid_of_held, with_faults, has_had_its_turn, is_empty, Outcome, after, turn_of, Moved, Comes, Clears, Reads, Works, Loads, Leaves, Commands, rule_of, Step, reference_in, holds_page, outline_of, Foresees, MayAnswer, MayEnter, MayLose}
-use Rattle.page_table.specs.declared.Ptw.TheVariants as ptw
-use Rattle.descriptor_seg.specs.declared.Sdw.TheVariants as sdw
-use Rattle.book.specs.declared.replies.Reply.TheVariants as reply
-use Rattle.processor.specs.declared.Move.TheVariants as move
-use Rattle.machine_model.specs.Actions as act
+use Rattle.machine_model.proofs.Prelude.{◌≡◌, ◌<◌, ℕ, ◌*◌, ◌/◌, Bool, true, false, not, cond, ◌&&◌, eqb, nat_lt, nat_le, List, [], ◌∷◌, length, count_by, Option, Some, None, is_some, refl, sym, ap, subst, ◌∙◌, inl, inr, arith, Decides-ltb, reference_of, Command, Reference, RefKind, What, HeldSeg, Held, frame_of, seg_of, Ptw, Sdw, sdw_at, new_word, permits, word_reply, Transfer, Move, by_descriptor, by_held, by_page, by_seg, by_word, State, Owner, or_zero, next_command, processor_at, cpu_at, process_at, run_at, sdws_at, word_of, transfer_failed, transferred, uid_of_held, with_faults, has_had_its_turn, is_empty, Outcome, after, turn_of, Moved, Comes, Clears, Reads, Works, Loads, Leaves, Commands, rule_of, Step, reference_in, holds_page, outline_of, Foresees, MayAnswer, MayEnter, MayLose, Ptw as ptw, Sdw as sdw, Reply as reply, Move as move, Action, by_move, come_to, has_process, load_or_idle, move_of, refer_or_take, run_process, take_or_wait, Action as act}
 use Rattle.machine_model.proofs.OutlineReads.{is_owner, rule_seen}
 use Rattle.machine_model.proofs.OutlineAlone.{IsFree, enter_outlined, fault_outlined, fill_page_outlined, fill_seg_outlined, idle_outlined, leave_outlined, load_outlined, owned_outlined, transfer_outlined}
 use Rattle.machine_model.proofs.OutlineAnswer.{plain_outlined, through_outlined}
@@ -129,7 +124,7 @@ fill_page_new held ds words r f (Some e) seg h = (
 -- ---- a processor by itself
 
 -- what a step to an action is
-abbrev pub Goal : State → ℕ → Outcome → act.Action → Type 0
+abbrev pub Goal : State → ℕ → Outcome → Action → Type 0
 Goal s c o a = Step (outline_of s) c (turn_of a) (outline_of (after s c a o))
 
 pub transfer_goal : (s : State) (c : ℕ) (o : Outcome) (t : Transfer) → Foresees s c → rule_of (outline_of s) c ≡ Reads
@@ -155,7 +150,7 @@ enter_goal s c o h none (inl wants) =
 enter_goal s c o h none (inr want) = enter_outlined s c h none want
 
 take_goal : (s : State) (c : ℕ) (o : Outcome) → rule_of (outline_of s) c ≡ Commands → (x : Option Owner) → s.owner ≡ x
-    → (x ≡ None → MayEnter s c) → Goal s c o (act.take_or_wait x)
+    → (x ≡ None → MayEnter s c) → Goal s c o (take_or_wait x)
 unfolding after
 take_goal s c o h None none may = enter_goal s c o h none (may refl)
 take_goal s c o h (Some w) some may = owned_outlined s c w h some
@@ -163,9 +158,9 @@ take_goal s c o h (Some w) some may = owned_outlined s c w h some
 -- the processor's process refers to a word
 move_goal : (s : State) (c k : ℕ) (o : Outcome) (r : Reference) → rule_of (outline_of s) c ≡ Commands
     → (cpu_at s.processors c).process ≡ Some k → reference_in (next_command s k) ≡ Some r → MayAnswer s c
-    → (m : Move) → act.move_of s (cpu_at s.processors c) k r ≡ m
-    → (s.owner ≡ None → act.by_move s.owner r m ≡ act.TakeSupervisor → MayEnter s c)
-    → Goal s c o (act.by_move s.owner r m)
+    → (m : Move) → move_of s (cpu_at s.processors c) k r ≡ m
+    → (s.owner ≡ None → by_move s.owner r m ≡ act.TakeSupervisor → MayEnter s c)
+    → Goal s c o (by_move s.owner r m)
 unfolding after
 move_goal s c k o r h process next may move.FillSeg is enters = fill_seg_outlined s c k r h process next
     (fill_seg_new (cpu_at s.processors c).assoc (sdws_at s.store.links.descriptors k) (word_of s.store.ast) r
@@ -179,24 +174,24 @@ move_goal s c k o r h process next may (move.Through f) is enters =
 move_goal s c k o r h process next may (move.Plain answer) is enters =
     plain_outlined s c may.process answer may.command h may.can
 move_goal s c k o r h process next may move.Fault is enters =
-    take_goal s c o h s.owner refl (λ none. enters none (ap act.take_or_wait none))
+    take_goal s c o h s.owner refl (λ none. enters none (ap take_or_wait none))
 
 refer_goal : (s : State) (c k : ℕ) (o : Outcome) → rule_of (outline_of s) c ≡ Commands
     → (cpu_at s.processors c).process ≡ Some k → MayAnswer s c → (x : Option Reference)
     → reference_in (next_command s k) ≡ x
-    → (s.owner ≡ None → act.refer_or_take s (cpu_at s.processors c) k x ≡ act.TakeSupervisor → MayEnter s c)
-    → Goal s c o (act.refer_or_take s (cpu_at s.processors c) k x)
+    → (s.owner ≡ None → refer_or_take s (cpu_at s.processors c) k x ≡ act.TakeSupervisor → MayEnter s c)
+    → Goal s c o (refer_or_take s (cpu_at s.processors c) k x)
 refer_goal s c k o h process may None next enters =
-    take_goal s c o h s.owner refl (λ none. enters none (ap act.take_or_wait none))
+    take_goal s c o h s.owner refl (λ none. enters none (ap take_or_wait none))
 refer_goal s c k o h process may (Some r) next enters =
-    move_goal s c k o r h process next may (act.move_of s (cpu_at s.processors c) k r) refl enters
+    move_goal s c k o r h process next may (move_of s (cpu_at s.processors c) k r) refl enters
 
 command_goal : (s : State) (c k : ℕ) (o : Outcome) → rule_of (outline_of s) c ≡ Commands
     → (cpu_at s.processors c).process ≡ Some k → MayAnswer s c → (x : Option Command) → next_command s k ≡ x
-    → (s.owner ≡ None → act.come_to s (cpu_at s.processors c) k x ≡ act.TakeSupervisor → MayEnter s c)
-    → Goal s c o (act.come_to s (cpu_at s.processors c) k x)
+    → (s.owner ≡ None → come_to s (cpu_at s.processors c) k x ≡ act.TakeSupervisor → MayEnter s c)
+    → Goal s c o (come_to s (cpu_at s.processors c) k x)
 command_goal s c k o h process may None next enters =
-    take_goal s c o h s.owner refl (λ none. enters none (ap act.take_or_wait none))
+    take_goal s c o h s.owner refl (λ none. enters none (ap take_or_wait none))
 command_goal s c k o h process may (Some x) next enters =
     refer_goal s c k o h process may (reference_of x) (ap reference_in next) enters
 
@@ -204,9 +199,9 @@ free_of : (s : State) (c : ℕ) → IsAtRest s c → IsFree (processor_at s.proc
 free_of s c rest = assumption
 
 load_goal : (s : State) (c : ℕ) (o : Outcome) → IsAtRest s c → rule_of (outline_of s) c ≡ Loads → (ready : List ℕ)
-    → s.ready ≡ ready → Goal s c o (act.load_or_idle s ready)
+    → s.ready ≡ ready → Goal s c o (load_or_idle s ready)
 unfolding after
-load_goal s c o rest h [] is = idle_outlined s c (count_by act.has_process s.processors) h is
+load_goal s c o rest h [] is = idle_outlined s c (count_by has_process s.processors) h is
 load_goal s c o rest h (k ∷ ks) is = load_outlined s c k h (rw is (omega arith)) (free_of s c rest)
 
 -- a process that is at a processor goes on
@@ -215,7 +210,7 @@ going_on s c may = cc
 
 pub run_goal : (s : State) (c : ℕ) (o : Outcome) → Foresees s c → IsAtRest s c → is_owner s.owner c ≡ false
     → (x : Option ℕ) → (cpu_at s.processors c).process ≡ x
-    → Goal s c o (act.run_process s (processor_at s.processors c) x)
+    → Goal s c o (run_process s (processor_at s.processors c) x)
 unfolding after
 run_goal s c o f rest own None none = load_goal s c o rest (loads_rule s c rest own none) s.ready refl
 run_goal s c o f rest own (Some k) process =
@@ -228,7 +223,7 @@ run_goal s c o f rest own (Some k) process =
     at_k = ap or_zero process
 
     by : (b : Bool) → (has_had_its_turn (processor_at s.processors c) && not (is_empty s.ready)) ≡ b
-        → Goal s c o (cond b act.Leave (act.come_to s (cpu_at s.processors c) k (next_command s k)))
+        → Goal s c o (cond b act.Leave (come_to s (cpu_at s.processors c) k (next_command s k)))
     by true turn = leave_outlined s c (leaves_rule s c k rest own process turn) (going_on s c may) (free_of s c rest)
     by false turn = command_goal s c k o (commands_rule s c k rest own process turn) process may (next_command s k) refl
         (λ none is. f.enters none rest.transfer (cc at_k))

@@ -1,35 +1,12 @@
 -- In the outline of the machine, taking, signalling and finishing are steps of the owner's job.
-use Rattle.machine_model.proofs.Prelude.{◌≡◌, ◌≢◌, ◌≤◌, ℕ, suc, ◌+◌, Bool, true, false, cond, eqb, List, [], ◌∷◌, ◌++◌, length, map, Option, Some, None, is_some, set, refl, sym, ap, subst, ◌∙◌, inl, inr, ◌⊎◌, append_assoc, zero-add, eqb_tells, What, Frame, bound_page, core_frame, is_idle, unmarked, round_frames, passed_over, command_at, AccountMaps, Plain, Active, Links, leads_at, place_of, is_filed, Aim, Phase, Processor, CutDescriptor, State, Storage, Owner, next_command, no_processor, run_at, processor_at, frames_of_owner, cut_of_owner, cut_all, cut_one, eviction_begun, leaving_if, owner_signalled, phase_signalled, signalled, take_all, take_one, told_from, took, with_choice, with_leaving, Runner, EvictFrame, Look, Taken, Waiting, runner_at, at_stage, IsIn, JobStep, takes_segment, takes_frame, takes_for_commit, signals, CanEmpty, CanEvict, AreAlike, AreOf, with_runners, Around, around, bare, lacks_record, left_in, want_of, runner_by, runner_of, first_frame, work_of, stage_of, keeper_of, outline_of, map_kept}
-use Rattle.core_map.specs.declared.Frame.TheVariants as frame
-use Rattle.machine_model.specs.declared.Aim.TheVariants as aim
-use Rattle.machine_model.specs.declared.Phase.TheVariants as phase
-use Rattle.machine_model.specs.Jobs.{told_at}
+use Rattle.machine_model.proofs.Prelude.{◌≡◌, ◌≢◌, ◌≤◌, ℕ, suc, ◌+◌, Bool, true, false, cond, eqb, List, [], ◌∷◌, ◌++◌, length, map, Option, Some, None, is_some, set, refl, sym, ap, subst, ◌∙◌, inl, inr, ◌⊎◌, append_assoc, zero-add, eqb_tells, What, Frame, bound_page, core_frame, is_idle, unmarked, round_frames, passed_over, command_at, AccountMaps, Plain, Active, Links, leads_at, place_of, is_filed, Aim, Phase, Processor, CutDescriptor, State, Storage, Owner, next_command, no_processor, run_at, processor_at, frames_of_owner, cut_of_owner, cut_all, cut_one, eviction_begun, leaving_if, owner_signalled, phase_signalled, signalled, take_all, take_one, told_from, took, with_choice, with_leaving, Runner, EvictFrame, Look, Taken, Waiting, runner_at, at_stage, IsIn, JobStep, takes_segment, takes_frame, takes_for_commit, signals, CanEmpty, CanEvict, AreAlike, AreOf, with_runners, Around, around, bare, lacks_record, left_in, want_of, runner_by, runner_of, first_frame, work_of, stage_of, keeper_of, outline_of, map_kept, Frame as frame, Aim as aim, Phase as phase, jobs_told_at as told_at, eqb_self}
 use Rattle.machine_model.proofs.OutlineReads.{map_at, seen_online, seen_running, seen_due, seen_reading, seen_since, seen_tried}
 use Rattle.machine_model.proofs.OutlineJob.{job_to, in_job}
+use Rattle.machine_model.proofs.ChoiceLaws.{choice_bare}
 use Rattle.machine_model.proofs.LeaveSeen.{told_has, told_online, told_process, told_reads}
 use Rattle.machine_model.proofs.SaysLaws.{leaving_pages}
 use Rattle.machine_model.proofs.ClearLaws.{told_transfer}
 use Rattle.storage_ops.proofs.Less.{one_known}
-
--- ---- the clock's choice
-
-bare_unmarked : (x : Frame) → bare (unmarked x) ≡ bare x
-bare_unmarked frame.Free = refl
-bare_unmarked (frame.Started uid page) = refl
-bare_unmarked (frame.Bound uid page used modified) = refl
-
-passed_bare : (frames : List Frame) (fs : List ℕ) → map bare (passed_over frames fs) ≡ map bare frames
-unfolding passed_over
-passed_bare frames [] = refl
-passed_bare frames (f ∷ fs) =
-    by (is_idle (core_frame frames f)) (passed_bare (set frames f (unmarked (core_frame frames f))) fs)
-  where
-    by : (b : Bool) → map bare (passed_over (set frames f (unmarked (core_frame frames f))) fs) ≡ map bare
-        (set frames f (unmarked (core_frame frames f)))
-        → map bare (cond b frames (passed_over (set frames f (unmarked (core_frame frames f))) fs)) ≡ map bare frames
-    by true rest = refl
-    by false rest = rest
-        ∙ map_kept bare frames f frame.Free (unmarked (core_frame frames f)) (bare_unmarked (core_frame frames f))
 
 -- ---- what taking leaves
 
@@ -75,14 +52,12 @@ take_one_like s c a w f = let page = bound_page (core_frame s.store.pages.core.f
 like_self : (s : State) → LooksLike s s
 like_self s = looks_like refl refl refl refl refl refl refl refl refl
 
-like_on : (s t u : State) → LooksLike s t → LooksLike t u → LooksLike s u
-like_on s t u one two = looks_like (cc) (cc) (cc) (cc) (cc) (cc) (cc) (cc) (cc)
+like_on : {s t u : State} → LooksLike s t → LooksLike t u → LooksLike s u
+like_on one two = looks_like (cc) (cc) (cc) (cc) (cc) (cc) (cc) (cc) (cc)
 
 take_all_like : (s : State) (c : ℕ) (a : Aim) (w : What) (fs : List ℕ) → LooksLike s (take_all s c a w fs)
 take_all_like s c a w [] = like_self s
-take_all_like s c a w (f ∷ fs) =
-    like_on s (take_one s c a w f) (take_all (take_one s c a w f) c a w fs) (take_one_like s c a w f)
-    (take_all_like (take_one s c a w f) c a w fs)
+take_all_like s c a w (f ∷ fs) = like_on (take_one_like s c a w f) (take_all_like (take_one s c a w f) c a w fs)
 
 cut_one_like : (s : State) (c : ℕ) (a : Aim) (w : What) (pair : ℕ × ℕ) → LooksLike s (cut_one s c a w pair)
 cut_one_like s c a w pair = looks_like refl refl refl refl refl refl refl refl
@@ -90,15 +65,12 @@ cut_one_like s c a w pair = looks_like refl refl refl refl refl refl refl refl
 
 cut_all_like : (s : State) (c : ℕ) (a : Aim) (w : What) (pairs : List (ℕ × ℕ)) → LooksLike s (cut_all s c a w pairs)
 cut_all_like s c a w [] = like_self s
-cut_all_like s c a w (pair ∷ pairs) =
-    like_on s (cut_one s c a w pair) (cut_all (cut_one s c a w pair) c a w pairs) (cut_one_like s c a w pair)
+cut_all_like s c a w (pair ∷ pairs) = like_on (cut_one_like s c a w pair)
     (cut_all_like (cut_one s c a w pair) c a w pairs)
 
 pub took_like : (s : State) (c : ℕ) (a : Aim) (w : What) (fs : List ℕ) (pairs : List (ℕ × ℕ))
     → LooksLike s (took s c a w fs pairs)
-took_like s c a w fs pairs =
-    like_on s (take_all s c a w fs) (cut_all (take_all s c a w fs) c a w pairs) (take_all_like s c a w fs)
-    (cut_all_like (take_all s c a w fs) c a w pairs)
+took_like s c a w fs pairs = like_on (take_all_like s c a w fs) (cut_all_like (take_all s c a w fs) c a w pairs)
 
 -- the owner once frames were taken and descriptors were cut, one at least
 take_owner : (s : State) (c : ℕ) (a : Aim) (w : What) (f : ℕ) (fs : List ℕ) → (take_all s c a w (f ∷ fs)).owner
@@ -204,10 +176,10 @@ like_alike s t c like linked = record {
     same_long f g [] = refl
     same_long f g (x ∷ xs) = ap suc (same_long f g xs)
 
-taken_outline : (s t : State) (c : ℕ) (a : Aim) (w : What) (fs : List ℕ) → LooksLike s t → HasTakenFrames t c a w fs
+taken_outline : {s t : State} {c : ℕ} {a : Aim} {w : What} {fs : List ℕ} → LooksLike s t → HasTakenFrames t c a w fs
     → with_runners (at_stage (outline_of s) c (Taken (work_of s.store.ast.entries fs a)))
     (map (runner_of (around t)) s.processors) ≡ outline_of t
-taken_outline s t c a w fs like took = cc (like_outline s t like)
+taken_outline {s} {t} like took = cc (like_outline s t like)
 
 -- a segment is taken: for its length, or as a victim
 pub take_segment_outlined : (s t : State) (c uid : ℕ) (w : What) (fs : List ℕ) → LooksLike s t
@@ -216,7 +188,7 @@ pub take_segment_outlined : (s t : State) (c uid : ℕ) (w : What) (fs : List �
     → (runner_of (around t) (processor_at s.processors c)).linked
     ≡ (runner_of (around s) (processor_at s.processors c)).linked → JobStep (outline_of s) c (outline_of t)
 take_segment_outlined s t c uid w fs like took can of_it few linked =
-    job_to (outline_of s) _ (outline_of t) c (taken_outline s t c (aim.Deactivating uid) w fs like took)
+    job_to (outline_of s) _ (outline_of t) c (taken_outline like took)
     (takes_segment (place_of s.store.ast.entries uid) fs (map (runner_of (around t)) s.processors) can of_it few
     (like_alike s t c like linked))
 
@@ -225,8 +197,7 @@ pub take_away_outlined : (s t : State) (c : ℕ) (w : What) (fs : List ℕ) → 
     → HasTakenFrames t c aim.Committing w fs → IsIn (outline_of s) c Look
     → (runner_of (around t) (processor_at s.processors c)).linked
     ≡ (runner_of (around s) (processor_at s.processors c)).linked → JobStep (outline_of s) c (outline_of t)
-take_away_outlined s t c w fs like took look linked =
-    job_to (outline_of s) _ (outline_of t) c (taken_outline s t c aim.Committing w fs like took)
+take_away_outlined s t c w fs like took look linked = job_to (outline_of s) _ (outline_of t) c (taken_outline like took)
     (takes_for_commit (map (runner_of (around t)) s.processors) look (like_alike s t c like linked))
 
 -- a frame's page is taken
@@ -240,8 +211,7 @@ evicted_outline s c f none = λ i. record {
     links = leaving_links (with_choice s.store f) f (taken_page s f) j;
     next = next_command s;
   })) s.processors)) i;
-  frames = (sym (ap (λ (x : Plain). map bare x.core.frames) (pages s f)
-      ∙ passed_bare s.store.pages.core.frames (round_frames s.store.pages.core))) i;
+  frames = (sym (ap (λ (x : Plain). map bare x.core.frames) (pages s f) ∙ choice_bare s.store.pages.core f)) i;
   entries = (sym (leaving_entries (with_choice s.store f) f (taken_page s f))) i;
   stored = (sym (λ j. is_filed (leaving_accounts (with_choice s.store f) f (taken_page s f) j) (pages s f j).vtocs)) i;
   full = (sym (λ j. lacks_record (leaving_accounts (with_choice s.store f) f (taken_page s f) j).nodes
@@ -277,10 +247,7 @@ told_tried : (c : ℕ) (w : What) (e : ℕ) (p : Processor) → (told_at c w e p
 told_tried c w e p = told_has (λ q. q.tried ≡ p.tried) c w e p refl refl refl
 
 told_itself : (c : ℕ) (w : What) (p : Processor) → (told_at c w c p).cpu.due ≡ p.cpu.due
-told_itself c w p = rw (self c)
-  where
-    self : (n : ℕ) → eqb n n ≡ true
-    self n = elim (eqb_tells n n) [ inl e ↦ e.0 | inr e ↦ absurd (e.1 refl) ]
+told_itself c w p = rw (eqb_self c)
 
 -- what a runner's outline has by its process alone
 by_process : {A : Type 0} (see : Runner → A) (a : Around) (p q : Processor)

@@ -1,11 +1,5 @@
 -- What goes is the owner's alone, entry by entry.
-use Rattle.machine_model.proofs.Prelude.{◌≡◌, ◌≢◌, ℕ, Bool, true, false, ◌||◌, eqb, List, [], ◌∷◌, ◌++◌, Option, Some, None, ◌⊎◌, inl, inr, refl, sym, ap, subst, ◌∙◌, eqb_tells, list_any-append, What, FrameUse, DescriptorUse, SomethingGoes, NamesAllGoing, Custody, Seat, has, leads_to, is_uid, uid_of_page, is_going_frame, is_current_frame, is_going_descriptor, is_current_descriptor, names_frame, names_descriptor, with_descriptor, with_seat, Aim, IsOwned, IsShaped, IsAimed, AreDistinct, AreApart, has_cut, says, waits_for, is_cut_at, frames_of_owner, cut_of_owner, CutDescriptor, Owner, going_cut, going_taken, names_descriptor_same, names_same, not_both}
-use Rattle.assoc_mem.specs.declared.What.TheVariants as what
-use Rattle.custody_model.specs.declared.FrameUse.TheVariants as frame
-use Rattle.custody_model.specs.declared.DescriptorUse.TheVariants as descriptor
-use Rattle.custody_model.specs.Custody.{bound_page, taken, cut}
-use Rattle.custody_model.specs.Next.{with_frame}
-use Rattle.machine_model.specs.declared.Phase.TheVariants as phase
+use Rattle.machine_model.proofs.Prelude.{◌≡◌, ◌≢◌, ℕ, Bool, true, false, ◌||◌, eqb, List, [], ◌∷◌, ◌++◌, Option, Some, None, ◌⊎◌, inl, inr, refl, sym, ap, subst, ◌∙◌, eqb_tells, list_any-append, What, FrameUse, DescriptorUse, SomethingGoes, NamesAllGoing, Custody, Seat, has, leads_to, is_uid, uid_of_page, is_going_frame, is_current_frame, is_going_descriptor, is_current_descriptor, names_frame, names_descriptor, with_descriptor, with_seat, Aim, IsOwned, IsShaped, IsAimed, AreDistinct, AreApart, has_cut, says, waits_for, is_cut_at, frames_of_owner, cut_of_owner, CutDescriptor, Owner, going_cut, going_taken, names_descriptor_same, names_same, not_both, What as what, FrameUse as frame, DescriptorUse as descriptor, custody_bound_page as bound_page, custody_taken as taken, custody_cut as cut, next_with_frame as with_frame, Phase as phase, false_from_ne_true}
 use Rattle.machine_model.proofs.Places.{by_place, by_places, put_here, put_two_here}
 use Rattle.machine_model.proofs.TieLaws.{none_some}
 
@@ -252,11 +246,7 @@ cut_at_tells k n d h = elim (eqb_tells d.process k) [
 ]
 
 pub cut_at_other : (k n : ℕ) (d : CutDescriptor) → (k ≡ d.process → n ≡ d.number → ⊥) → is_cut_at k n d ≡ false
-cut_at_other k n d h = by (is_cut_at k n d) refl
-  where
-    by : (b : Bool) → is_cut_at k n d ≡ b → b ≡ false
-    by false e = refl
-    by true e = let both = cut_at_tells k n d e in absurd (h both.0 both.1)
+cut_at_other k n d h = false_from_ne_true (is_cut_at k n d) (λ e. (let both = cut_at_tells k n d e in h both.0 both.1))
 
 cut_push_same : (ds : List CutDescriptor) (d : CutDescriptor) → has_cut (ds ++ d ∷ []) d.process d.number ≡ true
 cut_push_same ds d = cc (cut_push ds d d.process d.number, cut_at_same d, or_true (has_cut ds d.process d.number))

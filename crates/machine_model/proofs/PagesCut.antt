@@ -1,8 +1,6 @@
 -- Pages are cut off one after the other: which frames are bound then, which pages are being read into them, and which
 -- words the pages have.
-use Rattle.machine_model.proofs.Prelude.{cases_Bool, eqb-true, eqb_self, ◌≡◌, ◌≢◌, ◌<◌, ℕ, Bool, true, false, cond, eqb, List, [], ◌∷◌, length, Option, None, ◌⊎◌, inl, inr, refl, sym, ◌∙◌, eqb_tells, length-set, reads_of, Ptw, binding_at, bindings, place_of, word_of, read_at, has, at_put_two, without_page, without_pages, Storage, has_head, has_tail, not_both}
-use Rattle.core_map.specs.declared.Frame.TheVariants as frame
-use Rattle.page_table.specs.declared.Ptw.TheVariants as ptw
+use Rattle.machine_model.proofs.Prelude.{cases_Bool, eqb-true, eqb_self, ◌≡◌, ◌≢◌, ◌<◌, ℕ, Bool, true, false, cond, eqb, List, [], ◌∷◌, length, Option, None, ◌⊎◌, inl, inr, refl, sym, ◌∙◌, eqb_tells, length-set, reads_of, Ptw, binding_at, bindings, place_of, word_of, read_at, has, at_put_two, without_page, without_pages, Storage, has_head, has_tail, not_both, Frame as frame, Ptw as ptw}
 use Rattle.machine_model.proofs.Places.{put_two_here, by_places}
 use Rattle.machine_model.proofs.SeenLaws.{bound_put, reads_put}
 use Rattle.machine_model.proofs.TakeSeen.{words_put}
@@ -71,16 +69,16 @@ page_cut_off st u p w has_places e = record {
 }
 
 -- a word that leaves a frame then left it before
-cut_leaving : (old now : Storage) (u p : ℕ) (w : Ptw) (v q f : ℕ) → IsCutOff old now u p w
+cut_leaving : {old now : Storage} {u p : ℕ} {w : Ptw} (v q f : ℕ) → IsCutOff old now u p w
     → word_in now v q ≡ ptw.Leaving f → word_in old v q ≡ ptw.Leaving f
-cut_leaving old now u p w v q f c e = by_places (λ (x : Ptw). x ≡ ptw.Leaving f → word_in old v q ≡ ptw.Leaving f)
+cut_leaving {old} {u} {p} v q f c e = by_places (λ (x : Ptw). x ≡ ptw.Leaving f → word_in old v q ≡ ptw.Leaving f)
     (λ x y. word_in old x y) u p ptw.Null v q
     (λ a b i. absurd (let no : ptw.Null ≡ ptw.Leaving f = i in cc)) (λ m i. i) (sym (c.words v q) ∙ e)
 
 pub cut_places : (old now : Storage) (u p : ℕ) (w : Ptw) → HasPlaces old → IsCutOff old now u p w → HasPlaces now
 cut_places old now u p w h c = record {
   tables = cc;
-  within = λ v q f e. rw c.frames (h.within v q f (cut_leaving old now u p w v q f c e));
+  within = λ v q f e. rw c.frames (h.within v q f (cut_leaving v q f c e));
 }
 
 -- ---- many pages
@@ -135,7 +133,7 @@ module _ (st : Storage) (u p : ℕ) (ps : List ℕ) (now : Storage)
   this_word = one.words u p ∙ put_two_here (λ x y. word_in st x y) u p ptw.Null
 
   was_leaving : (q g : ℕ) → word_in mid u q ≡ ptw.Leaving g → word_in st u q ≡ ptw.Leaving g
-  was_leaving q g e = cut_leaving st mid u p (word_in st u p) u q g one e
+  was_leaving q g e = cut_leaving u q g one e
 
   bound_by : (g : ℕ) (b : Bool) → is_left_by (word_in st u p) g ≡ b → bound_in mid g ≡ cond b None (bound_in st g)
   bound_by g b e = cc (one.bound g)

@@ -1,9 +1,6 @@
 -- A path that leads to a segment leads to it still where other nodes come or go, and where what is changed of a node is
 -- neither its place nor its name.
-use Rattle.machine_model.proofs.Prelude.{cases_Bool, ne_eqb, ap, option_map, ◌≡◌, ◌≢◌, ◌<◌, ℕ, Bool, true, false, cond, eqb, List, [], ◌∷◌, map, Option, Some, None, ◌⊎◌, inl, inr, refl, sym, subst, ◌∙◌, arith, Ok, Err, eqb_tells, Node, Walk, LeadsTo, Missing, InSegment, branch_in, has_directory, is_branch, node_in, onward, walk_from, walk_in, without_node, AreBelow, IsTree, Joins, IsMember, found_member, lies, only_branch, node_at, only_segment, segment_at, there_or, walked, directory_gone, only_found, there_found, find_passes, found_uid, joined_below, uid_below, node_without, not_both}
-use Rattle.book.specs.declared.replies.Reply.TheVariants as reply
-use Rattle.std.proofs.lemmas.Option.{same_Some}
-use Rattle.tree_model.proofs.Finds.{branch_found}
+use Rattle.machine_model.proofs.Prelude.{cases_Bool, ne_eqb, ap, option_map, ◌≡◌, ◌≢◌, ◌<◌, ℕ, Bool, true, false, cond, eqb, List, [], ◌∷◌, map, Option, Some, None, ◌⊎◌, inl, inr, refl, sym, subst, ◌∙◌, arith, Ok, Err, eqb_tells, Node, Walk, LeadsTo, Missing, InSegment, branch_in, has_directory, is_branch, node_in, onward, walk_from, walk_in, without_node, AreBelow, IsTree, Joins, IsMember, found_member, lies, only_branch, node_at, only_segment, segment_at, there_or, walked, directory_gone, only_found, there_found, find_passes, found_uid, joined_below, uid_below, node_without, not_both, Reply as reply, same_Some, finds_branch_found as branch_found}
 
 -- a path that led to a segment leads to it
 pub record PathsStay (old now : List Node) (u : ℕ) : Type 0 where

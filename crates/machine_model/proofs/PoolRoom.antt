@@ -1,8 +1,6 @@
 -- A pool with a free place has room: fewer segments of its nodes are active than it has places.
-use Rattle.machine_model.proofs.Prelude.{◌≡◌, ◌<◌, ◌≤◌, ℕ, zero, suc, ◌+◌, ◌-◌, Bool, true, false, ◌&&◌, ◌||◌, cond, eqb, count_by, is_some, is_none, List, [], ◌∷◌, length, Option, Some, None, inl, inr, refl, sym, ap, subst, ◌∙◌, arith, list_any, range_with_len, eqb_tells, sum_by-cons, Node, pool_of, AreBelow, IsTree, Joins, IsMember, found_member, ActiveSegs, entry_at, uid_in, IsInPool, first_of, size_of, is_for, place_of, free_place, is_active, places_in}
-use Rattle.active_segs.specs.declared.Entry.{Entry}
+use Rattle.machine_model.proofs.Prelude.{◌≡◌, ◌<◌, ◌≤◌, ℕ, zero, suc, ◌+◌, ◌-◌, Bool, true, false, ◌&&◌, ◌||◌, cond, eqb, count_by, is_some, is_none, List, [], ◌∷◌, length, Option, Some, None, inl, inr, refl, sym, ap, subst, ◌∙◌, arith, list_any, range_with_len, eqb_tells, sum_by-cons, Node, pool_of, AreBelow, IsTree, Joins, IsMember, found_member, ActiveSegs, entry_at, uid_in, IsInPool, first_of, size_of, is_for, place_of, free_place, is_active, places_in, Active as Entry, false_from_ne_true, find_passes}
 use Rattle.machine_model.proofs.ActiveSeen.{active_place}
-use Rattle.machine_model.proofs.FindLaws.{find_true}
 
 -- ---- counts
 
@@ -191,15 +189,11 @@ module _ (ast : ActiveSegs) (pool : ℕ) where
       member = found_member (λ q. is_none (entry_at ast.entries q)) places place free
 
       is_free : is_none (entry_at ast.entries place) ≡ true
-      is_free = find_true (λ q. is_none (entry_at ast.entries q)) places place free
+      is_free = find_passes (λ q. is_none (entry_at ast.entries q)) places place free
 
       none : has_its ns place ≡ false
-      none = by (has_its ns place) refl
+      none = false_from_ne_true (has_its ns place) (λ e. not_both (entry_at ast.entries place) is_free (has_some ns place e))
         where
           not_both : (o : Option Entry) → is_none o ≡ true → is_some o ≡ true → ⊥
           not_both None a b = let off = b in cc
           not_both (Some e) a b = let off = a in cc
-
-          by : (b : Bool) → has_its ns place ≡ b → b ≡ false
-          by false e = refl
-          by true e = absurd (not_both (entry_at ast.entries place) is_free (has_some ns place e))

@@ -1,24 +1,15 @@
 -- What a processor reads into a frame is for the next command of its process through every action, until it is read.
-use Rattle.machine_model.proofs.Prelude.{and_parts, cond_both, with_node, Links, with_effect, ◌≡◌, ◌≢◌, ◌<◌, ℕ, ◌+◌, Bool, true, false, cond, eqb, length, List, [], map, set, Option, Some, None, ◌⊎◌, inl, inr, refl, sym, ap, subst, ◌∙◌, arith, ℤ, eqb_tells, get_or-set_other, get_or-set_same, length-set, Plan, command_at, Command, Reference, Reply, What, Row, Node, node_in, IsTree, uid_of, kst_at, word_of, Cpu, Transfer, parts_of, segment_at, word_reply, node_gone, is_filed, is_there, pages_in, pages_of, Processor, Run, action_of, clear_or, own_or_run, transfer_or, Outcome, after, committed, committed_at, with_made, emptied, eviction_begun, eviction_done, page_done, pages_back, segs_back, took, victim_taken, with_choice, with_hand_moved, write_failed, Keeps, copy_failed, page_copied, without_move, IsMachine, AllRead, IsReadFor, IsReading, Refers, Truncates, Wants, cpu_at, cut_of_owner, frames_from, frames_of_owner, is_active, next_command, no_processor, no_run, or_zero, process_at, processor_at, run_at, trailers_in, refusal_of, reply_of, uid_of_command, State, Storage, fault_told, frame_lost, old_word, page_made, pages_after, started, told, transfer_failed, transferred, with_faults, with_pages, with_store, MayFailBy, not_both}
-use Rattle.script.specs.declared.commands.Command.TheVariants as command
-use Rattle.book.specs.declared.replies.Reply.TheVariants as reply
-use Rattle.assoc_mem.specs.declared.What.TheVariants as what
-use Rattle.machine_model.specs.declared.Aim.TheVariants as aim
-use Rattle.machine_model.specs.Actions as act
-use Rattle.machine_model.specs.Commits.{with_links, with_nodes}
-use Rattle.machine_model.proofs.ActionCases.{action_by}
+use Rattle.machine_model.proofs.Prelude.{and_parts, cond_both, with_node, Links, with_effect, ◌≡◌, ◌≢◌, ◌<◌, ℕ, ◌+◌, Bool, true, false, cond, eqb, length, List, [], map, set, Option, Some, None, ◌⊎◌, inl, inr, refl, sym, ap, subst, ◌∙◌, arith, ℤ, eqb_tells, get_or-set_other, get_or-set_same, length-set, Plan, command_at, Command, Reference, Reply, What, Row, Node, node_in, IsTree, uid_of, kst_at, word_of, Cpu, Transfer, parts_of, segment_at, word_reply, node_gone, is_filed, is_there, pages_in, pages_of, Processor, Run, action_of, clear_or, own_or_run, transfer_or, Outcome, after, committed, committed_at, with_made, emptied, eviction_begun, eviction_done, page_done, pages_back, segs_back, took, victim_taken, with_choice, with_hand_moved, write_failed, Keeps, copy_failed, page_copied, without_move, IsMachine, AllRead, IsReadFor, IsReading, Refers, Truncates, Wants, cpu_at, cut_of_owner, frames_from, frames_of_owner, is_active, next_command, no_processor, no_run, or_zero, process_at, processor_at, run_at, trailers_in, refusal_of, reply_of, uid_of_command, State, Storage, fault_told, frame_lost, old_word, page_made, pages_after, started, told, transfer_failed, transferred, with_faults, with_pages, with_store, MayFailBy, not_both, Command as command, Reply as reply, What as what, Aim as aim, with_links, with_nodes, Action, Action as act}
+use Rattle.machine_model.proofs.JobStays.{Stays, all_back, all_taken, emptying, evicted, evicting, is_back, is_emptied, page_left, emptying_victim}
+use Rattle.machine_model.proofs.ActionCases.{action_by, by_end}
 use Rattle.machine_model.proofs.CommandFacts.{LeadsToSegment, truncate_stands}
 use Rattle.machine_model.proofs.CommitKept.{effected}
 use Rattle.machine_model.proofs.CommitRights.{deleted_names, truncated_names, quota_moves, node_moved}
-use Rattle.machine_model.proofs.EntitledKept.{SameNames}
-use Rattle.machine_model.proofs.EntitledKept as names
 use Rattle.machine_model.proofs.InsideLaws.{inside_is}
 use Rattle.machine_model.proofs.LeaveSeen.{told_reads, told_process}
 use Rattle.machine_model.proofs.LookFacts.{FindsCut, FindsOut, FindsPage}
 use Rattle.machine_model.proofs.PageShown.{active_there, stored_is}
 use Rattle.machine_model.proofs.PathsKept.{KeepsName, PathsStay, paths_changed, paths_less, paths_more, paths_same}
-use Rattle.machine_model.proofs.ScheduleKept.{Sits}
-use Rattle.machine_model.proofs.ScheduleKept as seats
 use Rattle.machine_model.proofs.TieLaws.{none_some}
 use Rattle.machine_model.proofs.TransferKept.{active_at}
 use Rattle.machine_model.proofs.VictimLaws.{some_there}
@@ -135,8 +126,8 @@ told_read b c f r h there idle elsewhere = answered_read h c (process_at b c) _ 
     (ap (λ (y : Processor). y.cpu.transfer) (get_or-set_same b.processors c _ no_processor there) ∙ idle)
 
 -- where nothing that is read of the machine changes
-reads_like : (s now : State) → SameNames s now → Sits s now → IsReading s → IsReading now
-reads_like s now same sits h = rw (sits.plan, sits.runs, same.nodes, same.known, same.processors) h
+reads_like : {s now : State} → Stays s now → IsReading s → IsReading now
+reads_like same h = rw (same.plan, same.runs, same.nodes, same.known, same.processors) h
 
 -- ---- a failure of the drive may be told
 
@@ -173,7 +164,7 @@ module _ (s : State) (d : ℕ) (t : Transfer) (keeps : Keeps s) (mine : (cpu_at 
 -- ---- the rules past transfers
 
 -- what a processor does that has no transfer to end
-abbrev pub IsPast : State → ℕ → act.Action → Type 0
+abbrev pub IsPast : State → ℕ → Action → Type 0
 IsPast s c act.IsStopped = Unit {0}
 IsPast s c act.HasEnded = Unit {0}
 IsPast s c (act.Waits why) = Unit {0}
@@ -182,7 +173,7 @@ IsPast s c (act.Clear w) = Unit {0}
 IsPast s c (act.EndTransfer t) = Unit {0}
 IsPast s c _ = (cpu_at s.processors c).transfer ≡ None
 
-past_any : (s : State) (c : ℕ) (a : act.Action) → (cpu_at s.processors c).transfer ≡ None → IsPast s c a
+past_any : (s : State) (c : ℕ) (a : Action) → (cpu_at s.processors c).transfer ≡ None → IsPast s c a
 past_any s c act.IsStopped e = tt
 past_any s c act.HasEnded e = tt
 past_any s c (act.Waits why) e = tt
@@ -212,7 +203,7 @@ abbrev pub Answers : State → ℕ → Type 0
 Answers s c = ((cpu_at s.processors c).transfer ≡ None) × ((cpu_at s.processors c).process ≡ Some (process_at s c))
 
 -- what an action asks: one that answers or gives its process up reads nothing; what a look reads it was asked for
-abbrev pub MayRead : State → ℕ → Outcome → act.Action → Type 0
+abbrev pub MayRead : State → ℕ → Outcome → Action → Type 0
 MayRead s c o (act.EndTransfer t) = (cpu_at s.processors c).transfer ≡ Some t
 MayRead s c o (act.Load n) = (cpu_at s.processors c).transfer ≡ None
 MayRead s c o act.Leave = (cpu_at s.processors c).transfer ≡ None
@@ -227,9 +218,6 @@ MayRead s c o (act.FinishPage f) = Answers s c
 MayRead s c o (act.CopyPage m q) = Answers s c
 MayRead s c o act.Commit = Answers s c
 MayRead s c o _ = Unit {0}
-
-by_end : (o : Outcome) (well ill : State) → IsReading well → IsReading ill → IsReading (cond o.failed ill well)
-by_end o well ill a b = cond_both o.failed ill well IsReading (λ h. b) (λ h. a)
 
 module _ (s : State) (c : ℕ) (o : Outcome) (m : IsMachine s) (there : c < length s.processors) (h : IsReading s) where
   abbrev k : ℕ
@@ -261,25 +249,13 @@ module _ (s : State) (c : ℕ) (o : Outcome) (m : IsMachine s) (there : c < leng
 
   -- a write failed
   failed_read : Answers s c → IsReading (write_failed s c o.faults)
-  failed_read a = told_read back c None reply.Device (reads_like fault back same sits h)
-      (subst (λ (ps : List Processor). c < length ps) (sym same.processors) there)
-      (ap (λ (ps : List Processor). (cpu_at ps c).transfer) same.processors ∙ a.0)
-      (λ d n e. elsewhere a.1 d n (cc same.processors))
+  failed_read a = told_read (all_back s c o.faults) c None reply.Device (reads_like back h)
+      (subst (λ (ps : List Processor). c < length ps) (sym back.processors) there)
+      (ap (λ (ps : List Processor). (cpu_at ps c).transfer) back.processors ∙ a.0)
+      (λ d n e. elsewhere a.1 d n (cc back.processors))
     where
-      fault : State
-      fault = fault_told s (Some k) o.faults
-
-      back : State
-      back = segs_back (pages_back fault (frames_of_owner s.owner)) (cut_of_owner s.owner)
-
-      same : SameNames fault back
-      same = names.on fault (pages_back fault (frames_of_owner s.owner)) back
-          (names.all_pages_back fault (frames_of_owner s.owner))
-          (names.all_segs_back (pages_back fault (frames_of_owner s.owner)) (cut_of_owner s.owner))
-
-      sits : Sits fault back
-      sits = seats.sits_on (seats.all_pages_back fault (frames_of_owner s.owner))
-          (seats.all_segs_back (pages_back fault (frames_of_owner s.owner)) (cut_of_owner s.owner))
+      back : Stays s (all_back s c o.faults)
+      back = is_back s c o.faults
 
   -- ---- a command takes effect
 
@@ -412,15 +388,15 @@ module _ (s : State) (c : ℕ) (o : Outcome) (m : IsMachine s) (there : c < leng
               (subst (λ (y : Command). refusal_of s k y ≡ None) w.is w.stands)
 
   -- What is read is so for its command after each action.
-  pub reading_kept : (a : act.Action) → MayRead s c o a → Keeps (after s c a o) → IsReading (after s c a o)
+  pub reading_kept : (a : Action) → MayRead s c o a → Keeps (after s c a o) → IsReading (after s c a o)
   unfolding after
   reading_kept act.IsStopped may kept = h
   reading_kept act.HasEnded may kept = h
   reading_kept (act.Waits why) may kept = h
   reading_kept act.Online may kept = seat_read h c _ there refl refl
   reading_kept (act.Clear w) may kept = seat_read h c _ there refl refl
-  reading_kept (act.EndTransfer t) may kept = by_end o (transferred (with_faults s o.faults) c t)
-      (transfer_failed s c t o.faults) (idle_read h c _ there refl) (lost_read t (let r = h.each c t may in cc))
+  reading_kept (act.EndTransfer t) may kept = by_end IsReading o _ _
+      (λ e. idle_read h c _ there refl) (λ e. lost_read t (let r = h.each c t may in cc))
   reading_kept (act.Load n) may kept = idle_read h c _ there may
   reading_kept act.Leave may kept = idle_read h c _ there may
   reading_kept (act.FillSeg n) may kept = seat_read h c _ there refl refl
@@ -436,22 +412,13 @@ module _ (s : State) (c : ℕ) (o : Outcome) (m : IsMachine s) (there : c < leng
   reading_kept (act.Create f u q r) may kept = told_read (page_made s f u q r) c None (word_reply 0 r.kind) h there
       may.0 (elsewhere may.1)
   reading_kept (act.Start f u q) may kept = starts f u q may.0 may.1.0 may.1.1 may.1.2
-  reading_kept (act.Evict f) may kept = reads_like (with_store s (with_choice s.store f)) (eviction_begun s c f)
-      (names.one_taken (with_store s (with_choice s.store f)) c aim.Evicting (what.Page f) f)
-      (seats.still refl refl refl refl) h
-  reading_kept (act.Empty u) may kept = reads_like s _
-      (names.segment s c u (frames_from s.store.ast u 0) (trailers_in s.store u))
-      (seats.segment s c u (frames_from s.store.ast u 0) (trailers_in s.store u)) h
-  reading_kept (act.EmptyVictim pool chain u) may kept =
-      let now = with_store s (with_hand_moved s.store pool chain) in reads_like now (victim_taken s c pool chain u)
-      (names.segment now c u (frames_from now.store.ast u 0) (trailers_in now.store u))
-      (seats.segment now c u (frames_from now.store.ast u 0) (trailers_in now.store u)) h
-  reading_kept (act.TakeAway fs pairs w) may kept = reads_like s (took s c aim.Committing w fs pairs)
-      (names.all_taken s c aim.Committing w fs pairs) (seats.all_taken s c aim.Committing w fs pairs) h
+  reading_kept (act.Evict f) may kept = reads_like (evicting s c f) h
+  reading_kept (act.Empty u) may kept = reads_like (emptying s c u) h
+  reading_kept (act.EmptyVictim pool chain u) may kept = reads_like (emptying_victim s c pool chain u) h
+  reading_kept (act.TakeAway fs pairs w) may kept = reads_like (all_taken s c aim.Committing w fs pairs) h
   reading_kept (act.BeginMove u volume) may kept = h
-  reading_kept (act.CopyPage m q) may kept = by_end o (page_copied (with_faults s o.faults) c m q)
-      (copy_failed s c o.faults) h
-      (told_read (fault_told (with_store s (without_move s.store)) (Some k) o.faults) c None reply.Device h there may.0
+  reading_kept (act.CopyPage m q) may kept = by_end IsReading o _ _ (λ e. h)
+      (λ e. told_read (fault_told (with_store s (without_move s.store)) (Some k) o.faults) c None reply.Device h there may.0
       (elsewhere may.1))
   reading_kept (act.CommitMove m) may kept = record {
     each = λ d. still_reads h (record {
@@ -472,12 +439,9 @@ module _ (s : State) (c : ℕ) (o : Outcome) (m : IsMachine s) (there : c < leng
       paths = λ y x. paths_same nodes y.uid;
     });
   }
-  reading_kept (act.FinishEviction f) may kept = by_end o (eviction_done (with_faults s o.faults) c f)
-      (write_failed s c o.faults) (reads_like (with_faults s o.faults) (eviction_done (with_faults s o.faults) c f)
-      (names.evicted (with_faults s o.faults) c f) (seats.still refl refl refl refl) h) (failed_read may)
-  reading_kept (act.FinishPage f) may kept = by_end o (page_done (with_faults s o.faults) f)
-      (write_failed s c o.faults) (reads_like (with_faults s o.faults) (page_done (with_faults s o.faults) f)
-      (names.page_left (with_faults s o.faults) f) (seats.still refl refl refl refl) h) (failed_read may)
-  reading_kept (act.Deactivate u) may kept = reads_like s (emptied s c u) (names.is_emptied s c u)
-      (seats.is_emptied s c u) h
+  reading_kept (act.FinishEviction f) may kept =
+      by_end IsReading o _ _ (λ e. reads_like (evicted s c f o.faults) h) (λ e. failed_read may)
+  reading_kept (act.FinishPage f) may kept =
+      by_end IsReading o _ _ (λ e. reads_like (page_left s f o.faults) h) (λ e. failed_read may)
+  reading_kept (act.Deactivate u) may kept = reads_like (is_emptied s c u) h
   reading_kept act.Commit may kept = commits may (next_command s k) kept

@@ -1,8 +1,5 @@
 -- What a step of a processor brings that reads a page in, while the owner waits for that.
-use Rattle.machine_model.proofs.Prelude.{◌≡◌, ◌≢◌, ◌≤◌, ◌<◌, ℕ, Bool, true, false, cond, List, Option, Some, None, is_some, set, refl, sym, ap, subst, ◌∙◌, inr, arith, get_or-set_other, Transfer, Want, Runner, no_runner, Look, Outline, Turn, runner_at, want_at, with_runner, with_frame, is_of, wanted_fits, lack, over, dues, readers, all_rank, job_rank, Reads, rule_of, IsIn, Step, ends, comes, clears, reads, loses, works, awaits_clear, awaits_transfer, loads, idles, leaves, fills, replies, faults, enters, waits, HasLost, with_bound, not_reading, IsKept, lack_at, IsUnderWay, AwaitsTransfer, IsReader, Rule, not_both}
-use Rattle.core_map.specs.declared.Frame.TheVariants as frame
-use Rattle.machine_model.specs.Outline.{frame_in}
-use Rattle.machine_model.specs.Measures.{parts_of}
+use Rattle.machine_model.proofs.Prelude.{◌≡◌, ◌≢◌, ◌≤◌, ◌<◌, ℕ, Bool, true, false, cond, List, Option, Some, None, is_some, set, refl, sym, ap, subst, ◌∙◌, inr, arith, get_or-set_other, Transfer, Want, Runner, no_runner, Look, Outline, Turn, runner_at, want_at, with_runner, with_frame, is_of, wanted_fits, lack, over, dues, readers, all_rank, job_rank, Reads, rule_of, IsIn, Step, ends, comes, clears, reads, loses, works, awaits_clear, awaits_transfer, loads, idles, leaves, fills, replies, faults, enters, waits, HasLost, with_bound, not_reading, IsKept, lack_at, IsUnderWay, AwaitsTransfer, IsReader, Rule, not_both, Frame as frame, outline_frame_in as frame_in, measures_parts_of as parts_of}
 use Rattle.machine_model.proofs.CountLaws.{readers_set}
 use Rattle.machine_model.proofs.RankLaws.{falls_reading}
 use Rattle.machine_model.proofs.JobLaws.{ranked, small_of}
@@ -26,12 +23,12 @@ not_of : (s : Outline) (d : ℕ) (r : Transfer) → IsKept s → (runner_at s.ru
 not_of s d r k reading uid page = cc ((k.tied.read d r reading).0)
 
 -- the measure falls where a transfer ends, and the owner goes on with its look
-ended_falls : (s t : Outline) (c d : ℕ) (x : Runner) → IsKept s → IsKept t → IsIn s c Look → t.owner ≡ s.owner
+ended_falls : {s t : Outline} (c d : ℕ) (x : Runner) → IsKept s → IsKept t → IsIn s c Look → t.owner ≡ s.owner
     → (runner_at s.runners c).reading ≡ None → (r : Transfer) → (runner_at s.runners d).reading ≡ Some r
     → t.runners ≡ set s.runners d x → x.reading ≡ None → all_rank t ≤ all_rank s
     → ((w : Want) (q : Option Transfer) → wanted_fits s w q ≡ true → wanted_fits t w q ≡ true)
     → (job_rank t < job_rank s) × IsUnderWay s t c
-ended_falls s t c d x k l look owner idle r reading runners over all fits =
+ended_falls {s} {t} c d x k l look owner idle r reading runners over all fits =
     let within = inside s.runners d (k.tied.runners_online d (k.tied.readers_run d r reading)) in
     let apart : c ≢ d = other_than s c d (λ y. is_some y.reading) (cc) (cc) in
     let same : runner_at t.runners c ≡ runner_at s.runners c =
@@ -63,7 +60,7 @@ bound_falls : (s : Outline) (c d : ℕ) (r : Transfer) (used modified : Bool) �
 bound_falls s c d r used modified k l look idle reading =
     let within = inside s.runners d (k.tied.runners_online d (k.tied.readers_run d r reading)) in
     let t : Outline = not_reading (with_bound s r used modified) d in
-    ended_falls s (not_reading (with_bound s r used modified) d) c d (record (runner_at s.runners d) { reading = None })
+    ended_falls c d (record (runner_at s.runners d) { reading = None })
     k l look refl idle r reading refl refl
     (all_set s (not_reading (with_bound s r used modified) d) d (record (runner_at s.runners d) { reading = None })
     within refl refl refl refl refl) (λ w q h. wanted_more s (not_reading (with_bound s r used modified) d) w q q
@@ -79,7 +76,7 @@ lost_falls : (s : Outline) (c d : ℕ) (r : Transfer) (x : Runner) (left : ℕ) 
     × IsUnderWay s (record (with_runner (with_frame s r.frame frame.Free) d x) { left = left }) c
 lost_falls s c d r x left k l look idle reading lost fewer =
     let all = all_fewer s (record (with_runner (with_frame s r.frame frame.Free) d x) { left = left }) l.sizes fewer in
-    ended_falls s (record (with_runner (with_frame s r.frame frame.Free) d x) { left = left }) c d x k l look refl
+    ended_falls c d x k l look refl
     idle r reading refl lost.reading (omega arith)
     (λ w q h. wanted_more s (record (with_runner (with_frame s r.frame frame.Free) d x) { left = left }) w q q
     (λ uid page makes there. here_same s.frames r.frame uid page frame.Free (k.tied.read d r reading).1

@@ -1,7 +1,5 @@
 -- What the commands of one process are answered.
-use Rattle.machine_model.proofs.Prelude.{◌≡◌, ℕ, List, [], ◌∷◌, refl, codes, pos, negsuc, Command, Reply, book_of, finished, machine_with, process_for, replies_of}
-use Rattle.script.specs.declared.commands.Command.TheVariants as command
-use Rattle.book.specs.declared.replies.Reply.TheVariants as reply
+use Rattle.machine_model.proofs.Prelude.{◌≡◌, ℕ, List, [], ◌∷◌, refl, codes, pos, negsuc, Command, Reply, book_of, finished, machine_with, process_for, replies_of, Command as command, Reply as reply}
 
 -- of a machine with this quota, and a volume with so many records and entries
 abbrev answers : ℕ → ℕ → ℕ → List Command → List Reply

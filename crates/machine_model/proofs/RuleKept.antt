@@ -1,9 +1,6 @@
 -- Each step of each processor keeps the machine's promise: along the rules in their order, what an action asks follows
 -- from the promise, but for what the store says and for what the flat store answers.
-use Rattle.machine_model.proofs.Prelude.{[], ◌≡◌, ◌<◌, ℕ, List, ◌∷◌, length, Option, Some, None, sym, subst, ◌∙◌, What, Mover, Aim, finish_of, copy_or_commit, Outcome, says, seen, Keeps, cut_of_owner, shown, State}
-use Rattle.assoc_mem.specs.declared.What.TheVariants as what
-use Rattle.machine_model.specs.declared.Aim.TheVariants as aim
-use Rattle.machine_model.specs.Actions as act
+use Rattle.machine_model.proofs.Prelude.{[], ◌≡◌, ◌<◌, ℕ, List, ◌∷◌, length, Option, Some, None, sym, subst, ◌∙◌, What, Mover, Aim, finish_of, copy_or_commit, Outcome, says, seen, Keeps, cut_of_owner, shown, State, What as what, Aim as aim, Action, Action as act}
 use Rattle.machine_model.proofs.ChainLaws.{GoesOn}
 use Rattle.machine_model.proofs.CommitKept.{idle_over, segs_over}
 use Rattle.machine_model.proofs.DeleteKept.{gones_done, gones_idle}
@@ -25,7 +22,7 @@ module _ (s : State) (c : ℕ) (o : Outcome) (k : Keeps s) (there : c < length s
     over = λ none. (rw idle.cut (idle_over s k.book idle still));
   }
 
-  pub look_can : (a : act.Action) → IsLook s a → IsLooking s c → Asks s c o a → CanDo s c o a
+  pub look_can : (a : Action) → IsLook s a → IsLooking s c → Asks s c o a → CanDo s c o a
   look_can (act.Waits why) h l asks = tt
   look_can (act.TakeAway fs pairs w) h l asks = assumption
   look_can act.Commit h l asks = assumption (look_ready l, process_here s c o k there l.owner)

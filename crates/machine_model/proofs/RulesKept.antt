@@ -1,13 +1,6 @@
 -- Each step of each processor keeps the machine's promise: along the rules in their order, what an action asks follows
 -- from the promise, but for what the store says and for what the flat store answers.
-use Rattle.machine_model.proofs.Prelude.{◌≡◌, ◌≢◌, ◌<◌, ℕ, ◌/◌, ◌*◌, Bool, true, false, not, ◌&&◌, ◌||◌, ◌==◌, cond, eqb, is_some, List, [], ◌∷◌, length, position, Option, Some, None, inl, inr, refl, sym, ap, subst, ◌∙◌, IsSomeAnd, nat_le, option_map, eqb_tells, leb_tells, HeldPage, HeldSeg, What, frame_of, seg_of, reference_of, Command, Reference, Ptw, Sdw, uid_at, by_descriptor, by_page, by_seg, by_word, Move, Transfer, leads, sdws_at, word_of, table_of, next_out, new_word, permits, word_reply, HasHadItsTurn, IsFront, MayGo, Phase, action_of, by_move, clear_or, come_to, finish_of, go_on_with, has_had_its_turn, is_empty, load_or_idle, look_of, once_cleared, own_or_run, refer_or_take, run_process, take_or_wait, transfer_or, Outcome, names, led_to, seen, IsAtWork, Keeps, cpu_at, descriptor_of, flat_of, is_due, next_command, or_zero, process_at, processor_at, shown, Processor, Owner, State, held_page, held_seg, uid_of_held, cond_both, not-true, not-false, and_parts}
-use Rattle.assoc_mem.specs.Held.{page_of}
-use Rattle.book.specs.declared.replies.Reply.TheVariants as reply
-use Rattle.page_table.specs.declared.Ptw.TheVariants as ptw
-use Rattle.descriptor_seg.specs.declared.Sdw.TheVariants as sdw
-use Rattle.processor.specs.declared.Move.TheVariants as move
-use Rattle.machine_model.specs.declared.Phase.TheVariants as phase
-use Rattle.machine_model.specs.Actions as act
+use Rattle.machine_model.proofs.Prelude.{◌≡◌, ◌≢◌, ◌<◌, ℕ, ◌/◌, ◌*◌, Bool, true, false, not, ◌&&◌, ◌||◌, ◌==◌, cond, eqb, is_some, List, [], ◌∷◌, length, position, Option, Some, None, inl, inr, refl, sym, ap, subst, ◌∙◌, IsSomeAnd, nat_le, option_map, eqb_tells, leb_tells, HeldPage, HeldSeg, What, frame_of, seg_of, reference_of, Command, Reference, Ptw, Sdw, uid_at, by_descriptor, by_page, by_seg, by_word, Move, Transfer, leads, sdws_at, word_of, table_of, next_out, new_word, permits, word_reply, HasHadItsTurn, IsFront, MayGo, Phase, action_of, by_move, clear_or, come_to, finish_of, go_on_with, has_had_its_turn, is_empty, load_or_idle, look_of, once_cleared, own_or_run, refer_or_take, run_process, take_or_wait, transfer_or, Outcome, names, led_to, seen, IsAtWork, Keeps, cpu_at, descriptor_of, flat_of, is_due, next_command, or_zero, process_at, processor_at, shown, Processor, Owner, State, held_page, held_seg, uid_of_held, cond_both, not-true, not-false, and_parts, held_page_of as page_of, Reply as reply, Ptw as ptw, Sdw as sdw, Move as move, Phase as phase, Action, Action as act}
 use Rattle.machine_model.proofs.ActionCases.{action_by}
 use Rattle.machine_model.proofs.FindLaws.{number_new, page_new}
 use Rattle.machine_model.proofs.KeepLaws.{IsNoOwner}
@@ -18,7 +11,7 @@ use Rattle.machine_model.proofs.StepKept.{CanDo, CanLeave, IsMine, to_hold}
 use Rattle.machine_model.proofs.TieLaws.{none_some}
 
 -- an action can be done whose conditions hold
-abbrev Can : State → ℕ → Outcome → act.Action → Type 0
+abbrev Can : State → ℕ → Outcome → Action → Type 0
 Can s c o a = Asks s c o a → CanDo s c o a
 
 -- a choice of two moves

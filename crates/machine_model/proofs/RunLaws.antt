@@ -1,5 +1,5 @@
 -- How far each process has come by the flat store, once a command was answered or a drive's failure was told.
-use Rattle.machine_model.proofs.Prelude.{◌≡◌, ◌<◌, ◌≤◌, ℕ, zero, suc, Bool, true, false, cond, List, [], ◌∷◌, length, set, get_or, Option, Some, None, inl, inr, if◌then◌else◌, refl, sym, ap, subst, ◌∙◌, arith, eqb_tells, leb_tells, get_or-set_same, get_or-set_other, Plan, Command, Reply, effect_of, after_command, gone_on, takes_effect, after_fault, Store, Progress, progress_of, with_progress, at_put, IsRun, Run, going_within, effect_advances}
+use Rattle.machine_model.proofs.Prelude.{◌≡◌, ◌<◌, ◌≤◌, ℕ, zero, suc, Bool, true, false, cond, List, [], ◌∷◌, length, set, get_or, Option, Some, None, inl, inr, if◌then◌else◌, refl, sym, ap, subst, ◌∙◌, arith, eqb_tells, leb_tells, get_or-set_same, get_or-set_other, Plan, Command, Reply, effect_of, after_command, gone_on, takes_effect, after_fault, Store, Progress, progress_of, with_progress, at_put, IsRun, Run, going_within, effect_advances, cond_both}
 use Rattle.machine_model.proofs.Places.{by_place}
 
 -- ---- one process has come to another place
@@ -13,6 +13,12 @@ put_progress ps k q j within = by_place (λ (x : Progress). get_or (set ps k q) 
     (λ i. get_or ps i ended) k q j (λ e. cc (get_or-set_same ps k q ended within))
     (λ n. get_or-set_other ps k j q ended n)
 
+-- an effect leaves how far each has come
+pub base_same : (p : Plan) (s : Store) (j : ℕ) (c : Command) (r : Reply)
+    → (cond (takes_effect r) (effect_of p s j c) s).processes ≡ s.processes
+base_same p s j c r = cond_both (takes_effect r) (effect_of p s j c) s (λ (x : Store). x.processes ≡ s.processes)
+    (λ e. (effect_advances p s j c).processes) (λ e. refl)
+
 -- a command was answered
 pub runs_answered : (p : Plan) (s : Store) (k : ℕ) (c : Command) (r : Reply) (run : Run) (runs : ℕ → Run)
     → (progress_of s k).ended ≡ false
@@ -24,14 +30,10 @@ runs_answered p s k c r run runs going is others j = rw moved_to cases
     base : Store
     base = if takes_effect r then effect_of p s k c else s
 
-    base_is : (b : Bool) → (cond b (effect_of p s k c) s).processes ≡ s.processes
-    base_is true = (effect_advances p s k c).processes
-    base_is false = refl
-
     moved_to : progress_of (with_progress base k (gone_on (progress_of s k) c r)) j
         ≡ at_put (progress_of s) k (gone_on (progress_of s k) c r) j
     moved_to = cc (
-      base_is (takes_effect r),
+      base_same p s k c r,
       put_progress s.processes k (gone_on (progress_of s k) c r) j (going_within s k going),
     )
 

@@ -1,12 +1,6 @@
 -- What the store says after each action, by what its calls say of it.
-use Rattle.machine_model.proofs.Prelude.{cond_both, ◌≡◌, ℕ, ◌+◌, ◌*◌, true, false, eqb, List, [], ◌∷◌, ◌++◌, map, length, set, sum, Option, Some, None, refl, sym, ap, subst, ◌∙◌, arith, ◌/◌, ◌%◌, length-set, Who, Plan, reference_of, Command, RefKind, Reference, Entry, Reply, Node, Frame, is_idle, passed_over, round_frames, unmarked, bound_page, Left, Home, evicted, referred, Plain, frame_in_pages, words_in, Transfer, effect_of, takes_effect, after_entry, store_after, store_after-push, alters, new_word, word_reply, written, written_by, Store, known_uid, Outcome, after, emptied, entries_left, eviction_begun, eviction_done, here_if, leaving_if, left_of, page_back, page_done, page_in, pages_back, seg_back, seg_gone, segs_back, segs_gone, with_choice, without_first_frame, write_failed, AreThere, HadRights, IsConserved, IsFaithful, Keeps, StoreKept, StoreSays, cut_of_owner, flat_of, frames_of_owner, home_in, is_active, next_command, process_at, run_at, Says, left_page, shown_after, through, with_made_page, without_left, CutDescriptor, Owner, State, Storage, activated_at, connected_to, fault_told, frame_lost, old_word, page_created, pages_after, started, told, told_by, transfer_failed, transferred, went_through, with_faults, append_assoc}
-use Rattle.script.specs.declared.commands.RefKind.TheVariants as kind
-use Rattle.book.specs.declared.entries.Entry.TheVariants as entry
-use Rattle.book.specs.declared.replies.Reply.TheVariants as reply
-use Rattle.core_map.specs.Clock.{frame_in}
-use Rattle.page_control.specs.declared.Left.TheVariants as left
-use Rattle.flat_model.specs.References.{after_reference}
-use Rattle.machine_model.specs.Actions as act
+use Rattle.machine_model.proofs.Prelude.{cond_both, ◌≡◌, ℕ, ◌+◌, ◌*◌, true, false, eqb, List, [], ◌∷◌, ◌++◌, map, length, set, sum, Option, Some, None, refl, sym, ap, subst, ◌∙◌, arith, ◌/◌, ◌%◌, length-set, Who, Plan, reference_of, Command, RefKind, Reference, Entry, Reply, Node, Frame, is_idle, passed_over, round_frames, unmarked, bound_page, Left, Home, evicted, referred, Plain, frame_in_pages, words_in, Transfer, effect_of, takes_effect, after_entry, store_after, store_after-push, alters, new_word, word_reply, written, written_by, Store, known_uid, Outcome, after, emptied, entries_left, eviction_begun, eviction_done, here_if, leaving_if, left_of, page_back, page_done, page_in, pages_back, seg_back, seg_gone, segs_back, segs_gone, with_choice, without_first_frame, write_failed, AreThere, HadRights, IsConserved, IsFaithful, Keeps, StoreKept, StoreSays, cut_of_owner, flat_of, frames_of_owner, home_in, is_active, next_command, process_at, run_at, Says, left_page, shown_after, through, with_made_page, without_left, CutDescriptor, Owner, State, Storage, activated_at, connected_to, fault_told, frame_lost, old_word, page_created, pages_after, started, told, told_by, transfer_failed, transferred, went_through, with_faults, append_assoc, RefKind as kind, Entry as entry, Reply as reply, core_frame as frame_in, Left as left, references_after_reference as after_reference, Action, Action as act}
+use Rattle.machine_model.proofs.ChoiceLaws.{choice_count}
 use Rattle.machine_model.proofs.FlatAlike.{IsAlike, alike, alike_by, alike_on, alike_shown, conserved_by, done_alike, fault_alike, is_still, one_still, refused_alike}
 use Rattle.machine_model.proofs.OutlineEnd.{left_nodes as account_nodes}
 
@@ -96,10 +90,10 @@ says_by s now t k kept shown like total rest =
     )
 
 -- by what the calls of an action say, where this is the machine after it
-pub says_is : (s : State) (c : ℕ) (o : Outcome) (a : act.Action) (now : State) → Keeps s → Says s c o a
+pub says_is : {s : State} {c : ℕ} {o : Outcome} {a : Action} {now : State} → Keeps s → Says s c o a
     → after s c a o ≡ now → IsAlike (shown_after s c o a (flat_of s)) (flat_of now)
     → quotas (shown_after s c o a (flat_of s)) ≡ s.plan.quota → Rest s now → StoreSays now
-says_is s c o a now k says is like total rest = says_by s now (shown_after s c o a (flat_of s)) k
+says_is {s} {c} {o} {a} {now} k says is like total rest = says_by s now (shown_after s c o a (flat_of s)) k
     (rw (← is) says.store) (rw is at (says.shown (flat_of s) k.faithful)) like total rest
 
 -- ---- where the store is as before
@@ -152,7 +146,7 @@ pub through_says : (s : State) (c : ℕ) (o : Outcome) (f u : ℕ) (r : Referenc
     → known_uid (flat_of s) (process_at s c) r.number ≡ Some u → page_in s.store f ≡ (u, r.offset / 1024)
     → old_word s.store.pages f r ≡ (flat_of s).words u r.offset → StoreSays (went_through s c f r)
 unfolding after
-through_says s c o f u r cmd k says next is known page old = says_is s c o (act.Through f r) (went_through s c f r) k
+through_says s c o f u r cmd k says next is known page old = says_is k
     says refl (rw (effect_is s.plan (flat_of s) (process_at s c) cmd r is
     ∙ sym (through_is s f (process_at s c) u r (flat_of s) known page old)) at (done_alike s.plan s.entries
     (process_at s c) (run_at s.runs (process_at s c)).place c (Some f) (word_reply (old_word s.store.pages f r) r.kind)
@@ -198,8 +192,7 @@ pub created_says : (s : State) (c : ℕ) (o : Outcome) (f u v p : ℕ) (r : Refe
     → known_uid (flat_of s) (process_at s c) r.number ≡ Some v → (flat_of s).words v r.offset ≡ 0
     → eqb (new_word 0 r.kind) 0 ≡ false → StoreSays (page_created s c f u p r)
 unfolding after
-created_says s c o f u v p r cmd k says next is known zero word =
-    says_is s c o (act.Create f u p r) (page_created s c f u p r) k says refl
+created_says s c o f u v p r cmd k says next is known zero word = says_is k says refl
     (rw effect at (done_alike s.plan (s.entries ++ entry.Here f u p ∷ []) (process_at s c)
     (run_at s.runs (process_at s c)).place c None (word_reply 0 r.kind) cmd next (word_done 0 r.kind)))
     (cc (nodes_made s c r (flat_of s)))
@@ -222,31 +215,23 @@ still_alike s e h = alike_by (alike (flat_of s)) (one_still s.plan s.entries e h
 pub activated_says : (s : State) (c : ℕ) (o : Outcome) (u place : ℕ) → Keeps s → Says s c o (act.Activate u place)
     → cut_of_owner s.owner ≡ [] → StoreSays (activated_at s u place)
 unfolding after
-activated_says s c o u place k says none = says_is s c o (act.Activate u place) (activated_at s u place) k says refl
+activated_says s c o u place k says none = says_is k says refl
     (still_alike s (entry.Activate u) refl) k.conserved.total (none_rest s (activated_at s u place) refl refl none)
 
 pub connected_says : (s : State) (c : ℕ) (o : Outcome) (n u : ℕ) → Keeps s → Says s c o (act.Connect n u)
     → cut_of_owner s.owner ≡ [] → StoreSays (connected_to s c n u)
 unfolding after
-connected_says s c o n u k says none = says_is s c o (act.Connect n u) (connected_to s c n u) k says refl
+connected_says s c o n u k says none = says_is k says refl
     (still_alike s (entry.Connect (process_at s c) n u) refl) k.conserved.total
     (none_rest s (connected_to s c n u) refl refl none)
 
 pub started_says : (s : State) (c : ℕ) (o : Outcome) (f u p : ℕ) → Keeps s → Says s c o (act.Start f u p)
     → StoreSays (started s c f u p)
 unfolding after
-started_says s c o f u p k says = says_is s c o (act.Start f u p) (started s c f u p) k says refl
-    (still_alike s (entry.Start f u p) refl) k.conserved.total
+started_says s c o f u p k says = says_is k says refl (still_alike s (entry.Start f u p) refl) k.conserved.total
     (none_rest s (started s c f u p) refl (length-set s.store.pages.core.frames f _) refl)
 
 -- ---- the clock's choice is taken
-
-over_count : (frames : List Frame) (fs : List ℕ) → length (passed_over frames fs) ≡ length frames
-unfolding passed_over
-over_count frames [] = refl
-over_count frames (f ∷ fs) = cond_both (is_idle (frame_in frames f)) frames
-    (passed_over (set frames f (unmarked (frame_in frames f))) fs) (λ x. length x ≡ length frames) (λ h. refl)
-    (λ h. over_count (set frames f (unmarked (frame_in frames f))) fs ∙ length-set frames f _)
 
 pub leaving_pages : (st : Storage) (f : ℕ) (x : Option (ℕ × ℕ)) → (leaving_if st f x).pages ≡ st.pages
 leaving_pages st f None = refl
@@ -255,18 +240,17 @@ leaving_pages st f (Some page) = refl
 pub evicting_says : (s : State) (c : ℕ) (o : Outcome) (f : ℕ) → Keeps s → Says s c o (act.Evict f)
     → cut_of_owner s.owner ≡ [] → StoreSays (eviction_begun s c f)
 unfolding after
-evicting_says s c o f k says none = says_is s c o (act.Evict f) (eviction_begun s c f) k says refl
+evicting_says s c o f k says none = says_is k says refl
     (still_alike s (entry.Take f) refl) k.conserved.total (none_rest s (eviction_begun s c f) refl
     (ap (λ (pages : Plain). length pages.core.frames) (leaving_pages (with_choice s.store f) f _)
-    ∙ over_count s.store.pages.core.frames (round_frames s.store.pages.core)) none)
+    ∙ choice_count s.store.pages.core f) none)
 
 -- ---- the end of a transfer
 
 module _ (s : State) (c : ℕ) (o : Outcome) (t : Transfer) (k : Keeps s) (says : Says s c o (act.EndTransfer t)) where
   pub read_says : o.failed ≡ false → StoreSays (transferred (with_faults s o.faults) c t)
   unfolding after
-  read_says h = let now = transferred (with_faults s o.faults) c t in
-      says_is s c o (act.EndTransfer t) now k says (cc)
+  read_says h = let now = transferred (with_faults s o.faults) c t in says_is k says (cc)
       (still_alike s (entry.Here t.frame t.uid t.page) refl) k.conserved.total
       (same_rest s now k (is_same refl (length-set s.store.pages.core.frames t.frame _) refl refl refl (λ u e. e) refl))
 
@@ -275,7 +259,7 @@ module _ (s : State) (c : ℕ) (o : Outcome) (t : Transfer) (k : Keeps s) (says 
   failed_says h =
       let now = transfer_failed s c t o.faults in
       let told_process = process_at (fault_told (frame_lost s c t) (Some (process_at s c)) o.faults) c in
-      says_is s c o (act.EndTransfer t) now k says (cc) (alike_on (still_alike s (entry.Lose t.frame) refl) (alike_on
+      says_is k says (cc) (alike_on (still_alike s (entry.Lose t.frame) refl) (alike_on
       (fault_alike s.plan (s.entries ++ entry.Lose t.frame ∷ []) (Some (process_at s c)))
       (refused_alike s.plan ((s.entries ++ entry.Lose t.frame ∷ []) ++ entry.Fault (Some (process_at s c)) ∷ [])
       told_process (run_at s.runs told_process).place c None reply.Device refl))) k.conserved.total
@@ -321,7 +305,7 @@ module _ (s : State) (c : ℕ) (o : Outcome) (f : ℕ) (k : Keeps s) where
       → StoreSays (eviction_done (with_faults s o.faults) c f)
   unfolding after
   evicted_says says h = let now = eviction_done (with_faults s o.faults) c f in
-      says_is s c o (act.FinishEviction f) now k says (cc) (rw h left_alike) (rw h left_total)
+      says_is k says (cc) (rw h left_alike) (rw h left_total)
       (none_rest s now refl (left_count s.store.pages (home_in s.store (page_in s.store f).0)
       (page_in s.store f).1 f how) refl)
 
@@ -329,8 +313,7 @@ module _ (s : State) (c : ℕ) (o : Outcome) (f : ℕ) (k : Keeps s) where
       → StoreSays (page_done (with_faults s o.faults) f)
   unfolding after
   page_left_says says h = let now = page_done (with_faults s o.faults) f in
-      says_is s c o (act.FinishPage f) now k says (cc) (rw h left_alike) (rw h left_total)
-      (same_rest s now k (is_same refl
+      says_is k says (cc) (rw h left_alike) (rw h left_total) (same_rest s now k (is_same refl
       (left_count s.store.pages (home_in s.store (page_in s.store f).0) (page_in s.store f).1 f how)
       (account_nodes s.store.accounts (page_in s.store f).0 how) refl refl (λ u e. e) (cut_less s.owner)))
 
@@ -386,12 +369,12 @@ module _ (s : State) (c : ℕ) (faults : ℕ) where
 module _ (s : State) (c : ℕ) (o : Outcome) (f : ℕ) (k : Keeps s) (h : o.failed ≡ true) where
   pub eviction_failed_says : Says s c o (act.FinishEviction f) → StoreSays (write_failed s c o.faults)
   unfolding after
-  eviction_failed_says says = says_is s c o (act.FinishEviction f) (write_failed s c o.faults) k says (cc)
+  eviction_failed_says says = says_is k says (cc)
       (rw h (failed_alike s c o.faults)) (rw h k.conserved.total) (failed_rest s c o.faults)
 
   pub page_failed_says : Says s c o (act.FinishPage f) → StoreSays (write_failed s c o.faults)
   unfolding after
-  page_failed_says says = says_is s c o (act.FinishPage f) (write_failed s c o.faults) k says (cc)
+  page_failed_says says = says_is k says (cc)
       (rw h (failed_alike s c o.faults)) (rw h k.conserved.total) (failed_rest s c o.faults)
 
 -- ---- a segment is active no more

@@ -1,10 +1,7 @@
 -- After each action each process that goes on is at one processor, ready, or kept back by the initializer.
-use Rattle.machine_model.proofs.Prelude.{◌≡◌, ◌<◌, ℕ, ◌+◌, ◌-◌, Bool, true, false, ◌&&◌, cond, eqb, List, [], ◌∷◌, ◌++◌, drop, length, set, Option, Some, None, refl, sym, ap, subst, ◌∙◌, length-set, get_or-set_same, Plan, Command, Reply, What, is_end, word_reply, IsFront, range, released_by, Aim, CutDescriptor, Processor, Run, Outcome, after, committed_at, cut_all, cut_one, emptied, page_back, pages_back, seg_back, seg_gone, segment_taken, segs_back, segs_gone, take_all, take_one, told_from, took, with_hand_moved, write_failed, copy_failed, without_move, cpu_at, cut_of_owner, frames_from, frames_of_owner, next_command, no_processor, or_zero, process_at, processor_at, run_at, trailers_in, reply_of, AreScheduled, IsScheduled, State, fault_told, frame_lost, goes_on, is_its_end, left_at, old_word, page_made, run_after, told, told_by, transfer_failed, with_store, pages_after, with_pages, no_run, append-nil}
-use Rattle.script.specs.declared.commands.Command.TheVariants as command
-use Rattle.book.specs.declared.replies.Reply.TheVariants as reply
-use Rattle.assoc_mem.specs.declared.What.TheVariants as what
-use Rattle.machine_model.specs.declared.Aim.TheVariants as aim
-use Rattle.machine_model.specs.Actions as act
+use Rattle.machine_model.proofs.Prelude.{◌≡◌, ◌<◌, ℕ, ◌+◌, ◌-◌, Bool, true, false, ◌&&◌, cond, eqb, List, [], ◌∷◌, ◌++◌, drop, length, set, Option, Some, None, refl, sym, ap, subst, ◌∙◌, length-set, get_or-set_same, Plan, Command, Reply, What, is_end, word_reply, IsFront, range, released_by, Aim, CutDescriptor, Processor, Run, Outcome, after, committed_at, cut_all, cut_one, emptied, page_back, pages_back, seg_back, seg_gone, segment_taken, segs_back, segs_gone, take_all, take_one, told_from, took, with_hand_moved, write_failed, copy_failed, without_move, cpu_at, cut_of_owner, frames_from, frames_of_owner, next_command, no_processor, or_zero, process_at, processor_at, run_at, trailers_in, reply_of, AreScheduled, IsScheduled, State, fault_told, frame_lost, goes_on, is_its_end, left_at, old_word, page_made, run_after, told, told_by, transfer_failed, with_store, pages_after, with_pages, no_run, append-nil, Command as command, Reply as reply, What as what, Aim as aim, Action, Action as act, cond_both}
+use Rattle.machine_model.proofs.JobStays.{Stays, all_taken, emptying, is_back, is_emptied, emptying_victim}
+use Rattle.machine_model.proofs.ActionCases.{by_end}
 use Rattle.machine_model.proofs.CommitKept.{effected}
 use Rattle.machine_model.proofs.LeaveSeen.{told_reads, told_online, told_process}
 use Rattle.machine_model.proofs.ScheduleLaws.{SameSeats, end_kept, leave_kept, load_kept, one_run, one_seat, runs_kept, seats_kept}
@@ -21,43 +18,11 @@ pub still : {s t : State} → t.plan ≡ s.plan → t.runs ≡ s.runs → t.read
     → Sits s t
 still a b c d = assumption
 
-pub sits_on : {s t u : State} → Sits s t → Sits t u → Sits s u
-sits_on a b = assumption (b.plan ∙ a.plan, b.runs ∙ a.runs, b.ready ∙ a.ready, b.processors ∙ a.processors)
+pub sits : {s t : State} → Stays s t → Sits s t
+sits h = assumption
 
 sits_kept : (s t : State) → Sits s t → IsScheduled s → IsScheduled t
 sits_kept s t same h = rw same.plan (rw (same.runs, same.ready, same.processors) h)
-
-taken : (s : State) (c : ℕ) (a : Aim) (w : What) (fs : List ℕ) → Sits s (take_all s c a w fs)
-taken s c a w [] = still refl refl refl refl
-taken s c a w (f ∷ fs) = sits_on (still refl refl refl refl) (taken (take_one s c a w f) c a w fs)
-
-all_cut : (s : State) (c : ℕ) (a : Aim) (w : What) (pairs : List (ℕ × ℕ)) → Sits s (cut_all s c a w pairs)
-all_cut s c a w [] = still refl refl refl refl
-all_cut s c a w (x ∷ xs) = sits_on (still refl refl refl refl) (all_cut (cut_one s c a w x) c a w xs)
-
-pub all_taken : (s : State) (c : ℕ) (a : Aim) (w : What) (fs : List ℕ) (pairs : List (ℕ × ℕ))
-    → Sits s (took s c a w fs pairs)
-all_taken s c a w fs pairs = sits_on (taken s c a w fs) (all_cut (take_all s c a w fs) c a w pairs)
-
-all_gone : (s : State) (ds : List CutDescriptor) → Sits s (segs_gone s ds)
-all_gone s [] = still refl refl refl refl
-all_gone s (d ∷ ds) = sits_on (still refl refl refl refl) (all_gone (seg_gone s d) ds)
-
-pub is_emptied : (s : State) (c u : ℕ) → Sits s (emptied s c u)
-is_emptied s c u = sits_on (all_gone s (cut_of_owner s.owner)) (still refl refl refl refl)
-
-pub segment : (s : State) (c u : ℕ) (fs : List ℕ) (pairs : List (ℕ × ℕ)) → Sits s (segment_taken s c u fs pairs)
-segment s c u [] [] = is_emptied s c u
-segment s c u [] (x ∷ xs) = all_taken s c (aim.Deactivating u) (what.Seg u) [] (x ∷ xs)
-segment s c u (f ∷ fs) pairs = all_taken s c (aim.Deactivating u) (what.Seg u) (f ∷ fs) pairs
-
-pub all_pages_back : (s : State) (fs : List ℕ) → Sits s (pages_back s fs)
-all_pages_back s [] = still refl refl refl refl
-all_pages_back s (f ∷ fs) = sits_on (still refl refl refl refl) (all_pages_back (page_back s f) fs)
-
-pub all_segs_back : (s : State) (ds : List CutDescriptor) → Sits s (segs_back s ds)
-all_segs_back s [] = still refl refl refl refl
-all_segs_back s (d ∷ ds) = sits_on (still refl refl refl refl) (all_segs_back (seg_back s d) ds)
 
 -- ---- a command is answered
 
@@ -70,12 +35,7 @@ pub record IsAnswering (s : State) (c : ℕ) : Type 0 where
 
 more_run : (run : Run) (x : Option Command) (r : Reply) → run.ended ≡ false → is_its_end x ≡ false
     → (run_after run x r).ended ≡ false
-more_run run x r going more = by (goes_on run x r)
-  where
-    by : (b : Bool) → (cond b (record run { tries = run.tries + 1 })
-        (record { place = run.place + 1; tries = 0; ended = is_its_end x })).ended ≡ false
-    by true = going
-    by false = more
+more_run run x r going more = cond_both (goes_on run x r) _ _ (λ (u : Run). u.ended ≡ false) (λ e. going) (λ e. more)
 
 nobody_released : (p : Plan) (k : ℕ) (x : Option Command) → is_its_end x ≡ false → released_by p k x ≡ []
 nobody_released p k None more = refl
@@ -145,7 +105,7 @@ module _ (b : State) (c k : ℕ) (r : Reply) (h : IsScheduled b) (there : c < le
 -- ---- each action
 
 -- what an action asks of the processes
-abbrev pub MaySchedule : State → ℕ → Outcome → act.Action → Type 0
+abbrev pub MaySchedule : State → ℕ → Outcome → Action → Type 0
 MaySchedule s c o (act.EndTransfer t) = o.failed ≡ true → IsAnswering s c
 MaySchedule s c o (act.Load n) = ((cpu_at s.processors c).online ≡ true) × ((cpu_at s.processors c).process ≡ None)
     × IsFront s.ready n
@@ -159,14 +119,6 @@ MaySchedule s c o (act.FinishPage f) = o.failed ≡ true → IsAnswering s c
 MaySchedule s c o (act.CopyPage m p) = o.failed ≡ true → IsAnswering s c
 MaySchedule s c o act.Commit = (k : ℕ) × ((cpu_at s.processors c).process ≡ Some k) × (k < length s.runs)
 MaySchedule s c o _ = Unit {0}
-
-by_end : (o : Outcome) (well ill : State) → IsScheduled well → (o.failed ≡ true → IsScheduled ill)
-    → IsScheduled (cond o.failed ill well)
-by_end o well ill a b = by o.failed refl
-  where
-    by : (f : Bool) → o.failed ≡ f → IsScheduled (cond f ill well)
-    by true e = b e
-    by false e = a
 
 pub told_seats : (s : State) (c : ℕ) (w : What) → SameSeats s.processors (told_from c w 0 s.processors)
 told_seats s c w = record {
@@ -219,21 +171,18 @@ module _ (s : State) (c : ℕ) (o : Outcome) (h : IsScheduled s) (there : c < le
 
   -- a write failed
   failed_kept : IsAnswering s c → IsScheduled (write_failed s c o.faults)
-  failed_kept may = told_after s _ c None reply.Device (sits_on (still refl refl refl refl)
-      (sits_on (all_pages_back (fault_told s (Some (process_at s c)) o.faults) (frames_of_owner s.owner))
-      (all_segs_back (pages_back (fault_told s (Some (process_at s c)) o.faults) (frames_of_owner s.owner))
-      (cut_of_owner s.owner)))) h there may
+  failed_kept may = told_after s _ c None reply.Device (sits (is_back s c o.faults)) h there may
 
   -- what an action asks of the processes is all that it wants
-  pub schedule_kept : (a : act.Action) → MaySchedule s c o a → IsScheduled (after s c a o)
+  pub schedule_kept : (a : Action) → MaySchedule s c o a → IsScheduled (after s c a o)
   unfolding after
   schedule_kept act.IsStopped may = h
   schedule_kept act.HasEnded may = h
   schedule_kept (act.Waits why) may = h
   schedule_kept act.Online may = one_changed _ refl (λ e. refl)
   schedule_kept (act.Clear w) may = one_changed _ refl (λ e. e)
-  schedule_kept (act.EndTransfer t) may = by_end o _ (transfer_failed s c t o.faults)
-      (one_changed _ refl (λ e. e)) (λ failed. told_after (frame_lost s c t)
+  schedule_kept (act.EndTransfer t) may = by_end IsScheduled o _ _
+      (λ e. one_changed _ refl (λ e. e)) (λ failed. told_after (frame_lost s c t)
       (fault_told (frame_lost s c t) (Some (process_at s c)) o.faults) c None reply.Device
       (still refl refl refl refl) (one_changed _ refl (λ e. e)) (rw (length-set s.processors c _) there) (record {
         process = (may failed).process;
@@ -269,22 +218,17 @@ module _ (s : State) (c : ℕ) (o : Outcome) (h : IsScheduled s) (there : c < le
       (still refl refl refl refl) h there may
   schedule_kept (act.Start f u p) may = one_changed _ refl (λ e. e)
   schedule_kept (act.Evict f) may = h
-  schedule_kept (act.Empty u) may = sits_kept s _ (segment s c u (frames_from s.store.ast u 0)
-      (trailers_in s.store u)) h
-  schedule_kept (act.EmptyVictim pool chain u) may = sits_kept s _ (sits_on (still refl refl refl refl)
-      (segment (with_store s (with_hand_moved s.store pool chain)) c u
-      (frames_from (with_hand_moved s.store pool chain).ast u 0) (trailers_in
-      (with_hand_moved s.store pool chain) u))) h
-  schedule_kept (act.TakeAway fs pairs w) may = sits_kept s _ (all_taken s c aim.Committing w fs pairs) h
+  schedule_kept (act.Empty u) may = sits_kept s _ (sits (emptying s c u)) h
+  schedule_kept (act.EmptyVictim pool chain u) may = sits_kept s _ (sits (emptying_victim s c pool chain u)) h
+  schedule_kept (act.TakeAway fs pairs w) may = sits_kept s _ (sits (all_taken s c aim.Committing w fs pairs)) h
   schedule_kept (act.BeginMove u volume) may = h
-  schedule_kept (act.CopyPage m p) may = by_end o _ (copy_failed s c o.faults) h
+  schedule_kept (act.CopyPage m p) may = by_end IsScheduled o _ _ (λ e. h)
       (λ failed. told_after s (fault_told (with_store s (without_move s.store)) (Some (process_at s c)) o.faults) c None
       reply.Device (still refl refl refl refl) h there (may failed))
   schedule_kept (act.CommitMove m) may = h
   schedule_kept (act.Signal w) may =
       seats_kept s.plan s.runs s.ready s.processors (told_from c w 0 s.processors) (told_seats s c w) h
-  schedule_kept (act.FinishEviction f) may = by_end o _ (write_failed s c o.faults) h (λ failed. failed_kept
-      (may failed))
-  schedule_kept (act.FinishPage f) may = by_end o _ (write_failed s c o.faults) h (λ failed. failed_kept (may failed))
-  schedule_kept (act.Deactivate u) may = sits_kept s _ (is_emptied s c u) h
+  schedule_kept (act.FinishEviction f) may = by_end IsScheduled o _ _ (λ e. h) (λ e. failed_kept (may e))
+  schedule_kept (act.FinishPage f) may = by_end IsScheduled o _ _ (λ e. h) (λ e. failed_kept (may e))
+  schedule_kept (act.Deactivate u) may = sits_kept s _ (sits (is_emptied s c u)) h
   schedule_kept act.Commit may = command_kept (next_command s (process_at s c)) may.0 may.1 may.2 (cc)

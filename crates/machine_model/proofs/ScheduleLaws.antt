@@ -1,5 +1,5 @@
 -- Which processes run and which are ready, where a process is loaded, leaves its processor, is answered or ends.
-use Rattle.machine_model.proofs.Prelude.{◌≡◌, ◌≢◌, ◌<◌, ◌≤◌, ℕ, zero, suc, ◌+◌, ◌-◌, Bool, true, false, ◌||◌, ◌&&◌, cond, eqb, List, [], ◌∷◌, ◌++◌, length, set, Some, None, ◌⊎◌, inl, inr, refl, sym, ap, subst, ◌∙◌, arith, eqb_tells, get_or-set_other, get_or-set_same, Plan, has, range, AreDistinct, cpu_at, no_processor, no_run, processor_at, run_at, AreScheduled, HasTurn, MayRun, Processor, Run, append-nil, not_both, or_parts, eqb_self, some_same}
+use Rattle.machine_model.proofs.Prelude.{◌≡◌, ◌≢◌, ◌<◌, ◌≤◌, ℕ, zero, suc, ◌+◌, ◌-◌, Bool, true, false, ◌||◌, ◌&&◌, cond, eqb, List, [], ◌∷◌, ◌++◌, length, set, Some, None, ◌⊎◌, inl, inr, refl, sym, ap, subst, ◌∙◌, arith, eqb_tells, get_or-set_other, get_or-set_same, Plan, has, range, AreDistinct, cpu_at, no_processor, no_run, processor_at, run_at, AreScheduled, HasTurn, MayRun, Processor, Run, append-nil, not_both, or_parts, eqb_self, some_same, false_from_ne_true}
 use Rattle.machine_model.proofs.ListLaws.{put_list}
 use Rattle.machine_model.proofs.OwnedLaws.{distinct_push, push_other, push_same}
 use Rattle.machine_model.proofs.Places.{by_place}
@@ -239,11 +239,7 @@ in_range from (suc n) j h = elim (eqb_tells from j) [
 ]
 
 not_before : (from n j : ℕ) → j < from → has (range from n) j ≡ false
-not_before from n j h = by (has (range from n) j) refl
-  where
-    by : (b : Bool) → has (range from n) j ≡ b → b ≡ false
-    by false e = refl
-    by true e = let at = (in_range from n j e).0 in absurd (omega arith)
+not_before from n j h = false_from_ne_true (has (range from n) j) (λ e. (let at = (in_range from n j e).0 in omega arith))
 
 pub range_has : (from n j : ℕ) → from ≤ j → j < from + n → has (range from n) j ≡ true
 range_has from zero j a b = absurd (omega arith)

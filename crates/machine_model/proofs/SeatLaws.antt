@@ -1,10 +1,5 @@
 -- A processor takes part, loads a process, loses it, or fills in a descriptor or a page table word.
-use Rattle.machine_model.proofs.Prelude.{◌≡◌, ℕ, ◌<◌, true, false, List, [], drop, Option, Some, None, refl, sym, ap, subst, ◌∙◌, arith, IsSomeAnd, HeldPage, HeldSeg, What, Entry, IsLawful, after_entry, progress_of, IsAllowed, MayLeave, MayTakeSeg, IsFront, Seat, has, is_current_frame, is_current_descriptor, leads_to, FillsOnline, pending_after, at_put, custody_next, with_seat, reseated, taking_part, running, left, with_held_seg, with_held_page, KeepsBook, HoldsRight, IsRun, AreOfProcess, names, is_pending, Seen, flat, shown, seat_of, descriptor_use, cut_uid, cut_of_owner, Processor}
-use Rattle.book.specs.declared.entries.Entry.TheVariants as entry
-use Rattle.page_table.specs.declared.Ptw.TheVariants as ptw
-use Rattle.custody_model.specs.declared.DescriptorUse.TheVariants as descriptor
-use Rattle.custody_model.specs.Next.{queued}
-use Rattle.machine_model.specs.Changes.{came_online, loaded, emptied, seg_filled, page_filled}
+use Rattle.machine_model.proofs.Prelude.{◌≡◌, ℕ, ◌<◌, true, false, List, [], drop, Option, Some, None, refl, sym, ap, subst, ◌∙◌, arith, IsSomeAnd, HeldPage, HeldSeg, What, Entry, IsLawful, after_entry, progress_of, IsAllowed, MayLeave, MayTakeSeg, IsFront, Seat, has, is_current_frame, is_current_descriptor, leads_to, FillsOnline, pending_after, at_put, custody_next, with_seat, reseated, taking_part, running, left, with_held_seg, with_held_page, KeepsBook, HoldsRight, IsRun, AreOfProcess, names, is_pending, Seen, flat, shown, seat_of, descriptor_use, cut_uid, cut_of_owner, Processor, Entry as entry, Ptw as ptw, DescriptorUse as descriptor, queued_by as queued, changes_came_online as came_online, changes_loaded as loaded, changes_emptied as emptied, changes_seg_filled as seg_filled, changes_page_filled as page_filled}
 use Rattle.machine_model.proofs.BookNext.{book_next}
 use Rattle.machine_model.proofs.HeldLaws.{map_filled, filled_few, pages_filled, right_like, segs_filled, under_way_alike}
 use Rattle.machine_model.proofs.OwnedLaws.{like_seat, owned_like}
@@ -23,8 +18,7 @@ pub reseat_keeps : (v : Seen) (c : ℕ) (p : Processor) (ready : List ℕ) (e : 
     → p.cpu.due ≡ (v.processors c).cpu.due → p.cpu.transfer ≡ (v.processors c).cpu.transfer
     → ((k : ℕ) → IsRun (progress_of (after_entry v.plan (flat v) e) k) (v.runs k)) → Reseats v c p ready e
     → KeepsBook (reseated v c p ready e)
-reseat_keeps v c p ready e k lawful pending due transfer runs r =
-    book_next v e (reseated v c p ready e) refl refl k (record {
+reseat_keeps v c p ready e k lawful pending due transfer runs r = book_next refl refl k (record {
       lawful = lawful;
       allowed = r.allowed;
       online = r.online;

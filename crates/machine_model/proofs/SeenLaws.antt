@@ -1,7 +1,5 @@
 -- What custody sees of a machine once its lists are changed in place.
-use Rattle.machine_model.proofs.Prelude.{◌≡◌, ◌<◌, ℕ, List, [], ◌∷◌, ◌++◌, length, set, Entry, Frame, Core, bound_page, started_page, reads_of, bindings, binding_at, read_at, at_put, reseated, seen, no_processor, Processor, State}
-use Rattle.core_map.specs.declared.Frame.TheVariants as frame
-use Rattle.core_map.specs.CoreMap.{with_frame}
+use Rattle.machine_model.proofs.Prelude.{◌≡◌, ◌<◌, ℕ, List, [], ◌∷◌, ◌++◌, length, set, Entry, Frame, Core, bound_page, started_page, reads_of, bindings, binding_at, read_at, at_put, reseated, seen, no_processor, Processor, State, Frame as frame, core_map_with_frame as with_frame}
 use Rattle.machine_model.proofs.ListLaws.{put_list, put_mapped}
 
 -- one processor is otherwise, with the ready list and the book

@@ -1,10 +1,6 @@
 -- A segment of six pages on a volume of five records moves to another volume when its sixth page is written, with the
 -- page that isn't in a frame; unless a drive fails, or the other volume has too few records too.
-use Rattle.machine_model.proofs.Prelude.{◌≡◌, ℕ, List, [], ◌∷◌, Some, None, refl, codes, Command, Entry, State, book_of, failed, machine_of, plan_with, stepped, until}
-use Rattle.script.specs.declared.commands.Command.TheVariants as command
-use Rattle.book.specs.declared.entries.Entry.TheVariants as entry
-use Rattle.book.specs.declared.replies.Reply.TheVariants as reply
-use Rattle.assoc_mem.specs.declared.What.TheVariants as what
+use Rattle.machine_model.proofs.Prelude.{◌≡◌, ℕ, List, [], ◌∷◌, Some, None, refl, codes, Command, Entry, State, book_of, failed, machine_of, plan_with, stepped, until, Command as command, Entry as entry, Reply as reply, What as what}
 use Rattle.machine_model.proofs.Examples.{four_written, six_pages}
 
 -- the second volume has so many records

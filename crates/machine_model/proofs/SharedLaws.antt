@@ -1,6 +1,5 @@
 -- Laws that several crates cite.
-use Rattle.machine_model.proofs.Prelude.{Bool, List, None, Option, Some, [], ap, arith, false, inl, inr, is_none, refl, suc, true, zero, ℕ, ◌&&◌, ◌∙◌, ◌∷◌, ◌≡◌, eqb_tells, IsSome, are_zeros, AreZero}
-use Rattle.active_segs.specs.declared.Entry.{Entry}
+use Rattle.machine_model.proofs.Prelude.{Bool, List, None, Option, Some, [], ap, arith, false, inl, inr, is_none, refl, suc, true, zero, ℕ, ◌&&◌, ◌∙◌, ◌∷◌, ◌≡◌, eqb_tells, IsSome, are_zeros, AreZero, Active as Entry}
 
 pub zeros_to : (ws : List ℕ) → AreZero ws → are_zeros ws ≡ true
 zeros_to [] h = refl

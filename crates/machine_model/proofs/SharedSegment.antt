@@ -1,10 +1,5 @@
 -- Two processes share a segment in four frames: they add to its words, wait for one, and take their turns.
-use Rattle.machine_model.proofs.Prelude.{◌≡◌, [], ◌∷◌, Some, None, refl, codes, ProcessPlan, State, book_of, machine_with, process_for, row_for, ran, stepped, visited}
-use Rattle.mnames.specs.declared.modes.Mode.TheVariants as mode
-use Rattle.script.specs.declared.commands.Command.TheVariants as command
-use Rattle.book.specs.declared.entries.Entry.TheVariants as entry
-use Rattle.book.specs.declared.replies.Reply.TheVariants as reply
-use Rattle.assoc_mem.specs.declared.What.TheVariants as what
+use Rattle.machine_model.proofs.Prelude.{◌≡◌, [], ◌∷◌, Some, None, refl, codes, ProcessPlan, State, book_of, machine_with, process_for, row_for, ran, stepped, visited, Mode as mode, Command as command, Entry as entry, Reply as reply, What as what}
 
 abbrev smith : ProcessPlan
 smith = process_for (codes "Smith") (

@@ -1,15 +1,6 @@
 -- What a step asks, along the rules in their order, follows from the whole promise and from what the calls of the store
 -- say.
-use Rattle.machine_model.proofs.Prelude.{cases_Bool, inl, inr, eqb-true, and_parts, not-true, not-false, Move, [], ◌≡◌, ◌<◌, ℕ, ◌+◌, ◌*◌, true, false, not, ◌&&◌, eqb, List, ◌∷◌, get_or, length, position, Option, Some, None, refl, sym, ap, subst, ◌∙◌, arith, zero, suc, ◌/◌, ◌%◌, nat_le, cond_both, Rose, reference_of, Command, Reference, HeldSeg, What, frame_of, seg_of, Ptw, Sdw, words_in, by_descriptor, by_held, by_page, by_seg, by_word, Transfer, MayMove, word_reply, Mover, IsMovedFor, is_active, sdws_at, word_of, table_of, next_out, MayRelease, new_word, permits, words_zero, Aim, Phase, Processor, action_of, by_move, clear_or, come_to, finish_of, go_on_with, has_had_its_turn, is_empty, load_or_idle, look_of, move_of, once_cleared, own_or_run, refer_or_take, run_process, take_or_wait, transfer_or, copy_or_commit, Outcome, page_at, IsEntitledToAll, seen, are_zeros, left_of, Keeps, IsMachine, IsReading, cpu_at, cut_of_owner, descriptor_of, flat_of, frames_of_owner, is_due, next_command, or_zero, process_at, processor_at, Says, Owner, State, write_failed, StoreSays, aimed_at, going_for, IsTakenBy, TakenIn, FailsBy, FailsIn, IsWorking, MayFailBy, TakesSome, has_head}
-use Rattle.assoc_mem.specs.declared.What.TheVariants as what
-use Rattle.page_table.specs.declared.Ptw.TheVariants as ptw
-use Rattle.descriptor_seg.specs.declared.Sdw.TheVariants as sdw
-use Rattle.page_control.specs.declared.Left.TheVariants as left
-use Rattle.processor.specs.declared.Move.TheVariants as move
-use Rattle.book.specs.declared.replies.Reply.TheVariants as reply
-use Rattle.machine_model.specs.declared.Aim.TheVariants as aim
-use Rattle.machine_model.specs.declared.Phase.TheVariants as phase
-use Rattle.machine_model.specs.Actions as act
+use Rattle.machine_model.proofs.Prelude.{cases_Bool, inl, inr, eqb-true, and_parts, not-true, not-false, Move, [], ◌≡◌, ◌<◌, ℕ, ◌+◌, ◌*◌, true, false, not, ◌&&◌, eqb, List, ◌∷◌, get_or, length, position, Option, Some, None, refl, sym, ap, subst, ◌∙◌, arith, zero, suc, ◌/◌, ◌%◌, nat_le, cond_both, Rose, reference_of, Command, Reference, HeldSeg, What, frame_of, seg_of, Ptw, Sdw, words_in, by_descriptor, by_held, by_page, by_seg, by_word, Transfer, MayMove, word_reply, Mover, IsMovedFor, is_active, sdws_at, word_of, table_of, next_out, MayRelease, new_word, permits, words_zero, Aim, Phase, Processor, action_of, by_move, clear_or, come_to, finish_of, go_on_with, has_had_its_turn, is_empty, load_or_idle, look_of, move_of, once_cleared, own_or_run, refer_or_take, run_process, take_or_wait, transfer_or, copy_or_commit, Outcome, page_at, IsEntitledToAll, seen, are_zeros, left_of, Keeps, IsMachine, IsReading, cpu_at, cut_of_owner, descriptor_of, flat_of, frames_of_owner, is_due, next_command, or_zero, process_at, processor_at, Says, Owner, State, write_failed, StoreSays, aimed_at, going_for, IsTakenBy, TakenIn, FailsBy, FailsIn, IsWorking, MayFailBy, TakesSome, has_head, What as what, Ptw as ptw, Sdw as sdw, Left as left, Move as move, Reply as reply, Aim as aim, Phase as phase, Action, ForTransfer, Action as act}
 use Rattle.machine_model.proofs.ActionCases.{action_by}
 use Rattle.machine_model.proofs.DeleteKept.{taken_bound}
 use Rattle.machine_model.proofs.EmptyAsks.{length_asks, victim_asks}
@@ -63,7 +54,7 @@ reads_answering s c m there r = let one = speaks s c (process_at s c) m there r.
       (subst (MayFailBy s.store (process_at s c)) one.1.next r.may));
 }
 
-abbrev Follows : State → ℕ → Outcome → act.Action → Type 0
+abbrev Follows : State → ℕ → Outcome → Action → Type 0
 Follows s c o a = Says s c o a → Asks s c o a
 
 -- a page of zeros that is in a frame may be given up
@@ -173,7 +164,7 @@ module _ (s : State) (c : ℕ) (o : Outcome) (m : IsMachine s) (there : c < leng
     idle : IsIdle s.owner
     idle = look_idle s c o m.keeps there l
 
-    look_follows : (a : act.Action) → LookFinds s k cmd a → Follows s c o a
+    look_follows : (a : Action) → LookFinds s k cmd a → Follows s c o a
     look_follows (act.Answer r) h says = answer_asks s c o m idle cmd sp r h
     look_follows (act.Activate u place) h says = activate_asks s c o m idle cmd sp u place h says
     look_follows (act.Connect n u) h says = connect_asks s c o m idle cmd sp n u h says
@@ -189,7 +180,7 @@ module _ (s : State) (c : ℕ) (o : Outcome) (m : IsMachine s) (there : c < leng
         (commit_rests s c m.keeps cmd (look_taken s c k cmd what.All [] [] m.keeps idle h
         (takes_none s k m.keeps idle what.All)))))
     look_follows (act.BeginMove u volume) h says = begun_says s c o m.keeps u volume says
-    look_follows (act.Waits (act.ForTransfer f)) h says = tt
+    look_follows (act.Waits (ForTransfer f)) h says = tt
     look_follows act.GiveUp h says = tt
     look_follows _ h says = absurd h
 

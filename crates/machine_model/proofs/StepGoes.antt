@@ -1,7 +1,5 @@
 -- What the rules know of their action gives what the job, the processes and the script ask of it.
-use Rattle.machine_model.proofs.Prelude.{◌≡◌, ◌<◌, ℕ, Bool, true, false, cond, length, Some, refl, sym, ap, subst, ◌∙◌, Transfer, Outcome, after, AllCome, MayAnswer, IsMachine, IsReading, cpu_at, process_at, State, is_its_end, transfer_failed, transferred, with_faults, took, IsTakenBy, ◌+◌, ◌≤◌, List, arith, Command, Keeps, uid_of_command}
-use Rattle.machine_model.specs.Actions as act
-use Rattle.machine_model.specs.declared.Aim.TheVariants as aim
+use Rattle.machine_model.proofs.Prelude.{◌≡◌, ◌<◌, ℕ, Bool, true, false, cond, length, Some, refl, sym, ap, subst, ◌∙◌, Transfer, Outcome, after, AllCome, MayAnswer, IsMachine, IsReading, cpu_at, process_at, State, is_its_end, transfer_failed, transferred, with_faults, took, IsTakenBy, ◌+◌, ◌≤◌, List, arith, Command, Keeps, uid_of_command, Aim as aim, Action, Action as act}
 use Rattle.machine_model.proofs.ListSizes.{command_few}
 use Rattle.machine_model.proofs.LookFacts.{FindsTaken}
 use Rattle.machine_model.proofs.ComingKept.{all_come, come_same, tells}
@@ -44,7 +42,7 @@ few_taken s k cmd fs pairs keeps finds = let a = ap (λ (x : List ℕ). length x
 
 module _ (s : State) (c : ℕ) (o : Outcome) (m : IsMachine s) (there : c < length s.processors) (reading : IsReading s)
   where
-    pub may_schedule : (a : act.Action) → CanDo s c o a → Knows s c a → MaySchedule s c o a
+    pub may_schedule : (a : Action) → CanDo s c o a → Knows s c a → MaySchedule s c o a
     may_schedule (act.EndTransfer t) can knows =
         λ e. reads_answering s c m there (reads_for s c t m.keeps reading can.mine)
     may_schedule (act.Load n) can knows = can
@@ -59,7 +57,7 @@ module _ (s : State) (c : ℕ) (o : Outcome) (m : IsMachine s) (there : c < leng
     may_schedule act.Commit can knows = (process_at s c, knows.speaks.its, knows.speaks.known)
     may_schedule _ can knows = tt
 
-    pub may_work : (a : act.Action) → CanDo s c o a → Knows s c a → MayWork s c o a
+    pub may_work : (a : Action) → CanDo s c o a → Knows s c a → MayWork s c o a
     may_work act.IsStopped can knows = tt
     may_work act.HasEnded can knows = tt
     may_work (act.Waits why) can knows = tt
@@ -112,11 +110,11 @@ module _ (s : State) (c : ℕ) (o : Outcome) (m : IsMachine s) (there : c < leng
             (λ h. may_answer s c (may e).process m there (may e).its)
         by false e = come_same s (transferred (with_faults s o.faults) c t) refl refl m.come
 
-    quiet : (a : act.Action) → tells a ≡ false → AllCome (after s c a o)
+    quiet : (a : Action) → tells a ≡ false → AllCome (after s c a o)
     quiet a off = all_come s c a o m.script m.come (λ h. cc)
 
     -- so each process still comes to a command
-    pub comes : (a : act.Action) → CanDo s c o a → Knows s c a → AllCome (after s c a o)
+    pub comes : (a : Action) → CanDo s c o a → Knows s c a → AllCome (after s c a o)
     comes (act.EndTransfer t) can knows =
         come_end t (λ e. reads_answering s c m there (reads_for s c t m.keeps reading can.mine))
     comes (act.Through f r) can knows = all_come s c (act.Through f r) o m.script m.come
@@ -159,7 +157,7 @@ module _ (s : State) (c : ℕ) (o : Outcome) (m : IsMachine s) (there : c < leng
     comes (act.Deactivate u) can knows = quiet (act.Deactivate u) refl
 
     -- what it reads it was asked for
-    pub may_read : (a : act.Action) → CanDo s c o a → Knows s c a → IsPast s c a → MayRead s c o a
+    pub may_read : (a : Action) → CanDo s c o a → Knows s c a → IsPast s c a → MayRead s c o a
     may_read (act.EndTransfer t) can knows past = can.mine
     may_read (act.Load n) can knows past = past
     may_read act.Leave can knows past = past

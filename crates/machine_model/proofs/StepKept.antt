@@ -1,12 +1,6 @@
 -- Each action of a processor keeps the machine's promise.
-use Rattle.machine_model.proofs.Prelude.{cond_both, [], ◌≡◌, ◌<◌, ◌≤◌, ℕ, ◌-◌, Bool, true, false, is_some, map, List, ◌∷◌, ◌++◌, length, ◌⊎◌, inl, inr, Option, Some, None, refl, sym, ap, subst, ◌∙◌, Rose, HeldSeg, What, Command, Reference, Reply, words_in, entry_at, uid_at, first_off_chain, hand_past, Transfer, place_of, sdws_at, table_of, MayFault, MayRelease, MayMove, word_reply, IsFront, MayActivate, MayDeactivate, MayLeave, MayRehome, Mover, Aim, Outcome, after, by_outcome, page_at, committed, cut_entry, KeepsBook, is_pending, seen, emptied, eviction_begun, eviction_done, left_of, page_done, segment_taken, segs_gone, took, victim_taken, with_hand_moved, write_failed, IsAtWork, Keeps, StoreSays, copy_failed, move_begun, move_committed, page_copied, cpu_at, cut_of_owner, descriptor_of, flat_of, frames_from, frames_of_owner, next_command, process_at, processor_at, trailers_in, reply_of, shown, Owner, State, Storage, activated_at, connected_to, fault_told, frame_lost, held_page, held_seg, looking, old_word, page_created, page_made, pages_after, started, told, transfer_failed, transferred, went_through, with_faults, with_owner, with_pages, with_store, position, is_for, word_of, has, NoneDue, Phase, gone_segs, gones, stays, FitsPhase, IsOwned, IsShaped, is_out, is_pending_in, says, says_in, is_due, no_processor, CutDescriptor, has_head, not_both, some_unwrapped, committed_at, deactivation_begun, eqb_self}
-use Rattle.assoc_mem.specs.declared.What.TheVariants as what
-use Rattle.script.specs.declared.commands.Command.TheVariants as command
-use Rattle.book.specs.declared.replies.Reply.TheVariants as reply
-use Rattle.page_control.specs.declared.Left.TheVariants as left
-use Rattle.machine_model.specs.declared.Aim.TheVariants as aim
-use Rattle.machine_model.specs.declared.Phase.TheVariants as phase
-use Rattle.machine_model.specs.Actions as act
+use Rattle.machine_model.proofs.Prelude.{cond_both, [], ◌≡◌, ◌<◌, ◌≤◌, ℕ, ◌-◌, Bool, true, false, is_some, map, List, ◌∷◌, ◌++◌, length, ◌⊎◌, inl, inr, Option, Some, None, refl, sym, ap, subst, ◌∙◌, Rose, HeldSeg, What, Command, Reference, Reply, words_in, entry_at, uid_at, first_off_chain, hand_past, Transfer, place_of, sdws_at, table_of, MayFault, MayRelease, MayMove, word_reply, IsFront, MayActivate, MayDeactivate, MayLeave, MayRehome, Mover, Aim, Outcome, after, by_outcome, page_at, committed, cut_entry, KeepsBook, is_pending, seen, emptied, eviction_begun, eviction_done, left_of, page_done, segment_taken, segs_gone, took, victim_taken, with_hand_moved, write_failed, IsAtWork, Keeps, StoreSays, copy_failed, move_begun, move_committed, page_copied, cpu_at, cut_of_owner, descriptor_of, flat_of, frames_from, frames_of_owner, next_command, process_at, processor_at, trailers_in, reply_of, shown, Owner, State, Storage, activated_at, connected_to, fault_told, frame_lost, held_page, held_seg, looking, old_word, page_created, page_made, pages_after, started, told, transfer_failed, transferred, went_through, with_faults, with_owner, with_pages, with_store, position, is_for, word_of, has, NoneDue, Phase, gone_segs, gones, stays, FitsPhase, IsOwned, IsShaped, is_out, is_pending_in, says, says_in, is_due, no_processor, CutDescriptor, has_head, not_both, some_unwrapped, committed_at, deactivation_begun, eqb_self, What as what, Command as command, Reply as reply, Left as left, Aim as aim, Phase as phase, Action, Action as act}
+use Rattle.machine_model.proofs.ActionCases.{by_end}
 use Rattle.machine_model.proofs.ActiveKept.{IsOver, activate_kept, connect_kept, created_kept, emptied_kept, looks_idle, through_kept, segs_are_gone}
 use Rattle.machine_model.proofs.BackKept.{all_back, all_failed_kept, eviction_failed_kept}
 use Rattle.machine_model.proofs.ChainLaws.{GoesOn, IsDone, IsSteady}
@@ -171,7 +165,7 @@ AsksCommit s c (Some cmd) = AsksCommand s c cmd
 
 -- What the store says of the machine after an action, and what the flat store and custody say of an answer. A reference
 -- by itself, a load, a signal and the like ask nothing.
-abbrev pub Asks : State → ℕ → Outcome → act.Action → Type 0
+abbrev pub Asks : State → ℕ → Outcome → Action → Type 0
 Asks s c o (act.EndTransfer t) = AsksEnd s c t o
 Asks s c o (act.Through f r) = CanGoThrough s c f r
 Asks s c o (act.Plain r) = CanReply s c r
@@ -219,7 +213,7 @@ pub record CanFill (s : State) (c n : ℕ) : Type 0 where
   pub other : IsNoOwner s c
 
 -- the owner looks, and comes to this action
-pub record CanOnLook (s : State) (c : ℕ) (a : act.Action) (A : Type 0) : Type 0 where
+pub record CanOnLook (s : State) (c : ℕ) (a : Action) (A : Type 0) : Type 0 where
   pub looking : IsLooking s c
   pub look : IsLook s a
   pub asks : A
@@ -261,7 +255,7 @@ pub record CanCommit (s : State) (c : ℕ) : Type 0 where
   pub its : (processor_at s.processors c).cpu.process ≡ Some (process_at s c)
   pub asks : AsksCommit s c (next_command s (process_at s c))
 
-abbrev pub CanDo : State → ℕ → Outcome → act.Action → Type 0
+abbrev pub CanDo : State → ℕ → Outcome → Action → Type 0
 CanDo s c o act.IsStopped = Unit {0}
 CanDo s c o act.HasEnded = Unit {0}
 CanDo s c o (act.Waits why) = Unit {0}
@@ -289,10 +283,6 @@ CanDo s c o act.Commit = CanCommit s c
 CanDo s c o a = CanOnLook s c a (Asks s c o a)
 
 -- ---- each action
-
-by_end : (o : Outcome) (well ill : State) → (o.failed ≡ false → Keeps well) → (o.failed ≡ true → Keeps ill)
-    → Keeps (by_outcome o well ill)
-by_end o well ill w i = cond_both o.failed ill well Keeps i w
 
 -- an owner of another number than this processor's, by what is true of those at work
 pub online_other : (s : State) (c : ℕ) → Keeps s → (processor_at s.processors c).cpu.online ≡ false → IsNoOwner s c
@@ -442,7 +432,7 @@ module _ (s : State) (c : ℕ) (o : Outcome) (k : Keeps s) (there : c < length s
 
   evict_done : (f : ℕ) → CanDo s c o (act.FinishEviction f)
       → Keeps (by_outcome o (eviction_done (with_faults s o.faults) c f) (write_failed s c o.faults))
-  evict_done f can = by_end o (eviction_done (with_faults s o.faults) c f) (write_failed s c o.faults)
+  evict_done f can = by_end Keeps o _ _
       (λ e. (let w = can.1.asks.well e in eviction_kept s c f page.0 page.1 o.faults x.owner.owner k x.owner.mine
       x.owner.same w.0 finish w.1 w.2))
       (λ e. (let i = can.1.asks.ill e in eviction_failed_kept s c o.faults (frames_of_owner s.owner)
@@ -478,7 +468,7 @@ module _ (s : State) (c : ℕ) (o : Outcome) (k : Keeps s) (there : c < length s
   page_leaves : (f : ℕ) → CanDo s c o (act.FinishPage f)
       → Keeps (by_outcome o (page_done (with_faults s o.faults) f) (write_failed s c o.faults))
   page_leaves f can = let on = empties_goes can.0 can.2.what (f ∷ can.1) can.2.waited can.2.frames in
-      by_end o (page_done (with_faults s o.faults) f) (write_failed s c o.faults)
+      by_end Keeps o _ _
       (λ e. (let w = can.2.asks.well e in page_kept s f o.faults can.1 (cut_of_owner s.owner)
       can.2.waited.owner.owner k can.2.waited.owner.mine w.0 on w.1 w.2))
       (λ e. (let i = can.2.asks.ill e in all_failed_kept s c o.faults (frames_of_owner s.owner)
@@ -503,12 +493,12 @@ module _ (s : State) (c : ℕ) (o : Outcome) (k : Keeps s) (there : c < length s
   -- ---- the whole
 
   keeps_by : ((pool : ℕ) (chain : List ℕ) (u : ℕ) → CanDo s c o (act.EmptyVictim pool chain u)
-      → Keeps (victim_taken s c pool chain u)) → (a : act.Action) → CanDo s c o a → Keeps (after s c a o)
+      → Keeps (victim_taken s c pool chain u)) → (a : Action) → CanDo s c o a → Keeps (after s c a o)
   unfolding after
   keeps_by victim act.Online can = online_kept s c (s.spare - 1) k there (online_other s c k can) can
   keeps_by victim (act.Clear w) can = clear_kept s c (s.spare - 1) k there (due_other s c w k can) w can
   keeps_by victim (act.EndTransfer t) can =
-      by_end o (transferred (with_faults s o.faults) c t) (transfer_failed s c t o.faults)
+      by_end Keeps o _ _
       (λ e. (let w = can.well e in transferred_kept s c t k can.mine o.faults w.0 w.1))
       (λ e. (let i = can.ill e in failed_kept s c t k can.mine o.faults i.rose i.may i.tell i.says))
   keeps_by victim (act.Load n) can = load_kept s c (s.spare - 1) k there (empty_other s c k can.1) n can.0 can.1 can.2
@@ -544,7 +534,7 @@ module _ (s : State) (c : ℕ) (o : Outcome) (k : Keeps s) (there : c < length s
   keeps_by victim (act.BeginMove u volume) can = begun_kept s c k (look_idle can.looking) (look_still can.looking)
       (works_here can.looking.owner) u volume can.asks
   keeps_by victim (act.CopyPage m p) can =
-      by_end o (page_copied (with_faults s o.faults) c m p) (copy_failed s c o.faults)
+      by_end Keeps o _ _
       (λ e. (let w = can.1.well e in copied_kept s c k (move_idle m can.0) (move_still m can.0)
       (works_here can.0.owner) m p o.faults w.0 w.1))
       (λ e. (let i = can.1.ill e in copy_failed_kept s c o.faults k (move_idle m can.0) (move_still m can.0) i.rose
@@ -562,7 +552,7 @@ module _ (s : State) (c : ℕ) (o : Outcome) (k : Keeps s) (there : c < length s
   keeps_by victim _ can = k
 
 -- What an action asks is all that it wants to keep the promise.
-pub after_keeps : (s : State) (c : ℕ) (o : Outcome) (a : act.Action) → Keeps s → c < length s.processors
+pub after_keeps : (s : State) (c : ℕ) (o : Outcome) (a : Action) → Keeps s → c < length s.processors
     → CanDo s c o a → Keeps (after s c a o)
 after_keeps s c o a k there can = keeps_by s c o k there (λ pool chain u h. empty_done (with_store s
     (with_hand_moved s.store pool chain)) c o (hand_kept s pool chain k h.asks.says) there u

@@ -1,22 +1,16 @@
 -- What the rules know where they choose an action: who owns the supervisor, and whose command it is.
-use Rattle.machine_model.proofs.Prelude.{eqb_self, not_both, eqb-true, ◌≡◌, ◌≢◌, ◌<◌, ℕ, true, false, not, ◌&&◌, eqb, List, [], ◌∷◌, length, position, Option, Some, None, inl, inr, refl, sym, ap, subst, ◌∙◌, ◌⊎◌, ◌/◌, cond_both, reference_of, Command, Reference, What, Mover, table_of, next_out, IsMovedFor, IsTakenBy, IsTakenFor, TakenIn, Transfer, Aim, Phase, Processor, action_of, by_move, clear_or, come_to, finish_of, go_on_with, has_had_its_turn, is_empty, load_or_idle, look_of, move_of, once_cleared, own_or_run, refer_or_take, run_process, take_or_wait, transfer_or, copy_or_commit, Outcome, IsMachine, flat_of, is_due, next_command, or_zero, process_at, processor_at, Owner, State, FailsIn, IsWorking, MayFailBy, TakesSome, Reply, is_end, reply_to_command, is_refusal, Move}
-use Rattle.assoc_mem.specs.declared.What.TheVariants as what
+use Rattle.machine_model.proofs.Prelude.{eqb_self, not_both, eqb-true, ◌≡◌, ◌≢◌, ◌<◌, ℕ, true, false, not, ◌&&◌, eqb, List, [], ◌∷◌, length, position, Option, Some, None, inl, inr, refl, sym, ap, subst, ◌∙◌, ◌⊎◌, ◌/◌, cond_both, reference_of, Command, Reference, What, Mover, table_of, next_out, IsMovedFor, IsTakenBy, IsTakenFor, TakenIn, Transfer, Aim, Phase, Processor, action_of, by_move, clear_or, come_to, finish_of, go_on_with, has_had_its_turn, is_empty, load_or_idle, look_of, move_of, once_cleared, own_or_run, refer_or_take, run_process, take_or_wait, transfer_or, copy_or_commit, Outcome, IsMachine, flat_of, is_due, next_command, or_zero, process_at, processor_at, Owner, State, FailsIn, IsWorking, MayFailBy, TakesSome, Reply, is_end, reply_to_command, is_refusal, Move, What as what, Move as move, Aim as aim, Phase as phase, Command as command, Action, ForTransfer, Action as act}
 use Rattle.machine_model.proofs.ActionCases.{action_by}
 use Rattle.machine_model.proofs.JustTaken.{look_taken}
 use Rattle.machine_model.proofs.LookAsks.{page_active}
 use Rattle.machine_model.proofs.MoveFound.{move_found}
 use Rattle.machine_model.proofs.ReadyLaws.{IsOutOfUse}
-use Rattle.processor.specs.declared.Move.TheVariants as move
-use Rattle.machine_model.specs.declared.Aim.TheVariants as aim
-use Rattle.machine_model.specs.declared.Phase.TheVariants as phase
-use Rattle.machine_model.specs.Actions as act
 use Rattle.machine_model.proofs.LookFacts.{LookFinds, look_finds, FindsActive, FindsFull, FindsOut, FindsTaken, FindsVictim}
 use Rattle.machine_model.proofs.OwnedLaws.{IsIdle}
 use Rattle.machine_model.proofs.RuleKept.{IsLooking, look_idle, process_here, IsMoving}
 use Rattle.machine_model.proofs.SpeakLaws.{Speaks, speaks, speaks_of}
 use Rattle.machine_model.proofs.StandLaws.{takes_tree}
 use Rattle.machine_model.proofs.StepKept.{IsMine}
-use Rattle.script.specs.declared.commands.Command.TheVariants as command
 use Rattle.machine_model.proofs.FailLaws.{fails_more}
 use Rattle.machine_model.proofs.KeepLaws.{IsNoOwner}
 use Rattle.machine_model.proofs.WorkKept.{page_fails}
@@ -63,7 +57,7 @@ pub record EndsMove (s : State) (c : ℕ) (m : Mover) : Type 0 where
   pub rests : IsMovedFor s.store (process_at s c) m (next_command s (process_at s c))
   pub done : next_out (table_of s.store.ast m.uid) m.next ≡ None
 
-abbrev pub Knows : State → ℕ → act.Action → Type 0
+abbrev pub Knows : State → ℕ → Action → Type 0
 Knows s c (act.Through f r) = RunsAlone s c
 Knows s c (act.Plain r) = RunsAlone s c
 Knows s c (act.Answer r) = AnswersOne s c
@@ -161,7 +155,7 @@ module _ (s : State) (c : ℕ) (o : Outcome) (m : IsMachine s) (there : c < leng
       abbrev looks : {Finds : Command → Type 0} → Finds cmd → Looks s c Finds
       looks h = record { looking = l; idle = idle; command = cmd; next = sp.next; finds = h }
 
-      look_knows : (a : act.Action) → LookFinds s k cmd a → Knows s c a
+      look_knows : (a : Action) → LookFinds s k cmd a → Knows s c a
       look_knows (act.Answer r) h =
           record { command = cmd; speaks = sp; more = refused_more cmd r h.reply h.refuses }
       look_knows (act.Activate u place) h = l
@@ -194,7 +188,7 @@ module _ (s : State) (c : ℕ) (o : Outcome) (m : IsMachine s) (there : c < leng
             (page_active s c o m idle cmd sp h.reference u (h.reference.offset / 1024) h.finds)
             (next_command s k) sp.next;
       }
-      look_knows (act.Waits (act.ForTransfer f)) h = tt
+      look_knows (act.Waits (ForTransfer f)) h = tt
       look_knows act.GiveUp h = tt
       look_knows _ h = absurd h
 

@@ -1,7 +1,6 @@
 -- What each step brings while the loop waits for it: a step of the owner, of a processor that is to clear, of one that
 -- reads a page in, and of one that has a process while nobody owns the supervisor.
-use Rattle.machine_model.proofs.Prelude.{◌≡◌, ◌≢◌, ◌<◌, ℕ, zero, suc, Bool, true, false, cond, eqb, List, [], ◌∷◌, length, Option, is_some, refl, sym, ap, ◌∙◌, inl, inr, le_refl, le_of_eq, arith, eqb_tells, get_or-set_other, Transfer, Runner, no_runner, Stage, Waiting, Keeper, Outline, Turn, runner_at, with_runner, rank_of, lack, dues, job_rank, Clears, Works, rule_of, owns, IsIn, Step, ends, comes, clears, reads, loses, works, awaits_clear, awaits_transfer, loads, idles, leaves, fills, replies, faults, enters, waits, IsCleared, IsKept, IsUnderWay, AwaitsClear, OwnerStep, Rule, not_both}
-use Rattle.machine_model.specs.Measures.{parts_of}
+use Rattle.machine_model.proofs.Prelude.{◌≡◌, ◌≢◌, ◌<◌, ℕ, zero, suc, Bool, true, false, cond, eqb, List, [], ◌∷◌, length, Option, is_some, refl, sym, ap, ◌∙◌, inl, inr, le_refl, le_of_eq, arith, eqb_tells, get_or-set_other, Transfer, Runner, no_runner, Stage, Waiting, Keeper, Outline, Turn, runner_at, with_runner, rank_of, lack, dues, job_rank, Clears, Works, rule_of, owns, IsIn, Step, ends, comes, clears, reads, loses, works, awaits_clear, awaits_transfer, loads, idles, leaves, fills, replies, faults, enters, waits, IsCleared, IsKept, IsUnderWay, AwaitsClear, OwnerStep, Rule, not_both, measures_parts_of as parts_of, false_from_ne_true, eqb_self}
 use Rattle.machine_model.proofs.CountLaws.{readers_set, dues_set}
 use Rattle.machine_model.proofs.RankLaws.{falls_due}
 use Rattle.machine_model.proofs.JobLaws.{ranked, job_falls}
@@ -18,13 +17,7 @@ inside (x ∷ xs) (suc c) h = omega (arith, (inside xs c h))
 
 -- where nothing is due, it is so at each processor
 pub none_due : (xs : List Runner) (d : ℕ) → d < length xs → dues xs ≡ 0 → (runner_at xs d).due ≡ false
-none_due xs d lt none = by (runner_at xs d).due refl
-  where
-    by : (b : Bool) → (runner_at xs d).due ≡ b → b ≡ false
-    by false h = refl
-    by true h =
-        let one : cond {A = ℕ} (runner_at xs d).due 1 0 ≡ 1 = ap (λ (b : Bool). cond {A = ℕ} b 1 0) h in
-        absurd (omega (arith, (dues_set xs d no_runner lt), one, none))
+none_due xs d lt none = false_from_ne_true (runner_at xs d).due (λ h. (let one : cond {A = ℕ} (runner_at xs d).due 1 0 ≡ 1 = ap (λ (b : Bool). cond {A = ℕ} b 1 0) h in omega (arith, (dues_set xs d no_runner lt), one, none)))
 
 -- ---- the owner
 
@@ -34,11 +27,8 @@ unfolding rule_of
 works_rule s c stage k owner =
     let work = k.job.at_work c stage owner in
     let idle : is_some (runner_at s.runners c).reading ≡ false = ap (λ (o : Option Transfer). is_some o) work.idle in
-    let own : owns s.owner c ≡ true = ap (λ (o : Option Keeper). owns o c) owner ∙ own_self c in
+    let own : owns s.owner c ≡ true = ap (λ (o : Option Keeper). owns o c) owner ∙ eqb_self c in
     rw ((k.tied.runners_online c work.running), work.clear, idle, own) refl
-  where
-    own_self : (i : ℕ) → eqb i i ≡ true
-    own_self i = elim (eqb_tells i i) [ inl x ↦ x.0 | inr x ↦ absurd (x.1 refl) ]
 
 -- it is no other rule
 works_only : {s : Outline} {c : ℕ} {stage : Stage} {r : Rule} → IsKept s → IsIn s c stage → rule_of s c ≡ r → Works ≡ r

@@ -1,9 +1,6 @@
 -- What a job takes of a segment: the pages of its table that are here, each in a frame of its own, and the descriptors
 -- of its trailers, each once.
-use Rattle.machine_model.proofs.Prelude.{◌≡◌, ◌≤◌, ℕ, zero, suc, ◌+◌, Bool, true, false, ◌||◌, cond, eqb, count_by, List, [], ◌∷◌, drop, get_or, Option, Some, ◌⊎◌, inl, inr, refl, sym, ap, ◌∙◌, arith, eqb_tells, list_any-append, sum_by-cons, What, Ptw, Sdw, uid_at, is_trailer, trailers_of, leads, leads_at, place_of, table_of, times, has, names_frame, Aim, page_at, page_or_zero, AreDistinct, IsAimed, names, led_to, seen, Keeps, descriptor_of, frames_from, frames_in, here_in, is_active, trailers_in, shown, CutDescriptor, State, or_cases, page_is, times_few, times_one}
-use Rattle.assoc_mem.specs.declared.What.TheVariants as what
-use Rattle.page_table.specs.declared.Ptw.TheVariants as ptw
-use Rattle.descriptor_seg.specs.declared.Sdw.TheVariants as sdw
+use Rattle.machine_model.proofs.Prelude.{◌≡◌, ◌≤◌, ℕ, zero, suc, ◌+◌, Bool, true, false, ◌||◌, cond, eqb, count_by, List, [], ◌∷◌, drop, get_or, Option, Some, ◌⊎◌, inl, inr, refl, sym, ap, ◌∙◌, arith, eqb_tells, list_any-append, sum_by-cons, What, Ptw, Sdw, uid_at, is_trailer, trailers_of, leads, leads_at, place_of, table_of, times, has, names_frame, Aim, page_at, page_or_zero, AreDistinct, IsAimed, names, led_to, seen, Keeps, descriptor_of, frames_from, frames_in, here_in, is_active, trailers_in, shown, CutDescriptor, State, or_cases, page_is, times_few, times_one, What as what, Ptw as ptw, Sdw as sdw, false_from_ne_true, eqb_self}
 use Rattle.machine_model.proofs.ActiveSeen.{active_place}
 use Rattle.machine_model.proofs.ChainLaws.{CanTakeAll, bound_shown, names_uid}
 use Rattle.machine_model.proofs.OwnedLaws.{IsIdle}
@@ -43,14 +40,9 @@ frames_once (ptw.Null ∷ ws) one = frames_once ws (λ q r f a b. (let s = one (
 frames_once (ptw.Out x ∷ ws) one = frames_once ws (λ q r f a b. (let s = one (suc q) (suc r) f a b in cc))
 frames_once (ptw.Leaving x ∷ ws) one = frames_once ws (λ q r f a b. (let s = one (suc q) (suc r) f a b in cc))
 frames_once (ptw.Here g ∷ ws) one = (
-  by (has (frames_in ws) g) refl,
+  false_from_ne_true (has (frames_in ws) g) (λ e. (let at = frame_word ws g e in omega (arith, one zero (suc at.0) g refl at.1))),
   frames_once ws (λ q r f a b. (let s = one (suc q) (suc r) f a b in cc)),
 )
-  where
-    by : (b : Bool) → has (frames_in ws) g ≡ b → b ≡ false
-    by false e = refl
-    by true e = let at = frame_word ws g e in
-        absurd (omega (arith, one zero (suc at.0) g refl at.1))
 
 -- the word of a page from a number on
 pub dropped_word : (ws : List Ptw) (low q : ℕ) → get_or (drop low ws) q ptw.Null ≡ get_or ws (low + q) ptw.Null
@@ -127,10 +119,7 @@ no_pair (x ∷ xs) k n h = by (is_trailer k n x) refl (no_pair xs k n)
     by false e rest = rest (omega (arith, h, sum))
 
 own_trailer : (x : ℕ × ℕ) → is_trailer x.0 x.1 x ≡ true
-own_trailer x = rw (own x.0, own x.1) refl
-  where
-    own : (n : ℕ) → eqb n n ≡ true
-    own n = elim (eqb_tells n n) [ inl e ↦ e.0 | inr m ↦ absurd (m.1 refl) ]
+own_trailer x = rw (eqb_self x.0, eqb_self x.1) refl
 
 -- descriptors that are each counted at most as often as they lead to a place lead there, and are each listed once
 pairs_of : (s : State) (w : What) (u place : ℕ) → uid_at s.store.ast.entries place ≡ Some u → names_uid w u ≡ true

@@ -1,8 +1,5 @@
 -- A command is answered, with what the store says of it, and the owner of the supervisor changes.
-use Rattle.machine_model.proofs.Prelude.{◌≡◌, ◌<◌, ℕ, ◌+◌, Bool, true, false, cond, List, [], ◌∷◌, ◌++◌, length, set, Option, Some, None, inl, inr, refl, sym, ap, subst, ◌∙◌, arith, slice_get, length-set, eqb_tells, command_at, Command, Reply, gone_on, is_end, tries_on, IsLawfulDo, Progress, Store, progress_of, MayDo, next_of, at_put, is_try, released_by, answered, counted, IsRun, KeepsBook, is_pending, seen, IsAtWork, Keeps, StoreSays, cut_of_owner, flat_of, next_command, no_processor, no_run, processor_at, run_at, shown, Processor, Run, CutDescriptor, Owner, State, goes_on, progress_of_run, run_after, told_by, with_owner}
-use Rattle.script.specs.declared.commands.Command.TheVariants as command
-use Rattle.book.specs.declared.entries.Entry.TheVariants as entry
-use Rattle.book.specs.declared.replies.Reply.TheVariants as reply
+use Rattle.machine_model.proofs.Prelude.{◌≡◌, ◌<◌, ℕ, ◌+◌, Bool, true, false, cond, List, [], ◌∷◌, ◌++◌, length, set, Option, Some, None, inl, inr, refl, sym, ap, subst, ◌∙◌, arith, slice_get, length-set, eqb_tells, command_at, Command, Reply, gone_on, is_end, tries_on, IsLawfulDo, Progress, Store, progress_of, MayDo, next_of, at_put, is_try, released_by, answered, counted, IsRun, KeepsBook, is_pending, seen, IsAtWork, Keeps, StoreSays, cut_of_owner, flat_of, next_command, no_processor, no_run, processor_at, run_at, shown, Processor, Run, CutDescriptor, Owner, State, goes_on, progress_of_run, run_after, told_by, with_owner, Command as command, Entry as entry, Reply as reply}
 use Rattle.machine_model.proofs.AnswerLaws.{answer_keeps, owner_keeps}
 use Rattle.machine_model.proofs.KeepLaws.{faults_push}
 use Rattle.machine_model.proofs.ListLaws.{put_list}
@@ -72,9 +69,9 @@ pub record CanTell (s : State) (c k : ℕ) (f : Option ℕ) (r : Reply) : Type 0
   pub lawful : IsLawfulDo s.plan (flat_of s) k (run_at s.runs k).place r
   pub allowed : MayDo s.plan (flat_of s) (shown (seen s)) k c f r
 
-pub told_keeps : (s : State) (c k : ℕ) (f : Option ℕ) (r : Reply) → KeepsBook (seen s) → CanTell s c k f r
+pub told_keeps : {s : State} {c k : ℕ} {f : Option ℕ} {r : Reply} → KeepsBook (seen s) → CanTell s c k f r
     → KeepsBook (seen (told_by s c k f r))
-told_keeps s c k f r book can = subst KeepsBook (sym (told_seen s c k f r book can.there can.known))
+told_keeps {s} {c} {k} {f} {r} book can = subst KeepsBook (sym (told_seen s c k f r book can.there can.known))
     (answer_keeps (seen s) c k (run_at s.runs k).place f r (run_after (run_at s.runs k) (next_command s k) r) book
     (record {
       command = can.command;
@@ -102,7 +99,7 @@ works_counted ps c tried d there w = subst IsAtWork
 pub tell_kept : (s : State) (c k : ℕ) (f : Option ℕ) (r : Reply) → Keeps s → CanTell s c k f r
     → StoreSays (told_by s c k f r) → Keeps (told_by s c k f r)
 tell_kept s c k f r keeps can says = record {
-  book = told_keeps s c k f r keeps.book can;
+  book = told_keeps keeps.book can;
   store = says.store;
   faithful = says.faithful;
   rights = says.rights;
@@ -125,7 +122,7 @@ pub owner_kept : (s : State) (owner : Option Owner) → Keeps s → IsIdle s.own
     → is_pending s.owner ≡ is_pending owner
     → ((o : Owner) → owner ≡ Some o → IsAtWork (processor_at s.processors o.cpu)) → Keeps (with_owner s owner)
 owner_kept s owner k was now pending works = record {
-  book = owner_keeps (seen s) owner k.book was now pending;
+  book = owner_keeps k.book was now pending;
   store = k.store;
   faithful = k.faithful;
   rights = record {

@@ -1,8 +1,5 @@
 -- What ties processors and frames together goes on as they change.
-use Rattle.machine_model.proofs.Prelude.{◌≡◌, ◌≢◌, ◌<◌, ℕ, Bool, true, false, List, length, Option, Some, None, is_some, set, refl, sym, ap, subst, ◌∙◌, ◌⊎◌, inl, inr, cases_eq, get_or-set_same, get_or-set_other, length-set, Frame, started_page, Transfer, Runner, no_runner, runner_at, AreAlike, AreTied}
-use Rattle.core_map.specs.declared.Frame.TheVariants as frame
-use Rattle.machine_model.specs.Jobs.{page_or_zero}
-use Rattle.machine_model.specs.Outline.{frame_in}
+use Rattle.machine_model.proofs.Prelude.{◌≡◌, ◌≢◌, ◌<◌, ℕ, Bool, true, false, List, length, Option, Some, None, is_some, set, refl, sym, ap, subst, ◌∙◌, ◌⊎◌, inl, inr, cases_eq, get_or-set_same, get_or-set_other, length-set, Frame, started_page, Transfer, Runner, no_runner, runner_at, AreAlike, AreTied, Frame as frame, jobs_page_or_zero as page_or_zero, outline_frame_in as frame_in}
 
 -- two lists of processors in which the same take part, have a process, and read
 pub record SameTies (xs ys : List Runner) : Type 0 where
@@ -11,8 +8,8 @@ pub record SameTies (xs ys : List Runner) : Type 0 where
   pub running : (d : ℕ) → (runner_at ys d).running ≡ (runner_at xs d).running
   pub reading : (d : ℕ) → (runner_at ys d).reading ≡ (runner_at xs d).reading
 
-pub ties_alike : (xs ys : List Runner) (c : ℕ) → AreAlike xs ys c → SameTies xs ys
-ties_alike xs ys c alike = record {
+pub ties_alike : {xs ys : List Runner} {c : ℕ} → AreAlike xs ys c → SameTies xs ys
+ties_alike alike = record {
   count = alike.count;
   online = λ d h. alike.online d ∙ h;
   running = alike.running;
@@ -37,8 +34,8 @@ ties_set xs c x lt online running reading = record {
   reading = λ d. at_set xs c x d lt (λ y. y.reading ≡ (runner_at xs d).reading) (λ e. cc) (λ n. refl);
 }
 
-pub tied_same : (xs ys : List Runner) (frames : List Frame) → SameTies xs ys → AreTied xs frames → AreTied ys frames
-tied_same xs ys frames same tied = record {
+pub tied_same : {xs ys : List Runner} {frames : List Frame} → SameTies xs ys → AreTied xs frames → AreTied ys frames
+tied_same same tied = record {
   runners_online = λ c h. same.online c (tied.runners_online c (sym (same.running c) ∙ h));
   readers_run = λ c r h. same.running c ∙ tied.readers_run c r (sym (same.reading c) ∙ h);
   started = λ f uid page h. (let x = tied.started f uid page h in

@@ -1,7 +1,5 @@
 -- The machine keeps its promise where a transfer begins and ends, and where a page is made.
-use Rattle.machine_model.proofs.Prelude.{◌≡◌, ◌<◌, ◌≤◌, ℕ, Bool, true, false, cond, count_by, List, [], ◌∷◌, ◌++◌, map, length, set, Option, Some, None, inl, inr, refl, sym, ap, subst, ◌∙◌, arith, eqb_tells, get_or-set_other, length-set, ◌^◌, min, Rose, Entry, started_page, ActiveSegs, entry_at, uid_at, uid_in, Segment, Transfer, is_for, MayFault, KeepsBook, is_pending, seen, IsAtWork, Keeps, StoreSays, is_fault, flat_of, is_active, no_processor, process_at, processor_at, run_at, Processor, Owner, State, fault_told, frame_lost, started, transfer_failed, transferred, with_faults}
-use Rattle.book.specs.declared.entries.Entry.TheVariants as entry
-use Rattle.book.specs.declared.replies.Reply.TheVariants as reply
+use Rattle.machine_model.proofs.Prelude.{◌≡◌, ◌<◌, ◌≤◌, ℕ, Bool, true, false, cond, count_by, List, [], ◌∷◌, ◌++◌, map, length, set, Option, Some, None, inl, inr, refl, sym, ap, subst, ◌∙◌, arith, eqb_tells, get_or-set_other, length-set, ◌^◌, min, Rose, Entry, started_page, ActiveSegs, entry_at, uid_at, uid_in, Segment, Transfer, is_for, MayFault, KeepsBook, is_pending, seen, IsAtWork, Keeps, StoreSays, is_fault, flat_of, is_active, no_processor, process_at, processor_at, run_at, Processor, Owner, State, fault_told, frame_lost, started, transfer_failed, transferred, with_faults, Entry as entry, Reply as reply}
 use Rattle.machine_model.proofs.ActiveSeen.{any_at}
 use Rattle.machine_model.proofs.AnswerLaws.{fault_keeps, owner_keeps}
 use Rattle.machine_model.proofs.KeepLaws.{IsNoOwner, faults_push}
@@ -80,8 +78,7 @@ module _ (s : State) (c : ℕ) (t : Transfer) (k : Keeps s)
   pub failed_kept : (faults : ℕ) → Rose s.faults faults → MayFault (flat_of (frame_lost s c t)) (Some (process_at s c))
       → CanTell (lost_state faults) c (process_at (lost_state faults) c) None reply.Device
       → StoreSays (transfer_failed s c t faults) → Keeps (transfer_failed s c t faults)
-  failed_kept faults rose may can says = kept_with (transfer_failed s c t faults)
-      (told_keeps (lost_state faults) c (process_at (lost_state faults) c) None reply.Device
+  failed_kept faults rose may can says = kept_with (transfer_failed s c t faults) (told_keeps
       (fault_keeps (seen (frame_lost s c t)) (Some (process_at s c))
       (subst KeepsBook (sym (lose_seen s c t reader_there read_within
       (k.book.tied.unbound t.frame t.uid t.page read_frame))) (lose_keeps (seen s) c t k.book mine)) may) can) says
@@ -111,7 +108,6 @@ pub started_kept : (s : State) (c f u p : ℕ) → Keeps s → c < length s.proc
     → StoreSays (started s c f u p) → Keeps (started s c f u p)
 started_kept s c f u p k there within can idle still says = kept_with (started s c f u p)
     (subst KeepsBook (sym (start_seen s c (record { frame = f; uid = u; page = p }) None there within can.unbound))
-    (owner_keeps _ None (start_keeps (seen s) c
-    (record { frame = f; uid = u; page = p }) k.book can) idle nobody still)) says
+    (owner_keeps (start_keeps (seen s) c (record { frame = f; uid = u; page = p }) k.book can) idle nobody still)) says
     (quiet_faults s (entry.Start f u p) s.faults k refl (omega arith))
     (length-set s.processors c _ ∙ k.sizes.processors) k.sizes.processes (λ o h. cc)

@@ -1,10 +1,5 @@
 -- A page is being read into a frame, is in it, or the reading failed; a page is made in a free frame.
-use Rattle.machine_model.proofs.Prelude.{◌≡◌, ◌≢◌, ◌<◌, ℕ, true, false, Option, Some, None, inl, inr, refl, sym, ap, ◌∙◌, Ptw, Transfer, IsLawful, after_entry, DescriptorUse, NobodyHoldsPage, is_current_frame, is_going_frame, at_put, at_put_two, custody_next, nobody_holds_page, lost, here, with_transfer, KeepsBook, HoldsRight, AreUnderWay, names, is_out, is_pending, Seen, shown, seat_of, frame_use, read_use, Processor, page_is}
-use Rattle.book.specs.declared.entries.Entry.TheVariants as entry
-use Rattle.page_table.specs.declared.Ptw.TheVariants as ptw
-use Rattle.custody_model.specs.declared.FrameUse.TheVariants as frame
-use Rattle.custody_model.specs.Custody.{is_started}
-use Rattle.machine_model.specs.Changes.{started, brought}
+use Rattle.machine_model.proofs.Prelude.{◌≡◌, ◌≢◌, ◌<◌, ℕ, true, false, Option, Some, None, inl, inr, refl, sym, ap, ◌∙◌, Ptw, Transfer, IsLawful, after_entry, DescriptorUse, NobodyHoldsPage, is_current_frame, is_going_frame, at_put, at_put_two, custody_next, nobody_holds_page, lost, here, with_transfer, KeepsBook, HoldsRight, AreUnderWay, names, is_out, is_pending, Seen, shown, seat_of, frame_use, read_use, Processor, page_is, Entry as entry, Ptw as ptw, FrameUse as frame, custody_is_started as is_started, page_started as started, page_brought as brought}
 use Rattle.machine_model.proofs.BookNext.{book_next}
 use Rattle.machine_model.proofs.FrameLaws.{in_no_frame}
 use Rattle.machine_model.proofs.HeldLaws.{right_frame, right_like}
@@ -67,10 +62,10 @@ under_way_more reads processors c t k idle unread = record {
 }
 
 -- a processor's transfer is over
-under_way_less : (reads : ℕ → Option (ℕ × ℕ)) (processors : ℕ → Processor) (c : ℕ) (t : Transfer)
+under_way_less : {reads : ℕ → Option (ℕ × ℕ)} {processors : ℕ → Processor} (c : ℕ) (t : Transfer)
     → AreUnderWay reads processors → (processors c).cpu.transfer ≡ Some t → AreUnderWay (at_put reads t.frame None)
     (at_put processors c (with_transfer (processors c) None))
-under_way_less reads processors c t k mine = record {
+under_way_less {reads} {processors} c t k mine = record {
   reading = λ d x. by_place (λ (p : Processor). p.cpu.transfer ≡ Some x
       → at_put reads t.frame None x.frame ≡ Some (x.uid, x.page)) processors c (with_transfer (processors c) None) d
       (λ i h. cc) (λ n h. by_place (λ (o : Option (ℕ × ℕ)). o ≡ Some (x.uid, x.page)) reads t.frame None x.frame
@@ -131,7 +126,7 @@ free_is v f a b = cc
 
 pub start_keeps : (v : Seen) (c : ℕ) (t : Transfer) → KeepsBook v → CanStart v c t → KeepsBook (started v c t)
 unfolding IsLawful after_entry custody_next
-start_keeps v c t k can = book_next v (entry.Start t.frame t.uid t.page) (started v c t) refl refl k (record {
+start_keeps v c t k can = book_next refl refl k (record {
   lawful = tt;
   allowed = assumption (free, in_no_frame v t.uid t.page k (out_none (v.words t.uid t.page) can.out) can.alone);
   online = tt;
@@ -181,7 +176,7 @@ module _ (v : Seen) (c : ℕ) (t : Transfer) (k : KeepsBook v) (mine : (v.proces
   -- the reading failed
   pub lose_keeps : KeepsBook (lost v c t)
   unfolding IsLawful after_entry custody_next
-  lose_keeps = book_next v (entry.Lose t.frame) (lost v c t) refl refl k (record {
+  lose_keeps = book_next refl refl k (record {
     lawful = tt;
     allowed = ap is_started started_is;
     online = tt;
@@ -196,14 +191,14 @@ module _ (v : Seen) (c : ℕ) (t : Transfer) (k : KeepsBook v) (mine : (v.proces
         (like_frame (shown v) t.frame frame.Free (ap is_going_frame started_is) refl) v.owner k.going_owned;
     tied = tied_lost v.bound v.reads v.words k.tied t.frame t.uid t.page;
     holding_right = transfer_right v.bound (shown v).descriptor v.processors c None k.holding_right;
-    under_way = under_way_less v.reads v.processors c t k.under_way mine;
+    under_way = under_way_less c t k.under_way mine;
     runs = k.runs;
   })
 
   -- the page is in the frame
   pub end_keeps : v.active t.uid ≡ true → KeepsBook (brought v c t)
   unfolding IsLawful after_entry custody_next
-  end_keeps active = book_next v (entry.Here t.frame t.uid t.page) (brought v c t) refl refl k (record {
+  end_keeps active = book_next refl refl k (record {
     lawful = tt;
     allowed = inl (record { started = started_is; active = active });
     online = tt;
@@ -222,7 +217,7 @@ module _ (v : Seen) (c : ℕ) (t : Transfer) (k : KeepsBook v) (mine : (v.proces
         (shown v).descriptor v.processors c None
         (λ d. right_frame v.bound (shown v).descriptor t.frame (Some (t.uid, t.page)) (v.processors d)
         (started_nobody d) (k.holding_right d));
-    under_way = under_way_less v.reads v.processors c t k.under_way mine;
+    under_way = under_way_less c t k.under_way mine;
     runs = k.runs;
   })
     where
@@ -241,7 +236,7 @@ pub record CanMake (v : Seen) (f u p : ℕ) : Type 0 where
 
 pub here_keeps : (v : Seen) (f u p : ℕ) → KeepsBook v → CanMake v f u p → KeepsBook (here v f u p)
 unfolding IsLawful after_entry custody_next
-here_keeps v f u p k can = book_next v (entry.Here f u p) (here v f u p) refl refl k (record {
+here_keeps v f u p k can = book_next refl refl k (record {
   lawful = tt;
   allowed = inr (assumption (free, in_no_frame v u p k nowhere none));
   online = tt;

@@ -1,11 +1,6 @@
 -- What a `truncate` must have out of use is so where it takes effect: the pages that it cuts off are those that its job
 -- took, and the one that keeps a word is here again.
-use Rattle.machine_model.proofs.Prelude.{cond_both, not-false, cases_Bool, not-true, nat_tests, eqb_self, ne_eqb, [], ◌≡◌, ◌≢◌, ◌<◌, ◌≤◌, ◌*◌, ℕ, zero, suc, ◌+◌, ◌-◌, ◌/◌, ◌%◌, Bool, true, false, not, ◌&&◌, cond, eqb, List, ◌∷◌, ◌++◌, length, take, replicate, get_or, set, Option, Some, None, ◌⊎◌, inl, inr, refl, sym, ap, subst, ◌∙◌, arith, nat_le, nat_lt, Result, Ok, Err, eqb_tells, leb_tells, get_or-set_same, get_or_past, length-set, Path, Reply, Node, after_reference, bound_page, started_page, Ptw, frame_in, words_in, place_of, table_of, node_at, segment_at, is_zero_page, without_words, is_lost, zero_words, has, is_going_frame, page_of, LosesNoPage, OfNode, at_put_two, page_at, page_or_zero, first_past, pages_past, stays, with_cut, without_page, AreDistinct, names, seen, are_zeros, here_if, page_in, with_here, Keeps, cut_of_owner, flat_of, frames_of_owner, is_active, process_at, Seen, shown, use_of, State, Storage, with_owner, with_pages, IsTakenFor, only_found, and-false, binding_at, read_at, has_head, has_tail, not_both, page_is, map_kept}
-use Rattle.script.specs.declared.commands.Command.TheVariants as command
-use Rattle.core_map.specs.declared.Frame.TheVariants as frame
-use Rattle.page_table.specs.declared.Ptw.TheVariants as ptw
-use Rattle.page_control.specs.Effects.{cut}
-use Rattle.custody_model.specs.declared.FrameUse.TheVariants as frame_use
+use Rattle.machine_model.proofs.Prelude.{cond_both, not-false, cases_Bool, not-true, nat_tests, eqb_self, ne_eqb, [], ◌≡◌, ◌≢◌, ◌<◌, ◌≤◌, ◌*◌, ℕ, zero, suc, ◌+◌, ◌-◌, ◌/◌, ◌%◌, Bool, true, false, not, ◌&&◌, cond, eqb, List, ◌∷◌, ◌++◌, length, take, replicate, get_or, set, Option, Some, None, ◌⊎◌, inl, inr, refl, sym, ap, subst, ◌∙◌, arith, nat_le, nat_lt, Result, Ok, Err, eqb_tells, leb_tells, get_or-set_same, get_or_past, length-set, Path, Reply, Node, after_reference, bound_page, started_page, Ptw, frame_in, words_in, place_of, table_of, node_at, segment_at, is_zero_page, without_words, is_lost, zero_words, has, is_going_frame, page_of, LosesNoPage, OfNode, at_put_two, page_at, page_or_zero, first_past, pages_past, stays, with_cut, without_page, AreDistinct, names, seen, are_zeros, here_if, page_in, with_here, Keeps, cut_of_owner, flat_of, frames_of_owner, is_active, process_at, Seen, shown, use_of, State, Storage, with_owner, with_pages, IsTakenFor, only_found, and-false, binding_at, read_at, has_head, has_tail, not_both, page_is, map_kept, Command as command, Frame as frame, Ptw as ptw, effects_cut as cut, FrameUse as frame_use, page_referred}
 use Rattle.machine_model.proofs.ChainLaws.{going_word}
 use Rattle.machine_model.proofs.CommitAsks.{IsOut, Rests}
 use Rattle.machine_model.proofs.CommitKept.{effected}
@@ -24,7 +19,6 @@ use Rattle.machine_model.proofs.TruncateKept.{QuietWords, all_left, cut_store, l
 use Rattle.machine_model.proofs.TransferKept.{active_at}
 use Rattle.machine_model.proofs.WordLaws.{word_within}
 use Rattle.machine_model.proofs.ActiveKept.{started_after}
-use Rattle.page_control.proofs.Facts.{page_referred}
 
 -- ---- the page that the words cut
 
@@ -220,23 +214,23 @@ next_pages v f fs page b h = record {
   alone = λ g i x y. h.alone g i (has_tail f fs g x) (has_tail f fs i y);
 }
 
-left_other : (v : Seen) (test : ℕ → Bool) (fs : List ℕ) (page : ℕ → ℕ × ℕ) (w q : ℕ) → HavePages v fs page
+left_other : (v : Seen) (test : ℕ → Bool) (fs : List ℕ) {page : ℕ → ℕ × ℕ} (w q : ℕ) → HavePages v fs page
     → ((f : ℕ) → has fs f ≡ true → (page f).0 ≡ w → (page f).1 ≡ q → ⊥) → (leaves v test fs).words w q ≡ v.words w q
-left_other v test [] page w q h n = refl
-left_other v test (f ∷ fs) page w q h n =
-    left_other (leaf v f (test f)) test fs page w q (next_pages v f fs page (test f) h) (λ g i. n g (has_tail f fs g i))
+left_other v test [] w q h n = refl
+left_other v test (f ∷ fs) w q h n =
+    left_other (leaf v f (test f)) test fs w q (next_pages v f fs _ (test f) h) (λ g i. n g (has_tail f fs g i))
     ∙ leaf_word v f (test f) w q (λ a b. n f (has_head f fs) (rw (h.each f (has_head f fs)) at (sym a))
     (rw (h.each f (has_head f fs)) at (sym b)))
 
-left_this : (v : Seen) (test : ℕ → Bool) (fs : List ℕ) (page : ℕ → ℕ × ℕ) (f : ℕ) → HavePages v fs page
+left_this : (v : Seen) (test : ℕ → Bool) (fs : List ℕ) {page : ℕ → ℕ × ℕ} (f : ℕ) → HavePages v fs page
     → has fs f ≡ true → (leaves v test fs).words (page f).0 (page f).1 ≡ cond (test f) (ptw.Here f) ptw.Null
-left_this v test [] page f h i = cc
-left_this v test (g ∷ gs) page f h i = elim (eqb_tells g f) [
-  | inl e ↦ left_other (leaf v g (test g)) test gs page (page f).0 (page f).1 (next_pages v g gs page (test g) h)
+left_this v test [] f h i = cc
+left_this v test (g ∷ gs) {page} f h i = elim (eqb_tells g f) [
+  | inl e ↦ left_other (leaf v g (test g)) test gs (page f).0 (page f).1 (next_pages v g gs page (test g) h)
       (λ j x a b. not_both (rw (h.alone j f (has_tail g gs j x) i a b ∙ sym e.1) at x) h.once.0)
       ∙ (cc (leaf_this v g (test g) (page f).0 (page f).1 (its e.1 (λ (x : ℕ × ℕ). x.0))
       (its e.1 (λ (x : ℕ × ℕ). x.1))))
-  | inr m ↦ left_this (leaf v g (test g)) test gs page f (next_pages v g gs page (test g) h) (rw m.0 at i)
+  | inr m ↦ left_this (leaf v g (test g)) test gs f (next_pages v g gs page (test g) h) (rw m.0 at i)
 ]
   where
     its : g ≡ f → (part : ℕ × ℕ → ℕ) → part (page f) ≡ part (page_at v g)
@@ -508,13 +502,12 @@ module _ (s : State) (c : ℕ) (path : Path) (size : ℕ) (keeps : Keeps s)
   -- no frame that the job took has the page
   left_same : (w q : ℕ) → ((f : ℕ) → word_in st w q ≢ ptw.Leaving f)
       → (all_left s c (process_at s c) path size).words w q ≡ word_in st w q
-  left_same w q n = left_other (seen s) test fs (λ f. page_at (seen s) f) w q have_pages
-      (λ f i a b. n f (rw (← a, ← b) (taken_word s keeps f i)))
+  left_same w q n = left_other (seen s) test fs w q have_pages (λ f i a b. n f (rw (← a, ← b) (taken_word s keeps f i)))
 
   left_its : (f : ℕ) → has fs f ≡ true → (m : IsMine f)
       → (all_left s c (process_at s c) path size).words u m.page ≡ cond (test f) (ptw.Here f) ptw.Null
   left_its f e m = (λ t. (all_left s c (process_at s c) path size).words (sym m.its t).0 (sym m.its t).1)
-      ∙ left_this (seen s) test fs (λ g. page_at (seen s) g) f have_pages e
+      ∙ left_this (seen s) test fs f have_pages e
 
   reads_none : (f q : ℕ) → p ≤ q → (all_left s c (process_at s c) path size).reads f ≡ Some (u, q) → ⊥
   reads_none f q le e = not_read f q (cc (left_reads (seen s) test fs)) le

@@ -1,10 +1,6 @@
 -- A segment is truncated, then deleted: what was taken goes in the order in which it was taken, and the cut page
 -- stays.
-use Rattle.machine_model.proofs.Prelude.{◌≡◌, [], ◌∷◌, None, refl, codes, ProcessPlan, State, book_of, machine_with, until}
-use Rattle.script.specs.declared.commands.Command.TheVariants as command
-use Rattle.book.specs.declared.entries.Entry.TheVariants as entry
-use Rattle.book.specs.declared.replies.Reply.TheVariants as reply
-use Rattle.assoc_mem.specs.declared.What.TheVariants as what
+use Rattle.machine_model.proofs.Prelude.{◌≡◌, [], ◌∷◌, None, refl, codes, ProcessPlan, State, book_of, machine_with, until, Command as command, Entry as entry, Reply as reply, What as what}
 use Rattle.machine_model.proofs.Examples.{four_pages, four_written}
 
 abbrev script : ProcessPlan

@@ -1,7 +1,5 @@
 -- Two processors read pages into two frames at once.
-use Rattle.machine_model.proofs.Prelude.{◌≡◌, [], ◌∷◌, refl, State, book_of, machine_with, ran, stepped}
-use Rattle.book.specs.declared.entries.Entry.TheVariants as entry
-use Rattle.assoc_mem.specs.declared.What.TheVariants as what
+use Rattle.machine_model.proofs.Prelude.{◌≡◌, [], ◌∷◌, refl, State, book_of, machine_with, ran, stepped, Entry as entry, What as what}
 use Rattle.machine_model.proofs.Examples.{smith, jones, read_begun}
 
 abbrev machine : State

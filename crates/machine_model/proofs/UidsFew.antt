@@ -1,6 +1,5 @@
 -- A machine makes few uids: one in each command that makes a directory or a segment.
-use Rattle.machine_model.proofs.Prelude.{◌≡◌, ◌<◌, ℕ, List, [], ◌∷◌, Option, Some, None, refl, arith, Plan, command_at, Command, Entry, IsAnswer, IsLawful, IsLegal, IsLegalFrom, MayFault, after_do, after_entry, after_fault, store_after, store_from, Store, boot, few_reached, reached_boot, reached_fault, reached_on, KeepsAll, State}
-use Rattle.book.specs.declared.entries.Entry.TheVariants as entry
+use Rattle.machine_model.proofs.Prelude.{◌≡◌, ◌<◌, ℕ, List, [], ◌∷◌, Option, Some, None, refl, arith, Plan, command_at, Command, Entry, IsAnswer, IsLawful, IsLegal, IsLegalFrom, MayFault, after_do, after_entry, after_fault, store_after, store_from, Store, boot, few_reached, reached_boot, reached_fault, reached_on, KeepsAll, State, Entry as entry}
 use Rattle.flat_model.specs.Reached.{IsReached}
 
 entry_reached : (p : Plan) (s : Store) (e : Entry) → IsReached p s → IsLawful p s e → IsReached p (after_entry p s e)

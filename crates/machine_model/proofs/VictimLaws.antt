@@ -1,15 +1,11 @@
 -- The victim of a full pool: there is one, and it isn't a link of the chain for which the pool is to have room.
-use Rattle.machine_model.proofs.Prelude.{or_left, eqb_self, not-true, eqb-true, range_with_len, cases_Bool, ◌≡◌, ◌≢◌, ◌<◌, ◌≤◌, ℕ, zero, suc, ◌+◌, ◌-◌, Bool, true, false, not, cond, eqb, List, [], ◌∷◌, get_or, length, reverse, is_some, is_none, Option, Some, None, ◌⊎◌, inl, inr, refl, sym, ap, subst, ◌∙◌, arith, Contains, take, position, nat_le, list_any, cases_lt, eqb_tells, length-reverse, sum_by-cons, ArePools, Node, above, has_directory, node_in, pool_for, pool_of, step_up, AreDirectories, IsChain, IsTree, IsMember, found_member, member_found, member_left, member_parts, member_right, has_chains, above_once, depth, superior_found, chain_of, Core, frame_at, is_bound, is_free, is_started, least_free_frame, clock_choice, or_else, round_frames, Frame, ActiveSegs, entry_at, uid_at, uid_in, IsInPool, first_of, size_of, HasOneOffChain, first_off_chain, hand_of, is_inferior_in, is_inferior_of, leaf_below, leaf_of, least_inferior, off_chain, places_from, round_pool, stead_of, victim_of, Keeps, IsMachine, first_inactive, free_place, is_active, places_in, State, not_both, passed_there}
-use Rattle.tree_model.proofs.TreeLaws.{superior_in}
-use Rattle.core_map.specs.declared.Frame.TheVariants as frame
-use Rattle.active_segs.specs.declared.Entry.{Entry}
+use Rattle.machine_model.proofs.Prelude.{or_left, eqb_self, not-true, eqb-true, range_with_len, cases_Bool, ◌≡◌, ◌≢◌, ◌<◌, ◌≤◌, ℕ, zero, suc, ◌+◌, ◌-◌, Bool, true, false, not, cond, eqb, List, [], ◌∷◌, get_or, length, reverse, is_some, is_none, Option, Some, None, ◌⊎◌, inl, inr, refl, sym, ap, subst, ◌∙◌, arith, Contains, take, position, nat_le, list_any, cases_lt, eqb_tells, length-reverse, sum_by-cons, ArePools, Node, above, has_directory, node_in, pool_for, pool_of, step_up, AreDirectories, IsChain, IsTree, IsMember, found_member, member_found, member_left, member_parts, member_right, has_chains, above_once, depth, superior_found, chain_of, Core, frame_at, is_bound, is_free, is_started, least_free_frame, clock_choice, or_else, round_frames, Frame, ActiveSegs, entry_at, uid_at, uid_in, IsInPool, first_of, size_of, HasOneOffChain, first_off_chain, hand_of, is_inferior_in, is_inferior_of, leaf_below, leaf_of, least_inferior, off_chain, places_from, round_pool, stead_of, victim_of, Keeps, IsMachine, first_inactive, free_place, is_active, places_in, State, not_both, passed_there, tree_laws_superior_in as superior_in, Frame as frame, Active as Entry, same_Some}
 use Rattle.active_segs.specs.Active as active
 use Rattle.machine_model.proofs.ChainFacts.{turned}
 use Rattle.machine_model.proofs.FindLaws.{first_idle, find_true, position_at, position_none}
 use Rattle.machine_model.proofs.OffChain.{pool_one_off}
 use Rattle.machine_model.proofs.PoolRoom.{range_has}
 use Rattle.machine_model.proofs.TieLaws.{none_some}
-use Rattle.std.proofs.lemmas.Option.{same_Some}
 use Rattle.machine_model.proofs.TransferKept.{active_at}
 
 -- ---- links
@@ -231,10 +227,10 @@ first_pool (a ∷ b ∷ c ∷ d ∷ []) h = omega arith
 first_pool _ h = absurd h
 
 -- a place of another pool isn't one of the first
-apart : (sizes : List ℕ) (pool q : ℕ) → pool ≢ 0 → IsInPool sizes 0 q → IsInPool sizes pool q → ⊥
-apart sizes zero q other a b = other refl
-apart [] (suc pool) q other a b = omega arith
-apart (x ∷ xs) (suc pool) q other a b = omega (arith, sum_by-cons (λ y. y) x (take pool xs))
+apart : (sizes : List ℕ) (pool : ℕ) {q : ℕ} → pool ≢ 0 → IsInPool sizes 0 q → IsInPool sizes pool q → ⊥
+apart sizes zero other a b = other refl
+apart [] (suc pool) other a b = omega arith
+apart (x ∷ xs) (suc pool) other a b = omega (arith, sum_by-cons (λ y. y) x (take pool xs))
 
 module _ (s : State) (m : IsMachine s) (about wanted : ℕ) where
   abbrev nodes : List Node
@@ -299,7 +295,7 @@ module _ (s : State) (m : IsMachine s) (about wanted : ℕ) where
                 → is_some o ≡ true → off_chain (chain_of nodes about) o ≡ true
             by None e i = absurd (let none : false ≡ true = i in cc)
             by (Some x) e i = elim (cases_Bool (is_link (chain_of nodes about) x.uid)) [
-              | inl j ↦ absurd (apart s.store.ast.sizes (pool_of n) (first_of s.store.ast.sizes (pool_of n)) other
+              | inl j ↦ absurd (apart s.store.ast.sizes (pool_of n) other
                   (link_in_first x.uid (first_of s.store.ast.sizes (pool_of n)) other (ap uid_in e)
                   (link_member (chain_of nodes about) x.uid j)) inside)
               | inr j ↦ ap not j
@@ -308,33 +304,3 @@ module _ (s : State) (m : IsMachine s) (about wanted : ℕ) where
     -- the full pool of the first link that isn't active has a victim
     pub has_victim : victim_of s.store.ast (pool_of n) (chain_of nodes about) ≢ None
     has_victim = some_victim s.store.ast (pool_of n) (chain_of nodes about) one_off
-
--- ---- a frame
-
-first_taken : (frames : List Frame) → 0 < length frames → position is_free frames ≡ None
-    → is_free (get_or frames 0 frame.Free) ≡ false
-first_taken [] some full = absurd (omega arith)
-first_taken (x ∷ xs) some full = position_none is_free (x ∷ xs) (frame.Started 0 0) 0 full refl
-
--- where no frame is free and the clock finds none, one is being read into
-pub one_read : (core : Core) → 0 < length core.frames → least_free_frame core ≡ None → clock_choice core ≡ None
-    → position is_started core.frames ≢ None
-one_read core some full none unread = by (frame_at core 0) refl
-  where
-    first : IsMember 0 (round_frames core)
-    first = elim (eqb_tells core.hand 0) [
-      | inl e ↦ member_left 0 _ _ (let hand = e.1 in range_has core.hand (length core.frames - core.hand) 0
-          (omega arith) (omega arith))
-      | inr n ↦ (let hand = n.1 in member_right 0 _ _ (range_has 0 core.hand 0 (omega arith) (omega arith)))
-    ]
-
-    no_bound : (x y : Option ℕ) → or_else x y ≡ None → y ≡ None
-    no_bound None y h = h
-    no_bound (Some f) y h = cc
-
-    by : (x : Frame) → frame_at core 0 ≡ x → ⊥
-    by frame.Free e = not_both (ap is_free e) (first_taken core.frames some full)
-    by (frame.Started u p) e = not_both (ap is_started e)
-        (position_none is_started core.frames frame.Free 0 unread refl)
-    by (frame.Bound u p used modified) e = member_found (λ f. is_bound (frame_at core f)) (round_frames core) 0 first
-        (ap is_bound e) (no_bound _ _ none)

@@ -1,8 +1,5 @@
 -- Two segments share the one place of their pool: each is emptied for the other.
-use Rattle.machine_model.proofs.Prelude.{◌≡◌, [], ◌∷◌, Some, None, refl, State, book_of, machine_with, until}
-use Rattle.book.specs.declared.entries.Entry.TheVariants as entry
-use Rattle.book.specs.declared.replies.Reply.TheVariants as reply
-use Rattle.assoc_mem.specs.declared.What.TheVariants as what
+use Rattle.machine_model.proofs.Prelude.{◌≡◌, [], ◌∷◌, Some, None, refl, State, book_of, machine_with, until, Entry as entry, Reply as reply, What as what}
 use Rattle.machine_model.proofs.Examples.{two_segments, room_wanted}
 
 abbrev machine : State

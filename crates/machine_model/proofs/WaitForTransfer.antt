@@ -1,7 +1,5 @@
 -- A process needs a page that another processor is reading into a frame: it waits for that transfer.
-use Rattle.machine_model.proofs.Prelude.{◌≡◌, [], ◌∷◌, Some, refl, State, action_of, Waits, ForTransfer, book_of, machine_with, ran, stepped}
-use Rattle.book.specs.declared.entries.Entry.TheVariants as entry
-use Rattle.book.specs.declared.replies.Reply.TheVariants as reply
+use Rattle.machine_model.proofs.Prelude.{◌≡◌, [], ◌∷◌, Some, refl, State, action_of, Waits, ForTransfer, book_of, machine_with, ran, stepped, Entry as entry, Reply as reply}
 use Rattle.machine_model.proofs.Examples.{smith, jones, read_begun}
 
 abbrev machine : State

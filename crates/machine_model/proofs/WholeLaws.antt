@@ -1,10 +1,5 @@
 -- What was taken whole stays so, entry by entry; and what of it is no more to go is gone.
-use Rattle.machine_model.proofs.Prelude.{◌≡◌, ◌≢◌, ℕ, true, false, List, [], Option, Some, None, refl, sym, ap, subst, ◌∙◌, Plan, Entry, Store, DescriptorUse, FrameUse, Custody, has, is_going_descriptor, is_going_frame, leads_to, page_of, uid_of_page, HasNoPage, custody_next, with_descriptor, IsOwned, frames_of_owner, Owner, State, IsWhole, Spares, TakenWhole, going_for, some_same}
-use Rattle.book.specs.declared.entries.Entry.TheVariants as entry
-use Rattle.custody_model.specs.declared.DescriptorUse.TheVariants as descriptor
-use Rattle.custody_model.specs.declared.FrameUse.TheVariants as frame
-use Rattle.custody_model.specs.Custody.{cut, taken}
-use Rattle.custody_model.specs.Next.{with_frame}
+use Rattle.machine_model.proofs.Prelude.{◌≡◌, ◌≢◌, ℕ, true, false, List, [], Option, Some, None, refl, sym, ap, subst, ◌∙◌, Plan, Entry, Store, DescriptorUse, FrameUse, Custody, has, is_going_descriptor, is_going_frame, leads_to, page_of, uid_of_page, HasNoPage, custody_next, with_descriptor, IsOwned, frames_of_owner, Owner, State, IsWhole, Spares, TakenWhole, going_for, some_same, Entry as entry, DescriptorUse as descriptor, FrameUse as frame, custody_cut as cut, custody_taken as taken, next_with_frame as with_frame}
 use Rattle.machine_model.proofs.Places.{by_place, by_places}
 use Rattle.machine_model.proofs.TieLaws.{none_some}
 
@@ -37,8 +32,8 @@ cut_whole descriptor.Free u w h = w h
 cut_whole _ u w h = refl
 
 -- only seats, the ready list or what is active changes
-seat_whole : (c e : Custody) (u : ℕ) → e.frame ≡ c.frame → e.descriptor ≡ c.descriptor → IsWhole c u → IsWhole e u
-seat_whole c e u f d w = record {
+seat_whole : {c : Custody} (e : Custody) {u : ℕ} → e.frame ≡ c.frame → e.descriptor ≡ c.descriptor → IsWhole c u → IsWhole e u
+seat_whole e f d w = record {
   pages = rw f w.pages;
   descriptors = rw d w.descriptors;
 }
@@ -47,12 +42,12 @@ seat_whole c e u f d w = record {
 pub whole_next : (p : Plan) (s : Store) (c : Custody) (u : ℕ) (e : Entry) → IsWhole c u → Spares u e
     → IsWhole (custody_next p s c e) u
 unfolding custody_next
-whole_next p s c u (entry.Do k i d f r) w h = seat_whole c (custody_next p s c (entry.Do k i d f r)) u refl refl w
-whole_next p s c u (entry.Online d) w h = seat_whole c (custody_next p s c (entry.Online d)) u refl refl w
-whole_next p s c u (entry.Load d k) w h = seat_whole c (custody_next p s c (entry.Load d k)) u refl refl w
-whole_next p s c u (entry.Leave d) w h = seat_whole c (custody_next p s c (entry.Leave d)) u refl refl w
-whole_next p s c u (entry.Activate v) w h = seat_whole c (custody_next p s c (entry.Activate v)) u refl refl w
-whole_next p s c u (entry.Deactivate v) w h = seat_whole c (custody_next p s c (entry.Deactivate v)) u refl refl w
+whole_next p s c u (entry.Do k i d f r) w h = seat_whole (custody_next p s c (entry.Do k i d f r)) refl refl w
+whole_next p s c u (entry.Online d) w h = seat_whole (custody_next p s c (entry.Online d)) refl refl w
+whole_next p s c u (entry.Load d k) w h = seat_whole (custody_next p s c (entry.Load d k)) refl refl w
+whole_next p s c u (entry.Leave d) w h = seat_whole (custody_next p s c (entry.Leave d)) refl refl w
+whole_next p s c u (entry.Activate v) w h = seat_whole (custody_next p s c (entry.Activate v)) refl refl w
+whole_next p s c u (entry.Deactivate v) w h = seat_whole (custody_next p s c (entry.Deactivate v)) refl refl w
 whole_next p s c u (entry.Start f v q) w h = frame_whole c u f (frame.Started v q) w (λ e. absurd (h (some_same v u e)))
 whole_next p s c u (entry.Lose f) w h = frame_whole c u f frame.Free w (λ e. cc)
 whole_next p s c u (entry.Here f v q) w h = frame_whole c u f (frame.Current v q) w (λ e. absurd (h (some_same v u e)))
@@ -61,10 +56,10 @@ whole_next p s c u (entry.Connect k n v) w h =
 whole_next p s c u (entry.Take f) w h = frame_whole c u f (taken (c.frame f)) w (taken_whole (c.frame f) u (w.pages f))
 whole_next p s c u (entry.Cut k n) w h = descriptor_whole c u k n (cut (c.descriptor k n)) w
     (cut_whole (c.descriptor k n) u (w.descriptors k n))
-whole_next p s c u (entry.Signal d x) w h = seat_whole c (custody_next p s c (entry.Signal d x)) u refl refl w
-whole_next p s c u (entry.Clear d x) w h = seat_whole c (custody_next p s c (entry.Clear d x)) u refl refl w
-whole_next p s c u (entry.FillSeg d n) w h = seat_whole c (custody_next p s c (entry.FillSeg d n)) u refl refl w
-whole_next p s c u (entry.FillPage d f) w h = seat_whole c (custody_next p s c (entry.FillPage d f)) u refl refl w
+whole_next p s c u (entry.Signal d x) w h = seat_whole (custody_next p s c (entry.Signal d x)) refl refl w
+whole_next p s c u (entry.Clear d x) w h = seat_whole (custody_next p s c (entry.Clear d x)) refl refl w
+whole_next p s c u (entry.FillSeg d n) w h = seat_whole (custody_next p s c (entry.FillSeg d n)) refl refl w
+whole_next p s c u (entry.FillPage d f) w h = seat_whole (custody_next p s c (entry.FillPage d f)) refl refl w
 whole_next p s c u (entry.GonePage f) w h = frame_whole c u f frame.Free w (λ e. cc)
 whole_next p s c u (entry.BackPage f) w h = absurd h
 whole_next p s c u (entry.GoneSeg k n) w h = descriptor_whole c u k n descriptor.Free w (λ e. cc)

@@ -1,17 +1,11 @@
 -- What the owner's job rests on stays so through every action.
-use Rattle.machine_model.proofs.Prelude.{◌≡◌, ◌≤◌, ℕ, Bool, true, false, cond, List, [], ◌∷◌, ◌++◌, Option, Some, None, ◌⊎◌, inl, inr, refl, sym, ap, subst, ◌∙◌, arith, get_or, set, nat_le, Result, Ok, leb_tells, Plan, reference_of, Command, Reference, Entry, Reply, Node, node_in, segment_at, store_after, is_stored, is_stored_from, length_of, length_reply, stored_from, is_filed, refusal, custody_after, Custody, custody_after-push, Mover, Core, reads_of, after_reference, frame_at, started_page, Aim, Phase, holding, Keeps, IsMovedFor, MovesForNext, MovesIn, Tables, tables_of, past_page, with_copy, flat_of, is_active, outside_refusal, refusal_of, uid_of_number, uid_of, kst_at, read_at, IsUnread, State, Storage, IsWhole, Spares, FailsBy, FailsIn, MayChange, MayFailBy, append-nil, append_assoc, Frame, not_both}
-use Rattle.script.specs.declared.commands.Command.TheVariants as command
-use Rattle.book.specs.declared.replies.Reply.TheVariants as reply
-use Rattle.core_map.specs.CoreMap.{with_frame}
-use Rattle.machine_model.specs.declared.Aim.TheVariants as aim
-use Rattle.machine_model.specs.declared.Phase.TheVariants as phase
+use Rattle.machine_model.proofs.Prelude.{◌≡◌, ◌≤◌, ℕ, Bool, true, false, cond, List, [], ◌∷◌, ◌++◌, Option, Some, None, ◌⊎◌, inl, inr, refl, sym, ap, subst, ◌∙◌, arith, get_or, set, nat_le, Result, Ok, leb_tells, Plan, reference_of, Command, Reference, Entry, Reply, Node, node_in, segment_at, store_after, is_stored, is_stored_from, length_of, length_reply, stored_from, is_filed, refusal, custody_after, Custody, custody_after-push, Mover, Core, reads_of, after_reference, frame_at, started_page, Aim, Phase, holding, Keeps, IsMovedFor, MovesForNext, MovesIn, Tables, tables_of, past_page, with_copy, flat_of, is_active, outside_refusal, refusal_of, uid_of_number, uid_of, kst_at, read_at, IsUnread, State, Storage, IsWhole, Spares, FailsBy, FailsIn, MayChange, MayFailBy, append-nil, append_assoc, Frame, not_both, Command as command, Reply as reply, core_map_with_frame as with_frame, Aim as aim, Phase as phase, Frame as frame, false_from_ne_true}
 use Rattle.machine_model.proofs.CommandFacts.{LeadsToSegment, length_stands, truncate_stands}
 use Rattle.machine_model.proofs.InsideLaws.{inside_is}
 use Rattle.machine_model.proofs.ListLaws.{map_list}
 use Rattle.machine_model.proofs.LookFacts.{FindsActive, FindsCut, FindsPage, IsAbout}
 use Rattle.machine_model.proofs.ReleaseSeen.{set_either}
 use Rattle.machine_model.proofs.WholeLaws.{whole_next}
-use Rattle.core_map.specs.declared.Frame.TheVariants as frame
 
 -- ---- entries that spare a segment
 
@@ -210,17 +204,13 @@ module _ (s : State) (k : ℕ) (cmd : Command) (keeps : Keeps s) where
 
       none_filed : (q : ℕ) → finds.pages ≤ q → is_filed s.store.accounts s.store.pages.vtocs leads.node.uid q ≡ false
       none_filed q le = sym (keeps.faithful.pages.stored leads.node.uid q)
-          ∙ by (is_stored (flat_of s).stored leads.node.uid q) refl
+          ∙ false_from_ne_true (is_stored (flat_of s).stored leads.node.uid q) (λ e. cc (
+            stored_from (flat_of s).stored leads.node.uid finds.pages q e le_tells,
+            none_from_is s k finds.path finds.pages leads.node leads.found stands,
+          ))
         where
           le_tells : nat_le finds.pages q ≡ true
           le_tells = elim (leb_tells finds.pages q) [
             | inl e ↦ e.0
             | inr n ↦ (let lt = n.1 in absurd (omega arith))
           ]
-
-          by : (b : Bool) → is_stored (flat_of s).stored leads.node.uid q ≡ b → b ≡ false
-          by false e = refl
-          by true e = cc (
-            stored_from (flat_of s).stored leads.node.uid finds.pages q e le_tells,
-            none_from_is s k finds.path finds.pages leads.node leads.found stands,
-          )

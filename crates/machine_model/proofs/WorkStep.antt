@@ -1,5 +1,6 @@
 -- After each action the owner's job rests on what it rested on, or has another.
-use Rattle.machine_model.proofs.Prelude.{◌≡◌, ◌≢◌, ℕ, Bool, true, false, not, ◌&&◌, cond, eqb, is_some, List, [], ◌∷◌, ◌++◌, set, Option, Some, None, ◌⊎◌, inl, inr, refl, sym, ap, subst, ◌∙◌, eqb_tells, get_or-set_other, get_or-set_same, length-append, ◌≤◌, ◌+◌, arith, length, Mover, frame_at, Bound, Free, CutDescriptor, IsMovedFor, MovesIn, tables_of, copy_failed, move_begun, mover_to, moving, page_copied, past_page, with_copy, with_move, frames_of_owner, ◌%◌, Reference, referred, word_put, HasNoInferior, uid_at, alters, new_word, eviction_done, leaving_if, phase_signalled, with_choice, with_left, refusal_of, uid_of_command, read_use, old_word, command_at, Command, What, Entry, Reply, Node, node_in, Transfer, Left, words_in, Segment, AccountMaps, Plain, is_for, word_of, IsUnread, is_out, list_any, first_off_chain, hand_past, is_stored, word_reply, Store, is_stored-without, is_filed, superior_in, Phase, Processor, Run, any_page, Outcome, after, committed_at, holding, seen, deactivation_begun, emptied, entries_left, eviction_begun, left_of, owner_signalled, page_done, page_in, segment_taken, signalled, took, victim_taken, with_hand_moved, without_first_frame, write_failed, Keeps, IsMachine, cpu_at, cut_of_owner, flat_of, frame_reading, frames_from, is_active, next_command, no_processor, no_run, or_zero, process_at, run_at, trailers_in, without_left, frame_use, Owner, State, Storage, fault_told, frame_lost, looking, pages_after, told, transfer_failed, transferred, with_faults, with_pages, with_store, TakenWhole, goes_in, going_for, GoesJust, IsTakenBy, TakenIn, AreNumbered, OwnsFew, FailsIn, IsLeaf, IsWorking, MayFailBy, TakesSome, append_assoc, some_same}
+use Rattle.machine_model.proofs.Prelude.{◌≡◌, ◌≢◌, ℕ, Bool, true, false, not, ◌&&◌, cond, eqb, is_some, List, [], ◌∷◌, ◌++◌, set, Option, Some, None, ◌⊎◌, inl, inr, refl, sym, ap, subst, ◌∙◌, eqb_tells, get_or-set_other, get_or-set_same, length-append, ◌≤◌, ◌+◌, arith, length, Mover, frame_at, Bound, Free, CutDescriptor, IsMovedFor, MovesIn, tables_of, copy_failed, move_begun, mover_to, moving, page_copied, past_page, with_copy, with_move, frames_of_owner, ◌%◌, Reference, referred, word_put, HasNoInferior, uid_at, alters, new_word, eviction_done, leaving_if, phase_signalled, with_choice, with_left, refusal_of, uid_of_command, read_use, old_word, command_at, Command, What, Entry, Reply, Node, node_in, Transfer, Left, words_in, Segment, AccountMaps, Plain, is_for, word_of, IsUnread, is_out, list_any, first_off_chain, hand_past, is_stored, word_reply, Store, is_stored-without, is_filed, superior_in, Phase, Processor, Run, any_page, Outcome, after, committed_at, holding, seen, deactivation_begun, emptied, entries_left, eviction_begun, left_of, owner_signalled, page_done, page_in, segment_taken, signalled, took, victim_taken, with_hand_moved, without_first_frame, write_failed, Keeps, IsMachine, cpu_at, cut_of_owner, flat_of, frame_reading, frames_from, is_active, next_command, no_processor, no_run, or_zero, process_at, run_at, trailers_in, without_left, frame_use, Owner, State, Storage, fault_told, frame_lost, looking, pages_after, told, transfer_failed, transferred, with_faults, with_pages, with_store, TakenWhole, goes_in, going_for, GoesJust, IsTakenBy, TakenIn, AreNumbered, OwnsFew, FailsIn, IsLeaf, IsWorking, MayFailBy, TakesSome, append_assoc, some_same, What as what, Entry as entry, Reply as reply, Left as left, Ptw as ptw, FrameUse as frame, Aim as aim, Phase as phase, Action, Action as act, eqb_self, Aim, and-false}
+use Rattle.machine_model.proofs.ActionCases.{by_end}
 use Rattle.machine_model.proofs.CommandFacts.{LeadsToSegment, length_stands}
 use Rattle.machine_model.proofs.EmptyAsks.{hand_says, segment_inferiors, unread_any}
 use Rattle.machine_model.proofs.LeafLaws.{leaf_inferiors, victim_leaf}
@@ -7,17 +8,8 @@ use Rattle.machine_model.proofs.ListLaws.{within_by}
 use Rattle.machine_model.proofs.LookFacts.{FindsActive, FindsFull, FindsVictim}
 use Rattle.machine_model.proofs.StepKept.{hand_kept, IsMine}
 use Rattle.machine_model.proofs.TransferKept.{active_at}
-use Rattle.machine_model.proofs.WorkKept.{about_fails, length_fails, page_fails, AllSpare, IsLess, fails_in_less, fails_less, whole_on, frame_less, moved_on, moves_in_on, past_moved, referred_less, same_less, unread_less}
-use Rattle.assoc_mem.specs.declared.What.TheVariants as what
-use Rattle.book.specs.declared.entries.Entry.TheVariants as entry
-use Rattle.book.specs.declared.replies.Reply.TheVariants as reply
-use Rattle.page_control.specs.declared.Left.TheVariants as left
-use Rattle.page_table.specs.declared.Ptw.TheVariants as ptw
+use Rattle.machine_model.proofs.WorkKept.{about_fails, length_fails, page_fails, AllSpare, IsLess, fails_in_less, fails_less, whole_on, frame_less, moved_on, moves_in_on, past_moved, referred_less, same_less, unread_less, LeavesMove}
 use Rattle.machine_model.proofs.OutLaws.{NoneOut, word_out}
-use Rattle.custody_model.specs.declared.FrameUse.TheVariants as frame
-use Rattle.machine_model.specs.declared.Aim.TheVariants as aim
-use Rattle.machine_model.specs.declared.Phase.TheVariants as phase
-use Rattle.machine_model.specs.Actions as act
 use Rattle.machine_model.proofs.JustLaws.{AllStay, LeavesTaken, just_on, started_free, taken_in}
 use Rattle.machine_model.proofs.KeepLaws.{IsNoOwner}
 use Rattle.machine_model.proofs.ListSizes.{frames_from_few, trailers_few}
@@ -47,17 +39,52 @@ none_work now none = record {
   few = subst OwnsFew (sym none) (omega arith);
 }
 
+-- what a job at a phase rests on, of the command of a process
+record RestsOn (x : Phase) (s : State) (j : ℕ) : Type 0 where
+  fails : FailsIn x s.store j (next_command s j)
+  taken : TakenIn x s j (next_command s j)
+  moves : MovesIn x s.store j (next_command s j)
+
+was_resting : (s : State) (q : Owner) → IsWorking s → s.owner ≡ Some q → RestsOn q.phase s (process_at s q.cpu)
+was_resting s q w mine = record { fails = w.fails q mine; taken = w.taken q mine; moves = w.moves q mine }
+
+owner_work : (now : State) (q : Owner) → now.owner ≡ Some q → TakenWhole now
+    → ((u : ℕ) → going_for now.owner ≡ Some u → IsLeaf now.store u)
+    → AreNumbered now.store.links.known (cut_of_owner now.owner) → OwnsFew now.owner
+    → RestsOn q.phase now (process_at now q.cpu) → IsWorking now
+owner_work now q mine whole leaf numbered few rests = record {
+  whole = whole;
+  few = few;
+  numbered = numbered;
+  leaf = leaf;
+  fails = λ o h. (its o h).fails;
+  taken = λ o h. (its o h).taken;
+  moves = λ o h. (its o h).moves;
+}
+  where
+    its : (o : Owner) → now.owner ≡ Some o → RestsOn o.phase now (process_at now o.cpu)
+    its o h = rw (← (some_same q o (sym mine ∙ h))) rests
+
+-- an owner that makes no segment inactive
+idle_work : {now : State} (q : Owner) → now.owner ≡ Some q → goes_in q.phase ≡ None
+    → AreNumbered now.store.links.known (cut_of_owner now.owner) → OwnsFew now.owner
+    → RestsOn q.phase now (process_at now q.cpu) → IsWorking now
+idle_work {now} q mine idle = let none : going_for now.owner ≡ None = ap going_for mine ∙ idle in
+    owner_work now q mine (whole_idle now none) (λ u h. absurd (none_some (sym none ∙ h)))
+
 -- an owner that looks
 pub looking_work : (now : State) (q : Owner) → now.owner ≡ Some q → q.phase ≡ phase.Looking
     → AreNumbered now.store.links.known (cut_of_owner now.owner) → OwnsFew now.owner → IsWorking now
-looking_work now q mine looks numbered few = record {
-  few = few;
-  numbered = numbered;
-  whole = whole_idle now (cc);
-  leaf = λ u h. cc;
-  fails = λ o h. (rw (ap (λ (x : Owner). x.phase) (some_same o q (sym h ∙ mine)) ∙ looks) tt);
-  taken = λ o h. (rw (ap (λ (x : Owner). x.phase) (some_same o q (sym h ∙ mine)) ∙ looks) tt);
-  moves = λ o h. (rw (ap (λ (x : Owner). x.phase) (some_same o q (sym h ∙ mine)) ∙ looks) tt);
+looking_work now q mine looks numbered few =
+    idle_work q mine (ap goes_in looks) numbered few (rw looks (record { fails = tt; taken = tt; moves = tt }))
+
+-- a job rests on what it rested on
+rests_still : {s now : State} {x : Phase} {j : ℕ} → IsLess s.store now.store → LeavesTaken s now
+    → LeavesMove s.store now.store → next_command now j ≡ next_command s j → RestsOn x s j → RestsOn x now j
+rests_still {s} {now} {x} {j} less left leaves next h = record {
+  fails = rw next (fails_in_less x s.store now.store j (next_command s j) less h.fails);
+  taken = rw next (taken_in x s now j (next_command s j) left h.fails h.taken);
+  moves = rw next (moves_in_on x s.store now.store j (next_command s j) leaves h.moves);
 }
 
 -- ---- another processor's action
@@ -97,27 +124,24 @@ leaves_work s now k kept w l = record {
         whole_on s now l.more u k kept l.plan l.book (w.whole.whole u goes) (l.spares u goes));
   };
   leaf = λ u h. leaf_like s.store now.store u less.nodes l.active (w.leaf u (cc));
-  fails = λ o h. (let was = sym l.owner ∙ h in
-      rw (l.process o was) (rw (l.next o was) (fails_in_less o.phase s.store now.store (process_at s o.cpu)
-      (next_command s (process_at s o.cpu)) less (w.fails o was))));
-  taken = λ o h. (let was = sym l.owner ∙ h in
-      rw (l.process o was) (rw (l.next o was) (taken_in o.phase s now (process_at s o.cpu)
-      (next_command s (process_at s o.cpu)) (record {
-        nodes = less.nodes;
-        known = less.known;
-        active = l.active;
-        out = l.out;
-        just = λ Page Descriptor j. just_on Page Descriptor s now l.more k kept l.plan l.book j
-            (l.stays Page Descriptor j);
-        stands = stands_on s now k kept less.nodes less.known;
-      }) (w.fails o was) (w.taken o was))));
-  moves = λ o h. (let was = sym l.owner ∙ h in
-      rw (l.process o was, l.next o was) (moves_in_on o.phase s.store now.store (process_at s o.cpu)
-      (next_command s (process_at s o.cpu)) (assumption) (w.moves o was)));
+  fails = λ o h. (rests o h).fails;
+  taken = λ o h. (rests o h).taken;
+  moves = λ o h. (rests o h).moves;
 }
   where
     less : IsLess s.store now.store
     less = same_less s.store now.store l.tables
+
+    rests : (o : Owner) → now.owner ≡ Some o → RestsOn o.phase now (process_at now o.cpu)
+    rests o h = let was = sym l.owner ∙ h in rw (l.process o was) (rests_still less (record {
+          nodes = less.nodes;
+          known = less.known;
+          active = l.active;
+          out = l.out;
+          just = λ Page Descriptor j. just_on Page Descriptor s now l.more k kept l.plan l.book j
+              (l.stays Page Descriptor j);
+          stands = stands_on s now k kept less.nodes less.known;
+        }) (assumption) (l.next o was) (was_resting s o w was))
 
 module _ (s : State) (c : ℕ) (k : Keeps s) (w : IsWorking s) (other : IsNoOwner s c) where
   -- one processor changes alone
@@ -166,6 +190,14 @@ module _ (s : State) (c : ℕ) (k : Keeps s) (w : IsWorking s) (other : IsNoOwne
 
 -- ---- a segment is taken
 
+module _ (s : State) (c : ℕ) (a : Aim) (v : What) (fs : List ℕ) (pairs : List (ℕ × ℕ)) where
+  took_process : process_at (took s c a v fs pairs) c ≡ process_at s c
+  took_process = ap (λ (ps : List Processor). or_zero (cpu_at ps c).process) (took_like s c a v fs pairs).processors
+
+  took_next : next_command (took s c a v fs pairs) (process_at s c) ≡ next_command s (process_at s c)
+  took_next = λ i. command_at ((took_like s c a v fs pairs).plan i) (process_at s c)
+      (run_at ((took_like s c a v fs pairs).runs i) (process_at s c)).place
+
 module _ (s : State) (c u : ℕ) (k : Keeps s) (idle : IsIdle s.owner) (none : going_for s.owner ≡ None)
     (active : is_active s.store.ast u ≡ true) (unread : frame_reading s.store.pages.core u any_page ≡ None)
     (inferiors : (v : ℕ) → is_active s.store.ast v ≡ true → superior_in (node_in s.store.accounts.nodes v) ≢ Some u)
@@ -176,27 +208,20 @@ module _ (s : State) (c u : ℕ) (k : Keeps s) (idle : IsIdle s.owner) (none : g
       → AreNumbered s.store.links.known (cut_of_owner (took s c (aim.Deactivating u) (what.Seg u) fs pairs).owner)
       → OwnsFew (took s c (aim.Deactivating u) (what.Seg u) fs pairs).owner
       → IsWorking (took s c (aim.Deactivating u) (what.Seg u) fs pairs)
-  took_work fs pairs some whole numbered few = record {
-    few = few;
-    whole = whole;
-    numbered = rw like.known numbered;
-    leaf = λ v h. subst (IsLeaf now.store) (some_same u v (cc (has.owner, h)))
-        (leaf_like s.store now.store u (cc (like.accounts))
-        (λ x. ap (λ (es : List (Option Segment)). list_any (is_for x) es) like.entries)
-        (record { active = active; inferiors = inferiors }));
-    fails = λ q h. (rw (← (some_same _ q (sym has.owner ∙ h)))
-        (subst (λ (j : ℕ). MayFailBy now.store j (next_command now j))
-        (sym (ap (λ (ps : List Processor). or_zero (cpu_at ps c).process) like.processors))
-        (subst (λ (x : Option Command). MayFailBy now.store (process_at s c) x) (λ i. command_at (sym like.plan i)
-        (process_at s c) (run_at (sym like.runs i) (process_at s c)).place) (fails_less s.store now.store
-        (process_at s c) (next_command s (process_at s c)) (record {
-          nodes = ap (λ (a : AccountMaps). a.nodes) like.accounts;
-          known = like.known;
-          filed = λ v q e. (λ i. is_filed (like.accounts i) (ap (λ (x : Plain). x.vtocs) like.pages i) v q) ∙ e;
-        }) fails))));
-    taken = λ q h. (rw (← (some_same _ q (sym has.owner ∙ h))) tt);
-    moves = λ q h. (rw (← (some_same _ q (sym has.owner ∙ h))) tt);
-  }
+  took_work fs pairs some whole numbered few = owner_work now _ has.owner whole
+      (λ v h. subst (IsLeaf now.store) (some_same u v (cc (has.owner, h)))
+      (leaf_like s.store now.store u (cc (like.accounts))
+      (λ x. ap (λ (es : List (Option Segment)). list_any (is_for x) es) like.entries)
+      (record { active = active; inferiors = inferiors }))) (rw like.known numbered) few (record {
+        fails = rw (took_process s c _ _ fs pairs, took_next s c _ _ fs pairs) (fails_less s.store now.store
+            (process_at s c) (next_command s (process_at s c)) (record {
+              nodes = ap (λ (a : AccountMaps). a.nodes) like.accounts;
+              known = like.known;
+              filed = λ v q e. (λ i. is_filed (like.accounts i) (ap (λ (x : Plain). x.vtocs) like.pages i) v q) ∙ e;
+            }) fails);
+        taken = tt;
+        moves = tt;
+      })
     where
       now : State
       now = took s c (aim.Deactivating u) (what.Seg u) fs pairs
@@ -216,7 +241,7 @@ module _ (s : State) (c u : ℕ) (k : Keeps s) (idle : IsIdle s.owner) (none : g
       took_work (f ∷ fs) pairs (inl (λ e. (let no_one = e in cc))) whole numbered few
 
   own : eqb u u ≡ true
-  own = elim (eqb_tells u u) [ inl e ↦ e.0 | inr n ↦ absurd (n.1 refl) ]
+  own = eqb_self u
 
   pub begun_work : IsWorking (deactivation_begun s c u)
   begun_work = by_lists (frames_from s.store.ast u 0) (trailers_in s.store u)
@@ -246,74 +271,32 @@ module _ (s : State) (c : ℕ) (k : Keeps s) (w : IsWorking s) where
       by (phase.Waiting a v) = refl
       by (phase.Moving m) = refl
 
-  fails_signalled : (x : Phase) (st : Storage) (j : ℕ) (y : Option Command) → FailsIn x st j y
-      → FailsIn (phase_signalled x) st j y
-  fails_signalled phase.Looking st j y h = h
-  fails_signalled (phase.Taken a v) st j y h = h
-  fails_signalled (phase.Waiting a v) st j y h = h
-  fails_signalled (phase.Moving m) st j y h = h
+  rests_signalled : (x : Phase) (now : State) (j : ℕ) → RestsOn x now j → RestsOn (phase_signalled x) now j
+  rests_signalled (phase.Taken a v) now j h = record { fails = h.fails; taken = h.taken; moves = tt }
+  rests_signalled phase.Looking now j h = h
+  rests_signalled (phase.Waiting a v) now j h = h
+  rests_signalled (phase.Moving m) now j h = h
 
-  moves_signalled : (x : Phase) (st : Storage) (j : ℕ) (y : Option Command) → MovesIn x st j y
-      → MovesIn (phase_signalled x) st j y
-  moves_signalled phase.Looking st j y h = h
-  moves_signalled (phase.Taken a v) st j y h = h
-  moves_signalled (phase.Waiting a v) st j y h = h
-  moves_signalled (phase.Moving m) st j y h = h
-
-  taken_signalled : (x : Phase) (now : State) (j : ℕ) (y : Option Command) → TakenIn x now j y
-      → TakenIn (phase_signalled x) now j y
-  taken_signalled phase.Looking now j y h = h
-  taken_signalled (phase.Taken a v) now j y h = h
-  taken_signalled (phase.Waiting a v) now j y h = h
-  taken_signalled (phase.Moving m) now j y h = h
-
-  signal_work : (what : What) → Keeps (signalled s c what) → IsWorking (signalled s c what)
-  signal_work what kept = record {
-    whole = record {
-      whole = λ u h. whole_on s (signalled s c what) (entry.Signal c what ∷ []) u k kept refl refl
-          (w.whole.whole u (sym (goes_signalled s.owner) ∙ h)) (tt, tt);
-    };
-    leaf = λ u h. w.leaf u (sym (goes_signalled s.owner) ∙ h);
-    fails = λ q h. by s.owner refl q h;
-    numbered = rw (cut_signalled s.owner) w.numbered;
-    few = signalled_few s.owner w.few;
-    taken = λ q h. takes s.owner refl q h;
-    moves = λ q h. moved s.owner refl q h;
-  }
-    where
-      moved : (o : Option Owner) → s.owner ≡ o → (q : Owner) → owner_signalled o ≡ Some q
-          → MovesIn q.phase s.store (process_at (signalled s c what) q.cpu)
-          (next_command (signalled s c what) (process_at (signalled s c what) q.cpu))
-      moved None e q h = cc
-      moved (Some x) e q h = rw (← (some_same _ q h)) (rw (ap or_zero ((told_seats s c what).process x.cpu))
-          (moves_signalled x.phase s.store (process_at s x.cpu) (next_command s (process_at s x.cpu)) (w.moves x e)))
-
-      left : LeavesTaken s (signalled s c what)
-      left = record {
+  signal_work : (what : What) → IsMine s c → Keeps (signalled s c what) → IsWorking (signalled s c what)
+  signal_work what mine kept = owner_work now _ (ap owner_signalled mine.mine) (record {
+    whole = λ u h. whole_on s now (entry.Signal c what ∷ []) u k kept refl refl
+        (w.whole.whole u (sym (goes_signalled s.owner) ∙ h)) (tt, tt);
+  }) (λ u h. w.leaf u (sym (goes_signalled s.owner) ∙ h)) (rw (cut_signalled s.owner) w.numbered)
+      (signalled_few s.owner w.few) (rests_signalled q.phase now (process_at now q.cpu)
+      (rw (ap or_zero ((told_seats s c what).process q.cpu)) (rests_still (same_less s.store s.store refl) (record {
         nodes = refl;
         known = refl;
         active = λ u. refl;
         out = λ u q e. e;
-        just = λ Page Descriptor j. just_on Page Descriptor s (signalled s c what) (entry.Signal c what ∷ []) k kept
-            refl refl j (tt, tt);
-        stands = stands_on s (signalled s c what) k kept refl refl;
-      }
+        just = λ Page Descriptor j. just_on Page Descriptor s now (entry.Signal c what ∷ []) k kept refl refl j (tt, tt);
+        stands = stands_on s now k kept refl refl;
+      }) (record { tables = refl; active = λ u. refl; unread = λ u h. h }) refl (was_resting s q w mine.mine))))
+    where
+      q : Owner
+      q = mine.owner
 
-      takes : (o : Option Owner) → s.owner ≡ o → (q : Owner) → owner_signalled o ≡ Some q
-          → TakenIn q.phase (signalled s c what) (process_at (signalled s c what) q.cpu)
-          (next_command (signalled s c what) (process_at (signalled s c what) q.cpu))
-      takes None e q h = cc
-      takes (Some x) e q h = rw (← (some_same _ q h))
-          (rw (ap or_zero ((told_seats s c what).process x.cpu)) (taken_signalled x.phase (signalled s c what)
-          (process_at s x.cpu) (next_command s (process_at s x.cpu)) (taken_in x.phase s (signalled s c what)
-          (process_at s x.cpu) (next_command s (process_at s x.cpu)) left (w.fails x e) (w.taken x e))))
-
-      by : (o : Option Owner) → s.owner ≡ o → (q : Owner) → owner_signalled o ≡ Some q
-          → FailsIn q.phase s.store (process_at (signalled s c what) q.cpu)
-          (next_command (signalled s c what) (process_at (signalled s c what) q.cpu))
-      by None e q h = cc
-      by (Some x) e q h = rw (← (some_same _ q h)) (rw (ap or_zero ((told_seats s c what).process x.cpu))
-          (fails_signalled x.phase s.store (process_at s x.cpu) (next_command s (process_at s x.cpu)) (w.fails x e)))
+      now : State
+      now = signalled s c what
 
   -- a page has left its frame
   goes_less : (o : Option Owner) → going_for (without_first_frame o) ≡ going_for o
@@ -331,34 +314,24 @@ module _ (s : State) (c : ℕ) (k : Keeps s) (w : IsWorking s) where
 
   page_work : (f faults : ℕ) → IsEmptying s c → Keeps (page_done (with_faults s faults) f)
       → IsWorking (page_done (with_faults s faults) f)
-  page_work f faults emptying kept = record {
-    whole = record {
-      whole = λ u h. whole_on s now (entries_left f how (page_in s.store f)) u k kept refl refl
-          (w.whole.whole u (sym (goes_less s.owner) ∙ h)) (spares_left u f how (page_in s.store f));
-    };
-    leaf = λ u h. leaf_like s.store now.store u (nodes_left how f (page_in s.store f)) (λ v. refl)
-        (w.leaf u (sym (goes_less s.owner) ∙ h));
-    fails = λ q h. by s.owner refl q h;
-    numbered = rw (cut_less s.owner) w.numbered;
-    few = less_few s.owner w.few;
-    taken = λ q h. takes s.owner refl q h;
-    moves = λ q h. moved s.owner refl q h;
-  }
+  page_work f faults emptying kept = owner_work now _ (ap without_first_frame emptying.owner.mine) (record {
+    whole = λ u h. whole_on s now (entries_left f how (page_in s.store f)) u k kept refl refl
+        (w.whole.whole u (sym (goes_less s.owner) ∙ h)) (spares_left u f how (page_in s.store f));
+  }) (λ u h. leaf_like s.store now.store u (nodes_left how f (page_in s.store f)) (λ v. refl)
+      (w.leaf u (sym (goes_less s.owner) ∙ h))) (rw (cut_less s.owner) w.numbered) (less_few s.owner w.few)
+      (subst (λ (x : Phase). RestsOn x now (process_at s q.cpu)) (sym emptying.waits) (record {
+        fails = fails_less s.store now.store (process_at s q.cpu) (next_command s (process_at s q.cpu)) less
+            (subst (λ (x : Phase). FailsIn x s.store (process_at s q.cpu) (next_command s (process_at s q.cpu)))
+            emptying.waits (w.fails q emptying.owner.mine));
+        taken = tt;
+        moves = tt;
+      }))
     where
+      q : Owner
+      q = emptying.owner.owner
+
       now : State
       now = page_done (with_faults s faults) f
-
-      moved : (o : Option Owner) → s.owner ≡ o → (q : Owner) → without_first_frame o ≡ Some q
-          → MovesIn q.phase now.store (process_at s q.cpu) (next_command s (process_at s q.cpu))
-      moved None e q h = cc
-      moved (Some x) e q h = rw (← (some_same _ q h)) (rw (ap (λ (y : Owner). y.phase)
-          (some_same x emptying.owner.owner (cc)) ∙ emptying.waits) tt)
-
-      takes : (o : Option Owner) → s.owner ≡ o → (q : Owner) → without_first_frame o ≡ Some q
-          → TakenIn q.phase now (process_at s q.cpu) (next_command s (process_at s q.cpu))
-      takes None e q h = cc
-      takes (Some x) e q h = rw (← (some_same _ q h)) (rw (ap (λ (y : Owner). y.phase)
-          (some_same x emptying.owner.owner (cc)) ∙ emptying.waits) tt)
 
       how : Left
       how = left_of (words_in s.store.pages f)
@@ -367,12 +340,8 @@ module _ (s : State) (c : ℕ) (k : Keeps s) (w : IsWorking s) where
           → is_stored (without_left x page (flat_of s)).stored u q ≡ false
       stored_less left.Released page u q e = cc (
         is_stored-without (flat_of s).stored page.0 (λ i. eqb i page.1) u q,
-        off (not (eqb u page.0 && eqb q page.1)),
+        and-false (not (eqb u page.0 && eqb q page.1)),
       )
-        where
-          off : (b : Bool) → (b && false) ≡ false
-          off true = refl
-          off false = refl
       stored_less left.Kept page u q e = e
 
       less : IsLess s.store now.store
@@ -385,12 +354,6 @@ module _ (s : State) (c : ℕ) (k : Keeps s) (w : IsWorking s) where
           stored_less how (page_in s.store f) u q (k.faithful.pages.stored u q ∙ e),
         );
       }
-
-      by : (o : Option Owner) → s.owner ≡ o → (q : Owner) → without_first_frame o ≡ Some q
-          → FailsIn q.phase now.store (process_at s q.cpu) (next_command s (process_at s q.cpu))
-      by None e q h = cc
-      by (Some x) e q h = rw (← (some_same _ q h)) (fails_in_less x.phase s.store now.store (process_at s x.cpu)
-          (next_command s (process_at s x.cpu)) less (w.fails x e))
 
 -- ---- each action
 
@@ -409,7 +372,7 @@ pub record BeginsMove (s : State) (c u volume : ℕ) : Type 0 where
   pub moves : IsMovedFor s.store (process_at s c) (mover_to s.store u volume) (next_command s (process_at s c))
 
 -- what an action asks of the owner's job
-abbrev pub MayWork : State → ℕ → Outcome → act.Action → Type 0
+abbrev pub MayWork : State → ℕ → Outcome → Action → Type 0
 MayWork s c o act.Online = IsNoOwner s c
 MayWork s c o (act.Clear w) = IsNoOwner s c
 MayWork s c o (act.EndTransfer t) = IsNoOwner s c × ((cpu_at s.processors c).transfer ≡ Some t)
@@ -434,14 +397,6 @@ MayWork s c o (act.FinishPage f) = IsEmptying s c
 MayWork s c o (act.BeginMove u volume) = BeginsMove s c u volume
 MayWork s c o (act.CopyPage m p) = IsMoving s c m
 MayWork s c o _ = Unit {0}
-
-by_end : (o : Outcome) (well ill : State) → Keeps (cond o.failed ill well) → (Keeps well → IsWorking well)
-    → (o.failed ≡ true → Keeps ill → IsWorking ill) → IsWorking (cond o.failed ill well)
-by_end o well ill kept a b = by o.failed refl kept
-  where
-    by : (f : Bool) → o.failed ≡ f → Keeps (cond f ill well) → IsWorking (cond f ill well)
-    by true e h = b e h
-    by false e h = a h
 
 looking_goes : (s : State) (c : ℕ) → IsLooking s c → going_for s.owner ≡ None
 looking_goes s c l = cc
@@ -573,15 +528,8 @@ module _ (s : State) (c : ℕ) (o : Outcome) (m : IsMachine s) (w : IsWorking s)
   move_work : (now : State) (m : Mover) → now.owner ≡ Some (moving c m)
       → MayFailBy now.store (process_at now c) (next_command now (process_at now c))
       → IsMovedFor now.store (process_at now c) m (next_command now (process_at now c)) → IsWorking now
-  move_work now m mine fails moves = record {
-    whole = whole_idle now (ap going_for mine);
-    few = subst OwnsFew (sym mine) (omega arith);
-    numbered = rw mine tt;
-    leaf = λ u h. cc;
-    fails = λ q h. (rw (← (some_same _ q (sym mine ∙ h))) fails);
-    taken = λ q h. (rw (← (some_same _ q (sym mine ∙ h))) tt);
-    moves = λ q h. (rw (← (some_same _ q (sym mine ∙ h))) moves);
-  }
+  move_work now m mine fails moves = idle_work (moving c m) mine refl (rw mine tt)
+      (subst OwnsFew (sym mine) (omega arith)) (record { fails = fails; taken = tt; moves = moves })
 
   -- what the owner rests on that moves a segment
   pub moving_fails : (m : Mover) → IsMoving s c m → MayFailBy s.store (process_at s c) (next_command s (process_at s c))
@@ -598,7 +546,7 @@ module _ (s : State) (c : ℕ) (o : Outcome) (m : IsMachine s) (w : IsWorking s)
   commits (Some cmd) = none_work _ refl
 
   -- what an action asks of the job is all that it wants
-  pub work_kept : (a : act.Action) → MayWork s c o a → Keeps (after s c a o) → IsWorking (after s c a o)
+  pub work_kept : (a : Action) → MayWork s c o a → Keeps (after s c a o) → IsWorking (after s c a o)
   unfolding after
   work_kept act.IsStopped may kept = w
   work_kept act.HasEnded may kept = w
@@ -607,9 +555,8 @@ module _ (s : State) (c : ℕ) (o : Outcome) (m : IsMachine s) (w : IsWorking s)
       seat_work s c keeps w may _ _ (entry.Online c) kept refl (λ u. (tt, tt)) (λ Page. (tt, tt))
   work_kept (act.Clear v) may kept =
       seat_work s c keeps w may _ _ (entry.Clear c v) kept refl (λ u. (tt, tt)) (λ Page. (tt, tt))
-  work_kept (act.EndTransfer t) may kept = by_end o (transferred (with_faults s o.faults) c t)
-      (transfer_failed s c t o.faults) kept
-      (λ kept_well. leaves_work s (transferred (with_faults s o.faults) c t) keeps kept_well w (record {
+  work_kept (act.EndTransfer t) may kept = by_end (λ x. Keeps x → IsWorking x) o _ _
+      (λ e kept_well. leaves_work s (transferred (with_faults s o.faults) c t) keeps kept_well w (record {
         owner = refl;
         plan = refl;
         tables = refl;
@@ -649,7 +596,7 @@ module _ (s : State) (c : ℕ) (o : Outcome) (m : IsMachine s) (w : IsWorking s)
             (get_or-set_other (frame_lost s c t).processors c q.cpu _ no_processor (may.0 q h))
             ∙ set_process s c keeps w may.0 _ q h);
         next = λ q h. rw (told_is t may.2 failed, other_next s c keeps w may.0 q _ h m (may.2 failed));
-      }))
+      })) kept
   work_kept (act.Load n) may kept =
       seat_work s c keeps w may _ _ (entry.Load c n) kept refl (λ u. (tt, tt)) (λ Page. (tt, tt))
   work_kept act.Leave may kept =
@@ -669,64 +616,44 @@ module _ (s : State) (c : ℕ) (o : Outcome) (m : IsMachine s) (w : IsWorking s)
   work_kept (act.Connect n u) may kept = looking_work _ may.owner.owner may.owner.mine may.looks w.numbered w.few
   work_kept (act.Create f u p r) may kept = none_work _ refl
   work_kept (act.Start f u p) may kept = none_work _ refl
-  work_kept (act.Evict f) may kept = record {
-    whole = whole_idle (eviction_begun s c f) refl;
-    few = let a = ap (λ (fs : List ℕ). length fs) may.idle.frames in
-        let b = ap (λ (ds : List CutDescriptor). length ds) may.idle.cut in one_few f (omega arith);
-    numbered = rw (taking_less f).known w.numbered;
-    leaf = λ u h. cc;
-    fails = λ q h. (rw (← (some_same _ q h)) (rw may.next (fails_less s.store (eviction_begun s c f).store
-        (process_at s c) (Some may.command)
-        (taking_less f) (page_fails s (process_at s c) may.command keeps may.finds.uid may.finds.page
-        may.finds.case))));
-    taken = λ q h. (rw (← (some_same _ q h)) tt);
-    moves = λ q h. (rw (← (some_same _ q h)) tt);
-  }
+  work_kept (act.Evict f) may kept = idle_work _ refl refl
+      (rw (taking_less f).known w.numbered) (let a = ap (λ (fs : List ℕ). length fs) may.idle.frames in
+      let b = ap (λ (ds : List CutDescriptor). length ds) may.idle.cut in one_few f (omega arith)) (record {
+        fails = rw may.next (fails_less s.store (eviction_begun s c f).store (process_at s c) (Some may.command)
+            (taking_less f) (page_fails s (process_at s c) may.command keeps may.finds.uid may.finds.page
+            may.finds.case));
+        taken = tt;
+        moves = tt;
+      })
   work_kept (act.Empty u) may kept = begun_work s c u keeps may.idle (looking_goes s c may.looking) may.finds.active
       may.finds.unread (λ v h i. length_inferiors u may v (cc))
       (rw may.next (length_fails s (process_at s c) may.command keeps u may.finds))
   work_kept (act.EmptyVictim pool chain u) may kept = victim_fails pool chain u may
-  work_kept (act.TakeAway fs pairs v) may kept = let has = took_owner s c aim.Committing v fs pairs may.1.frames may.2
-      in record {
-        whole = whole_idle (took s c aim.Committing v fs pairs) (ap going_for has.owner);
-        few = took_few s c aim.Committing v fs pairs may.1 may.6;
-        numbered = rw (took_like s c aim.Committing v fs pairs).known (took_numbered s c aim.Committing v fs pairs keeps
-            w.numbered may.4);
-        leaf = λ u h. absurd (none_some (sym (ap going_for has.owner) ∙ h));
-        fails = λ q h. (rw (← (some_same _ q (sym has.owner ∙ h)))
-            (subst (λ (j : ℕ). TakesSome (next_command (took s c aim.Committing v fs pairs) j))
-            (sym (ap (λ (ps : List Processor). or_zero (cpu_at ps c).process) (took_like s c aim.Committing v fs
-            pairs).processors)) (subst TakesSome (λ i. command_at (sym (took_like s c aim.Committing v fs pairs).plan i)
-            (process_at s c) (run_at (sym (took_like s c aim.Committing v fs pairs).runs i) (process_at s c)).place)
-            may.3)));
-        taken = λ q h. (rw (← (some_same _ q (sym has.owner ∙ h)))
-            (subst (λ (j : ℕ). IsTakenBy (took s c aim.Committing v fs pairs) j
-            (next_command (took s c aim.Committing v fs pairs) j))
-            (sym (ap (λ (ps : List Processor). or_zero (cpu_at ps c).process) (took_like s c aim.Committing v fs
-            pairs).processors)) (subst (IsTakenBy (took s c aim.Committing v fs pairs) (process_at s c))
-            (λ i. command_at (sym (took_like s c aim.Committing v fs pairs).plan i) (process_at s c)
-            (run_at (sym (took_like s c aim.Committing v fs pairs).runs i) (process_at s c)).place) may.5)));
-        moves = λ q h. (rw (← (some_same _ q (sym has.owner ∙ h))) tt);
-      }
+  work_kept (act.TakeAway fs pairs v) may kept = idle_work _
+      (took_owner s c aim.Committing v fs pairs may.1.frames may.2).owner refl
+      (rw (took_like s c aim.Committing v fs pairs).known (took_numbered s c aim.Committing v fs pairs keeps w.numbered
+      may.4)) (took_few s c aim.Committing v fs pairs may.1 may.6) (record {
+        fails = rw (took_process s c aim.Committing v fs pairs, took_next s c aim.Committing v fs pairs) may.3;
+        taken = rw (took_process s c aim.Committing v fs pairs, took_next s c aim.Committing v fs pairs) may.5;
+        moves = tt;
+      })
   work_kept (act.BeginMove u volume) may kept = move_work (move_begun s c u volume) (mover_to s.store u volume) refl
       (fails_less s.store (with_move s.store (mover_to s.store u volume)) (process_at s c)
       (next_command s (process_at s c)) (same_less s.store (with_move s.store (mover_to s.store u volume)) refl)
       may.fails)
       (moved_on s.store (with_move s.store (mover_to s.store u volume)) (process_at s c) (mover_to s.store u volume)
       (next_command s (process_at s c)) (assumption) may.moves)
-  work_kept (act.CopyPage m page) may kept = by_end o (page_copied (with_faults s o.faults) c m page)
-      (copy_failed s c o.faults) kept
-      (λ h. move_work (page_copied (with_faults s o.faults) c m page) (past_page m page) refl
+  work_kept (act.CopyPage m page) may kept = by_end (λ x. Keeps x → IsWorking x) o _ _
+      (λ e h. move_work (page_copied (with_faults s o.faults) c m page) (past_page m page) refl
       (fails_less s.store (with_copy s.store m page) (process_at s c) (next_command s (process_at s c))
       (same_less s.store (with_copy s.store m page) refl) (moving_fails m may))
       (past_moved s.store (process_at s c) m page (next_command s (process_at s c)) (moving_rests m may)))
-      (λ e h. none_work _ refl)
+      (λ e h. none_work _ refl) kept
   work_kept (act.CommitMove m) may kept = looking_work _ (looking c) refl refl tt (omega arith)
-  work_kept (act.Signal v) may kept = signal_work s c keeps w v kept
-  work_kept (act.FinishEviction f) may kept = by_end o (eviction_done (with_faults s o.faults) c f)
-      (write_failed s c o.faults) kept (λ h. looking_work _ (looking c) refl refl tt (omega arith))
-      (λ e h. none_work _ refl)
-  work_kept (act.FinishPage f) may kept = by_end o (page_done (with_faults s o.faults) f)
-      (write_failed s c o.faults) kept (λ h. page_work s c keeps w f o.faults may h) (λ e h. none_work _ refl)
+  work_kept (act.Signal v) may kept = signal_work s c keeps w v may kept
+  work_kept (act.FinishEviction f) may kept = by_end (λ x. Keeps x → IsWorking x) o _ _
+      (λ e h. looking_work _ (looking c) refl refl tt (omega arith)) (λ e h. none_work _ refl) kept
+  work_kept (act.FinishPage f) may kept = by_end (λ x. Keeps x → IsWorking x) o _ _
+      (λ e h. page_work s c keeps w f o.faults may h) (λ e h. none_work _ refl) kept
   work_kept (act.Deactivate u) may kept = looking_work _ (looking c) refl refl tt (omega arith)
   work_kept act.Commit may kept = commits (next_command s (process_at s c))
