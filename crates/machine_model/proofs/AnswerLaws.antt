@@ -1,5 +1,5 @@
 -- A command is answered, a drive's failure is told, or the owner of the supervisor changes.
-use Rattle.machine_model.proofs.Prelude.{◌≡◌, ℕ, List, ◌++◌, Option, Some, refl, sym, ap, ◌∙◌, command_at, Command, Reply, gone_on, IsLawful, IsLawfulDo, MayFault, after_entry, progress_of, MayDo, at_put, custody_next, is_try, released_by, with_seat, answered, counted, KeepsBook, HoldsRight, IsRun, is_pending, Seen, flat, shown, seat_of, Processor, Run, Owner, Entry as entry, next_of as next_command, changes_failed as failed}
+use Rattle.machine_model.proofs.Prelude.{◌≡◌, ℕ, List, ◌++◌, Option, Some, refl, command_at, Command, Reply, gone_on, IsLawful, IsLawfulDo, MayFault, after_entry, progress_of, MayDo, at_put, custody_next, is_try, released_by, with_seat, answered, counted, KeepsBook, HoldsRight, IsRun, is_pending, Seen, flat, shown, seat_of, Processor, Run, Owner, Entry as entry, next_of as next_command, changes_failed as failed}
 use Rattle.machine_model.proofs.BookNext.{book_apart, book_next}
 use Rattle.machine_model.proofs.HeldLaws.{right_like, under_way_alike}
 use Rattle.machine_model.proofs.OwnedLaws.{IsIdle, like_seat, owned_like, owned_idle}
@@ -21,23 +21,23 @@ pub answer_keeps : (v : Seen) (c k place : ℕ) (f : Option ℕ) (r : Reply) (ru
     → CanAnswer v c k place f r run → KeepsBook (answered v c k place f r run)
 unfolding IsLawful after_entry custody_next
 answer_keeps v c k place f r run keeps can = book_next refl refl keeps (record {
-      lawful = can.lawful;
-      allowed = can.allowed;
-      online = tt;
-      next = λ i. record (shown v) { seat = λ d. put_map seat_of v.processors c p d i; ready = ready };
-      pending = refl;
-      going_owned = owned_like (shown v) (record (with_seat (shown v) c (seat_of p)) { ready = ready })
-          (like_seat (shown v) c (seat_of p) ready refl) v.owner keeps.going_owned;
-      tied = keeps.tied;
-      holding_right = λ d. by_place (λ (x : Processor). HoldsRight v.bound (shown v).descriptor x) v.processors c p d
-          (λ i. right_like (v.processors c) p (keeps.holding_right c) refl refl (keeps.holding_right c).warned)
-          (λ n. keeps.holding_right d);
-      under_way = under_way_alike v.reads v.processors (at_put v.processors c p)
-          (λ d. by_place (λ (x : Processor). x.cpu.transfer ≡ (v.processors d).cpu.transfer) v.processors c p d
-          (λ i. cc) (λ n. refl)) keeps.under_way;
-      runs = λ j. (rw can.there (runs_answered v.plan (flat v) k can.command r run v.runs can.lawful.going can.come
-          keeps.runs j));
-    })
+  lawful = can.lawful;
+  allowed = can.allowed;
+  online = tt;
+  next = λ i. record (shown v) { seat = λ d. put_map seat_of v.processors c p d i; ready = ready };
+  pending = refl;
+  going_owned = owned_like (shown v) (record (with_seat (shown v) c (seat_of p)) { ready = ready })
+      (like_seat (shown v) c (seat_of p) ready refl) v.owner keeps.going_owned;
+  tied = keeps.tied;
+  holding_right = λ d. by_place (λ (x : Processor). HoldsRight v.bound (shown v).descriptor x) v.processors c p d
+      (λ i. right_like (v.processors c) p (keeps.holding_right c) refl refl (keeps.holding_right c).warned)
+      (λ n. keeps.holding_right d);
+  under_way = under_way_alike v.reads v.processors (at_put v.processors c p)
+      (λ d. by_place (λ (x : Processor). x.cpu.transfer ≡ (v.processors d).cpu.transfer) v.processors c p d
+      (λ i. cc) (λ n. refl)) keeps.under_way;
+  runs = λ j. (rw can.there (runs_answered v.plan (flat v) k can.command r run v.runs can.lawful.going can.come
+      keeps.runs j));
+})
   where
     p : Processor
     p = counted (v.processors c) (is_try (flat v) k (next_command v.plan (flat v) k) r)

@@ -1,5 +1,5 @@
 -- The machine keeps its promise where a write failed: all that was still going comes back, and the process is told.
-use Rattle.machine_model.proofs.Prelude.{◌≡◌, ◌<◌, ◌≤◌, ℕ, zero, suc, count_by, List, [], ◌∷◌, ◌++◌, length, set, get_or, Option, Some, None, refl, sym, ap, subst, ◌∙◌, arith, length-set, ◌^◌, min, Rose, bound_page, frame_in, Sdw, place_of, sdws_at, MayFault, page_at, back, back_seg, KeepsBook, seen, here_if, page_back, pages_back, seg_back, segs_back, with_relink, write_failed, AreThere, Keeps, StoreSays, is_fault, cut_of_owner, flat_of, frames_of_owner, process_at, run_at, Seen, CutDescriptor, State, Storage, fault_told, looking, told, with_owner, without_first_cut, without_first_frame, Entry as entry, Reply as reply}
+use Rattle.machine_model.proofs.Prelude.{◌≡◌, ◌≤◌, ℕ, zero, suc, count_by, List, [], ◌∷◌, ◌++◌, length, set, get_or, Option, Some, None, refl, sym, subst, ◌∙◌, arith, length-set, ◌^◌, min, Rose, bound_page, frame_in, Sdw, place_of, sdws_at, MayFault, page_at, back, back_seg, KeepsBook, seen, here_if, page_back, pages_back, seg_back, segs_back, with_relink, write_failed, AreThere, Keeps, StoreSays, is_fault, cut_of_owner, flat_of, frames_of_owner, process_at, run_at, CutDescriptor, State, Storage, fault_told, looking, told, with_owner, without_first_cut, without_first_frame, Entry as entry, Reply as reply}
 use Rattle.machine_model.proofs.ActiveSeen.{active_place}
 use Rattle.machine_model.proofs.AnswerLaws.{fault_keeps}
 use Rattle.machine_model.proofs.ChainLaws.{GoesOn, back_on, first_finish, first_finish_seg, uncut_on, goes_with}
@@ -12,7 +12,6 @@ use Rattle.machine_model.proofs.OwnedLaws.{nobody}
 use Rattle.machine_model.proofs.OwnerLaws.{job_over}
 use Rattle.machine_model.proofs.TakeSeen.{HasTables}
 use Rattle.machine_model.proofs.TellKept.{CanTell, told_keeps}
-use Rattle.machine_model.proofs.TieLaws.{none_some}
 use Rattle.machine_model.proofs.TransferKept.{kept_with}
 
 -- ---- pages come back

@@ -1,5 +1,5 @@
 -- A step appends 320 entries to the book at the most, in room that was there.
-use Rattle.machine_model.proofs.Prelude.{cond_both, not, ◌&&◌, ◌⊎◌, inl, inr, list_all, ◌≡◌, ◌≤◌, ◌<◌, ℕ, ◌+◌, ◌-◌, Bool, true, false, cond, List, [], ◌∷◌, ◌++◌, length, map, Option, Some, None, refl, sym, ap, ◌∙◌, arith, length-append, length-map, Command, What, Entry, Reply, Transfer, Left, words_in, first_off_chain, hand_past, Aim, CutDescriptor, action_of, Outcome, after, committed, committed_at, cut_entry, frame_entry, gone_entries, inactive_entries, left_after, cut_all, cut_one, deactivation_begun, emptied, entries_left, eviction_done, left_of, page_back, page_done, page_in, pages_back, seg_back, seg_gone, segment_taken, segs_back, segs_gone, take_all, take_one, took, victim_taken, write_failed, Keeps, is_fault, copy_failed, page_copied, without_move, KeepsAll, flat_of, run_at, cut_of_owner, frames_from, frames_of_owner, is_active, next_command, process_at, trailers_in, reply_of, uid_of_command, State, Storage, calls_drive, booked, fault_told, frame_lost, page_made, told, transfer_failed, old_word, transferred, with_faults, with_store, OwnsFew, append-nil, append_assoc, suc, Command as command, What as what, Entry as entry, Reply as reply, Left as left, Aim as aim, list_all-append, Action, Action as act}
+use Rattle.machine_model.proofs.Prelude.{cond_both, not, ◌⊎◌, inl, inr, list_all, ◌≡◌, ◌≤◌, ◌<◌, ℕ, ◌+◌, ◌-◌, Bool, true, false, cond, List, [], ◌∷◌, ◌++◌, length, map, Option, Some, None, refl, ap, arith, length-append, length-map, Command, What, Entry, Reply, Transfer, Left, words_in, first_off_chain, hand_past, Aim, CutDescriptor, action_of, Outcome, after, committed, committed_at, cut_entry, frame_entry, gone_entries, inactive_entries, left_after, cut_all, cut_one, deactivation_begun, emptied, entries_left, eviction_done, left_of, page_back, page_done, page_in, pages_back, seg_back, seg_gone, segment_taken, segs_back, segs_gone, take_all, take_one, took, victim_taken, write_failed, Keeps, is_fault, copy_failed, page_copied, without_move, KeepsAll, flat_of, run_at, cut_of_owner, frames_from, frames_of_owner, is_active, next_command, process_at, trailers_in, reply_of, uid_of_command, State, Storage, calls_drive, fault_told, frame_lost, page_made, told, transfer_failed, old_word, transferred, with_faults, with_store, OwnsFew, append-nil, append_assoc, suc, Command as command, What as what, Entry as entry, Reply as reply, Left as left, Aim as aim, list_all-append, Action, Action as act}
 use Rattle.machine_model.proofs.ListSizes.{frames_from_few, trailers_few}
 use Rattle.machine_model.proofs.PlainAction.{IsPlainly, plain_action}
 use Rattle.machine_model.proofs.PlainReplies.{is_device, tree_plain, word_plain}

@@ -1,5 +1,5 @@
 -- One more entry: what of the machine's promise it keeps by the laws of books and custody alone.
-use Rattle.machine_model.proofs.Prelude.{◌≡◌, ℕ, [], ◌∷◌, ◌++◌, sym, ap, subst, ◌∙◌, Entry, IsLawful, after_entry, Store, progress_of, legal_push, store_after-push, IsAllowed, Custody, FillsOnline, pending_after, custody_next, clean_push, custody_after-push, fine_next, KeepsBook, IsOwned, IsTied, HoldsRight, AreUnderWay, IsRun, is_pending, Seen, flat, shown, refl}
+use Rattle.machine_model.proofs.Prelude.{◌≡◌, ℕ, [], ◌∷◌, ◌++◌, sym, ap, subst, ◌∙◌, Entry, IsLawful, after_entry, progress_of, legal_push, store_after-push, IsAllowed, Custody, FillsOnline, pending_after, custody_next, clean_push, custody_after-push, fine_next, KeepsBook, IsOwned, IsTied, HoldsRight, AreUnderWay, IsRun, is_pending, Seen, flat, shown, refl}
 
 -- A machine after one more entry, by what the entry is and what its tables show then.
 pub record Books (v : Seen) (e : Entry) (now : Seen) : Type 0 where
@@ -40,11 +40,11 @@ pub book_apart : (v : Seen) (e : Entry) → KeepsBook v → IsLawful v.plan (fla
     → ((j : ℕ) → IsRun (progress_of (after_entry v.plan (flat v) e) j) (v.runs j))
     → KeepsBook (record v { entries = v.entries ++ e ∷ [] })
 book_apart v e k lawful allowed online next pending runs = book_next refl refl k (assumption (
-      lawful,
-      allowed,
-      online,
-      sym next,
-      sym pending,
-      subst (λ (c : Custody). IsOwned c v.owner) (sym next) k.going_owned,
-      runs,
-    ))
+  lawful,
+  allowed,
+  online,
+  sym next,
+  sym pending,
+  subst (λ (c : Custody). IsOwned c v.owner) (sym next) k.going_owned,
+  runs,
+))

@@ -1,6 +1,5 @@
 -- The chain of directories down to a node: which of its links are active, and what is above the first that isn't.
 use Rattle.machine_model.proofs.Prelude.{◌≡◌, ℕ, Bool, true, false, not, cond, is_some, List, [], ◌∷◌, ◌++◌, Option, Some, None, inl, inr, refl, sym, ap, subst, ◌∙◌, reverse, IfSome, find, reverse_onto, Node, above, node_in, step_up, AreDirectories, HasChains, IsChain, IsTree, has_chains, IsMember, found_front, found_member, member_parts, past_front, above_once, superior_found, chain_of, ActiveSegs, first_inactive, is_active, directory_there, tree_laws_superior_in as superior_in}
-use Rattle.machine_model.proofs.TieLaws.{none_some}
 
 -- ---- the first of a list turned round
 

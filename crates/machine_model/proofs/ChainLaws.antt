@@ -1,5 +1,5 @@
 -- Pages are taken and descriptors cut one after the other; what was taken is back, or gone.
-use Rattle.machine_model.proofs.Prelude.{◌≡◌, ℕ, Bool, true, false, List, [], ◌∷◌, ◌++◌, Option, Some, None, refl, sym, ap, subst, ◌∙◌, What, Ptw, NamesAllGoing, has, is_going_frame, is_uid, names_descriptor, names_frame, NoneDue, Aim, page_at, page_or_zero, takes, each_seg, gone_segs, gones, taken, cut, back, gone, gone_seg, AreDistinct, IsAimed, IsShaped, FitsPhase, KeepsBook, is_pending, names, says, waits_for, cut_of_owner, frames_of_owner, Seen, bound_use, frame_use, read_use, shown, CutDescriptor, Owner, rest_of, without_first_cut, without_first_frame, has_head, has_tail, not_both, What as what, Ptw as ptw, custody_bound_page as bound_page}
+use Rattle.machine_model.proofs.Prelude.{◌≡◌, ℕ, Bool, true, false, List, [], ◌∷◌, ◌++◌, Option, Some, None, refl, sym, ap, subst, ◌∙◌, What, Ptw, NamesAllGoing, has, is_going_frame, is_uid, names_descriptor, names_frame, NoneDue, Aim, page_at, page_or_zero, takes, each_seg, gone_segs, gones, taken, cut, back, gone, gone_seg, AreDistinct, IsAimed, IsShaped, FitsPhase, KeepsBook, is_pending, names, says, waits_for, cut_of_owner, frames_of_owner, Seen, bound_use, frame_use, read_use, shown, CutDescriptor, Owner, rest_of, without_first_cut, without_first_frame, has_head, has_tail, What as what, Ptw as ptw, custody_bound_page as bound_page}
 use Rattle.machine_model.proofs.DescriptorLaws.{CanFinishSeg, gone_seg_keeps}
 use Rattle.machine_model.proofs.DueLaws.{HasLeft, HasLeftCut, none_due, LeavesFirst}
 use Rattle.machine_model.proofs.FrameLaws.{CanFinish, gone_keeps, take_keeps}

@@ -1,5 +1,5 @@
 -- After each action each process that hasn't ended still comes to a command next.
-use Rattle.machine_model.proofs.Prelude.{◌≡◌, ◌⊎◌, ◌<◌, ℕ, Bool, true, false, List, [], ◌∷◌, length, Option, Some, None, set, if◌then◌else◌, refl, sym, ap, subst, ◌∙◌, inl, inr, get_or-set_same, IsPlan, Plan, command_at, commands_of, Command, Reply, What, word_reply, Processor, Run, CutDescriptor, copy_failed, page_copied, State, Transfer, cut_of_owner, frames_of_owner, frames_from, next_command, no_processor, or_zero, cpu_at, process_at, run_at, trailers_in, Aim, booked, fault_told, frame_lost, old_word, run_after, told, told_by, transferred, transfer_failed, with_faults, with_store, cut_all, cut_one, emptied, page_back, pages_back, seg_back, seg_gone, segment_taken, segs_back, segs_gone, take_all, take_one, took, with_hand_moved, eviction_done, page_done, victim_taken, write_failed, committed, committed_at, gone_entries, left_after, with_effect, reply_of, uid_of_command, Outcome, after, AllCome, MayAnswer, Command as command, Reply as reply, What as what, Aim as aim, ForeseenComes as Comes, Action, Action as act}
+use Rattle.machine_model.proofs.Prelude.{◌≡◌, ◌⊎◌, ◌<◌, ℕ, Bool, true, false, List, length, Option, Some, None, set, refl, ap, ◌∙◌, inl, inr, get_or-set_same, IsPlan, Plan, command_at, commands_of, Command, Reply, word_reply, Processor, Run, State, Transfer, frames_of_owner, next_command, no_processor, or_zero, process_at, run_at, booked, frame_lost, old_word, run_after, told, told_by, transfer_failed, with_store, write_failed, committed, committed_at, gone_entries, left_after, with_effect, reply_of, uid_of_command, Outcome, after, AllCome, MayAnswer, Command as command, Reply as reply, Aim as aim, ForeseenComes as Comes, Action, Action as act}
 use Rattle.machine_model.proofs.ActionCases.{by_end}
 use Rattle.machine_model.proofs.JobStays.{Stays, all_back, all_taken, emptying, is_back, is_emptied, emptying_victim}
 use Rattle.machine_model.proofs.ComingLaws.{told_come}
@@ -78,7 +78,8 @@ failed_write s c faults = record {
     set_of : (u : State) → SameRuns s u → set u.runs (process_at (all_back s c faults) c) (run_after
         (run_at u.runs (process_at (all_back s c faults) c))
         (next_command u (process_at (all_back s c faults) c)) reply.Device)
-        ≡ set s.runs (process_at (all_back s c faults) c) (run_after (run_at s.runs (process_at (all_back s c faults) c))
+        ≡ set s.runs (process_at (all_back s c faults) c) (run_after (run_at s.runs (process_at
+        (all_back s c faults) c))
         (next_command s (process_at (all_back s c faults) c)) reply.Device)
     set_of u same =
         let k = process_at (all_back s c faults) c in

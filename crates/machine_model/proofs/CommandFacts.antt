@@ -1,5 +1,5 @@
 -- What a tree command is about, where nothing refuses it.
-use Rattle.machine_model.proofs.Prelude.{deletion_of, ◌≡◌, ℕ, Bool, true, false, cond, eqb, List, Some, None, inl, inr, refl, sym, ap, ◌∙◌, Result, Ok, Err, list_any, eqb_tells, Reply, Node, is_inferior, node_in, branch_at, done_at, node_at, only_segment, segment_at, delete_of, delete_reply, length_of, length_reply, truncate_reply, is_refusal, refusal, Keeps, flat_of, refusal_of, uid_at_path, uid_of_node, State, branch_found, node_found, segment_found, not_both, branch_says, segment_says, Command as command, Reply as reply}
+use Rattle.machine_model.proofs.Prelude.{deletion_of, ◌≡◌, ℕ, Bool, true, false, cond, eqb, List, Some, None, inl, inr, refl, Result, Ok, Err, list_any, eqb_tells, Reply, Node, is_inferior, node_in, branch_at, done_at, node_at, only_segment, segment_at, delete_of, delete_reply, length_of, length_reply, truncate_reply, is_refusal, refusal, Keeps, flat_of, refusal_of, uid_at_path, State, branch_found, node_found, segment_found, not_both, branch_says, segment_says, Command as command, Reply as reply}
 
 -- ---- a path that can't be followed refuses
 

@@ -1,5 +1,5 @@
 -- What the step asks of a command that takes effect: what the store says after it, and that it may be answered.
-use Rattle.machine_model.proofs.Prelude.{cond_both, [], ◌≡◌, ℕ, true, false, length, map, List, ◌∷◌, ◌++◌, Option, Some, None, inl, refl, sym, ap, subst, ◌∙◌, length-set, list_all, reference_of, Command, Entry, IsTree, Ptw, effect_by, effect_of, reply_by, reply_to_command, takes_effect, store_after, Store, progress_of, MayTakeEffect, CutDescriptor, Outcome, after, committed, committed_at, cut_entry, gone_entries, left_after, with_deleted, with_effect, with_truncated, without_page, IsRun, seen, Keeps, StoreSays, flat_of, frames_of_owner, is_active, process_at, run_at, reply_of, uid_of_command, Says, with_command, shown, State, Storage, told, with_owner, tree_free, effect_total, OfNode, refusal_of, TakesSome, Command as command, Entry as entry, Frame as frame, Ptw as ptw, shown_answered as answered, Action as act}
+use Rattle.machine_model.proofs.Prelude.{cond_both, [], ◌≡◌, ℕ, true, false, length, map, List, ◌∷◌, ◌++◌, Option, Some, None, inl, refl, sym, ap, subst, ◌∙◌, length-set, list_all, reference_of, Command, Entry, IsTree, Ptw, effect_of, reply_to_command, takes_effect, store_after, Store, MayTakeEffect, CutDescriptor, Outcome, after, committed, cut_entry, gone_entries, left_after, with_deleted, with_effect, with_truncated, without_page, seen, Keeps, StoreSays, flat_of, frames_of_owner, is_active, process_at, run_at, reply_of, uid_of_command, Says, with_command, shown, State, Storage, told, with_owner, tree_free, effect_total, refusal_of, TakesSome, Command as command, Entry as entry, Frame as frame, Ptw as ptw, shown_answered as answered, Action as act}
 use Rattle.machine_model.proofs.CommitKept.{effected}
 use Rattle.machine_model.proofs.FlatAlike.{IsAlike, all_still, alike_by, done_alike, is_still, one_still, refused_alike}
 use Rattle.machine_model.proofs.SaysLaws.{none_rest, quotas, says_is}

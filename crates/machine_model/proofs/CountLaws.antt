@@ -1,5 +1,5 @@
 -- How counts over the lists of an outline change as one element changes.
-use Rattle.machine_model.proofs.Prelude.{◌≡◌, ◌≤◌, ◌<◌, ℕ, ◌+◌, zero, suc, Bool, true, false, not, cond, ◌||◌, eqb, List, [], ◌∷◌, length, Option, Some, None, is_some, set, get_or, count_by, Contains, refl, sym, ap, ◌∙◌, arith, list_any, nat_tests, get_or-set_same, length-set, Contains-get_or, list_any_at, sum_by-set, sum_by-cons, count_by-le-length, Frame, is_free, entry_at, off_chain, IsOffChain, is_for, Transfer, Runner, runner_at, no_runner, idle_links, off_links, readers, dues, has_free, eqb_self, Frame as frame, Active as Entry, measures_is_active as is_active, false_from_ne_true}
+use Rattle.machine_model.proofs.Prelude.{◌≡◌, ◌≤◌, ◌<◌, ℕ, ◌+◌, zero, suc, Bool, true, false, not, cond, ◌||◌, eqb, List, [], ◌∷◌, length, Option, Some, None, is_some, set, get_or, count_by, Contains, refl, sym, ap, ◌∙◌, arith, list_any, nat_tests, get_or-set_same, length-set, Contains-get_or, list_any_at, sum_by-set, sum_by-cons, count_by-le-length, Frame, is_free, entry_at, off_chain, IsOffChain, is_for, Runner, runner_at, no_runner, idle_links, off_links, readers, dues, has_free, eqb_self, Frame as frame, Active as Entry, measures_is_active as is_active, false_from_ne_true}
 
 -- ---- any list
 
@@ -89,7 +89,8 @@ activation_falls entries place uid superior chain there idle free lt =
 off_now : (chain : List ℕ) (o : Option Entry) → off_chain chain o ≡ true → (v : ℕ) → Contains chain v
     → is_for v o ≡ false
 off_now chain None off v there = refl
-off_now chain (Some e) off v there = false_from_ne_true (eqb e.uid v) (λ h. (let no = sym (ap not (other h)) ∙ off in absurd cc))
+off_now chain (Some e) off v there =
+    false_from_ne_true (eqb e.uid v) (λ h. (let no = sym (ap not (other h)) ∙ off in absurd cc))
   where
     other : eqb e.uid v ≡ true → list_any (λ u. eqb u e.uid) chain ≡ true
     other h =

@@ -1,5 +1,5 @@
 -- Where two lists of stored pages have as many pages of each segment, they have as many of any segments.
-use Rattle.machine_model.proofs.Prelude.{◌≡◌, ◌<◌, ℕ, ◌+◌, Bool, cond, eqb, List, [], ◌∷◌, refl, sym, ap, ◌∙◌, arith, inl, inr, count_by, eqb_tells, sum_by-cons, Node, account_of, used_by}
+use Rattle.machine_model.proofs.Prelude.{◌≡◌, ◌<◌, ℕ, ◌+◌, Bool, cond, eqb, List, [], ◌∷◌, refl, ap, ◌∙◌, arith, inl, inr, count_by, eqb_tells, sum_by-cons, Node, account_of, used_by}
 
 -- how many stored pages are of segments that pass a test
 abbrev pages_of : (ℕ → Bool) → List (ℕ × ℕ) → ℕ

@@ -1,5 +1,5 @@
 -- A descriptor is connected, cut, gone, or back.
-use Rattle.machine_model.proofs.Prelude.{◌≡◌, ℕ, Bool, true, false, cond, List, [], ◌∷◌, ◌++◌, Option, Some, None, refl, sym, ap, subst, ◌∙◌, What, IsLawful, after_entry, known_uid, DescriptorUse, NamesAllGoing, NobodyHoldsSeg, is_current_descriptor, is_going_descriptor, names_descriptor, leads_to, reconnected, Fine, NoneDue, at_put_two, custody_next, nobody_holds_seg, nobody_holds_going_seg, cut, gone_seg, back_seg, connected, Aim, KeepsBook, HoldsRight, IsAimed, AreApart, has_cut, is_pending, waits_for, Seen, flat, shown, descriptor_use, cut_uid, cut_use, is_cut_at, frames_of_owner, cut_of_owner, CutDescriptor, Owner, Entry, IsAllowed, FillsOnline, pending_after, IsRun, progress_of, or_parts, Entry as entry, DescriptorUse as descriptor, custody_cut as descriptor_cut}
+use Rattle.machine_model.proofs.Prelude.{◌≡◌, ℕ, true, false, List, [], ◌∷◌, ◌++◌, Option, Some, None, refl, sym, ap, subst, ◌∙◌, What, IsLawful, after_entry, known_uid, DescriptorUse, NamesAllGoing, NobodyHoldsSeg, is_current_descriptor, is_going_descriptor, names_descriptor, leads_to, reconnected, NoneDue, at_put_two, custody_next, nobody_holds_seg, nobody_holds_going_seg, cut, gone_seg, back_seg, connected, Aim, KeepsBook, HoldsRight, IsAimed, AreApart, has_cut, is_pending, waits_for, Seen, flat, shown, descriptor_use, cut_uid, cut_use, is_cut_at, frames_of_owner, cut_of_owner, CutDescriptor, Owner, Entry, IsAllowed, FillsOnline, pending_after, IsRun, progress_of, or_parts, Entry as entry, DescriptorUse as descriptor, custody_cut as descriptor_cut}
 use Rattle.machine_model.proofs.BookNext.{book_next}
 use Rattle.machine_model.proofs.DueLaws.{HasLeftCut, owned_left_cut}
 use Rattle.machine_model.proofs.HeldLaws.{right_alike, right_descriptor}
@@ -155,20 +155,20 @@ module _ (v : Seen) (d : CutDescriptor) (owner : Option Owner) (k : KeepsBook v)
       → ((j n : ℕ) → (j ≡ d.process → n ≡ d.number → ⊥) → linked j n ≡ v.linked j n)
       → KeepsBook (record v { linked = linked; owner = owner; entries = v.entries ++ e ∷ [] })
   finished_keeps e linked made lawful allowed online next pending runs goes here same = book_next refl refl k (record {
-        lawful = lawful;
-        allowed = allowed;
-        online = online;
-        next = (λ i. record (shown v) { descriptor = λ j n. next_at j n i }) ∙ sym next;
-        pending = cc;
-        going_owned = rw next (owned_left_cut (shown v) v.owner owner d made k.going_owned can.none can.first goes);
-        tied = k.tied;
-        holding_right = λ c. subst (λ (x : ℕ → ℕ → DescriptorUse). HoldsRight v.bound x (v.processors c))
-            (λ i. λ j n. sym (next_at j n) i)
-            (right_descriptor v.bound (shown v).descriptor d.process d.number made (v.processors c) (cut_nobody c)
-            (k.holding_right c));
-        under_way = k.under_way;
-        runs = runs;
-      })
+    lawful = lawful;
+    allowed = allowed;
+    online = online;
+    next = (λ i. record (shown v) { descriptor = λ j n. next_at j n i }) ∙ sym next;
+    pending = cc;
+    going_owned = rw next (owned_left_cut (shown v) v.owner owner d made k.going_owned can.none can.first goes);
+    tied = k.tied;
+    holding_right = λ c. subst (λ (x : ℕ → ℕ → DescriptorUse). HoldsRight v.bound x (v.processors c))
+        (λ i. λ j n. sym (next_at j n) i)
+        (right_descriptor v.bound (shown v).descriptor d.process d.number made (v.processors c) (cut_nobody c)
+        (k.holding_right c));
+    under_way = k.under_way;
+    runs = runs;
+  })
     where
       next_at : (j n : ℕ) → descriptor_use (linked j n) (cut_uid (cut_of_owner owner) j n)
           ≡ at_put_two (shown v).descriptor d.process d.number made j n

@@ -99,7 +99,8 @@ effect_rests st k u frames c = effect_has (KeepsRest st) st k u frames c (λ acc
       shortened = λ t f at h. rests h.sizes h.moving;
       here = λ t f u p h. rests h.sizes h.moving;
     }) st u words (rests refl refl))
-    (rests (by (λ (x : Storage). x.ast.sizes ≡ st.ast.sizes) refl refl) (by (λ (x : Storage). x.moving ≡ st.moving) refl refl))
+    (rests (by (λ (x : Storage). x.ast.sizes ≡ st.ast.sizes) refl refl) (by (λ (x : Storage). x.moving
+    ≡ st.moving) refl refl))
   where
     gone : Storage
     gone = with_pages st (erased (frames_freed st.pages frames) (home_in st u))

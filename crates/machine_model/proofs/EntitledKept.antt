@@ -1,11 +1,9 @@
 -- What processors hold stays what their processes may do, through every action that no command ends.
-use Rattle.machine_model.proofs.Prelude.{◌≡◌, ◌≢◌, ◌<◌, ℕ, Bool, true, false, not, cond, eqb, List, [], ◌∷◌, ◌++◌, drop, filter, length, set, ◌+◌, Option, Some, None, ◌⊎◌, inl, inr, refl, sym, ap, subst, ◌∙◌, eqb_tells, get_or-set_other, get_or-set_same, length-set, Who, filled, names_seg, HeldSeg, What, Sdw, bound_page, frame_in, words_in, Left, first_off_chain, hand_past, leads, Node, node_in, Aim, CutDescriptor, Processor, Outcome, after, AreEntitled, HoldEntitled, IsEntitled, IsEntitledToAll, led_to, emptied, eviction_begun, eviction_done, here_if, leaving_if, left_of, page_back, page_done, page_in, pages_back, seg_back, seg_gone, segment_taken, segs_back, segs_gone, take_one, told_from, took, victim_taken, with_choice, with_hand_moved, with_left, write_failed, Keeps, copy_failed, move_committed, page_copied, cpu_at, cut_of_owner, descriptor_of, frames_from, frames_of_owner, no_processor, or_zero, process_at, processor_at, trailers_in, State, fault_told, frame_lost, held_seg, transfer_failed, transferred, with_faults, with_store, AccountMaps, What as what, Sdw as sdw, Left as left, Aim as aim, jobs_told_at as told_at, Action, Action as act, cond_both}
+use Rattle.machine_model.proofs.Prelude.{◌≡◌, ◌≢◌, ◌<◌, ℕ, Bool, true, false, not, eqb, List, [], ◌∷◌, ◌++◌, drop, filter, length, set, ◌+◌, Option, Some, ◌⊎◌, inl, inr, refl, sym, ap, subst, ◌∙◌, eqb_tells, get_or-set_other, get_or-set_same, length-set, Who, filled, names_seg, HeldSeg, What, Sdw, leads, Node, node_in, Processor, Outcome, after, AreEntitled, HoldEntitled, IsEntitled, IsEntitledToAll, led_to, told_from, write_failed, Keeps, move_committed, cpu_at, descriptor_of, no_processor, or_zero, process_at, processor_at, State, frame_lost, held_seg, transfer_failed, Sdw as sdw, Aim as aim, jobs_told_at as told_at, Action, Action as act, cond_both}
 use Rattle.machine_model.proofs.JobStays.{Stays, all_back, all_taken, emptying, evicted, evicting, is_back, is_emptied, page_left, emptying_victim}
 use Rattle.machine_model.proofs.ActionCases.{by_end}
-use Rattle.machine_model.proofs.OutlineTake.{took_like}
 use Rattle.machine_model.proofs.LeaveSeen.{told_reads, told_has, told_process}
 use Rattle.machine_model.proofs.StepKept.{CanDo, CanFill}
-use Rattle.machine_model.proofs.TieLaws.{none_some}
 
 -- ---- the entries of one processor
 

@@ -1,5 +1,5 @@
 -- A drive's failure may be told of a command that its page was looked for.
-use Rattle.machine_model.proofs.Prelude.{◌≡◌, ◌≤◌, ℕ, ◌*◌, Bool, true, false, not, cond, List, Option, Some, None, inl, inr, refl, sym, ap, ◌∙◌, arith, nat_le, Ok, leb_tells, reference_of, who_of, Command, RefKind, Reference, Reply, access_of, Node, node_in, uid_of, kst_at, segment_at, is_end, reply_to_command, is_early, may_fail, permits, is_used_up, is_out_of_room, reply_at, reply_to_reference, stores_page, word_reply, length_reply, truncate_reply, Store, known_uid, none_from, IsFaithful, State, IsReached, MayChange, MayFailBy, is_filed, Command as command, RefKind as kind, Reply as reply, references_reply_of as reply_of}
+use Rattle.machine_model.proofs.Prelude.{◌≡◌, ◌≤◌, ℕ, ◌*◌, Bool, true, false, not, cond, List, Some, inl, inr, refl, ap, ◌∙◌, arith, nat_le, Ok, leb_tells, reference_of, who_of, Command, RefKind, Reference, Reply, access_of, Node, node_in, segment_at, is_end, reply_to_command, is_early, may_fail, permits, is_used_up, is_out_of_room, reply_to_reference, stores_page, word_reply, length_reply, truncate_reply, Store, known_uid, none_from, IsFaithful, State, IsReached, MayChange, MayFailBy, is_filed, Command as command, RefKind as kind, Reply as reply}
 
 word_late : (w : ℕ) (how : RefKind) → is_early (word_reply w how) ≡ false
 word_late w kind.Read = refl

@@ -1,6 +1,6 @@
 -- What the entries of a step tell of the drives: one failure at the most, of the processor's process, just where a call
 -- failed, and before a process is told of one.
-use Rattle.machine_model.proofs.Prelude.{◌≡◌, ◌≤◌, ◌<◌, ℕ, ◌+◌, Bool, true, false, cond, List, [], ◌∷◌, ◌++◌, count_by, length, Option, Some, None, inl, inr, ◌⊎◌, refl, sym, ap, subst, ◌∙◌, arith, list_all, sum_by-cons, Entry, action_of, Outcome, after, is_fault, KeepsAll, process_at, State, calls_drive, not_both, and_parts, Entry as entry, Reply as reply}
+use Rattle.machine_model.proofs.Prelude.{◌≡◌, ◌≤◌, ◌<◌, ℕ, ◌+◌, Bool, true, false, cond, List, [], ◌∷◌, ◌++◌, count_by, length, Option, Some, None, inl, inr, ◌⊎◌, refl, sym, ap, subst, arith, list_all, sum_by-cons, Entry, action_of, Outcome, after, is_fault, KeepsAll, process_at, State, calls_drive, not_both, and_parts, Entry as entry, Reply as reply}
 use Rattle.machine_model.proofs.BookAfter.{AreQuiet, HasBooked, TellsFailure, is_quiet, told_after}
 
 abbrev tally : Bool → ℕ

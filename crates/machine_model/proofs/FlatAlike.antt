@@ -1,5 +1,5 @@
 -- Flat stores that no store tells apart, and what the accounts of a store say of the one that it shows.
-use Rattle.machine_model.proofs.Prelude.{◌≡◌, ℕ, Bool, true, false, cond, eqb, count_by, List, [], ◌∷◌, ◌++◌, map, sum, Option, Some, None, refl, sym, ap, subst, ◌∙◌, append-nil, list_all, Plan, command_at, Command, Entry, Reply, IsTree, AccountMaps, after_command, effect_of, gone_on, takes_effect, after_do, after_entry, after_fault, is_within, store_after, IsOnce, is_stored, Store, progress_of, with_progress, store_after-push, all_within, ShowsTree, AreAccounts, IsConserved, IsFaithful, Storage, and_parts, Entry as entry}
+use Rattle.machine_model.proofs.Prelude.{◌≡◌, ℕ, Bool, true, false, cond, List, [], ◌∷◌, ◌++◌, map, sum, Option, Some, None, refl, sym, subst, ◌∙◌, append-nil, list_all, Plan, command_at, Command, Entry, Reply, IsTree, AccountMaps, after_command, effect_of, gone_on, takes_effect, after_do, after_entry, after_fault, is_within, store_after, IsOnce, Store, progress_of, with_progress, store_after-push, all_within, ShowsTree, AreAccounts, IsConserved, IsFaithful, Storage, and_parts, Entry as entry}
 
 -- ---- flat stores that no store tells apart
 

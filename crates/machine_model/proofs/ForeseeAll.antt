@@ -1,5 +1,5 @@
 -- A machine that keeps its promise finds what its actions ask of its outline.
-use Rattle.machine_model.proofs.Prelude.{◌≡◌, ◌≢◌, ◌<◌, ℕ, length, suc, List, [], Some, sym, ap, subst, ◌∙◌, arith, What, Mover, Phase, FitsPhase, IsShaped, IsEntitledToAll, HasMoved, IsFitting, Foresees, IsLook, full_there, IsMovedFor, MovesForNext, MovesIn, tables_of, outline_of, IsMachine, IsReading, cpu_at, next_command, process_at, processor_at, Owner, State, IsAtWork, IsWorking, some_unwrapped, Aim as aim, Phase as phase, look_of, Action as act}
+use Rattle.machine_model.proofs.Prelude.{◌≡◌, ◌≢◌, ◌<◌, ℕ, length, suc, List, [], Some, sym, ap, subst, ◌∙◌, arith, What, Mover, Phase, FitsPhase, IsShaped, IsEntitledToAll, HasMoved, IsFitting, Foresees, IsLook, full_there, IsMovedFor, MovesForNext, MovesIn, tables_of, outline_of, IsMachine, IsReading, cpu_at, next_command, process_at, processor_at, Owner, State, IsAtWork, IsWorking, some_unwrapped, Aim as aim, Phase as phase, look_of}
 use Rattle.machine_model.proofs.EnterSeen.{may_enter, may_lose}
 use Rattle.machine_model.proofs.ForeseeLaws.{has_answer, looks_empty, off_quiet}
 use Rattle.machine_model.proofs.LookSeen.{look_seen}

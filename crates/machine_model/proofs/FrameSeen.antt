@@ -1,9 +1,8 @@
 -- What the outline of a machine shows of a page: whether it is in a frame, and whether it is stored.
-use Rattle.machine_model.proofs.Prelude.{◌≡◌, ℕ, Bool, true, false, ◌&&◌, eqb, Some, None, inl, inr, refl, sym, ap, ◌∙◌, position_or_len, eqb_tells, bound_page, Frame, store_frame, has_record, word_of, names, seen, Keeps, is_here, is_of, bare, outline_of, is_active, State, not_both, page_is, Frame as frame, finishing_page_of as page_of, outline_frame_in as frame_in, false_from_ne_true}
+use Rattle.machine_model.proofs.Prelude.{◌≡◌, ℕ, true, false, ◌&&◌, eqb, Some, None, inl, inr, refl, sym, ◌∙◌, position_or_len, eqb_tells, bound_page, Frame, store_frame, has_record, word_of, names, seen, Keeps, is_here, is_of, bare, outline_of, is_active, State, not_both, page_is, Frame as frame, finishing_page_of as page_of, outline_frame_in as frame_in, false_from_ne_true}
 use Rattle.machine_model.proofs.ActiveSeen.{any_at, some_within}
 use Rattle.machine_model.proofs.OutlineReads.{map_at}
 use Rattle.machine_model.proofs.PageShown.{stored_is}
-use Rattle.machine_model.proofs.TieLaws.{none_some}
 use Rattle.machine_model.proofs.WordLaws.{found}
 
 of_page : (u p : ℕ) (x : Frame) → is_of u p x ≡ true → page_of x ≡ Some (u, p)
@@ -63,7 +62,8 @@ module _ (s : State) where
     named_here f h = bound_here f u p (k.book.tied.back f u p h)
 
     pub not_here : names (word_of s.store.ast u p) ≡ None → is_here (outline_of s).frames u p ≡ false
-    not_here h = false_from_ne_true (is_here (outline_of s).frames u p) (λ e. (let at = here_bound u p e in cc (k.book.tied.named at.0 u p at.1)))
+    not_here h = false_from_ne_true (is_here (outline_of s).frames u p) (λ e. (let at = here_bound u p e in cc
+        (k.book.tied.named at.0 u p at.1)))
 
     -- a page of an active segment is stored where its word says that it has a record
     pub stored_outlined : is_active s.store.ast u ≡ true

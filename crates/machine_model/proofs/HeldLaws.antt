@@ -1,6 +1,6 @@
 -- What processors hold agrees with frames and descriptors, where an entry is filled in or dropped, and where a frame or
 -- a descriptor that nobody holds is used otherwise.
-use Rattle.machine_model.proofs.Prelude.{◌≡◌, ◌≢◌, ℕ, suc, ◌+◌, ◌≤◌, Bool, true, false, cond, eqb, leb, List, [], ◌∷◌, ◌++◌, map, filter, length, drop, Option, Some, None, inl, inr, refl, sym, ap, subst, ◌∙◌, arith, eqb_tells, nat_tests, HeldPage, HeldSeg, What, Held, filled, DescriptorUse, has, leads_to, filled_in, at_put, at_put_two, AreHeldPages, AreHeldSegs, AreOfProcess, HoldsRight, AreUnderWay, Processor, or_parts, cond_both}
+use Rattle.machine_model.proofs.Prelude.{◌≡◌, ◌≢◌, ℕ, ◌+◌, ◌≤◌, Bool, true, false, cond, eqb, leb, List, [], ◌∷◌, ◌++◌, map, filter, length, drop, Option, Some, None, inl, inr, refl, sym, ap, ◌∙◌, arith, eqb_tells, nat_tests, HeldPage, HeldSeg, What, filled, DescriptorUse, has, leads_to, filled_in, at_put, at_put_two, AreHeldPages, AreHeldSegs, AreOfProcess, HoldsRight, AreUnderWay, Processor, or_parts, cond_both}
 use Rattle.machine_model.proofs.Places.{by_place, by_places}
 
 -- ---- a fill

@@ -1,9 +1,8 @@
 -- A processor without a process holds nothing, and after each action of a step too.
-use Rattle.machine_model.proofs.Prelude.{◌≡◌, ◌≢◌, ◌<◌, ℕ, ◌+◌, Bool, true, false, cond, eqb, set, length, List, Option, Some, None, ◌⊎◌, inl, inr, refl, sym, ap, subst, ◌∙◌, eqb_tells, get_or-set_other, get_or-set_same, length-set, What, Held, nothing_held, Command, Processor, Outcome, after, committed_at, emptied, eviction_begun, eviction_done, page_done, told_from, victim_taken, with_choice, with_hand_moved, write_failed, copy_failed, page_copied, cpu_at, frames_from, next_command, no_processor, process_at, processor_at, trailers_in, AreIdle, State, frame_lost, transfer_failed, transferred, with_faults, with_store, What as what, held_cleared as cleared, Command as command, Aim as aim, jobs_told_at as told_at, Action, Action as act}
+use Rattle.machine_model.proofs.Prelude.{◌≡◌, ◌≢◌, ◌<◌, ℕ, ◌+◌, true, false, eqb, set, length, List, Option, Some, None, ◌⊎◌, inl, inr, refl, sym, subst, eqb_tells, get_or-set_other, get_or-set_same, length-set, What, nothing_held, Command, Processor, Outcome, after, committed_at, told_from, write_failed, cpu_at, next_command, no_processor, process_at, processor_at, AreIdle, State, transfer_failed, Command as command, Aim as aim, jobs_told_at as told_at, Action, Action as act}
 use Rattle.machine_model.proofs.ActionCases.{by_end}
 use Rattle.machine_model.proofs.JobStays.{Stays, all_back, all_taken, emptying, evicted, evicting, is_back, is_emptied, page_left, emptying_victim}
 use Rattle.machine_model.proofs.LeaveSeen.{told_reads, told_has, told_process}
-use Rattle.machine_model.proofs.TieLaws.{none_some}
 
 -- ---- one processor is another
 

@@ -1,6 +1,6 @@
 -- The machine keeps its promise through the phases of a job: a page is evicted, a segment's pages and descriptors are
 -- taken, the signal is given, and what was taken goes, or comes back where a drive failed.
-use Rattle.machine_model.proofs.Prelude.{◌≡◌, ℕ, suc, ◌+◌, Bool, true, false, cond, eqb, List, [], ◌∷◌, ◌++◌, map, length, set, Option, Some, None, inl, inr, refl, sym, ap, subst, ◌∙◌, arith, eqb_tells, What, Plan, after_entry, store_after, Store, Frame, is_idle, passed_over, round_frames, unmarked, bound_page, started_page, binding_at, read_at, Aim, Phase, dropped, told_at, FitsPhase, IsShaped, KeepsBook, is_pending, is_pending_in, says, says_in, waits_in, seen, eviction_begun, owner_signalled, phase_signalled, signalled, told_from, with_choice, AreThere, HadRights, IsAtWork, IsConserved, IsFaithful, Keeps, StoreSays, cut_of_owner, frames_of_owner, processor_at, Seen, shown, Processor, Owner, State, with_store, map_kept, What as what, Entry as entry, Ptw as ptw, Frame as frame, core_frame as frame_in, Aim as aim, Phase as phase, eqb_self}
+use Rattle.machine_model.proofs.Prelude.{◌≡◌, ℕ, ◌+◌, true, eqb, List, [], ◌∷◌, ◌++◌, length, Option, Some, None, inl, inr, refl, sym, ap, subst, ◌∙◌, arith, eqb_tells, What, Plan, after_entry, store_after, Store, binding_at, read_at, Aim, Phase, dropped, told_at, FitsPhase, IsShaped, KeepsBook, is_pending, is_pending_in, says, says_in, seen, eviction_begun, owner_signalled, phase_signalled, signalled, told_from, with_choice, AreThere, HadRights, IsAtWork, IsConserved, IsFaithful, Keeps, StoreSays, cut_of_owner, frames_of_owner, processor_at, Seen, shown, Processor, Owner, State, with_store, What as what, Entry as entry, Ptw as ptw, Aim as aim, Phase as phase, eqb_self}
 use Rattle.machine_model.proofs.ChoiceLaws.{choice_bindings, choice_reads}
 use Rattle.machine_model.proofs.ClearLaws.{signal_keeps}
 use Rattle.machine_model.proofs.DueLaws.{HasSaid}

@@ -1,5 +1,5 @@
 -- What the owner's job leaves as it is while it takes frames and descriptors, gives them back, and lets them go.
-use Rattle.machine_model.proofs.Prelude.{◌≡◌, ℕ, List, [], ◌∷◌, Option, Some, None, refl, ◌∙◌, What, What as what, frame_in, bound_page, Aim, Aim as aim, Left, Left as left, CutDescriptor, deactivation_begun, emptied, eviction_begun, eviction_done, cut_all, cut_one, here_if, hand_past, first_off_chain, left_of, page_back, page_done, pages_back, seg_back, seg_gone, segment_taken, segs_back, segs_gone, take_all, take_one, took, victim_taken, with_choice, with_hand_moved, with_left, leaving_if, words_in, page_in, fault_told, with_faults, with_store, frames_from, trailers_in, cut_of_owner, frames_of_owner, process_at, State, leads_at}
+use Rattle.machine_model.proofs.Prelude.{◌≡◌, ℕ, List, [], ◌∷◌, Option, Some, None, ◌∙◌, What, What as what, frame_in, bound_page, Aim, Aim as aim, Left, Left as left, CutDescriptor, deactivation_begun, emptied, eviction_begun, eviction_done, cut_all, cut_one, here_if, hand_past, first_off_chain, left_of, page_back, page_done, pages_back, seg_back, seg_gone, segment_taken, segs_back, segs_gone, take_all, take_one, took, victim_taken, with_choice, with_hand_moved, with_left, leaving_if, words_in, page_in, fault_told, with_faults, with_store, frames_from, trailers_in, cut_of_owner, frames_of_owner, process_at, State, leads_at}
 use Rattle.storage_ops.proofs.Less.{one_known}
 
 -- the script, who runs where, the tree, the principals, the numbers, the pools and the move under way
@@ -17,9 +17,19 @@ pub record Stays (s t : State) : Type 0 where
   pub moving : t.store.moving ≡ s.store.moving
 
 stays_on : {s u : State} (t : State) → Stays s t → Stays t u → Stays s u
-stays_on t a b = assumption (b.plan ∙ a.plan, b.runs ∙ a.runs, b.ready ∙ a.ready, b.processors ∙ a.processors,
-    b.stopped ∙ a.stopped, b.visited ∙ a.visited, b.nodes ∙ a.nodes, b.whos ∙ a.whos, b.known ∙ a.known,
-    b.sizes ∙ a.sizes, b.moving ∙ a.moving)
+stays_on t a b = assumption (
+  b.plan ∙ a.plan,
+  b.runs ∙ a.runs,
+  b.ready ∙ a.ready,
+  b.processors ∙ a.processors,
+  b.stopped ∙ a.stopped,
+  b.visited ∙ a.visited,
+  b.nodes ∙ a.nodes,
+  b.whos ∙ a.whos,
+  b.known ∙ a.known,
+  b.sizes ∙ a.sizes,
+  b.moving ∙ a.moving,
+)
 
 -- ---- what is taken
 
@@ -44,7 +54,8 @@ pub all_taken : (s : State) (c : ℕ) (a : Aim) (w : What) (fs : List ℕ) (pair
 all_taken s c a w fs pairs = stays_on _ (frames_taken s c a w fs) (pairs_cut (take_all s c a w fs) c a w pairs)
 
 pub evicting : (s : State) (c f : ℕ) → Stays s (eviction_begun s c f)
-evicting s c f = stays_on (with_store s (with_choice s.store f)) (assumption) (one_taken _ c aim.Evicting (what.Page f) f)
+evicting s c f =
+    stays_on (with_store s (with_choice s.store f)) (assumption) (one_taken _ c aim.Evicting (what.Page f) f)
 
 -- ---- a segment is to be inactive
 

@@ -1,8 +1,7 @@
 -- What a command's job has taken stays just what it takes, entry by entry, while the others go on.
-use Rattle.machine_model.proofs.Prelude.{◌≡◌, ℕ, true, false, List, [], ◌∷◌, ◌++◌, Option, Some, None, refl, sym, ap, subst, ◌∙◌, Plan, Command, Entry, Node, node_at, store_after, Store, uid_of, kst_at, DescriptorUse, FrameUse, custody_after, Custody, is_going_descriptor, is_going_frame, leads_to, page_of, custody_next, custody_after-push, Aim, Phase, holding, Keeps, or_zero, refusal_of, uid_of_command, uid_of_node, State, Storage, GoesJust, IsAlone, IsTakenBy, IsTakenFor, TakenIn, TakenTo, TakesDescriptor, TakesPage, WasBrought, FailsBy, FailsIn, TakesSome, is_active, ◌/◌, append-nil, append_assoc, page_is, Command as command, Entry as entry, FrameUse as frame, next_with_frame as with_frame, Aim as aim, Phase as phase}
+use Rattle.machine_model.proofs.Prelude.{◌≡◌, ℕ, true, false, List, [], ◌∷◌, ◌++◌, Option, Some, None, refl, sym, ap, subst, ◌∙◌, Plan, Command, Entry, Node, node_at, store_after, Store, FrameUse, custody_after, Custody, is_going_frame, page_of, custody_next, custody_after-push, Aim, Phase, holding, Keeps, refusal_of, uid_of_command, uid_of_node, State, Storage, GoesJust, IsAlone, IsTakenBy, IsTakenFor, TakenIn, TakenTo, TakesDescriptor, TakesPage, WasBrought, FailsBy, FailsIn, TakesSome, is_active, ◌/◌, append-nil, append_assoc, page_is, Command as command, Entry as entry, FrameUse as frame, next_with_frame as with_frame, Aim as aim, Phase as phase}
 use Rattle.machine_model.proofs.OutLaws.{NoneOut}
 use Rattle.machine_model.proofs.Places.{by_place}
-use Rattle.machine_model.proofs.TieLaws.{none_some}
 
 -- an entry takes nothing, lets nothing go, and brings no page that is taken
 abbrev pub Stays : (ℕ → ℕ → Type 0) → Entry → Type 0

@@ -3,7 +3,6 @@ use Rattle.machine_model.proofs.Prelude.{◌≡◌, ◌<◌, ℕ, zero, suc, ◌
 use Rattle.machine_model.proofs.Places.{by_place}
 use Rattle.machine_model.proofs.SeenLaws.{bound_put, reads_put}
 use Rattle.machine_model.proofs.TakeSeen.{HasTables, binding_is, not_null, words_put}
-use Rattle.machine_model.proofs.TieLaws.{none_some}
 
 -- ---- the signal
 

@@ -1,5 +1,5 @@
 -- Each answer leaves a command, or a try of an `await`, less to come.
-use Rattle.machine_model.proofs.Prelude.{◌≡◌, ◌<◌, ℕ, zero, suc, ◌+◌, ◌-◌, Bool, true, false, cond, List, [], ◌∷◌, length, drop, sum_by, slice_get, Some, set, get_or, ap, ◌∙◌, arith, sum_by-drop_more, get_or_from_slice_get, slice_get_within, weight, ProcessPlan, nobody, Command, Reply, Run, run_at, goes_on, is_its_end, run_after, left_in, GoesOn, Command as command, outlined_left_of as left_of}
+use Rattle.machine_model.proofs.Prelude.{◌≡◌, ◌<◌, ℕ, zero, suc, ◌+◌, ◌-◌, Bool, true, false, cond, List, [], ◌∷◌, length, drop, sum_by, slice_get, Some, set, get_or, arith, sum_by-drop_more, get_or_from_slice_get, slice_get_within, weight, ProcessPlan, nobody, Command, Reply, Run, run_at, goes_on, is_its_end, run_after, left_in, GoesOn, Command as command, outlined_left_of as left_of}
 
 -- what is to come begins with the next command
 rest_of : (commands : List Command) (place : ℕ) (c : Command) → slice_get commands place ≡ Some c

@@ -1,5 +1,5 @@
 -- What a look of the owner comes to, and what is true then of the frames and of the active segments.
-use Rattle.machine_model.proofs.Prelude.{◌≡◌, ℕ, Bool, true, false, ◌==◌, Option, Some, None, Command, least_free_frame, clock_choice, Ptw, word_of, look_of, is_out, frame_reading, free_place, is_active, State, Ptw as ptw, Action, Action as act}
+use Rattle.machine_model.proofs.Prelude.{◌≡◌, ℕ, true, false, ◌==◌, Option, Some, None, Command, least_free_frame, clock_choice, word_of, look_of, is_out, frame_reading, free_place, is_active, State, Ptw as ptw, Action, Action as act}
 use Rattle.machine_model.proofs.FindLaws.{first_idle}
 use Rattle.machine_model.proofs.LookFacts.{LookFinds, look_finds}
 

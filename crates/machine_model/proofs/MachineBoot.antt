@@ -1,5 +1,5 @@
 -- The whole promise holds of the machine at first.
-use Rattle.machine_model.proofs.Prelude.{◌≡◌, ◌≢◌, ◌⊎◌, ◌<◌, ℕ, Bool, true, false, ◌||◌, cond, eqb, List, [], ◌∷◌, length, replicate, Some, inl, inr, refl, sym, ap, subst, ◌∙◌, arith, eqb_tells, get_or-replicate, BeginsWithInitializer, IsPlan, Plan, ProcessPlan, Transfer, has, range, booted, first_run, AreDistinct, StoreSays, KeepsAll, cpu_at, no_processor, no_run, run_at, HasTurn, IsScheduled, MayRun, Processor, Run}
+use Rattle.machine_model.proofs.Prelude.{◌≡◌, ◌≢◌, ◌⊎◌, ◌<◌, ℕ, Bool, true, false, cond, eqb, List, [], ◌∷◌, length, replicate, Some, inl, inr, refl, sym, ap, ◌∙◌, arith, eqb_tells, get_or-replicate, BeginsWithInitializer, IsPlan, Plan, ProcessPlan, Transfer, has, range, booted, first_run, AreDistinct, StoreSays, KeepsAll, cpu_at, no_processor, no_run, run_at, HasTurn, IsScheduled, MayRun, Processor}
 use Rattle.machine_model.proofs.FitsKept.{none_fits}
 use Rattle.machine_model.proofs.BootKept.{at_fill, boot_keeps}
 use Rattle.machine_model.proofs.ComingLaws.{booted_come}

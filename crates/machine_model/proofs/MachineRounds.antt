@@ -1,5 +1,5 @@
 -- How the turns of the loop that makes the machine end join, said of machines.
-use Rattle.machine_model.proofs.Prelude.{◌≡◌, ◌≢◌, ◌≤◌, ◌<◌, ℕ, zero, suc, ◌+◌, Bool, true, false, not, cond, ◌&&◌, ◌||◌, eqb, length, List, [], ◌∷◌, Option, Some, None, is_some, ◌⊎◌, inl, inr, refl, sym, ap, subst, ◌∙◌, arith, list_any, ForClear, ForOwner, ForTransfer, WhileIdle, action_of, has_process, is_empty, is_over, IsEnded, IsIn, Step, AwaitsClear, AwaitsTransfer, CommandDone, CommandStep, Goes, HasTaken, IsReader, JobDone, IsUnderWay, JobFell, OwnerStep, RoundDone, is_at, all_rank, Ended, Keeper, Moved, Outline, Runner, Stage, Look, Turn, WaitsFor, runner_at, around, outline_of, stage_of, IsKept, KeepsAll, cpu_at, processor_at, HasStepped, IsGoing, IsOwnedBy, Owner, State, turn_of, Processor}
+use Rattle.machine_model.proofs.Prelude.{◌≡◌, ◌≢◌, ◌≤◌, ◌<◌, ℕ, zero, suc, ◌+◌, Bool, true, false, not, cond, ◌&&◌, ◌||◌, eqb, length, List, [], ◌∷◌, Option, Some, None, is_some, ◌⊎◌, inl, inr, refl, sym, ap, subst, ◌∙◌, arith, list_any, ForClear, ForOwner, ForTransfer, WhileIdle, action_of, has_process, is_empty, is_over, IsEnded, IsIn, Step, AwaitsClear, AwaitsTransfer, CommandDone, CommandStep, Goes, HasTaken, IsReader, JobDone, IsUnderWay, JobFell, OwnerStep, RoundDone, is_at, all_rank, Ended, Keeper, Moved, Stage, Look, Turn, WaitsFor, runner_at, around, outline_of, stage_of, IsKept, KeepsAll, cpu_at, processor_at, HasStepped, IsGoing, IsOwnedBy, Owner, State, turn_of, Processor}
 use Rattle.machine_model.proofs.CommandLaws.{command_step, idle_step}
 use Rattle.machine_model.proofs.ForeseeAll.{foresees}
 use Rattle.machine_model.proofs.LackLaws.{lack_few}
@@ -10,7 +10,6 @@ use Rattle.machine_model.proofs.OutlineReads.{at_outline, long_outline, seen_sin
 use Rattle.machine_model.proofs.OutlineSeen.{kept_seen, no_owner, running_is}
 use Rattle.machine_model.proofs.ReadLaws.{read_step}
 use Rattle.machine_model.proofs.StepLaws.{clear_step, inside, owner_step}
-use Rattle.machine_model.proofs.TieLaws.{none_some}
 use Rattle.machine_model.proofs.OutlineAlone.{owner_none}
 
 -- ---- a step

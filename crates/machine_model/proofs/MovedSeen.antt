@@ -1,5 +1,5 @@
 -- A segment that has moved gives its command the record that it lacks: on the volume where it lies one is free.
-use Rattle.machine_model.proofs.Prelude.{◌≡◌, ◌≢◌, ◌<◌, ℕ, ◌+◌, ◌-◌, Bool, true, false, not, ◌&&◌, eqb, List, [], Option, Some, get_or, is_some, length, inl, inr, refl, sym, ap, ◌∙◌, arith, ◌⊎◌, ◌/◌, count_by, nat_lt, ne_eqb, Decides-ltb, eqb_tells, get_or-set_other, get_or-set_same, Command, Node, volume_in, chain_of, count_of, is_full, size, Mover, map_at, begun, flags_taken, has_taken, pair_of, volumes_of, home_of, HasMoved, full_there, Keeps, LacksRecord, MovesFor, tables_of, with_moved, Refer, around, outline_of, want_by, want_of, cpu_at, is_active, next_command, State, within_from, counts_taken as taken, RecordsHasTaken as HasTaken}
+use Rattle.machine_model.proofs.Prelude.{◌≡◌, ◌≢◌, ◌<◌, ℕ, ◌+◌, ◌-◌, Bool, true, false, not, ◌&&◌, eqb, List, [], Option, Some, get_or, is_some, length, inl, inr, refl, sym, ap, ◌∙◌, arith, ◌⊎◌, ◌/◌, count_by, nat_lt, ne_eqb, Decides-ltb, eqb_tells, get_or-set_other, get_or-set_same, Command, Node, volume_in, chain_of, count_of, size, Mover, map_at, begun, flags_taken, has_taken, pair_of, volumes_of, home_of, HasMoved, full_there, Keeps, LacksRecord, MovesFor, tables_of, with_moved, outline_of, cpu_at, is_active, next_command, State, within_from, counts_taken as taken}
 use Rattle.machine_model.proofs.LackingLaws.{inside}
 use Rattle.machine_model.proofs.WantLaws.{refer_wants, want_here}
 use Rattle.machine_model.proofs.WantMoved.{put_is, put_there}

@@ -1,5 +1,5 @@
 -- The move that segment control has under way is that of the supervisor's owner, after each action.
-use Rattle.machine_model.proofs.Prelude.{◌≡◌, ℕ, Bool, true, false, cond, eqb, not, ◌&&◌, List, [], ◌∷◌, position, Option, Some, None, refl, sym, ap, subst, ◌∙◌, cond_both, reference_of, Command, Reference, What, Ptw, bound_page, erased, frame_in, Move, Transfer, table_of, next_out, Aim, CutDescriptor, Phase, Processor, action_of, by_move, clear_or, come_to, copy_or_commit, finish_of, go_on_with, has_had_its_turn, is_empty, load_or_idle, look_of, once_cleared, own_or_run, refer_or_take, run_process, take_or_wait, transfer_or, Outcome, after, committed, committed_at, frames_freed, with_deleted, with_effect, with_truncated, without_page, cut_all, cut_one, emptied, here_if, leaving_if, owner_signalled, page_back, page_done, pages_back, seg_back, seg_gone, segment_taken, segs_back, segs_gone, take_all, take_one, took, with_choice, with_hand_moved, with_here, with_inactive, without_first_frame, write_failed, phase_signalled, eviction_done, AsksMover, mover_in, mover_of, copy_failed, page_copied, IsMachine, cut_of_owner, frames_from, frames_of_owner, home_in, is_active, is_due, next_command, process_at, processor_at, trailers_in, uid_of_command, Owner, State, Storage, fault_told, with_pages, with_store, with_faults, transferred, transfer_failed, Command as command, What as what, Ptw as ptw, Move as move, Aim as aim, Phase as phase, Action, move_of, Action as act}
+use Rattle.machine_model.proofs.Prelude.{◌≡◌, ℕ, eqb, not, ◌&&◌, List, [], ◌∷◌, position, Option, Some, None, refl, sym, ap, subst, ◌∙◌, cond_both, reference_of, Command, Reference, What, bound_page, frame_in, Move, Transfer, table_of, next_out, Aim, Phase, Processor, action_of, by_move, clear_or, come_to, copy_or_commit, finish_of, go_on_with, has_had_its_turn, is_empty, load_or_idle, look_of, once_cleared, own_or_run, refer_or_take, run_process, take_or_wait, transfer_or, Outcome, after, committed, committed_at, with_effect, cut_all, cut_one, emptied, here_if, leaving_if, owner_signalled, segment_taken, take_all, take_one, took, with_choice, with_hand_moved, with_here, without_first_frame, write_failed, phase_signalled, AsksMover, mover_in, mover_of, copy_failed, page_copied, IsMachine, frames_from, frames_of_owner, is_due, next_command, process_at, processor_at, trailers_in, uid_of_command, Owner, State, Storage, with_store, with_faults, Command as command, What as what, Move as move, Aim as aim, Phase as phase, Action, move_of, Action as act}
 use Rattle.machine_model.proofs.JobStays.{is_back, is_emptied}
 use Rattle.machine_model.proofs.ActionCases.{action_by, by_end}
 use Rattle.machine_model.proofs.EffectLaws.{effect_rests}
@@ -194,7 +194,8 @@ module _ (s : State) (c : ℕ) (o : Outcome) (h : IsTied s) where
   tie_kept act.GiveUp asks = h ∙ asks
   tie_kept (act.Create f u p r) asks = h ∙ asks
   tie_kept (act.Start f u p) asks = h ∙ asks
-  tie_kept (act.Evict f) asks = tied (taken (with_store s (with_choice s.store f)) c aim.Evicting (what.Page f) (f ∷ []) (still (h ∙ asks) asks))
+  tie_kept (act.Evict f) asks =
+      tied (taken (with_store s (with_choice s.store f)) c aim.Evicting (what.Page f) (f ∷ []) (still (h ∙ asks) asks))
   tie_kept (act.Empty u) asks = tied (segment c u (frames_from s.store.ast u 0) (trailers_in s.store u) (idle asks))
   tie_kept (act.EmptyVictim pool chain u) asks = tied (segment c u
       (frames_from (with_store s (with_hand_moved s.store pool chain)).store.ast u 0)
@@ -205,7 +206,8 @@ module _ (s : State) (c : ℕ) (o : Outcome) (h : IsTied s) where
       (copy_failed s c o.faults) (λ e. refl) (λ e. refl)
   tie_kept (act.CommitMove m) asks = refl
   tie_kept (act.Signal w) asks = h ∙ sym (signalled_mover s.owner)
-  tie_kept (act.FinishEviction f) asks = by_end IsTied o _ _ (λ e. h ∙ asks) (λ e. tied (failed s c o.faults (idle asks)))
+  tie_kept (act.FinishEviction f) asks =
+      by_end IsTied o _ _ (λ e. h ∙ asks) (λ e. tied (failed s c o.faults (idle asks)))
   tie_kept (act.FinishPage f) asks =
       by_end IsTied o _ _ (λ e. h ∙ sym (fewer_mover s.owner)) (λ e. tied (failed s c o.faults (idle asks)))
   tie_kept (act.Deactivate u) asks = tied (gone s c u (idle asks))

@@ -1,5 +1,5 @@
 -- What the store says after each step of a move, by what its calls say of it.
-use Rattle.machine_model.proofs.Prelude.{◌≡◌, ℕ, Bool, true, false, cond, Some, refl, sym, ap, subst, ◌∙◌, None, length-map, IsTree, IsLawful, after_entry, MayMove, moved, store_after-push, entry_total, modified_of, Mover, Outcome, after, Keeps, StoreSays, copy_failed, move_begun, move_committed, page_copied, without_move, flat_of, process_at, run_at, Says, State, fault_told, with_faults, with_store, Entry as entry, Reply as reply, Action as act}
+use Rattle.machine_model.proofs.Prelude.{◌≡◌, ℕ, true, false, Some, refl, sym, subst, None, length-map, IsTree, IsLawful, after_entry, MayMove, moved, store_after-push, entry_total, modified_of, Mover, Outcome, after, Keeps, StoreSays, copy_failed, move_begun, move_committed, page_copied, without_move, flat_of, process_at, run_at, Says, State, fault_told, with_faults, with_store, Entry as entry, Reply as reply, Action as act}
 use Rattle.machine_model.proofs.FlatAlike.{alike, alike_by, alike_on, fault_alike, refused_alike}
 use Rattle.machine_model.proofs.SaysLaws.{none_rest, says_is}
 

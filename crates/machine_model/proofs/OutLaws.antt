@@ -1,5 +1,5 @@
 -- A page that isn't on its record alone stays so while other pages come into frames and are on their way out.
-use Rattle.machine_model.proofs.Prelude.{◌≡◌, ℕ, false, List, [], get_or, set, inl, inr, refl, sym, ap, ◌∙◌, What, Ptw, ActiveSegs, table_at, place_of, table_of, word_of, worded, Aim, is_out, took, State, Ptw as ptw}
+use Rattle.machine_model.proofs.Prelude.{◌≡◌, ℕ, false, List, [], get_or, set, inl, inr, refl, ap, ◌∙◌, What, Ptw, ActiveSegs, place_of, table_of, word_of, worded, Aim, is_out, took, State, Ptw as ptw}
 use Rattle.machine_model.proofs.ReleaseSeen.{set_either}
 use Rattle.machine_model.proofs.EffectLaws.{took_has}
 

@@ -1,5 +1,5 @@
 -- In the outline of the machine, the steps that a processor makes without the supervisor are steps of the outline.
-use Rattle.machine_model.proofs.Prelude.{◌≡◌, ◌≢◌, ◌<◌, ℕ, ◌+◌, ◌-◌, ◌/◌, Bool, true, false, cond, ◌&&◌, eqb, List, [], ◌∷◌, ◌++◌, length, drop, Option, Some, None, is_some, option_map, refl, sym, ap, subst, ◌∙◌, arith, find, Reference, What, HeldSeg, HeldPage, Held, frame_of, is_number, is_page, nothing_held, seg_of, with_page, with_seg, Transfer, Sdw, ForOwner, WhileIdle, Processor, Run, State, Owner, processor_at, cpu_at, process_at, run_at, descriptor_of, came_online, held_page, held_seg, left_at, loaded, looking, page_filled, queued, seg_filled, transferred, uid_of_held, with_faults, with_owner, Refer, Runner, Look, Outline, Turn, Moved, WaitsFor, runner_at, want_at, with_runner, at_stage, lack, missing, Comes, Clears, Reads, Loads, Leaves, Commands, rule_of, Step, comes, clears, reads, loads, idles, leaves, fills, faults, enters, waits, IsCleared, HasLoaded, HasLeft, IsFilled, with_bound, not_reading, Around, around, reference_in, holds_seg, holds_page, bare, runner_by, runner_of, keeper_of, stage_of, outline_of, eqb_self, held_cleared as cleared, held_page_of as page_of, Sdw as sdw, Frame as frame, steps_cleared_at as cleared_at}
+use Rattle.machine_model.proofs.Prelude.{◌≡◌, ◌≢◌, ◌<◌, ℕ, ◌+◌, ◌-◌, ◌/◌, Bool, true, false, cond, ◌&&◌, eqb, List, [], ◌∷◌, ◌++◌, length, drop, Option, Some, None, is_some, option_map, refl, sym, ap, subst, ◌∙◌, arith, find, Reference, What, HeldSeg, HeldPage, Held, frame_of, is_number, is_page, nothing_held, seg_of, with_page, with_seg, Transfer, Sdw, ForOwner, WhileIdle, Processor, Run, State, Owner, processor_at, cpu_at, process_at, run_at, descriptor_of, came_online, held_page, held_seg, left_at, loaded, looking, page_filled, queued, seg_filled, transferred, uid_of_held, with_faults, with_owner, Refer, Runner, Look, Outline, Turn, Moved, WaitsFor, runner_at, want_at, with_runner, at_stage, lack, Comes, Clears, Reads, Loads, Leaves, Commands, rule_of, Step, comes, clears, reads, loads, idles, leaves, fills, faults, enters, waits, IsCleared, HasLoaded, HasLeft, IsFilled, with_bound, not_reading, Around, around, reference_in, holds_seg, holds_page, bare, runner_by, runner_of, keeper_of, stage_of, outline_of, eqb_self, held_cleared as cleared, held_page_of as page_of, Sdw as sdw, Frame as frame, steps_cleared_at as cleared_at}
 use Rattle.machine_model.proofs.OutlineReads.{at_outline, one_outlined, set_map, seen_online, seen_running, seen_due, seen_reading, seen_since, seen_tried, ready_seen}
 
 -- a step to an outline that is the same

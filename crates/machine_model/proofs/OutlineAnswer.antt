@@ -1,5 +1,5 @@
 -- In the outline of the machine, what answers a command is a step that leaves less to come.
-use Rattle.machine_model.proofs.Prelude.{◌≡◌, ◌<◌, ℕ, ◌+◌, true, false, List, [], ◌∷◌, length, slice_get, Option, Some, None, is_some, refl, sym, ap, subst, ◌∙◌, inl, inr, ◌⊎◌, arith, get_or-set_same, length-set, weight, Plan, commands_of, Command, Reference, Reply, Processor, Run, CutDescriptor, State, or_zero, no_processor, next_command, processor_at, cpu_at, process_at, run_at, frames_of_owner, cut_of_owner, with_store, with_pages, pages_after, fault_told, left_at, page_created, page_made, run_after, told, went_through, with_owner, page_back, pages_back, seg_back, segs_back, write_failed, committed, left_after, Runner, Stage, Moved, runner_at, dues, Commands, rule_of, IsIn, IsAnswered, IsReplied, JobStep, answers, Step, replies, around, left_in, outline_of, CanTell, Plain, not_both, Command as command, Reply as reply, steps_answered as answered, outlined_left_of as left_of}
+use Rattle.machine_model.proofs.Prelude.{◌≡◌, ◌<◌, ℕ, ◌+◌, true, false, List, [], ◌∷◌, length, slice_get, Option, Some, None, is_some, refl, sym, ap, ◌∙◌, inl, inr, ◌⊎◌, arith, get_or-set_same, length-set, commands_of, Command, Reference, Reply, Processor, CutDescriptor, State, or_zero, no_processor, next_command, processor_at, cpu_at, process_at, run_at, frames_of_owner, cut_of_owner, with_store, with_pages, pages_after, fault_told, left_at, page_created, page_made, run_after, told, went_through, with_owner, page_back, pages_back, seg_back, segs_back, write_failed, committed, left_after, Stage, Moved, runner_at, dues, Commands, rule_of, IsIn, IsAnswered, IsReplied, JobStep, answers, Step, replies, around, left_in, outline_of, CanTell, Plain, Command as command, Reply as reply, steps_answered as answered}
 use Rattle.machine_model.proofs.LeftLaws.{answer_falls, left_falls}
 use Rattle.machine_model.proofs.OutlineReads.{at_outline, seen_running, seen_since}
 use Rattle.machine_model.proofs.OutlineAlone.{owner_none}
@@ -173,6 +173,7 @@ plain_outlined s c k r x h can = replies (outline_of (told s c None r)) h
 
 pub through_outlined : (s : State) (c k f : ℕ) (r : Reference) (x : Command) → rule_of (outline_of s) c ≡ Commands
     → CanTell s c k x → Step (outline_of s) c Moved (outline_of (went_through s c f r))
-through_outlined s c k f r x h can = replies (outline_of (went_through s c f r)) h (replied_is c k (Some f) _ x (assumption)
+through_outlined s c k f r x h can =
+    replies (outline_of (went_through s c f r)) h (replied_is c k (Some f) _ x (assumption)
     (assumption) (through_owner s (pages_after s.store.pages f r))
     (told_owner (with_store s (with_pages s.store (pages_after s.store.pages f r))) c (Some f) _))

@@ -1,6 +1,6 @@
 -- In the outline of the machine, what ends a phase of a job is a step of it: pages leave their frames, a segment
 -- becomes inactive, a transfer begins, and the supervisor is given up.
-use Rattle.machine_model.proofs.Prelude.{◌≡◌, ℕ, Bool, List, [], ◌∷◌, length, map, Option, Some, None, set, refl, sym, ap, ◌∙◌, Frame, Left, words_in, Active, place_of, Transfer, AccountMaps, Phase, What, Processor, CutDescriptor, State, Storage, Owner, next_command, processor_at, cut_of_owner, looking, started, with_owner, accounts_left, emptied, eviction_done, left_of, page_done, page_gone, page_in, seg_gone, segs_gone, with_left, without_first_frame, Refer, Runner, EmptyPlace, Look, Waiting, runner_at, want_at, with_runner, with_frame, with_entry, at_stage, dues, lack, IsIn, JobStep, frees_frame, frees_page, empties, empties_at_once, gives_up, starts, CanEmpty, CanStart, with_runners, with_stored, without_owner, now_reading, Around, around, bare, runner_by, runner_of, stage_of, keeper_of, outline_of, full_then, stored_then, Frame as frame, Left as left, Aim as aim, Phase as phase, FinishingMayRelease as MayRelease}
+use Rattle.machine_model.proofs.Prelude.{◌≡◌, ℕ, Bool, List, [], ◌∷◌, length, map, Option, Some, None, set, refl, sym, ap, ◌∙◌, Frame, Left, words_in, Active, place_of, Transfer, AccountMaps, Phase, What, Processor, CutDescriptor, State, Storage, Owner, next_command, processor_at, cut_of_owner, looking, started, with_owner, accounts_left, emptied, eviction_done, left_of, page_done, page_gone, page_in, seg_gone, segs_gone, with_left, without_first_frame, Refer, EmptyPlace, Look, Waiting, runner_at, want_at, with_frame, with_entry, at_stage, dues, lack, IsIn, JobStep, frees_frame, frees_page, empties, empties_at_once, gives_up, starts, CanEmpty, CanStart, with_runners, with_stored, without_owner, now_reading, Around, around, bare, runner_by, runner_of, stage_of, keeper_of, outline_of, full_then, stored_then, Frame as frame, Left as left, Aim as aim, Phase as phase, FinishingMayRelease as MayRelease}
 use Rattle.machine_model.proofs.JobLaws.{alike_self}
 use Rattle.machine_model.proofs.OutlineReads.{at_outline, set_map}
 use Rattle.machine_model.proofs.OutlineJob.{job_to, in_job, in_look}

@@ -1,6 +1,6 @@
 -- In an outline that is kept and hasn't ended, some processor moves: the owner of the supervisor, or who it waits for;
 -- where nobody owns it a processor that has a process, or else processor 0.
-use Rattle.machine_model.proofs.Prelude.{◌≡◌, ◌<◌, ℕ, true, false, eqb, length, position, Option, Some, None, is_some, refl, sym, ap, ◌∙◌, inl, inr, eqb_tells, Transfer, Runner, no_runner, Stage, Keeper, Outline, Turn, Moved, runner_at, Works, Loads, Commands, rule_of, owns, IsEnded, IsIn, Step, ends, awaits_clear, awaits_transfer, idles, waits, IsKept, HaveSteps, not_both, UnstuckGoes as Goes, eqb_self}
+use Rattle.machine_model.proofs.Prelude.{◌≡◌, ◌<◌, ℕ, true, false, length, position, Option, Some, None, is_some, refl, sym, ◌∙◌, Transfer, Runner, no_runner, Stage, Keeper, Outline, Turn, Moved, runner_at, Works, Loads, Commands, rule_of, owns, IsEnded, IsIn, Step, ends, awaits_clear, awaits_transfer, idles, waits, IsKept, HaveSteps, not_both, UnstuckGoes as Goes, eqb_self}
 use Rattle.machine_model.proofs.FindLaws.{position_at, position_none}
 use Rattle.machine_model.proofs.RuleLaws.{tells}
 use Rattle.machine_model.proofs.StepLaws.{inside}

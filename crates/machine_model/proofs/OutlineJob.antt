@@ -1,5 +1,5 @@
 -- In the outline of the machine, what the owner of the supervisor does is a step of its job in the outline.
-use Rattle.machine_model.proofs.Prelude.{◌≡◌, ◌≢◌, ◌<◌, ℕ, zero, suc, Bool, true, false, List, [], ◌∷◌, length, map, Option, Some, None, set, get_or, refl, sym, ap, subst, ◌∙◌, arith, get_or-set_same, get_or-set_other, Reference, Active, Sdw, sdw_at, Links, place_of, sdws_at, Phase, Processor, State, Owner, node_in, no_processor, superior_of_node, mode_in, length_in, processor_at, descriptor_of, is_connected, with_link_of, activated_at, connected_to, Refer, Runner, Look, Outline, runner_at, want_at, with_entry, IsIn, JobStep, activates, connects, CanActivate, with_link, entry_for, Around, around, reference_in, is_linked, want_of, runner_by, runner_of, stage_of, keeper_of, outline_of, IsPlaced, HasDescriptor, Sdw as sdw, Phase as phase}
+use Rattle.machine_model.proofs.Prelude.{◌≡◌, ◌≢◌, ◌<◌, ℕ, zero, suc, Bool, true, false, List, [], ◌∷◌, length, map, Option, Some, None, set, get_or, refl, sym, arith, get_or-set_same, get_or-set_other, Reference, Active, Links, place_of, sdws_at, Processor, State, Owner, node_in, no_processor, superior_of_node, mode_in, length_in, processor_at, descriptor_of, is_connected, with_link_of, activated_at, connected_to, Refer, Look, Outline, runner_at, want_at, with_entry, IsIn, JobStep, activates, connects, CanActivate, with_link, entry_for, Around, around, reference_in, is_linked, want_of, runner_by, runner_of, stage_of, keeper_of, outline_of, IsPlaced, HasDescriptor, Sdw as sdw, Phase as phase}
 use Rattle.machine_model.proofs.OutlineReads.{at_outline}
 
 -- a step of a job to an outline that is the same

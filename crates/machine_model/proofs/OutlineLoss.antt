@@ -1,5 +1,5 @@
 -- In the outline of the machine, a transfer that fails is a step that frees its frame and leaves less to come.
-use Rattle.machine_model.proofs.Prelude.{◌≡◌, ◌≢◌, ◌<◌, ℕ, zero, suc, ◌+◌, Bool, false, List, [], ◌∷◌, ◌++◌, length, map, Option, Some, None, is_some, set, refl, sym, ap, subst, ◌∙◌, append-nil, get_or-set_same, get_or-set_other, length-set, Plan, Command, is_end, released_by, Transfer, Processor, State, or_zero, no_processor, no_run, next_command, processor_at, cpu_at, process_at, run_at, fault_told, frame_lost, goes_on, run_after, transfer_failed, Runner, Moved, runner_at, with_runner, with_frame, Reads, rule_of, HasLost, Step, loses, Around, around, bare, runner_by, runner_of, outline_of, CanTell, IsPlaced, Reply as reply, Frame as frame}
+use Rattle.machine_model.proofs.Prelude.{◌≡◌, ◌≢◌, ◌<◌, ℕ, zero, suc, ◌+◌, Bool, false, List, [], ◌∷◌, length, map, Option, Some, None, is_some, set, refl, sym, ap, subst, ◌∙◌, append-nil, get_or-set_same, get_or-set_other, length-set, Plan, Command, is_end, released_by, Transfer, Processor, State, no_processor, no_run, next_command, processor_at, cpu_at, process_at, run_at, fault_told, frame_lost, goes_on, run_after, transfer_failed, Runner, Moved, runner_at, with_runner, with_frame, Reads, rule_of, HasLost, Step, loses, Around, around, bare, runner_by, runner_of, outline_of, CanTell, IsPlaced, Reply as reply, Frame as frame}
 use Rattle.machine_model.proofs.OutlineReads.{at_outline, set_map, seen_online, seen_running, seen_due, seen_reading, seen_since}
 use Rattle.machine_model.proofs.OutlineAlone.{step_to}
 use Rattle.machine_model.proofs.OutlineJob.{map_change}

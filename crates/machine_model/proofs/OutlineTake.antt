@@ -1,5 +1,5 @@
 -- In the outline of the machine, taking, signalling and finishing are steps of the owner's job.
-use Rattle.machine_model.proofs.Prelude.{◌≡◌, ◌≢◌, ◌≤◌, ℕ, suc, ◌+◌, Bool, true, false, cond, eqb, List, [], ◌∷◌, ◌++◌, length, map, Option, Some, None, is_some, set, refl, sym, ap, subst, ◌∙◌, inl, inr, ◌⊎◌, append_assoc, zero-add, eqb_tells, What, Frame, bound_page, core_frame, is_idle, unmarked, round_frames, passed_over, command_at, AccountMaps, Plain, Active, Links, leads_at, place_of, is_filed, Aim, Phase, Processor, CutDescriptor, State, Storage, Owner, next_command, no_processor, run_at, processor_at, frames_of_owner, cut_of_owner, cut_all, cut_one, eviction_begun, leaving_if, owner_signalled, phase_signalled, signalled, take_all, take_one, told_from, took, with_choice, with_leaving, Runner, EvictFrame, Look, Taken, Waiting, runner_at, at_stage, IsIn, JobStep, takes_segment, takes_frame, takes_for_commit, signals, CanEmpty, CanEvict, AreAlike, AreOf, with_runners, Around, around, bare, lacks_record, left_in, want_of, runner_by, runner_of, first_frame, work_of, stage_of, keeper_of, outline_of, map_kept, Frame as frame, Aim as aim, Phase as phase, jobs_told_at as told_at, eqb_self}
+use Rattle.machine_model.proofs.Prelude.{◌≡◌, ◌≢◌, ◌≤◌, ℕ, suc, ◌+◌, List, [], ◌∷◌, ◌++◌, length, map, Option, Some, None, refl, sym, ap, subst, ◌∙◌, inl, inr, ◌⊎◌, append_assoc, zero-add, What, bound_page, core_frame, command_at, Plain, Active, leads_at, place_of, is_filed, Aim, Processor, CutDescriptor, State, Storage, Owner, next_command, no_processor, run_at, processor_at, frames_of_owner, cut_of_owner, cut_all, cut_one, eviction_begun, leaving_if, owner_signalled, signalled, take_all, take_one, told_from, took, with_choice, with_leaving, Runner, EvictFrame, Look, Taken, Waiting, runner_at, at_stage, IsIn, JobStep, takes_segment, takes_frame, takes_for_commit, signals, CanEmpty, CanEvict, AreAlike, AreOf, with_runners, Around, around, bare, lacks_record, left_in, want_of, runner_by, runner_of, work_of, keeper_of, outline_of, Aim as aim, Phase as phase, jobs_told_at as told_at, eqb_self}
 use Rattle.machine_model.proofs.OutlineReads.{map_at, seen_online, seen_running, seen_due, seen_reading, seen_since, seen_tried}
 use Rattle.machine_model.proofs.OutlineJob.{job_to, in_job}
 use Rattle.machine_model.proofs.ChoiceLaws.{choice_bare}

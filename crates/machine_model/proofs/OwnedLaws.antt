@@ -1,5 +1,5 @@
 -- What goes is the owner's alone, entry by entry.
-use Rattle.machine_model.proofs.Prelude.{◌≡◌, ◌≢◌, ℕ, Bool, true, false, ◌||◌, eqb, List, [], ◌∷◌, ◌++◌, Option, Some, None, ◌⊎◌, inl, inr, refl, sym, ap, subst, ◌∙◌, eqb_tells, list_any-append, What, FrameUse, DescriptorUse, SomethingGoes, NamesAllGoing, Custody, Seat, has, leads_to, is_uid, uid_of_page, is_going_frame, is_current_frame, is_going_descriptor, is_current_descriptor, names_frame, names_descriptor, with_descriptor, with_seat, Aim, IsOwned, IsShaped, IsAimed, AreDistinct, AreApart, has_cut, says, waits_for, is_cut_at, frames_of_owner, cut_of_owner, CutDescriptor, Owner, going_cut, going_taken, names_descriptor_same, names_same, not_both, What as what, FrameUse as frame, DescriptorUse as descriptor, custody_bound_page as bound_page, custody_taken as taken, custody_cut as cut, next_with_frame as with_frame, Phase as phase, false_from_ne_true}
+use Rattle.machine_model.proofs.Prelude.{◌≡◌, ◌≢◌, ℕ, Bool, true, false, ◌||◌, eqb, List, [], ◌∷◌, ◌++◌, Option, Some, None, ◌⊎◌, inl, inr, refl, sym, ap, ◌∙◌, eqb_tells, list_any-append, What, FrameUse, DescriptorUse, SomethingGoes, NamesAllGoing, Custody, Seat, has, leads_to, is_going_frame, is_current_frame, is_going_descriptor, is_current_descriptor, names_frame, names_descriptor, with_descriptor, with_seat, Aim, IsOwned, IsShaped, IsAimed, AreDistinct, AreApart, has_cut, says, waits_for, is_cut_at, frames_of_owner, cut_of_owner, CutDescriptor, Owner, going_cut, going_taken, names_descriptor_same, names_same, not_both, What as what, FrameUse as frame, DescriptorUse as descriptor, custody_bound_page as bound_page, custody_taken as taken, custody_cut as cut, next_with_frame as with_frame, Phase as phase, false_from_ne_true}
 use Rattle.machine_model.proofs.Places.{by_place, by_places, put_here, put_two_here}
 use Rattle.machine_model.proofs.TieLaws.{none_some}
 

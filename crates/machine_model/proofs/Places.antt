@@ -1,5 +1,5 @@
 -- A function that is changed at one place.
-use Rattle.machine_model.proofs.Prelude.{◌≡◌, ◌≢◌, ℕ, Bool, true, false, ◌&&◌, cond, eqb, refl, sym, subst, inl, inr, eqb_tells, at_put, at_put_two}
+use Rattle.machine_model.proofs.Prelude.{◌≡◌, ◌≢◌, ℕ, Bool, true, false, ◌&&◌, cond, eqb, refl, inl, inr, eqb_tells, at_put, at_put_two}
 
 -- what a function has at a place: what was put there, or what it had
 pub by_place : {A : Type 0} (P : A → Type 0) (f : ℕ → A) (i : ℕ) (x : A) (j : ℕ) → (j ≡ i → P x) → (j ≢ i → P (f j))

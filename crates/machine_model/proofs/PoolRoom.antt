@@ -192,7 +192,8 @@ module _ (ast : ActiveSegs) (pool : ℕ) where
       is_free = find_passes (λ q. is_none (entry_at ast.entries q)) places place free
 
       none : has_its ns place ≡ false
-      none = false_from_ne_true (has_its ns place) (λ e. not_both (entry_at ast.entries place) is_free (has_some ns place e))
+      none = false_from_ne_true (has_its ns place) (λ e. not_both (entry_at ast.entries place) is_free
+          (has_some ns place e))
         where
           not_both : (o : Option Entry) → is_none o ≡ true → is_some o ≡ true → ⊥
           not_both None a b = let off = b in cc

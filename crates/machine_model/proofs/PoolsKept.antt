@@ -1,5 +1,5 @@
 -- The pools of the active segment table stay those of the script through every action.
-use Rattle.machine_model.proofs.Prelude.{◌≡◌, ℕ, Bool, true, false, cond, List, [], ◌∷◌, Option, Some, None, refl, ◌∙◌, Command, What, Ptw, erased, bound_page, frame_in, here_if, first_off_chain, hand_past, Aim, CutDescriptor, Outcome, after, committed, committed_at, frames_freed, with_deleted, with_effect, with_truncated, without_page, cut_all, cut_one, emptied, eviction_begun, eviction_done, leaving_if, page_back, page_done, pages_back, seg_back, seg_gone, segment_taken, segs_back, segs_gone, take_all, take_one, took, victim_taken, with_choice, with_hand_moved, copy_failed, page_copied, uid_of_command, with_inactive, with_here, write_failed, cut_of_owner, frames_from, frames_of_owner, home_in, is_active, next_command, process_at, trailers_in, State, Storage, fault_told, transfer_failed, transferred, with_faults, with_pages, with_store, Command as command, What as what, Ptw as ptw, Aim as aim, Action, Action as act}
+use Rattle.machine_model.proofs.Prelude.{◌≡◌, ℕ, Option, Some, None, refl, Command, Outcome, after, committed, committed_at, with_effect, uid_of_command, write_failed, frames_of_owner, next_command, process_at, State, Command as command, Aim as aim, Action, Action as act}
 use Rattle.machine_model.proofs.ActionCases.{by_end}
 use Rattle.machine_model.proofs.JobStays.{Stays, all_taken, emptying, evicting, is_back, is_emptied, emptying_victim}
 use Rattle.machine_model.proofs.EffectLaws.{effect_rests}
@@ -28,7 +28,8 @@ failed s c faults = on (pools_of (is_back s c faults)) (pools_stay refl refl ref
 -- ---- a command takes effect
 
 committed_same : (s : State) (c k : ℕ) (cmd : Command) → SamePools s (committed s c k cmd)
-committed_same s c k cmd = by cmd (effect_rests s.store k (uid_of_command s.store k cmd) (frames_of_owner s.owner) cmd).sizes
+committed_same s c k cmd =
+    by cmd (effect_rests s.store k (uid_of_command s.store k cmd) (frames_of_owner s.owner) cmd).sizes
   where
     by : (x : Command)
         → (with_effect s.store k (uid_of_command s.store k x) (frames_of_owner s.owner) x).ast.sizes ≡ s.store.ast.sizes

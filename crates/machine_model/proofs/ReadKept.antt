@@ -1,5 +1,5 @@
 -- What a processor reads into a frame is for the next command of its process through every action, until it is read.
-use Rattle.machine_model.proofs.Prelude.{and_parts, cond_both, with_node, Links, with_effect, ◌≡◌, ◌≢◌, ◌<◌, ℕ, ◌+◌, Bool, true, false, cond, eqb, length, List, [], map, set, Option, Some, None, ◌⊎◌, inl, inr, refl, sym, ap, subst, ◌∙◌, arith, ℤ, eqb_tells, get_or-set_other, get_or-set_same, length-set, Plan, command_at, Command, Reference, Reply, What, Row, Node, node_in, IsTree, uid_of, kst_at, word_of, Cpu, Transfer, parts_of, segment_at, word_reply, node_gone, is_filed, is_there, pages_in, pages_of, Processor, Run, action_of, clear_or, own_or_run, transfer_or, Outcome, after, committed, committed_at, with_made, emptied, eviction_begun, eviction_done, page_done, pages_back, segs_back, took, victim_taken, with_choice, with_hand_moved, write_failed, Keeps, copy_failed, page_copied, without_move, IsMachine, AllRead, IsReadFor, IsReading, Refers, Truncates, Wants, cpu_at, cut_of_owner, frames_from, frames_of_owner, is_active, next_command, no_processor, no_run, or_zero, process_at, processor_at, run_at, trailers_in, refusal_of, reply_of, uid_of_command, State, Storage, fault_told, frame_lost, old_word, page_made, pages_after, started, told, transfer_failed, transferred, with_faults, with_pages, with_store, MayFailBy, not_both, Command as command, Reply as reply, What as what, Aim as aim, with_links, with_nodes, Action, Action as act}
+use Rattle.machine_model.proofs.Prelude.{and_parts, cond_both, with_node, Links, with_effect, ◌≡◌, ◌≢◌, ◌<◌, ℕ, ◌+◌, Bool, true, false, cond, eqb, length, List, [], map, set, Option, Some, None, ◌⊎◌, inl, inr, refl, sym, ap, subst, ◌∙◌, arith, ℤ, eqb_tells, get_or-set_other, get_or-set_same, length-set, Plan, command_at, Command, Reference, Reply, What, Row, Node, node_in, IsTree, uid_of, kst_at, word_of, Transfer, parts_of, segment_at, word_reply, node_gone, is_filed, is_there, pages_in, pages_of, Processor, Run, action_of, clear_or, own_or_run, transfer_or, Outcome, after, committed, committed_at, with_made, write_failed, Keeps, without_move, IsMachine, AllRead, IsReadFor, IsReading, Refers, Truncates, Wants, cpu_at, frames_of_owner, is_active, next_command, no_processor, no_run, or_zero, process_at, processor_at, run_at, refusal_of, reply_of, uid_of_command, State, Storage, fault_told, frame_lost, old_word, page_made, pages_after, started, told, transfer_failed, with_pages, with_store, MayFailBy, not_both, Command as command, Reply as reply, Aim as aim, with_links, with_nodes, Action, Action as act}
 use Rattle.machine_model.proofs.JobStays.{Stays, all_back, all_taken, emptying, evicted, evicting, is_back, is_emptied, page_left, emptying_victim}
 use Rattle.machine_model.proofs.ActionCases.{action_by, by_end}
 use Rattle.machine_model.proofs.CommandFacts.{LeadsToSegment, truncate_stands}
@@ -10,7 +10,6 @@ use Rattle.machine_model.proofs.LeaveSeen.{told_reads, told_process}
 use Rattle.machine_model.proofs.LookFacts.{FindsCut, FindsOut, FindsPage}
 use Rattle.machine_model.proofs.PageShown.{active_there, stored_is}
 use Rattle.machine_model.proofs.PathsKept.{KeepsName, PathsStay, paths_changed, paths_less, paths_more, paths_same}
-use Rattle.machine_model.proofs.TieLaws.{none_some}
 use Rattle.machine_model.proofs.TransferKept.{active_at}
 use Rattle.machine_model.proofs.VictimLaws.{some_there}
 use Rattle.machine_model.proofs.ClearLaws.{told_transfer}
@@ -418,7 +417,8 @@ module _ (s : State) (c : ℕ) (o : Outcome) (m : IsMachine s) (there : c < leng
   reading_kept (act.TakeAway fs pairs w) may kept = reads_like (all_taken s c aim.Committing w fs pairs) h
   reading_kept (act.BeginMove u volume) may kept = h
   reading_kept (act.CopyPage m q) may kept = by_end IsReading o _ _ (λ e. h)
-      (λ e. told_read (fault_told (with_store s (without_move s.store)) (Some k) o.faults) c None reply.Device h there may.0
+      (λ e. told_read (fault_told (with_store s (without_move s.store))
+      (Some k) o.faults) c None reply.Device h there may.0
       (elsewhere may.1))
   reading_kept (act.CommitMove m) may kept = record {
     each = λ d. still_reads h (record {

@@ -1,7 +1,6 @@
 -- Each step of each processor keeps the machine's promise: along the rules in their order, what an action asks follows
 -- from the promise, but for what the store says and for what the flat store answers.
-use Rattle.machine_model.proofs.Prelude.{[], ◌≡◌, ◌<◌, ℕ, List, ◌∷◌, length, Option, Some, None, sym, subst, ◌∙◌, What, Mover, Aim, finish_of, copy_or_commit, Outcome, says, seen, Keeps, cut_of_owner, shown, State, What as what, Aim as aim, Action, Action as act}
-use Rattle.machine_model.proofs.ChainLaws.{GoesOn}
+use Rattle.machine_model.proofs.Prelude.{[], ◌≡◌, ◌<◌, ℕ, List, ◌∷◌, length, Option, Some, None, sym, ◌∙◌, What, Mover, Aim, finish_of, copy_or_commit, Outcome, seen, Keeps, cut_of_owner, shown, State, What as what, Aim as aim, Action, Action as act}
 use Rattle.machine_model.proofs.CommitKept.{idle_over, segs_over}
 use Rattle.machine_model.proofs.DeleteKept.{gones_done, gones_idle}
 use Rattle.machine_model.proofs.DueLaws.{none_due}

@@ -1,5 +1,5 @@
 -- Which rule applies to a processor, and what it tells of it.
-use Rattle.machine_model.proofs.Prelude.{◌≡◌, ℕ, Bool, true, false, ◌&&◌, is_some, refl, nat_lt, Runner, Outline, runner_at, Rule, Comes, Clears, Reads, Works, Loads, Leaves, Commands, rule_by, rule_of, owns, measures_is_over as is_over}
+use Rattle.machine_model.proofs.Prelude.{◌≡◌, ℕ, Bool, true, false, ◌&&◌, is_some, refl, nat_lt, Outline, runner_at, Rule, Comes, Clears, Reads, Works, Loads, Leaves, Commands, rule_by, rule_of, owns, measures_is_over as is_over}
 
 -- what the rules ask of six facts
 abbrev pub Tells : Rule → Bool → Bool → Bool → Bool → Bool → Bool → Type 0

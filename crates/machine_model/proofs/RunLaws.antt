@@ -1,5 +1,5 @@
 -- How far each process has come by the flat store, once a command was answered or a drive's failure was told.
-use Rattle.machine_model.proofs.Prelude.{◌≡◌, ◌<◌, ◌≤◌, ℕ, zero, suc, Bool, true, false, cond, List, [], ◌∷◌, length, set, get_or, Option, Some, None, inl, inr, if◌then◌else◌, refl, sym, ap, subst, ◌∙◌, arith, eqb_tells, leb_tells, get_or-set_same, get_or-set_other, Plan, Command, Reply, effect_of, after_command, gone_on, takes_effect, after_fault, Store, Progress, progress_of, with_progress, at_put, IsRun, Run, going_within, effect_advances, cond_both}
+use Rattle.machine_model.proofs.Prelude.{◌≡◌, ◌<◌, ◌≤◌, ℕ, zero, suc, true, false, cond, List, [], ◌∷◌, length, set, get_or, Option, Some, None, inl, inr, if◌then◌else◌, refl, subst, arith, eqb_tells, leb_tells, get_or-set_same, get_or-set_other, Plan, Command, Reply, effect_of, after_command, gone_on, takes_effect, after_fault, Store, Progress, progress_of, with_progress, at_put, IsRun, Run, going_within, effect_advances, cond_both}
 use Rattle.machine_model.proofs.Places.{by_place}
 
 -- ---- one process has come to another place

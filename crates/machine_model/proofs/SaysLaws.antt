@@ -1,5 +1,5 @@
 -- What the store says after each action, by what its calls say of it.
-use Rattle.machine_model.proofs.Prelude.{cond_both, ◌≡◌, ℕ, ◌+◌, ◌*◌, true, false, eqb, List, [], ◌∷◌, ◌++◌, map, length, set, sum, Option, Some, None, refl, sym, ap, subst, ◌∙◌, arith, ◌/◌, ◌%◌, length-set, Who, Plan, reference_of, Command, RefKind, Reference, Entry, Reply, Node, Frame, is_idle, passed_over, round_frames, unmarked, bound_page, Left, Home, evicted, referred, Plain, frame_in_pages, words_in, Transfer, effect_of, takes_effect, after_entry, store_after, store_after-push, alters, new_word, word_reply, written, written_by, Store, known_uid, Outcome, after, emptied, entries_left, eviction_begun, eviction_done, here_if, leaving_if, left_of, page_back, page_done, page_in, pages_back, seg_back, seg_gone, segs_back, segs_gone, with_choice, without_first_frame, write_failed, AreThere, HadRights, IsConserved, IsFaithful, Keeps, StoreKept, StoreSays, cut_of_owner, flat_of, frames_of_owner, home_in, is_active, next_command, process_at, run_at, Says, left_page, shown_after, through, with_made_page, without_left, CutDescriptor, Owner, State, Storage, activated_at, connected_to, fault_told, frame_lost, old_word, page_created, pages_after, started, told, told_by, transfer_failed, transferred, went_through, with_faults, append_assoc, RefKind as kind, Entry as entry, Reply as reply, core_frame as frame_in, Left as left, references_after_reference as after_reference, Action, Action as act}
+use Rattle.machine_model.proofs.Prelude.{cond_both, ◌≡◌, ℕ, ◌+◌, ◌*◌, true, false, eqb, List, [], ◌∷◌, ◌++◌, map, length, sum, Option, Some, None, refl, sym, ap, subst, ◌∙◌, arith, ◌/◌, ◌%◌, length-set, Who, Plan, reference_of, Command, RefKind, Reference, Entry, Reply, Node, bound_page, Left, Home, evicted, referred, Plain, frame_in_pages, words_in, Transfer, effect_of, takes_effect, after_entry, store_after, store_after-push, alters, new_word, word_reply, written, written_by, Store, known_uid, Outcome, after, emptied, entries_left, eviction_begun, eviction_done, here_if, leaving_if, left_of, page_back, page_done, page_in, pages_back, seg_back, seg_gone, segs_back, segs_gone, with_choice, without_first_frame, write_failed, AreThere, HadRights, IsConserved, IsFaithful, Keeps, StoreKept, StoreSays, cut_of_owner, flat_of, frames_of_owner, home_in, is_active, next_command, process_at, run_at, Says, left_page, shown_after, through, with_made_page, without_left, CutDescriptor, Owner, State, Storage, activated_at, connected_to, fault_told, frame_lost, old_word, page_created, pages_after, started, told, told_by, transfer_failed, transferred, went_through, with_faults, append_assoc, RefKind as kind, Entry as entry, Reply as reply, Left as left, references_after_reference as after_reference, Action, Action as act}
 use Rattle.machine_model.proofs.ChoiceLaws.{choice_count}
 use Rattle.machine_model.proofs.FlatAlike.{IsAlike, alike, alike_by, alike_on, alike_shown, conserved_by, done_alike, fault_alike, is_still, one_still, refused_alike}
 use Rattle.machine_model.proofs.OutlineEnd.{left_nodes as account_nodes}

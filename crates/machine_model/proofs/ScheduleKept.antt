@@ -1,5 +1,5 @@
 -- After each action each process that goes on is at one processor, ready, or kept back by the initializer.
-use Rattle.machine_model.proofs.Prelude.{◌≡◌, ◌<◌, ℕ, ◌+◌, ◌-◌, Bool, true, false, ◌&&◌, cond, eqb, List, [], ◌∷◌, ◌++◌, drop, length, set, Option, Some, None, refl, sym, ap, subst, ◌∙◌, length-set, get_or-set_same, Plan, Command, Reply, What, is_end, word_reply, IsFront, range, released_by, Aim, CutDescriptor, Processor, Run, Outcome, after, committed_at, cut_all, cut_one, emptied, page_back, pages_back, seg_back, seg_gone, segment_taken, segs_back, segs_gone, take_all, take_one, told_from, took, with_hand_moved, write_failed, copy_failed, without_move, cpu_at, cut_of_owner, frames_from, frames_of_owner, next_command, no_processor, or_zero, process_at, processor_at, run_at, trailers_in, reply_of, AreScheduled, IsScheduled, State, fault_told, frame_lost, goes_on, is_its_end, left_at, old_word, page_made, run_after, told, told_by, transfer_failed, with_store, pages_after, with_pages, no_run, append-nil, Command as command, Reply as reply, What as what, Aim as aim, Action, Action as act, cond_both}
+use Rattle.machine_model.proofs.Prelude.{◌≡◌, ◌<◌, ℕ, ◌+◌, ◌-◌, Bool, true, false, ◌&&◌, cond, eqb, List, [], ◌∷◌, ◌++◌, drop, length, set, Option, Some, None, refl, sym, ap, subst, ◌∙◌, length-set, get_or-set_same, Plan, Command, Reply, What, is_end, word_reply, IsFront, range, released_by, Processor, Run, Outcome, after, committed_at, told_from, write_failed, without_move, cpu_at, next_command, no_processor, or_zero, process_at, processor_at, run_at, reply_of, AreScheduled, IsScheduled, State, fault_told, frame_lost, goes_on, is_its_end, left_at, old_word, page_made, run_after, told, told_by, with_store, pages_after, with_pages, no_run, append-nil, Command as command, Reply as reply, Aim as aim, Action, Action as act, cond_both}
 use Rattle.machine_model.proofs.JobStays.{Stays, all_taken, emptying, is_back, is_emptied, emptying_victim}
 use Rattle.machine_model.proofs.ActionCases.{by_end}
 use Rattle.machine_model.proofs.CommitKept.{effected}

@@ -239,7 +239,8 @@ in_range from (suc n) j h = elim (eqb_tells from j) [
 ]
 
 not_before : (from n j : ℕ) → j < from → has (range from n) j ≡ false
-not_before from n j h = false_from_ne_true (has (range from n) j) (λ e. (let at = (in_range from n j e).0 in omega arith))
+not_before from n j h =
+    false_from_ne_true (has (range from n) j) (λ e. (let at = (in_range from n j e).0 in omega arith))
 
 pub range_has : (from n j : ℕ) → from ≤ j → j < from + n → has (range from n) j ≡ true
 range_has from zero j a b = absurd (omega arith)

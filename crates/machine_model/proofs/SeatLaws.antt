@@ -1,10 +1,10 @@
 -- A processor takes part, loads a process, loses it, or fills in a descriptor or a page table word.
-use Rattle.machine_model.proofs.Prelude.{◌≡◌, ℕ, ◌<◌, true, false, List, [], drop, Option, Some, None, refl, sym, ap, subst, ◌∙◌, arith, IsSomeAnd, HeldPage, HeldSeg, What, Entry, IsLawful, after_entry, progress_of, IsAllowed, MayLeave, MayTakeSeg, IsFront, Seat, has, is_current_frame, is_current_descriptor, leads_to, FillsOnline, pending_after, at_put, custody_next, with_seat, reseated, taking_part, running, left, with_held_seg, with_held_page, KeepsBook, HoldsRight, IsRun, AreOfProcess, names, is_pending, Seen, flat, shown, seat_of, descriptor_use, cut_uid, cut_of_owner, Processor, Entry as entry, Ptw as ptw, DescriptorUse as descriptor, queued_by as queued, changes_came_online as came_online, changes_loaded as loaded, changes_emptied as emptied, changes_seg_filled as seg_filled, changes_page_filled as page_filled}
+use Rattle.machine_model.proofs.Prelude.{◌≡◌, ℕ, ◌<◌, true, false, List, [], drop, Option, Some, None, refl, sym, ap, subst, ◌∙◌, arith, IsSomeAnd, HeldPage, HeldSeg, What, Entry, IsLawful, after_entry, progress_of, IsAllowed, MayLeave, MayTakeSeg, IsFront, Seat, has, is_current_frame, leads_to, FillsOnline, pending_after, at_put, custody_next, with_seat, reseated, taking_part, running, left, with_held_seg, with_held_page, KeepsBook, HoldsRight, IsRun, AreOfProcess, names, is_pending, Seen, flat, shown, seat_of, Processor, Entry as entry, Ptw as ptw, DescriptorUse as descriptor, queued_by as queued, changes_came_online as came_online, changes_loaded as loaded, changes_emptied as emptied, changes_seg_filled as seg_filled, changes_page_filled as page_filled}
 use Rattle.machine_model.proofs.BookNext.{book_next}
 use Rattle.machine_model.proofs.HeldLaws.{map_filled, filled_few, pages_filled, right_like, segs_filled, under_way_alike}
 use Rattle.machine_model.proofs.OwnedLaws.{like_seat, owned_like}
 use Rattle.machine_model.proofs.Places.{by_place, put_map}
-use Rattle.machine_model.proofs.TieLaws.{none_some, use_bound}
+use Rattle.machine_model.proofs.TieLaws.{use_bound}
 
 -- one processor changes, with the ready list and the book
 pub record Reseats (v : Seen) (c : ℕ) (p : Processor) (ready : List ℕ) (e : Entry) : Type 0 where
@@ -19,21 +19,21 @@ pub reseat_keeps : (v : Seen) (c : ℕ) (p : Processor) (ready : List ℕ) (e : 
     → ((k : ℕ) → IsRun (progress_of (after_entry v.plan (flat v) e) k) (v.runs k)) → Reseats v c p ready e
     → KeepsBook (reseated v c p ready e)
 reseat_keeps v c p ready e k lawful pending due transfer runs r = book_next refl refl k (record {
-      lawful = lawful;
-      allowed = r.allowed;
-      online = r.online;
-      next = seats ∙ sym r.next;
-      pending = sym pending;
-      going_owned = rw r.next (owned_like (shown v) (record (with_seat (shown v) c (seat_of p)) { ready = ready })
-          (like_seat (shown v) c (seat_of p) ready due) v.owner k.going_owned);
-      tied = k.tied;
-      holding_right = λ d. by_place (λ (x : Processor). HoldsRight v.bound (shown v).descriptor x) v.processors c p d
-          (λ i. r.right) (λ n. k.holding_right d);
-      under_way = under_way_alike v.reads v.processors (at_put v.processors c p)
-          (λ d. by_place (λ (x : Processor). x.cpu.transfer ≡ (v.processors d).cpu.transfer) v.processors c p d
-          (λ i. cc) (λ n. refl)) k.under_way;
-      runs = runs;
-    })
+  lawful = lawful;
+  allowed = r.allowed;
+  online = r.online;
+  next = seats ∙ sym r.next;
+  pending = sym pending;
+  going_owned = rw r.next (owned_like (shown v) (record (with_seat (shown v) c (seat_of p)) { ready = ready })
+      (like_seat (shown v) c (seat_of p) ready due) v.owner k.going_owned);
+  tied = k.tied;
+  holding_right = λ d. by_place (λ (x : Processor). HoldsRight v.bound (shown v).descriptor x) v.processors c p d
+      (λ i. r.right) (λ n. k.holding_right d);
+  under_way = under_way_alike v.reads v.processors (at_put v.processors c p)
+      (λ d. by_place (λ (x : Processor). x.cpu.transfer ≡ (v.processors d).cpu.transfer) v.processors c p d
+      (λ i. cc) (λ n. refl)) k.under_way;
+  runs = runs;
+})
   where
     seats : shown (reseated v c p ready e) ≡ record (with_seat (shown v) c (seat_of p)) { ready = ready }
     seats = λ i. record (shown v) { seat = λ d. put_map seat_of v.processors c p d i; ready = ready }

@@ -1,6 +1,6 @@
 -- A command that takes pages or descriptors out of use isn't refused while its job is at work: what refuses it is in
 -- the tree and the numbers, which no other processor's step changes.
-use Rattle.machine_model.proofs.Prelude.{◌≡◌, ℕ, List, [], ◌∷◌, Some, None, refl, sym, ap, ◌∙◌, Command, What, Node, branch_at, done_at, segment_at, reply_to_tree_command, delete_of, delete_reply, terminate_reply, acl_of, acl_reply, truncate_reply, reference_of, refusal, Aim, cut_all, cut_one, take_all, take_one, took, Keeps, flat_of, refusal_of, State, TakesSome, Command as command, Entry as entry}
+use Rattle.machine_model.proofs.Prelude.{◌≡◌, ℕ, List, [], ◌∷◌, Some, None, refl, ◌∙◌, Command, What, reply_to_tree_command, delete_reply, terminate_reply, acl_reply, truncate_reply, reference_of, refusal, Aim, cut_all, cut_one, take_all, take_one, took, Keeps, flat_of, refusal_of, State, TakesSome, Command as command, Entry as entry}
 use Rattle.machine_model.proofs.FlatAlike.{one_still}
 use Rattle.machine_model.proofs.OutlineTake.{took_like}
 

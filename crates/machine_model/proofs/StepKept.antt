@@ -1,5 +1,5 @@
 -- Each action of a processor keeps the machine's promise.
-use Rattle.machine_model.proofs.Prelude.{cond_both, [], ◌≡◌, ◌<◌, ◌≤◌, ℕ, ◌-◌, Bool, true, false, is_some, map, List, ◌∷◌, ◌++◌, length, ◌⊎◌, inl, inr, Option, Some, None, refl, sym, ap, subst, ◌∙◌, Rose, HeldSeg, What, Command, Reference, Reply, words_in, entry_at, uid_at, first_off_chain, hand_past, Transfer, place_of, sdws_at, table_of, MayFault, MayRelease, MayMove, word_reply, IsFront, MayActivate, MayDeactivate, MayLeave, MayRehome, Mover, Aim, Outcome, after, by_outcome, page_at, committed, cut_entry, KeepsBook, is_pending, seen, emptied, eviction_begun, eviction_done, left_of, page_done, segment_taken, segs_gone, took, victim_taken, with_hand_moved, write_failed, IsAtWork, Keeps, StoreSays, copy_failed, move_begun, move_committed, page_copied, cpu_at, cut_of_owner, descriptor_of, flat_of, frames_from, frames_of_owner, next_command, process_at, processor_at, trailers_in, reply_of, shown, Owner, State, Storage, activated_at, connected_to, fault_told, frame_lost, held_page, held_seg, looking, old_word, page_created, page_made, pages_after, started, told, transfer_failed, transferred, went_through, with_faults, with_owner, with_pages, with_store, position, is_for, word_of, has, NoneDue, Phase, gone_segs, gones, stays, FitsPhase, IsOwned, IsShaped, is_out, is_pending_in, says, says_in, is_due, no_processor, CutDescriptor, has_head, not_both, some_unwrapped, committed_at, deactivation_begun, eqb_self, What as what, Command as command, Reply as reply, Left as left, Aim as aim, Phase as phase, Action, Action as act}
+use Rattle.machine_model.proofs.Prelude.{[], ◌≡◌, ◌<◌, ◌≤◌, ℕ, ◌-◌, Bool, true, false, map, List, ◌∷◌, ◌++◌, length, ◌⊎◌, inl, inr, Option, Some, None, refl, sym, ap, subst, ◌∙◌, Rose, HeldSeg, What, Command, Reference, Reply, words_in, entry_at, uid_at, first_off_chain, hand_past, Transfer, place_of, sdws_at, table_of, MayFault, MayRelease, MayMove, word_reply, IsFront, MayActivate, MayDeactivate, MayLeave, MayRehome, Mover, Aim, Outcome, after, by_outcome, page_at, committed, cut_entry, KeepsBook, is_pending, seen, emptied, eviction_begun, eviction_done, left_of, page_done, segment_taken, segs_gone, took, victim_taken, with_hand_moved, write_failed, IsAtWork, Keeps, StoreSays, copy_failed, move_begun, move_committed, page_copied, cpu_at, cut_of_owner, descriptor_of, flat_of, frames_from, frames_of_owner, next_command, process_at, processor_at, trailers_in, reply_of, shown, Owner, State, Storage, activated_at, connected_to, fault_told, frame_lost, held_page, held_seg, looking, old_word, page_created, page_made, pages_after, started, told, transfer_failed, transferred, went_through, with_faults, with_owner, with_pages, with_store, position, is_for, word_of, has, NoneDue, gone_segs, gones, stays, FitsPhase, IsShaped, is_out, says, is_due, no_processor, CutDescriptor, has_head, some_unwrapped, committed_at, deactivation_begun, eqb_self, What as what, Command as command, Reply as reply, Left as left, Aim as aim, Phase as phase, Action, Action as act}
 use Rattle.machine_model.proofs.ActionCases.{by_end}
 use Rattle.machine_model.proofs.ActiveKept.{IsOver, activate_kept, connect_kept, created_kept, emptied_kept, looks_idle, through_kept, segs_are_gone}
 use Rattle.machine_model.proofs.BackKept.{all_back, all_failed_kept, eviction_failed_kept}

@@ -1,6 +1,6 @@
 -- What each step brings while the loop waits for it: a step of the owner, of a processor that is to clear, of one that
 -- reads a page in, and of one that has a process while nobody owns the supervisor.
-use Rattle.machine_model.proofs.Prelude.{◌≡◌, ◌≢◌, ◌<◌, ℕ, zero, suc, Bool, true, false, cond, eqb, List, [], ◌∷◌, length, Option, is_some, refl, sym, ap, ◌∙◌, inl, inr, le_refl, le_of_eq, arith, eqb_tells, get_or-set_other, Transfer, Runner, no_runner, Stage, Waiting, Keeper, Outline, Turn, runner_at, with_runner, rank_of, lack, dues, job_rank, Clears, Works, rule_of, owns, IsIn, Step, ends, comes, clears, reads, loses, works, awaits_clear, awaits_transfer, loads, idles, leaves, fills, replies, faults, enters, waits, IsCleared, IsKept, IsUnderWay, AwaitsClear, OwnerStep, Rule, not_both, measures_parts_of as parts_of, false_from_ne_true, eqb_self}
+use Rattle.machine_model.proofs.Prelude.{◌≡◌, ◌≢◌, ◌<◌, ℕ, zero, suc, Bool, true, false, cond, List, [], ◌∷◌, length, Option, is_some, refl, sym, ap, ◌∙◌, le_refl, le_of_eq, arith, get_or-set_other, Transfer, Runner, no_runner, Stage, Waiting, Keeper, Outline, Turn, runner_at, with_runner, rank_of, lack, dues, job_rank, Clears, Works, rule_of, owns, IsIn, Step, ends, comes, clears, reads, loses, works, awaits_clear, awaits_transfer, loads, idles, leaves, fills, replies, faults, enters, waits, IsCleared, IsKept, IsUnderWay, AwaitsClear, OwnerStep, Rule, not_both, measures_parts_of as parts_of, false_from_ne_true, eqb_self}
 use Rattle.machine_model.proofs.CountLaws.{readers_set, dues_set}
 use Rattle.machine_model.proofs.RankLaws.{falls_due}
 use Rattle.machine_model.proofs.JobLaws.{ranked, job_falls}
@@ -17,7 +17,8 @@ inside (x ∷ xs) (suc c) h = omega (arith, (inside xs c h))
 
 -- where nothing is due, it is so at each processor
 pub none_due : (xs : List Runner) (d : ℕ) → d < length xs → dues xs ≡ 0 → (runner_at xs d).due ≡ false
-none_due xs d lt none = false_from_ne_true (runner_at xs d).due (λ h. (let one : cond {A = ℕ} (runner_at xs d).due 1 0 ≡ 1 = ap (λ (b : Bool). cond {A = ℕ} b 1 0) h in omega (arith, (dues_set xs d no_runner lt), one, none)))
+none_due xs d lt none = false_from_ne_true (runner_at xs d).due (λ h. (let one : cond {A = ℕ} (runner_at xs d).due 1 0
+    ≡ 1 = ap (λ (b : Bool). cond {A = ℕ} b 1 0) h in omega (arith, (dues_set xs d no_runner lt), one, none)))
 
 -- ---- the owner
 

@@ -1,5 +1,5 @@
 -- What a look that takes asks: what a tree command must have out of use, and what is taken of a segment.
-use Rattle.machine_model.proofs.Prelude.{◌≡◌, ◌<◌, ℕ, zero, suc, ◌+◌, Bool, true, false, ◌||◌, ◌&&◌, cond, eqb, List, [], ◌∷◌, map, Some, inl, inr, refl, sym, ap, subst, ◌∙◌, arith, ◌/◌, filter, range_with_len, eqb_tells, Command, What, Sdw, leads, IsKnownAt, descriptors_taken, first_taken, frames_taken, what_taken, Outcome, led_to, seen, Keeps, descriptor_of, is_connected, or_zero, uid_of_command, uid_of_number, Says, shown, State, and-false, eqb_self, Command as command, What as what, Sdw as sdw, Aim as aim, Action as act}
+use Rattle.machine_model.proofs.Prelude.{◌≡◌, ◌<◌, ℕ, zero, suc, ◌+◌, Bool, true, false, ◌&&◌, cond, eqb, List, [], ◌∷◌, map, Some, inl, inr, refl, ap, ◌∙◌, arith, ◌/◌, filter, range_with_len, eqb_tells, Command, What, Sdw, leads, IsKnownAt, descriptors_taken, first_taken, frames_taken, what_taken, Outcome, seen, Keeps, descriptor_of, is_connected, or_zero, uid_of_command, uid_of_number, Says, shown, State, and-false, eqb_self, Command as command, What as what, Sdw as sdw, Aim as aim, Action as act}
 use Rattle.machine_model.proofs.ChainLaws.{CanTakeAll}
 use Rattle.machine_model.proofs.CutRights.{take_away_says}
 use Rattle.machine_model.proofs.LookFacts.{FindsTaken}

@@ -1,5 +1,5 @@
 -- Frames and page table words stay tied where a page is taken, given back or gone, is being read, or is there.
-use Rattle.machine_model.proofs.Prelude.{◌≡◌, ◌≢◌, ℕ, true, false, Option, Some, None, refl, sym, ap, ◌∙◌, Ptw, at_put, at_put_two, IsTied, names, is_out, page_of, frame_use, bound_use, page_is, Ptw as ptw, custody_bound_page as bound_page}
+use Rattle.machine_model.proofs.Prelude.{◌≡◌, ◌≢◌, ℕ, true, Option, Some, None, refl, sym, ◌∙◌, Ptw, at_put, at_put_two, IsTied, names, is_out, page_of, frame_use, bound_use, page_is, Ptw as ptw, custody_bound_page as bound_page}
 use Rattle.machine_model.proofs.Places.{by_place, by_places, put_other}
 
 pub none_some : {A : Type 0} {x : A} → None ≡ Some x → ⊥

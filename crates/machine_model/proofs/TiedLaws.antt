@@ -1,5 +1,5 @@
 -- What ties processors and frames together goes on as they change.
-use Rattle.machine_model.proofs.Prelude.{◌≡◌, ◌≢◌, ◌<◌, ℕ, Bool, true, false, List, length, Option, Some, None, is_some, set, refl, sym, ap, subst, ◌∙◌, ◌⊎◌, inl, inr, cases_eq, get_or-set_same, get_or-set_other, length-set, Frame, started_page, Transfer, Runner, no_runner, runner_at, AreAlike, AreTied, Frame as frame, jobs_page_or_zero as page_or_zero, outline_frame_in as frame_in}
+use Rattle.machine_model.proofs.Prelude.{◌≡◌, ◌≢◌, ◌<◌, ℕ, Bool, true, false, List, length, Option, Some, None, is_some, set, refl, sym, ap, subst, ◌∙◌, ◌⊎◌, inl, inr, cases_eq, get_or-set_same, get_or-set_other, length-set, Frame, Transfer, Runner, no_runner, runner_at, AreAlike, AreTied, Frame as frame, outline_frame_in as frame_in}
 
 -- two lists of processors in which the same take part, have a process, and read
 pub record SameTies (xs ys : List Runner) : Type 0 where

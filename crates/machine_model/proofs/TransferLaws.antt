@@ -1,5 +1,5 @@
 -- A page is being read into a frame, is in it, or the reading failed; a page is made in a free frame.
-use Rattle.machine_model.proofs.Prelude.{◌≡◌, ◌≢◌, ◌<◌, ℕ, true, false, Option, Some, None, inl, inr, refl, sym, ap, ◌∙◌, Ptw, Transfer, IsLawful, after_entry, DescriptorUse, NobodyHoldsPage, is_current_frame, is_going_frame, at_put, at_put_two, custody_next, nobody_holds_page, lost, here, with_transfer, KeepsBook, HoldsRight, AreUnderWay, names, is_out, is_pending, Seen, shown, seat_of, frame_use, read_use, Processor, page_is, Entry as entry, Ptw as ptw, FrameUse as frame, custody_is_started as is_started, page_started as started, page_brought as brought}
+use Rattle.machine_model.proofs.Prelude.{◌≡◌, ◌≢◌, ◌<◌, ℕ, true, Option, Some, None, inl, inr, refl, sym, ap, ◌∙◌, Ptw, Transfer, IsLawful, after_entry, DescriptorUse, NobodyHoldsPage, is_current_frame, is_going_frame, at_put, at_put_two, custody_next, nobody_holds_page, lost, here, with_transfer, KeepsBook, HoldsRight, AreUnderWay, names, is_out, is_pending, Seen, shown, seat_of, frame_use, Processor, page_is, Ptw as ptw, FrameUse as frame, custody_is_started as is_started, page_started as started, page_brought as brought}
 use Rattle.machine_model.proofs.BookNext.{book_next}
 use Rattle.machine_model.proofs.FrameLaws.{in_no_frame}
 use Rattle.machine_model.proofs.HeldLaws.{right_frame, right_like}

@@ -1,5 +1,5 @@
 -- No state of a machine is stuck: where it wasn't stopped and some process hasn't ended, some processor moves.
-use Rattle.machine_model.proofs.Prelude.{◌≡◌, ◌<◌, ℕ, true, false, refl, subst, action_of, is_over, after, no_call, Ended, Moved, WaitsFor, outline_of, KeepsAll, IsGoing, State, moves, turn_of, HaveSteps, SomeMoves, UnstuckGoes as Goes, Action, Action as act}
+use Rattle.machine_model.proofs.Prelude.{◌≡◌, ◌<◌, ℕ, true, false, refl, subst, action_of, is_over, after, no_call, Moved, outline_of, KeepsAll, IsGoing, State, moves, turn_of, HaveSteps, SomeMoves, UnstuckGoes as Goes, Action, Action as act}
 use Rattle.machine_model.proofs.MachineRounds.{kept_of, machine_step, not_ended}
 use Rattle.machine_model.proofs.OutlineReads.{long_outline}
 use Rattle.machine_model.proofs.OutlineGoes.{outline_goes}

@@ -1,5 +1,5 @@
 -- What commands want of the tree is the same where segments lie on other volumes.
-use Rattle.machine_model.proofs.Prelude.{◌≡◌, ℕ, Bool, true, false, cond, eqb, List, [], ◌∷◌, map, Option, Some, None, refl, ap, ◌∙◌, ◌*◌, ◌/◌, ◌==◌, nat_le, not, reverse, Result, Ok, Err, Who, new_word, permits, reference_of, Command, Reference, Reply, access_of, Node, Walk, LeadsTo, above, branch_in, is_branch, node_in, onward, step_up, volume_in, walk_from, walk_in, with_node, chain_of, uid_of, node_at, only_segment, segment_at, there_or, walked, kst_at, who_at, Want, Refer, Truncate, Other, Around, cut_page, runner_by, runner_of, want_by, want_in, want_known, want_lengthened, want_of, want_of_command, want_truncated, Processor, Command as command, Reply as reply}
+use Rattle.machine_model.proofs.Prelude.{◌≡◌, ℕ, Bool, true, false, cond, eqb, List, [], ◌∷◌, map, Option, Some, None, refl, ap, ◌∙◌, ◌*◌, ◌/◌, ◌==◌, nat_le, not, reverse, Result, Ok, Err, Who, new_word, permits, reference_of, Command, Reference, Reply, access_of, Node, Walk, LeadsTo, above, branch_in, is_branch, node_in, onward, step_up, volume_in, walk_from, walk_in, with_node, chain_of, uid_of, node_at, only_segment, segment_at, there_or, walked, kst_at, who_at, Want, Refer, Other, Around, runner_by, runner_of, want_by, want_in, want_known, want_lengthened, want_of, want_of_command, want_truncated, Processor, Command as command, Reply as reply}
 
 -- a node on another volume
 abbrev placed : (Node → ℕ) → Node → Node

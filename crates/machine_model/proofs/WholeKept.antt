@@ -1,6 +1,6 @@
 -- A job that makes a segment inactive takes it whole, and once all that it took is gone the segment may become
 -- inactive.
-use Rattle.machine_model.proofs.Prelude.{◌≡◌, ◌≢◌, ℕ, true, false, List, [], Option, Some, None, refl, sym, ap, subst, ◌∙◌, MayDeactivate, superior_in, is_going_descriptor, leads_to, node_in, holding, led_to, seen, segs_gone, Keeps, cut_of_owner, descriptor_of, flat_of, frames_of_owner, is_active, cut_uid, descriptor_use, shown, CutDescriptor, State, Storage, IsWhole, TakenWhole, going_for}
+use Rattle.machine_model.proofs.Prelude.{◌≡◌, ◌≢◌, ℕ, true, false, List, [], Option, Some, None, refl, sym, ap, ◌∙◌, MayDeactivate, superior_in, is_going_descriptor, leads_to, node_in, holding, led_to, seen, segs_gone, Keeps, cut_of_owner, descriptor_of, flat_of, frames_of_owner, is_active, cut_uid, descriptor_use, shown, CutDescriptor, State, Storage, IsWhole, TakenWhole, going_for}
 use Rattle.machine_model.proofs.ActiveKept.{IsOver, segs_gone_rest}
 use Rattle.machine_model.proofs.TieLaws.{none_some}
 use Rattle.machine_model.proofs.WholeLaws.{no_page_left}

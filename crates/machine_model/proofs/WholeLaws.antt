@@ -1,7 +1,6 @@
 -- What was taken whole stays so, entry by entry; and what of it is no more to go is gone.
-use Rattle.machine_model.proofs.Prelude.{◌≡◌, ◌≢◌, ℕ, true, false, List, [], Option, Some, None, refl, sym, ap, subst, ◌∙◌, Plan, Entry, Store, DescriptorUse, FrameUse, Custody, has, is_going_descriptor, is_going_frame, leads_to, page_of, uid_of_page, HasNoPage, custody_next, with_descriptor, IsOwned, frames_of_owner, Owner, State, IsWhole, Spares, TakenWhole, going_for, some_same, Entry as entry, DescriptorUse as descriptor, FrameUse as frame, custody_cut as cut, custody_taken as taken, next_with_frame as with_frame}
+use Rattle.machine_model.proofs.Prelude.{◌≡◌, ◌≢◌, ℕ, true, false, [], Option, Some, None, refl, sym, ap, ◌∙◌, Plan, Entry, Store, DescriptorUse, FrameUse, Custody, is_going_descriptor, is_going_frame, leads_to, page_of, uid_of_page, HasNoPage, custody_next, with_descriptor, IsOwned, frames_of_owner, Owner, State, IsWhole, Spares, TakenWhole, going_for, some_same, Entry as entry, DescriptorUse as descriptor, FrameUse as frame, custody_cut as cut, custody_taken as taken, next_with_frame as with_frame}
 use Rattle.machine_model.proofs.Places.{by_place, by_places}
-use Rattle.machine_model.proofs.TieLaws.{none_some}
 
 -- one frame is used otherwise: for nothing of the segment, or for what is going
 frame_whole : (c : Custody) (u f : ℕ) (x : FrameUse) → IsWhole c u
@@ -32,7 +31,8 @@ cut_whole descriptor.Free u w h = w h
 cut_whole _ u w h = refl
 
 -- only seats, the ready list or what is active changes
-seat_whole : {c : Custody} (e : Custody) {u : ℕ} → e.frame ≡ c.frame → e.descriptor ≡ c.descriptor → IsWhole c u → IsWhole e u
+seat_whole : {c : Custody} (e : Custody) {u : ℕ} → e.frame ≡ c.frame → e.descriptor ≡ c.descriptor → IsWhole c u
+    → IsWhole e u
 seat_whole e f d w = record {
   pages = rw f w.pages;
   descriptors = rw d w.descriptors;

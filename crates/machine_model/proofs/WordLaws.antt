@@ -1,5 +1,5 @@
 -- One page table word is changed: the words of all pages as a function.
-use Rattle.machine_model.proofs.Prelude.{◌≡◌, ◌≢◌, ◌<◌, ℕ, Bool, true, false, not, List, [], length, set, get_or, Option, Some, None, inl, inr, refl, sym, ap, subst, ◌∙◌, position_or_len, eqb_tells, leb_tells, get_or_past, prefix_len_stops, Ptw, ActiveSegs, is_for, place_of, word_of, table_of, worded, at_put_two, by_not, Ptw as ptw, Active as Entry}
+use Rattle.machine_model.proofs.Prelude.{◌≡◌, ◌≢◌, ◌<◌, ℕ, Bool, true, not, List, [], length, set, get_or, Option, Some, None, inl, inr, refl, sym, ◌∙◌, position_or_len, eqb_tells, leb_tells, get_or_past, prefix_len_stops, Ptw, ActiveSegs, is_for, place_of, word_of, table_of, worded, at_put_two, by_not, Ptw as ptw, Active as Entry}
 use Rattle.machine_model.proofs.ListLaws.{put_list}
 use Rattle.machine_model.proofs.Places.{put_other}
 

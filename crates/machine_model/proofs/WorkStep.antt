@@ -1,5 +1,5 @@
 -- After each action the owner's job rests on what it rested on, or has another.
-use Rattle.machine_model.proofs.Prelude.{◌≡◌, ◌≢◌, ℕ, Bool, true, false, not, ◌&&◌, cond, eqb, is_some, List, [], ◌∷◌, ◌++◌, set, Option, Some, None, ◌⊎◌, inl, inr, refl, sym, ap, subst, ◌∙◌, eqb_tells, get_or-set_other, get_or-set_same, length-append, ◌≤◌, ◌+◌, arith, length, Mover, frame_at, Bound, Free, CutDescriptor, IsMovedFor, MovesIn, tables_of, copy_failed, move_begun, mover_to, moving, page_copied, past_page, with_copy, with_move, frames_of_owner, ◌%◌, Reference, referred, word_put, HasNoInferior, uid_at, alters, new_word, eviction_done, leaving_if, phase_signalled, with_choice, with_left, refusal_of, uid_of_command, read_use, old_word, command_at, Command, What, Entry, Reply, Node, node_in, Transfer, Left, words_in, Segment, AccountMaps, Plain, is_for, word_of, IsUnread, is_out, list_any, first_off_chain, hand_past, is_stored, word_reply, Store, is_stored-without, is_filed, superior_in, Phase, Processor, Run, any_page, Outcome, after, committed_at, holding, seen, deactivation_begun, emptied, entries_left, eviction_begun, left_of, owner_signalled, page_done, page_in, segment_taken, signalled, took, victim_taken, with_hand_moved, without_first_frame, write_failed, Keeps, IsMachine, cpu_at, cut_of_owner, flat_of, frame_reading, frames_from, is_active, next_command, no_processor, no_run, or_zero, process_at, run_at, trailers_in, without_left, frame_use, Owner, State, Storage, fault_told, frame_lost, looking, pages_after, told, transfer_failed, transferred, with_faults, with_pages, with_store, TakenWhole, goes_in, going_for, GoesJust, IsTakenBy, TakenIn, AreNumbered, OwnsFew, FailsIn, IsLeaf, IsWorking, MayFailBy, TakesSome, append_assoc, some_same, What as what, Entry as entry, Reply as reply, Left as left, Ptw as ptw, FrameUse as frame, Aim as aim, Phase as phase, Action, Action as act, eqb_self, Aim, and-false}
+use Rattle.machine_model.proofs.Prelude.{◌≡◌, ◌≢◌, ℕ, Bool, true, false, not, ◌&&◌, cond, eqb, is_some, List, [], ◌∷◌, ◌++◌, set, Option, Some, None, ◌⊎◌, inl, inr, refl, sym, ap, subst, ◌∙◌, get_or-set_other, get_or-set_same, length-append, ◌≤◌, ◌+◌, arith, length, Mover, frame_at, Bound, Free, CutDescriptor, IsMovedFor, MovesIn, tables_of, move_begun, mover_to, moving, page_copied, past_page, with_copy, with_move, frames_of_owner, ◌%◌, Reference, referred, word_put, HasNoInferior, uid_at, alters, new_word, leaving_if, phase_signalled, with_choice, with_left, old_word, command_at, Command, What, Entry, Reply, Node, node_in, Transfer, Left, words_in, Segment, AccountMaps, Plain, is_for, IsUnread, list_any, first_off_chain, hand_past, is_stored, word_reply, is_stored-without, is_filed, superior_in, Phase, Processor, Run, any_page, Outcome, after, committed_at, holding, seen, deactivation_begun, emptied, entries_left, eviction_begun, left_of, owner_signalled, page_done, page_in, segment_taken, signalled, took, victim_taken, with_hand_moved, without_first_frame, Keeps, IsMachine, cpu_at, cut_of_owner, flat_of, frame_reading, frames_from, is_active, next_command, no_processor, no_run, or_zero, process_at, run_at, trailers_in, without_left, Owner, State, Storage, fault_told, frame_lost, looking, pages_after, told, transfer_failed, transferred, with_faults, with_pages, with_store, TakenWhole, goes_in, going_for, GoesJust, IsTakenBy, TakenIn, AreNumbered, OwnsFew, FailsIn, IsLeaf, IsWorking, MayFailBy, TakesSome, append_assoc, some_same, What as what, Entry as entry, Reply as reply, Left as left, Ptw as ptw, FrameUse as frame, Aim as aim, Phase as phase, Action, Action as act, eqb_self, Aim, and-false}
 use Rattle.machine_model.proofs.ActionCases.{by_end}
 use Rattle.machine_model.proofs.CommandFacts.{LeadsToSegment, length_stands}
 use Rattle.machine_model.proofs.EmptyAsks.{hand_says, segment_inferiors, unread_any}
@@ -134,14 +134,14 @@ leaves_work s now k kept w l = record {
 
     rests : (o : Owner) → now.owner ≡ Some o → RestsOn o.phase now (process_at now o.cpu)
     rests o h = let was = sym l.owner ∙ h in rw (l.process o was) (rests_still less (record {
-          nodes = less.nodes;
-          known = less.known;
-          active = l.active;
-          out = l.out;
-          just = λ Page Descriptor j. just_on Page Descriptor s now l.more k kept l.plan l.book j
-              (l.stays Page Descriptor j);
-          stands = stands_on s now k kept less.nodes less.known;
-        }) (assumption) (l.next o was) (was_resting s o w was))
+      nodes = less.nodes;
+      known = less.known;
+      active = l.active;
+      out = l.out;
+      just = λ Page Descriptor j. just_on Page Descriptor s now l.more k kept l.plan l.book j
+          (l.stays Page Descriptor j);
+      stands = stands_on s now k kept less.nodes less.known;
+    }) (assumption) (l.next o was) (was_resting s o w was))
 
 module _ (s : State) (c : ℕ) (k : Keeps s) (w : IsWorking s) (other : IsNoOwner s c) where
   -- one processor changes alone
@@ -288,7 +288,8 @@ module _ (s : State) (c : ℕ) (k : Keeps s) (w : IsWorking s) where
         known = refl;
         active = λ u. refl;
         out = λ u q e. e;
-        just = λ Page Descriptor j. just_on Page Descriptor s now (entry.Signal c what ∷ []) k kept refl refl j (tt, tt);
+        just =
+            λ Page Descriptor j. just_on Page Descriptor s now (entry.Signal c what ∷ []) k kept refl refl j (tt, tt);
         stands = stands_on s now k kept refl refl;
       }) (record { tables = refl; active = λ u. refl; unread = λ u h. h }) refl (was_resting s q w mine.mine))))
     where
