@@ -1,18 +1,6 @@
 -- The machine keeps its promise where a write failed: all that was still going comes back, and the process is told.
 use Rattle.machine_model.proofs.Prelude.{◌≡◌, ◌≤◌, ℕ, zero, suc, count_by, List, [], ◌∷◌, ◌++◌, length, set, get_or, Option, Some, None, refl, sym, subst, ◌∙◌, arith, length-set, ◌^◌, min, Rose, bound_page, frame_in, Sdw, place_of, sdws_at, MayFault, page_at, back, back_seg, KeepsBook, seen, here_if, page_back, pages_back, seg_back, segs_back, with_relink, write_failed, AreThere, Keeps, StoreSays, is_fault, cut_of_owner, flat_of, frames_of_owner, process_at, run_at, CutDescriptor, State, Storage, fault_told, looking, told, with_owner, without_first_cut, without_first_frame, Entry as entry, Reply as reply}
-use Rattle.machine_model.proofs.ActiveSeen.{active_place}
-use Rattle.machine_model.proofs.AnswerLaws.{fault_keeps}
-use Rattle.machine_model.proofs.ChainLaws.{GoesOn, back_on, first_finish, first_finish_seg, uncut_on, goes_with}
-use Rattle.machine_model.proofs.DescriptorLaws.{back_seg_keeps}
-use Rattle.machine_model.proofs.FrameLaws.{CanFinish, back_keeps, finish_with}
-use Rattle.machine_model.proofs.KeepLaws.{faults_push, quiet_push}
-use Rattle.machine_model.proofs.LeaveSeen.{back_seen}
-use Rattle.machine_model.proofs.MoveSeen.{back_seg_seen}
-use Rattle.machine_model.proofs.OwnedLaws.{nobody}
-use Rattle.machine_model.proofs.OwnerLaws.{job_over}
-use Rattle.machine_model.proofs.TakeSeen.{HasTables}
-use Rattle.machine_model.proofs.TellKept.{CanTell, told_keeps}
-use Rattle.machine_model.proofs.TransferKept.{kept_with}
+use Rattle.machine_model.proofs.Laws.{active_place, fault_keeps, GoesOn, chain_laws_back_on as back_on, first_finish, first_finish_seg, uncut_on, goes_with, back_seg_keeps, CanFinish, back_keeps, finish_with, faults_push, quiet_push, back_seen, back_seg_seen, nobody, job_over, HasTables, CanTell, told_keeps, kept_with}
 
 -- ---- pages come back
 

@@ -1,8 +1,6 @@
 -- The machine keeps its promise at first, where its store does.
 use Rattle.machine_model.proofs.Prelude.{◌≡◌, ℕ, zero, suc, Bool, true, false, List, [], length, get_or, replicate, None, refl, sym, ap, subst, ◌∙◌, arith, sum, list_any, length-replicate, Plan, bound_page, started_page, no_segments, is_for, Progress, at_first, boot, progress_of, legal_nil, store_after-nil, ready_at_first, clean_nil, custody_after-nil, fine_first, booted, first_run, IsRun, KeepsBook, led_to, seen, Keeps, StoreSays, is_active, no_processor, no_run, Seen, Run, Frame as frame, Ptw as ptw, Sdw as sdw}
-use Rattle.machine_model.proofs.ActiveSeen.{inactive_blank}
-use Rattle.machine_model.proofs.ListLaws.{map_list}
-use Rattle.machine_model.proofs.TransferKept.{kept_with}
+use Rattle.machine_model.proofs.Laws.{inactive_blank, map_list, kept_with}
 
 -- ---- lists of one value
 

@@ -1,15 +1,9 @@
 -- What the step asks of a command that takes effect: what the store says after it, and that it may be answered.
 use Rattle.machine_model.proofs.Prelude.{cond_both, [], ◌≡◌, ℕ, true, false, length, map, List, ◌∷◌, ◌++◌, Option, Some, None, inl, refl, sym, ap, subst, ◌∙◌, length-set, list_all, reference_of, Command, Entry, IsTree, Ptw, effect_of, reply_to_command, takes_effect, store_after, Store, MayTakeEffect, CutDescriptor, Outcome, after, committed, cut_entry, gone_entries, left_after, with_deleted, with_effect, with_truncated, without_page, seen, Keeps, StoreSays, flat_of, frames_of_owner, is_active, process_at, run_at, reply_of, uid_of_command, Says, with_command, shown, State, Storage, told, with_owner, tree_free, effect_total, refusal_of, TakesSome, Command as command, Entry as entry, Frame as frame, Ptw as ptw, shown_answered as answered, Action as act}
 use Rattle.machine_model.proofs.CommitKept.{effected}
-use Rattle.machine_model.proofs.FlatAlike.{IsAlike, all_still, alike_by, done_alike, is_still, one_still, refused_alike}
-use Rattle.machine_model.proofs.SaysLaws.{none_rest, quotas, says_is}
-use Rattle.machine_model.proofs.SpeakLaws.{Speaks, can_tell, speaks_like}
-use Rattle.machine_model.proofs.CommandFacts.{length_stands}
-use Rattle.machine_model.proofs.LookFacts.{FindsTaken}
+use Rattle.machine_model.proofs.Laws.{IsAlike, all_still, alike_by, done_alike, is_still, one_still, refused_alike, none_rest, quotas, says_is, Speaks, can_tell, speaks_like, length_stands, FindsTaken, CanTell, effect_has, truncated_has}
 use Rattle.machine_model.proofs.StepKept.{AsksCommit, IsSettled}
 use Rattle.machine_model.proofs.DeleteKept.{freed_length, gone_pass}
-use Rattle.machine_model.proofs.TellKept.{CanTell}
-use Rattle.machine_model.proofs.EffectLaws.{effect_has, truncated_has}
 
 -- ---- a command leaves as many frames
 

@@ -1,16 +1,10 @@
 -- What a tree command must have out of use is so where it takes effect: its job took just that.
 use Rattle.machine_model.proofs.Prelude.{cases_Bool, or_parts, eqb_self, cond_both, [], ◌≡◌, ◌≢◌, ◌<◌, ℕ, Bool, true, false, ◌||◌, eqb, List, ◌∷◌, ◌++◌, map, length, Option, Some, None, ◌⊎◌, inl, inr, refl, sym, ap, subst, ◌∙◌, Result, Ok, Err, list_all, list_any, eqb_tells, Command, Path, Named, Mode, Entry, Reply, Node, is_inferior, node_in, branch_at, node_at, segment_at, Store, store_after, Ptw, Sdw, reads_of, erased, Plain, binding_at, bindings, read_at, DescriptorUse, FrameUse, MayDeactivate, superior_in, has, is_going_descriptor, is_going_frame, leads_to, page_of, uid_of_page, HasNoDescriptor, HasNoPage, IsOutOfUse, OfNode, at_put, CutDescriptor, gone_segs, gones, page_at, gone, gone_seg, cut_entry, frames_freed, inactive_if, has_cut, led_to, seen, with_inactive, Keeps, cut_of_owner, descriptor_of, flat_of, frames_of_owner, home_in, is_active, process_at, uid_at_path, Seen, bound_use, cut_uid, descriptor_use, flat, frame_use, shown, Owner, State, Storage, with_owner, with_pages, IsTakenFor, rest_of, without_first_cut, without_first_frame, branch_found, only_found, has_head, not_both, some_same, Command as command, Ptw as ptw, Sdw as sdw, DescriptorUse as descriptor, FrameUse as frame}
-use Rattle.machine_model.proofs.ActiveSeen.{active_less}
-use Rattle.machine_model.proofs.ChainLaws.{LeavesRest}
+use Rattle.machine_model.proofs.Laws.{active_less, LeavesRest, all_still, is_still, cut_at_same, by_place, none_some, page_used, active_at}
 use Rattle.machine_model.proofs.CommitAsks.{IsOut, Rests, cuts_still}
 use Rattle.machine_model.proofs.CommitKept.{effected}
 use Rattle.machine_model.proofs.DeleteKept.{taken_bound, all_gone, chain_leaves, freed, freed_bound, freed_reads, gone_entry, gones_bound, gones_entries, node, segs_bound, segs_entries}
 use Rattle.machine_model.proofs.FinishKept.{bound_within}
-use Rattle.machine_model.proofs.FlatAlike.{all_still, is_still}
-use Rattle.machine_model.proofs.OwnedLaws.{cut_at_same}
-use Rattle.machine_model.proofs.Places.{by_place}
-use Rattle.machine_model.proofs.TieLaws.{none_some, page_used}
-use Rattle.machine_model.proofs.TransferKept.{active_at}
 use Rattle.machine_model.proofs.MoveAsks.{cut_active}
 
 -- ---- what goes

@@ -4,9 +4,7 @@ use Rattle.machine_model.proofs.Prelude.{option_map, cond_both, ◌≡◌, ◌<�
 use Rattle.machine_model.proofs.CommitKept.{effected}
 use Rattle.machine_model.proofs.CommitRests.{led_now}
 use Rattle.machine_model.proofs.EntitledKept.{set_entitled}
-use Rattle.machine_model.proofs.PathsKept.{node_mapped}
-use Rattle.machine_model.proofs.TieLaws.{none_some}
-use Rattle.machine_model.proofs.EffectLaws.{truncated_has}
+use Rattle.machine_model.proofs.Laws.{node_mapped, none_some, truncated_has}
 
 -- each older node that is there now was there, with these rows and pages
 pub record HaveFrom (old now : List Node) (next : ℕ) : Type 0 where

@@ -1,11 +1,7 @@
 -- What a job has cut had the right mode and length, and the store says so of a job that takes pages and descriptors.
 use Rattle.machine_model.proofs.Prelude.{◌≡◌, ◌≢◌, ◌<◌, ℕ, zero, suc, true, List, [], ◌∷◌, ◌++◌, length, get_or, set, Option, Some, None, ◌⊎◌, inl, inr, refl, sym, ap, subst, ◌∙◌, slice_get, eqb_tells, get_or-set_other, get_or-set_same, length-set, Mode, Who, What, access_of, Node, node_in, bound_page, Plain, frame_in, uid_at, Sdw, Links, leads, sdws_at, unlinked, HaveRights, who_at, store_after, Aim, CutDescriptor, Outcome, after, seen, cut_all, cut_one, leaving_if, note_of, take_all, take_one, took, AreThere, HadRights, IsFaithful, Keeps, StoreKept, StoreSays, cut_of_owner, descriptor_of, flat_of, is_active, or_zero, Says, State, Storage, Entry as entry, Sdw as sdw, Aim as aim, Action as act}
-use Rattle.machine_model.proofs.FlatAlike.{alike, alike_by, one_still}
-use Rattle.machine_model.proofs.Places.{by_places}
-use Rattle.machine_model.proofs.SaysLaws.{says_by, there_still, leaving_pages}
-use Rattle.machine_model.proofs.TakeSeen.{descriptors_put, led_place, linked_within}
+use Rattle.machine_model.proofs.Laws.{alike, alike_by, one_still, by_places, says_by, there_still, leaving_pages, descriptors_put, led_place, linked_within, active_at}
 use Rattle.machine_model.proofs.TookKept.{ArePairs, pairs_left}
-use Rattle.machine_model.proofs.TransferKept.{active_at}
 use Rattle.machine_model.proofs.TakeWhole.{take_linked}
 
 -- ---- lists

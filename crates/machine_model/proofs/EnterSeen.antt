@@ -1,11 +1,7 @@
 -- A processor that takes the supervisor needs it: its command is no reference, or the tables lack something for it.
 use Rattle.machine_model.proofs.Prelude.{◌≡◌, ◌<◌, ℕ, Bool, true, false, not, cond, ◌&&◌, ◌||◌, eqb, length, List, Option, Some, None, is_some, inl, inr, refl, sym, ap, subst, ◌∙◌, nat_le, ◌*◌, ◌/◌, new_word, permits, reference_of, Command, Reference, frame_of, seg_of, HeldSeg, Ptw, Sdw, sdws_at, word_of, Move, Transfer, by_descriptor, by_held, by_page, by_seg, by_word, word_reply, names, IsEntitledToAll, MayAnswer, MayEnter, MayLose, seen, Keeps, page_fits, want_lack, Want, Refer, Other, Runner, runner_at, want_at, around, outline_of, runner_by, want_of_reference, IsMachine, IsReading, cpu_at, descriptor_of, flat_of, frames_of_owner, is_active, is_connected, next_command, or_zero, process_at, processor_at, Owner, State, MayFailBy, Ptw as ptw, Sdw as sdw, Move as move, Reply as reply, Action, by_move, come_to, move_of, refer_or_take, Action as act, and-false}
-use Rattle.machine_model.proofs.FailLaws.{fails_more}
-use Rattle.machine_model.proofs.FrameSeen.{not_here, stored_outlined}
+use Rattle.machine_model.proofs.Laws.{fails_more, not_here, stored_outlined, at_outline, seen_reading, bound_here, Speaks, speaks}
 use Rattle.machine_model.proofs.MoveAsks.{held_active, known}
-use Rattle.machine_model.proofs.OutlineReads.{at_outline, seen_reading}
-use Rattle.machine_model.proofs.OwnerLaws.{bound_here}
-use Rattle.machine_model.proofs.SpeakLaws.{Speaks, speaks}
 use Rattle.machine_model.proofs.StepAsks.{ReadsFor, reads_for}
 use Rattle.machine_model.proofs.StepGoes.{may_answer}
 use Rattle.machine_model.proofs.WantLaws.{IsReferring, is_refer, linked_here, refers, tree_wants, want_here}

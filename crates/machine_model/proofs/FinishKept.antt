@@ -1,15 +1,7 @@
 -- The machine keeps its promise where a page leaves its frame, where a write failed, and where a segment is inactive at
 -- last.
 use Rattle.machine_model.proofs.Prelude.{◌≡◌, ◌≢◌, ◌<◌, ◌≤◌, ℕ, count_by, List, [], ◌∷◌, ◌++◌, map, length, Option, Some, None, refl, sym, ap, subst, ◌∙◌, arith, Plan, Entry, bound_page, Left, word_of_left, record_of, words_in, MayRelease, after_entry, Store, IsInNoFrame, page_at, gone, released, KeepsBook, is_out, names, seen, entries_left, eviction_done, left_of, page_done, page_gone, page_in, with_left, IsAtWork, Keeps, StoreSays, is_fault, flat_of, home_in, processor_at, Seen, flat, shown, CutDescriptor, Owner, State, booked, looking, with_faults, with_owner, with_store, rest_of, without_first_frame, Entry as entry, Ptw as ptw, Left as left}
-use Rattle.machine_model.proofs.ChainLaws.{GoesOn, first_finish}
-use Rattle.machine_model.proofs.FrameLaws.{CanFinish, gone_keeps, in_no_frame, release_keeps}
-use Rattle.machine_model.proofs.KeepLaws.{faults_push, flat_still}
-use Rattle.machine_model.proofs.LeaveSeen.{gone_seen}
-use Rattle.machine_model.proofs.ListLaws.{map_length, within_by}
-use Rattle.machine_model.proofs.Places.{put_two_here}
-use Rattle.machine_model.proofs.TakeSeen.{HasTables, binding_is}
-use Rattle.machine_model.proofs.TieLaws.{none_some}
-use Rattle.machine_model.proofs.TransferKept.{kept_with}
+use Rattle.machine_model.proofs.Laws.{GoesOn, first_finish, CanFinish, gone_keeps, in_no_frame, release_keeps, faults_push, flat_still, gone_seen, map_length, within_by, put_two_here, HasTables, binding_is, none_some, kept_with}
 
 append_two : (es : List Entry) (a b : Entry) → es ++ a ∷ b ∷ [] ≡ (es ++ a ∷ []) ++ b ∷ []
 append_two [] a b = refl

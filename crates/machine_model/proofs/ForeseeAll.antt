@@ -5,8 +5,7 @@ use Rattle.machine_model.proofs.ForeseeLaws.{has_answer, looks_empty, off_quiet}
 use Rattle.machine_model.proofs.LookSeen.{look_seen}
 use Rattle.machine_model.proofs.MovedSeen.{moved_seen}
 use Rattle.machine_model.proofs.OutlineSeen.{kept_seen}
-use Rattle.machine_model.proofs.ReleaseSeen.{leaves_may}
-use Rattle.machine_model.proofs.SpeakLaws.{speaks}
+use Rattle.machine_model.proofs.Laws.{leaves_may, speaks}
 
 module _ (s : State) (c : ℕ) (m : IsMachine s) (entitled : IsEntitledToAll s) (reading : IsReading s)
     (working : IsWorking s) (fitting : IsFitting s) (there : c < length s.processors) where

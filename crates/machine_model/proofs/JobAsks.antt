@@ -1,16 +1,11 @@
 -- What the owner's job asks where a write fails, and where a segment becomes inactive, follows from what it rests on.
 use Rattle.machine_model.proofs.Prelude.{◌≡◌, ℕ, Bool, true, false, ◌&&◌, List, [], ◌∷◌, ◌++◌, Option, Some, None, inl, inr, refl, sym, ap, subst, ◌∙◌, get_or-set_same, reference_of, Command, Reference, reply_to_command, takes_effect, after_entry, after_fault, may_fail, store_after, Progress, Store, progress_of, store_after-push, MayAnswerBy, Outcome, IsRun, seen, pages_back, write_failed, IsFaithful, Keeps, StoreSays, copy_failed, cpu_at, cut_of_owner, flat_of, frames_of_owner, next_command, process_at, processor_at, or_zero, run_at, shown, State, fault_told, with_owner, MayFailBy, Processor, length-set, Rose, Cpu, Transfer, frame_lost, transfer_failed, no_processor, Run, HasTurn, is_its_end, going_within, Entry as entry, Reply as reply}
-use Rattle.machine_model.proofs.FlatAlike.{one_still, alike_shown, fault_alike}
+use Rattle.machine_model.proofs.Laws.{one_still, alike_shown, fault_alike, fails_more, may_fail_is, says_laws_back_on as back_on, pages_are_back, segs_are_back, is_back, Speaks, can_tell, CanTell}
 use Rattle.machine_model.proofs.MovingKept.{copy_failing}
 use Rattle.machine_model.proofs.StepKept.{CanLose, CanFailWrite, CanFailCopy}
 use Rattle.machine_model.proofs.BackKept.{all_back}
-use Rattle.machine_model.proofs.FailLaws.{fails_more, may_fail_is}
 use Rattle.machine_model.proofs.RunLaws.{runs_failed}
-use Rattle.machine_model.proofs.SaysLaws.{back_on, pages_are_back, segs_are_back}
-use Rattle.machine_model.proofs.JobStays.{is_back}
 use Rattle.machine_model.proofs.ScheduleKept.{IsAnswering, Sits, still}
-use Rattle.machine_model.proofs.SpeakLaws.{Speaks, can_tell}
-use Rattle.machine_model.proofs.TellKept.{CanTell}
 
 -- ---- a failure is told
 

@@ -1,22 +1,11 @@
 -- A look takes for a tree command just what the command takes.
 use Rattle.machine_model.proofs.Prelude.{◌≡◌, ◌≢◌, ◌<◌, ◌≤◌, ℕ, zero, suc, ◌+◌, ◌-◌, ◌/◌, Bool, true, false, ◌||◌, cond, eqb, List, [], ◌∷◌, ◌++◌, map, length, drop, get_or, Option, Some, None, ◌⊎◌, inl, inr, refl, sym, ap, ◌∙◌, arith, nat_le, filter, list_any, range_with_len, eqb_tells, leb_tells, list_any-append, Command, AccountMaps, What, Ptw, Sdw, Core, frame_at, reads_of, started_page, is_for, sdws_at, table_of, read_at, has, is_going_descriptor, is_going_frame, leads_to, page_of, Aim, CutDescriptor, descriptors_taken, first_taken, frame_read_from, frames_taken, KeepsBook, has_cut, names, led_to, seen, cut_all, cut_one, note_of, take_all, take_one, took, Keeps, cut_of_owner, descriptor_of, frame_reading, frames_from, frames_of_owner, is_active, is_connected, is_page_of, trailers_in, refusal_of, uid_of_command, cut_uid, descriptor_use, frame_use, is_cut_at, shown, State, GoesJust, IsAlone, IsTakenFor, TakesDescriptor, TakesPage, WasBrought, Segment, not_both, or_cases, none_has, eqb_self, page_is, some_same, Command as command, What as what, Ptw as ptw, Sdw as sdw, Frame as frame, Aim as aim}
-use Rattle.machine_model.proofs.ChainFacts.{chain_active}
+use Rattle.machine_model.proofs.Laws.{chain_active, IsBrought, FindsTaken, names_uid, delete_stands, position_none, map_list, LooksLike, took_like, IsIdle, cut_at_tells, took_stands, linked_within, none_some, page_used, active_at}
 use Rattle.machine_model.proofs.JustLaws.{brought_on, same_uid}
-use Rattle.machine_model.proofs.LookFacts.{IsBrought, FindsTaken}
 use Rattle.machine_model.proofs.OutLaws.{took_out}
-use Rattle.machine_model.proofs.ChainLaws.{names_uid}
-use Rattle.machine_model.proofs.CommandFacts.{delete_stands}
-use Rattle.machine_model.proofs.FindLaws.{position_none}
-use Rattle.machine_model.proofs.ListLaws.{map_list}
-use Rattle.machine_model.proofs.OutlineTake.{LooksLike, took_like}
-use Rattle.machine_model.proofs.OwnedLaws.{IsIdle, cut_at_tells}
-use Rattle.machine_model.proofs.StandLaws.{took_stands}
 use Rattle.machine_model.proofs.TakeLists.{dropped_word, frame_word, trailers_taken}
-use Rattle.machine_model.proofs.TakeSeen.{linked_within}
 use Rattle.machine_model.proofs.TakeWhole.{cut_pages, frame_listed, note_at, take_rest, trailer_listed, take_linked, took_linked, cut_frames}
-use Rattle.machine_model.proofs.TieLaws.{none_some, page_used}
 use Rattle.machine_model.proofs.TookKept.{ArePairs, CanTook, has_pair, is_pair, linked_before, noted, noted_has, pairs_left, took_keeps}
-use Rattle.machine_model.proofs.TransferKept.{active_at}
 use Rattle.machine_model.proofs.NumberLaws.{take_cut}
 
 or_moved : (a b c : Bool) → ((a || (b || false)) || c) ≡ (a || (b || c))

@@ -1,4 +1,5 @@
 mod Prelude
+mod Laws
 pub mod AccessTakenAway
 pub mod Accounts
 pub mod ActionCases

@@ -1,23 +1,9 @@
 -- What the actions of a look ask follows from the promise, from what the look finds, and from what the calls of the
 -- store say.
 use Rattle.machine_model.proofs.Prelude.{or_zero, cases_Bool, eqb-true, and_parts, ◌≡◌, ◌<◌, ◌≤◌, ℕ, zero, suc, ◌+◌, ◌^◌, Bool, true, false, cond, eqb, List, is_some, is_none, sum, take, [], ◌∷◌, length, get_or, Option, Some, None, inl, inr, refl, sym, ap, subst, ◌∙◌, arith, ◌/◌, IsSomeAnd, IfSome, eqb_tells, leb_tells, sum_by-cons, reference_of, Command, Reference, Reply, Node, node_in, pool_for, pool_of, IsTree, IsMember, found_member, chain_of, uid_of, entry_at, IsInPool, first_of, kst_at, leads, place_of, table_of, word_of, reply_to_command, is_held_back, word_reply, known_uid, MayActivate, MayAnswerBy, MayJoin, stores, pages_of, pool_of_node, Outcome, seen, Keeps, IsMachine, flat_of, free_place, is_active, first_inactive, places_in, process_at, uid_of_number, Says, shown, State, page_made, older, Entry as entry, Ptw as ptw, Active as Entry, Action as act}
-use Rattle.machine_model.proofs.ActiveSeen.{active_place}
-use Rattle.machine_model.proofs.ChainFacts.{chain_active, first_there, superior_active}
-use Rattle.machine_model.proofs.CommandFacts.{truncate_stands}
-use Rattle.machine_model.proofs.FindLaws.{find_true, first_idle}
-use Rattle.machine_model.proofs.FlatAlike.{one_still}
-use Rattle.machine_model.proofs.InsideLaws.{inside_is, room_due, stays_free}
-use Rattle.machine_model.proofs.ListLaws.{within_by}
-use Rattle.machine_model.proofs.LookFacts.{FindsLink, FindsPage, FindsPlace, FindsRoom, IsAbout, IsInside, IsRefused}
-use Rattle.machine_model.proofs.OwnedLaws.{IsIdle}
-use Rattle.machine_model.proofs.PageShown.{null_word, stored_is}
-use Rattle.machine_model.proofs.PoolRoom.{has_room, is_its}
+use Rattle.machine_model.proofs.Laws.{active_place, chain_active, first_there, superior_active, truncate_stands, find_true, first_idle, one_still, inside_is, room_due, stays_free, within_by, FindsLink, FindsPage, FindsPlace, FindsRoom, IsAbout, IsInside, IsRefused, IsIdle, null_word, stored_is, has_room, is_its, activated_says, connected_says, created_says, refused_says, Speaks, can_refuse, can_tell, refusal_quiet, speaks_like, none_some, active_at}
 use Rattle.machine_model.proofs.RuleKept.{AsksCreate}
-use Rattle.machine_model.proofs.SaysLaws.{activated_says, connected_says, created_says, refused_says}
-use Rattle.machine_model.proofs.SpeakLaws.{Speaks, can_refuse, can_tell, refusal_quiet, speaks_like}
 use Rattle.machine_model.proofs.StepKept.{CanActivateAt, CanConnectTo, CanReply}
-use Rattle.machine_model.proofs.TieLaws.{none_some}
-use Rattle.machine_model.proofs.TransferKept.{active_at}
 use Rattle.machine_model.proofs.VictimLaws.{directory_is, in_range_is, some_there}
 use Rattle.machine_model.proofs.ListSizes.{pool_small}
 

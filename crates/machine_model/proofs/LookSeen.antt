@@ -1,28 +1,11 @@
 -- A look of the owner finds what its outline asks of its actions.
 use Rattle.machine_model.proofs.Prelude.{passed_there, ◌≡◌, ◌<◌, ℕ, zero, suc, Bool, true, false, not, cond, ◌&&◌, ◌||◌, eqb, List, [], ◌∷◌, length, get_or, map, Option, Some, None, Ok, ◌⊎◌, inl, inr, refl, sym, ap, subst, ◌∙◌, arith, ◌/◌, list_any, length-map, new_word, reference_of, Command, Reference, Node, node_in, found_member, chain_of, segment_at, is_free, least_free_frame, Frame, Ptw, store_frame, has_record, entry_at, uid_at, uid_in, off_chain, victim_of, known_uid, place_of, word_of, has, no_call, is_out, names, AreOf, CanActivate, CanEmpty, CanEvict, CanStart, IsIn, IsWantedPage, is_wanted_here, IsLook, KeepsLink, MayAnswer, MayConnect, MayEmpty, WantsPage, lack_of, seen, deactivation_begun, took, victim_taken, with_hand_moved, Keeps, has_free, is_here, page_fits, want_lack, wanted_chain, Want, Refer, Truncate, Length, Look, runner_at, want_at, around, bare, cut_page, is_linked, outline_of, want_by, want_lengthened, want_truncated, IsMachine, cpu_at, descriptor_of, first_inactive, flat_of, frames_from, is_active, is_connected, next_command, or_zero, process_at, processor_at, trailers_in, outside_refusal, refusal_of, uid_of_command, uid_of_number, shown, Owner, State, with_store, has_head, has_tail, Command as command, Frame as frame, Ptw as ptw, Active as Entry, Aim as aim, Phase as phase, finishing_is_bound as is_bound, finishing_page_of as page_of, outline_frame_in as frame_in, Action, ForTransfer, look_of, Action as act}
-use Rattle.machine_model.proofs.ActiveSeen.{active_place}
-use Rattle.machine_model.proofs.ChainFacts.{chain_active, first_there}
-use Rattle.machine_model.proofs.ComingKept.{runs_stay}
-use Rattle.machine_model.proofs.JobStays.{all_taken, emptying, emptying_victim}
-use Rattle.machine_model.proofs.CommandFacts.{LeadsToSegment, length_stands, truncate_stands}
-use Rattle.machine_model.proofs.FindLaws.{choice_bound, free_frame, position_at, position_none, first_idle}
+use Rattle.machine_model.proofs.Laws.{active_place, chain_active, first_there, runs_stay, all_taken, emptying, emptying_victim, LeadsToSegment, length_stands, truncate_stands, choice_bound, free_frame, position_at, position_none, first_idle, bound_outlined, frame_outlined, named_here, not_here, stored_outlined, inside_is, within_by, FindsActive, FindsAll, FindsCut, FindsFull, FindsLink, FindsNoFrame, FindsNoVictim, FindsOut, FindsPage, FindsPlace, FindsVictim, IsAbout, IsInside, LookFinds, look_finds, in_look, at_outline, seen_reading, IsIdle, bound_here, looking_idle, Speaks, none_some, active_at, one_read}
 use Rattle.machine_model.proofs.ForeseeLaws.{has_answer, waits_reading}
-use Rattle.machine_model.proofs.FrameSeen.{bound_outlined, frame_outlined, named_here, not_here, stored_outlined}
-use Rattle.machine_model.proofs.InsideLaws.{inside_is}
 use Rattle.machine_model.proofs.LinkSeen.{fault_link, segment_faults, tree_link}
-use Rattle.machine_model.proofs.ListLaws.{within_by}
 use Rattle.machine_model.proofs.ListSizes.{frames_from_few}
 use Rattle.machine_model.proofs.LookAsks.{about_there, free_is, free_within, known_within, page_active}
-use Rattle.machine_model.proofs.LookFacts.{FindsActive, FindsAll, FindsCut, FindsFull, FindsLink, FindsNoFrame, FindsNoVictim, FindsOut, FindsPage, FindsPlace, FindsVictim, IsAbout, IsInside, LookFinds, look_finds}
-use Rattle.machine_model.proofs.OutlineJob.{in_look}
-use Rattle.machine_model.proofs.OutlineReads.{at_outline, seen_reading}
-use Rattle.machine_model.proofs.OwnedLaws.{IsIdle}
-use Rattle.machine_model.proofs.OwnerLaws.{bound_here, looking_idle}
-use Rattle.machine_model.proofs.SpeakLaws.{Speaks}
 use Rattle.machine_model.proofs.TakeLists.{listed_bound}
-use Rattle.machine_model.proofs.TieLaws.{none_some}
-use Rattle.machine_model.proofs.TransferKept.{active_at}
-use Rattle.machine_model.proofs.ChoiceLaws.{one_read}
 use Rattle.machine_model.proofs.VictimLaws.{some_there, has_victim, member_contains, victim_is_off}
 use Rattle.machine_model.proofs.WantLaws.{linked_here, refer_wants, want_here}
 

@@ -3,8 +3,7 @@ use Rattle.machine_model.proofs.Prelude.{◌≡◌, ◌≢◌, ◌⊎◌, ◌<�
 use Rattle.machine_model.proofs.FitsKept.{none_fits}
 use Rattle.machine_model.proofs.BootKept.{at_fill, boot_keeps}
 use Rattle.machine_model.proofs.ComingLaws.{booted_come}
-use Rattle.machine_model.proofs.ScheduleLaws.{in_range, range_has, range_once}
-use Rattle.machine_model.proofs.TieLaws.{none_some}
+use Rattle.machine_model.proofs.Laws.{in_range, schedule_laws_range_has as range_has, range_once, none_some}
 use Rattle.machine_model.proofs.WorkStep.{none_work}
 
 module _ (p : Plan) (words : List (List ℕ)) (disks : List (List (List ℕ))) (script : IsPlan p) where

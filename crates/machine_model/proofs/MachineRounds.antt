@@ -4,13 +4,10 @@ use Rattle.machine_model.proofs.CommandLaws.{command_step, idle_step}
 use Rattle.machine_model.proofs.ForeseeAll.{foresees}
 use Rattle.machine_model.proofs.LackLaws.{lack_few}
 use Rattle.machine_model.proofs.LoopLaws.{goes_on, goes_self, job_goes, job_over, reader_there, taken_done, waited_fell}
-use Rattle.machine_model.proofs.OutlineJob.{in_job}
-use Rattle.machine_model.proofs.OutlineOwner.{step_outlined}
-use Rattle.machine_model.proofs.OutlineReads.{at_outline, long_outline, seen_since}
+use Rattle.machine_model.proofs.Laws.{in_job, step_outlined, at_outline, long_outline, seen_since, owner_none}
 use Rattle.machine_model.proofs.OutlineSeen.{kept_seen, no_owner, running_is}
 use Rattle.machine_model.proofs.ReadLaws.{read_step}
 use Rattle.machine_model.proofs.StepLaws.{clear_step, inside, owner_step}
-use Rattle.machine_model.proofs.OutlineAlone.{owner_none}
 
 -- ---- a step
 

@@ -2,11 +2,9 @@
 use Rattle.machine_model.proofs.Prelude.{◌≡◌, ◌<◌, ℕ, zero, suc, Bool, true, false, cond, eqb, List, Option, Some, None, refl, sym, ap, subst, ◌∙◌, arith, inl, inr, length, ◌/◌, cases_eq, Who, permits, Command, Reference, Reply, access_of, Node, account_of, node_in, quota_in, volume_in, Counts, is_stored, is_out_of_room, is_used_up, is_volume_full, stores_page, word_reply, first_below, has_room_flat, room_for, Store, uid_of, kst_at, is_spent, Keeps, IsFirstWithRoom, IsMovedFor, LacksRecord, MovesFor, tables_of, mover_to, flat_of, is_active, is_of_room, move_to, only, room_refusal, State, nonzero_alters, found_uid, Reply as reply}
 use Rattle.machine_model.proofs.CountsAlike.{charged_alike}
 use Rattle.machine_model.proofs.EmptyAsks.{unread_any}
-use Rattle.machine_model.proofs.InsideLaws.{due_is, inside_is}
+use Rattle.machine_model.proofs.Laws.{due_is, inside_is, FindsMove, IsInside, null_word, stored_is}
 use Rattle.machine_model.proofs.LackingLaws.{full_is, room_same}
-use Rattle.machine_model.proofs.LookFacts.{FindsMove, IsInside}
 use Rattle.machine_model.proofs.MoveAsks.{who_is}
-use Rattle.machine_model.proofs.PageShown.{null_word, stored_is}
 
 -- ---- the first that passes a test
 

@@ -1,7 +1,6 @@
 -- A page that isn't on its record alone stays so while other pages come into frames and are on their way out.
 use Rattle.machine_model.proofs.Prelude.{◌≡◌, ℕ, false, List, [], get_or, set, inl, inr, refl, ap, ◌∙◌, What, Ptw, ActiveSegs, place_of, table_of, word_of, worded, Aim, is_out, took, State, Ptw as ptw}
-use Rattle.machine_model.proofs.ReleaseSeen.{set_either}
-use Rattle.machine_model.proofs.EffectLaws.{took_has}
+use Rattle.machine_model.proofs.Laws.{set_either, took_has}
 
 -- no page more is on its record alone
 abbrev pub NoneOut : ActiveSegs → ActiveSegs → Type 0

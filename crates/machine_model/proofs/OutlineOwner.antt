@@ -1,6 +1,7 @@
 -- Each step of the owner of the supervisor is a step of the outline, where it finds what its actions ask; and so each
 -- step of the machine is.
 use Rattle.machine_model.proofs.Prelude.{◌≡◌, ◌≢◌, ◌≤◌, ℕ, zero, suc, Bool, true, false, not, cond, eqb, List, [], ◌∷◌, length, position, count_by, Option, Some, None, is_some, get_or, refl, sym, ap, subst, ◌∙◌, inl, inr, arith, ◌-◌, position_or_len, cases_lt, Decides-ltb, eqb_tells, get_or_past, position-Some, fails_before_first, Command, What, first_off_chain, hand_past, place_of, table_of, next_out, Transfer, Mover, Aim, Phase, copy_failed, page_copied, State, Owner, or_zero, no_processor, is_due, next_command, processor_at, cpu_at, process_at, frames_of_owner, frames_from, trailers_in, action_of, is_over, Outcome, after, turn_of, with_faults, with_store, deactivation_begun, eviction_done, page_done, segment_taken, took, write_failed, committed, committed_at, Moved, Runner, no_runner, Stage, Look, Copying, dues, Works, rule_of, IsIn, JobStep, Step, works, AreOf, CanEmpty, around, stage_of, outline_of, Foresees, IsLook, KeepsLink, MayAnswer, MayEmpty, What as what, Aim as aim, Phase as phase, Action, ForTransfer, clear_or, copy_or_commit, finish_of, go_on_with, look_of, once_cleared, own_or_run, run_process, transfer_or, Action as act}
+use Rattle.machine_model.proofs.ActionCases.{by_end}
 use Rattle.machine_model.proofs.CountLaws.{count_cons}
 use Rattle.machine_model.proofs.OutlineMove.{copy_failed_outlined, copy_outlined, move_outlined, begin_outlined}
 use Rattle.machine_model.proofs.OutlineReads.{at_outline, is_owner, seen_due}
@@ -169,27 +170,20 @@ module _ (s : State) (o : Owner) (out : Outcome) (f : Foresees s o.cpu) (rule : 
   finish_eviction : (w : What) (fs : List ℕ) (g : ℕ) → o.phase ≡ phase.Waiting aim.Evicting w → o.frames ≡ g ∷ fs
       → dues (outline_of s).runners ≡ 0 → Goal s o.cpu out (act.FinishEviction g)
   unfolding after outline_of
-  finish_eviction w fs g waits frames due = by out.failed
-    where
-      by : (b : Bool) → Step (outline_of s) o.cpu Moved (outline_of (cond b (write_failed s o.cpu out.faults)
-          (eviction_done (with_faults s out.faults) o.cpu g)))
-      by true = works _ rule (failed_goal (stage_of s.store.ast.entries o.frames (phase.Waiting aim.Evicting w))
-          (in_stage s o (phase.Waiting aim.Evicting w) owner waits) due)
-      by false = works _ rule (eviction_outlined (with_faults s out.faults) o w g fs owner waits frames due
-          (f.leaves o g fs owner frames))
+  finish_eviction w fs g waits frames due = by_end (λ x. Step (outline_of s) o.cpu Moved (outline_of x)) out _ _
+      (λ e. works _ rule (eviction_outlined (with_faults s out.faults) o w g fs owner waits frames due
+      (f.leaves o g fs owner frames)))
+      (λ e. works _ rule (failed_goal (stage_of s.store.ast.entries o.frames (phase.Waiting aim.Evicting w))
+      (in_stage s o (phase.Waiting aim.Evicting w) owner waits) due))
 
   finish_page : (uid : ℕ) (w : What) (fs : List ℕ) (g : ℕ) → o.phase ≡ phase.Waiting (aim.Deactivating uid) w
       → o.frames ≡ g ∷ fs → dues (outline_of s).runners ≡ 0 → Goal s o.cpu out (act.FinishPage g)
   unfolding after outline_of
-  finish_page uid w fs g waits frames due = by out.failed
-    where
-      by : (b : Bool) → Step (outline_of s) o.cpu Moved (outline_of (cond b (write_failed s o.cpu out.faults)
-          (page_done (with_faults s out.faults) g)))
-      by true = works _ rule (failed_goal (stage_of s.store.ast.entries o.frames
-          (phase.Waiting (aim.Deactivating uid) w))
-          (in_stage s o (phase.Waiting (aim.Deactivating uid) w) owner waits) due)
-      by false = works _ rule (page_outlined (with_faults s out.faults) o uid w g fs owner waits frames due
-          (f.leaves o g fs owner frames))
+  finish_page uid w fs g waits frames due = by_end (λ x. Step (outline_of s) o.cpu Moved (outline_of x)) out _ _
+      (λ e. works _ rule (page_outlined (with_faults s out.faults) o uid w g fs owner waits frames due
+      (f.leaves o g fs owner frames)))
+      (λ e. works _ rule (failed_goal (stage_of s.store.ast.entries o.frames (phase.Waiting (aim.Deactivating uid) w))
+      (in_stage s o (phase.Waiting (aim.Deactivating uid) w) owner waits) due))
 
   finish_goal : (a : Aim) (w : What) (fs : List ℕ) → o.phase ≡ phase.Waiting a w → o.frames ≡ fs
       → dues (outline_of s).runners ≡ 0 → Goal s o.cpu out (finish_of a fs)
@@ -213,16 +207,13 @@ module _ (s : State) (o : Owner) (out : Outcome) (f : Foresees s o.cpu) (rule : 
   move_goal : (m : Mover) → o.phase ≡ phase.Moving m → (x : Option ℕ)
       → next_out (table_of s.store.ast m.uid) m.next ≡ x → Goal s o.cpu out (copy_or_commit m x)
   unfolding after
-  move_goal m moves (Some p) next = by out.failed
+  move_goal m moves (Some p) next = by_end (λ x. Step (outline_of s) o.cpu Moved (outline_of x)) out _ _
+      (λ e. works _ rule (copy_outlined s o m p out.faults owner moves next))
+      (λ e. works _ rule (copy_failed_outlined s o m may_answer.process out.faults may_answer.command owner moves due
+      may_answer.can))
     where
       due : dues (outline_of s).runners ≡ 0
       due = (f.kept.job.fits o.cpu (Copying (256 - m.next)) (in_stage s o (phase.Moving m) owner moves)).0
-
-      by : (b : Bool) → Step (outline_of s) o.cpu Moved (outline_of (cond b (copy_failed s o.cpu out.faults)
-          (page_copied (with_faults s out.faults) o.cpu m p)))
-      by true = works _ rule (copy_failed_outlined s o m may_answer.process out.faults may_answer.command owner moves
-          due may_answer.can)
-      by false = works _ rule (copy_outlined s o m p out.faults owner moves next)
   move_goal m moves None next = works _ rule (move_outlined s o m owner moves (f.moves o m owner moves refl))
 
   phase_goal : (ph : Phase) → o.phase ≡ ph → Goal s o.cpu out (go_on_with s (process_at s o.cpu) o ph)

@@ -1,5 +1,6 @@
 -- Each step of the machine is a step of its outline, where the machine finds what its actions ask.
-use Rattle.machine_model.proofs.Prelude.{◌≡◌, ℕ, ◌*◌, ◌/◌, Bool, true, false, not, cond, ◌&&◌, eqb, nat_lt, nat_le, List, [], ◌∷◌, length, count_by, Option, Some, None, is_some, refl, sym, ap, ◌∙◌, inl, inr, arith, Decides-ltb, reference_of, Command, Reference, RefKind, What, HeldSeg, Held, frame_of, seg_of, Ptw, Sdw, sdw_at, new_word, permits, word_reply, Transfer, Move, by_descriptor, by_held, by_page, by_seg, by_word, State, Owner, or_zero, next_command, processor_at, cpu_at, process_at, run_at, sdws_at, word_of, transfer_failed, transferred, uid_of_held, with_faults, has_had_its_turn, is_empty, Outcome, after, turn_of, Moved, Comes, Clears, Reads, Works, Loads, Leaves, Commands, rule_of, Step, reference_in, holds_page, outline_of, Foresees, MayAnswer, MayEnter, MayLose, Ptw as ptw, Sdw as sdw, Reply as reply, Move as move, Action, by_move, come_to, has_process, load_or_idle, move_of, refer_or_take, run_process, take_or_wait, Action as act}
+use Rattle.machine_model.proofs.Prelude.{◌≡◌, ℕ, ◌*◌, ◌/◌, Bool, true, false, not, cond, ◌&&◌, eqb, nat_lt, nat_le, List, [], ◌∷◌, length, count_by, Option, Some, None, is_some, refl, sym, ap, ◌∙◌, inl, inr, arith, Decides-ltb, reference_of, Command, Reference, RefKind, What, HeldSeg, Held, frame_of, seg_of, Ptw, Sdw, sdw_at, new_word, permits, word_reply, Transfer, Move, by_descriptor, by_held, by_page, by_seg, by_word, State, Owner, or_zero, next_command, processor_at, cpu_at, process_at, run_at, sdws_at, word_of, transfer_failed, transferred, uid_of_held, with_faults, has_had_its_turn, is_empty, Outcome, after, turn_of, Moved, Comes, Clears, Reads, Works, Loads, Leaves, Commands, rule_of, Step, reference_in, holds_page, outline_of, Foresees, MayAnswer, MayEnter, MayLose, Ptw as ptw, Sdw as sdw, Reply as reply, Move as move, Action, by_move, come_to, has_process, load_or_idle, move_of, refer_or_take, run_process, take_or_wait, Action as act, cond_both}
+use Rattle.machine_model.proofs.ActionCases.{by_end}
 use Rattle.machine_model.proofs.OutlineReads.{is_owner, rule_seen}
 use Rattle.machine_model.proofs.OutlineAlone.{IsFree, enter_outlined, fault_outlined, fill_page_outlined, fill_seg_outlined, idle_outlined, leave_outlined, load_outlined, owned_outlined, transfer_outlined}
 use Rattle.machine_model.proofs.OutlineAnswer.{plain_outlined, through_outlined}
@@ -67,11 +68,8 @@ is_fill_page _ = false
 
 word_fill : (w : Ptw) (how : RefKind) → is_fill_seg (by_word w how) ≡ false
 unfolding is_fill_seg
-word_fill ptw.Null how = by (eqb (new_word 0 how) 0)
-  where
-    by : (b : Bool) → is_fill_seg (cond b (move.Plain (word_reply 0 how)) move.Fault) ≡ false
-    by true = refl
-    by false = refl
+word_fill ptw.Null how = cond_both (eqb (new_word 0 how) 0) (move.Plain (word_reply 0 how)) move.Fault
+    (λ x. is_fill_seg x ≡ false) (λ e. refl) (λ e. refl)
 word_fill _ how = refl
 
 held_fill : (held : Held) (words : ℕ → ℕ → Ptw) (r : Reference) (e : HeldSeg)
@@ -130,15 +128,12 @@ Goal s c o a = Step (outline_of s) c (turn_of a) (outline_of (after s c a o))
 pub transfer_goal : (s : State) (c : ℕ) (o : Outcome) (t : Transfer) → Foresees s c → rule_of (outline_of s) c ≡ Reads
     → (cpu_at s.processors c).transfer ≡ Some t → Goal s c o (act.EndTransfer t)
 unfolding after
-transfer_goal s c o t f h reading = by o.failed
+transfer_goal s c o t f h reading = by_end (λ x. Step (outline_of s) c Moved (outline_of x)) o _ _
+    (λ e. transfer_outlined s c o.faults t h reading)
+    (λ e. loss_outlined s c lost.process o.faults t lost.command h reading lost.can lost.placed lost.more)
   where
     lost : MayLose s c
     lost = f.loses (cc)
-
-    by : (b : Bool) → Step (outline_of s) c Moved
-        (outline_of (cond b (transfer_failed s c t o.faults) (transferred (with_faults s o.faults) c t)))
-    by true = loss_outlined s c lost.process o.faults t lost.command h reading lost.can lost.placed lost.more
-    by false = transfer_outlined s c o.faults t h reading
 
 -- ---- a process at a processor that doesn't own the supervisor
 

@@ -1,5 +1,5 @@
 -- What the flat store answers a command is never that a drive failed.
-use Rattle.machine_model.proofs.Prelude.{◌≡◌, ℕ, ℤ, Bool, true, false, not, ◌&&◌, cond, eqb, List, [], ◌∷◌, Option, Some, None, Result, Ok, Err, refl, nat_le, ◌*◌, length, is_some, ◌/◌, Named, Plan, new_word, permits, reference_of, Command, Reference, RefKind, Reply, access_of, takes_row, giver_of, over_in, above, branch_in, entries_on, is_inferior, quota_in, Node, Walk, LeadsTo, node_in, walk_in, branch_at, directory_at, done_at, node_at, only_directory, only_segment, parts_of, segment_at, there_or, walked, reply_by, reply_to_command, reply_to_tree_command, delete_of, delete_reply, make_at, make_of, make_reply, initiate_of, initiate_reply, known_or_full, status_of, status_reply, terminate_reply, is_used_up, is_out_of_room, stores_page, reply_at, reply_in, reply_to_reference, word_reply, acl_of, acl_reply, done_or_over, move_reply, nodes_moved, is_stored_from, number_for, who_of, is_positive, unsigned_abs, list_any, nat_lt, length_of, length_reply, truncate_reply, Store, entries_of, known_uid, numbers_of, Held, frame_of, seg_of, HeldSeg, Ptw, Sdw, sdw_at, Move, by_descriptor, by_page, by_seg, by_word, next_move, Command as command, RefKind as kind, Reply as reply, references_reply_of as reply_of, rights_move_of as move_of, Ptw as ptw, Sdw as sdw, Move as move}
+use Rattle.machine_model.proofs.Prelude.{◌≡◌, ℕ, ℤ, Bool, true, false, not, ◌&&◌, cond, eqb, List, [], ◌∷◌, Option, Some, None, Result, Ok, Err, refl, nat_le, ◌*◌, length, is_some, ◌/◌, Named, Plan, new_word, permits, reference_of, Command, Reference, RefKind, Reply, access_of, takes_row, giver_of, over_in, above, branch_in, entries_on, is_inferior, quota_in, Node, Walk, LeadsTo, node_in, walk_in, branch_at, directory_at, done_at, node_at, only_directory, only_segment, parts_of, segment_at, there_or, walked, reply_by, reply_to_command, reply_to_tree_command, delete_of, delete_reply, make_at, make_of, make_reply, initiate_of, initiate_reply, known_or_full, status_of, status_reply, terminate_reply, is_used_up, is_out_of_room, stores_page, reply_at, reply_in, reply_to_reference, word_reply, acl_of, acl_reply, done_or_over, move_reply, nodes_moved, is_stored_from, number_for, who_of, is_positive, unsigned_abs, list_any, nat_lt, length_of, length_reply, truncate_reply, Store, entries_of, known_uid, numbers_of, Held, frame_of, seg_of, HeldSeg, Ptw, Sdw, sdw_at, Move, by_descriptor, by_page, by_seg, by_word, next_move, Command as command, RefKind as kind, Reply as reply, references_reply_of as reply_of, rights_move_of as move_of, Ptw as ptw, Sdw as sdw, Move as move, cond_both}
 
 abbrev pub is_device : Reply → Bool
 is_device reply.Device = true
@@ -36,11 +36,8 @@ segment_plain nodes path = by (node_at nodes path) (node_plain nodes path)
 
 directory_plain : (refusal : Reply) → is_device refusal ≡ false → (x : Result Node Reply) → fails x ≡ false
     → fails (only_directory refusal x) ≡ false
-directory_plain refusal plain (Ok n) h = by n.directory
-  where
-    by : (b : Bool) → fails (cond b (Ok n) (Err refusal)) ≡ false
-    by true = refl
-    by false = plain
+directory_plain refusal plain (Ok n) h =
+    cond_both n.directory (Ok n) (Err refusal) (λ x. fails x ≡ false) (λ e. refl) (λ e. plain)
 directory_plain refusal plain (Err r) h = h
 
 branch_plain : (nodes : List Node) (path : List (List ℕ)) → fails (branch_at nodes path) ≡ false

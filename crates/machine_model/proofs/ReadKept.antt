@@ -1,18 +1,9 @@
 -- What a processor reads into a frame is for the next command of its process through every action, until it is read.
 use Rattle.machine_model.proofs.Prelude.{and_parts, cond_both, with_node, Links, with_effect, ◌≡◌, ◌≢◌, ◌<◌, ℕ, ◌+◌, Bool, true, false, cond, eqb, length, List, [], map, set, Option, Some, None, ◌⊎◌, inl, inr, refl, sym, ap, subst, ◌∙◌, arith, ℤ, eqb_tells, get_or-set_other, get_or-set_same, length-set, Plan, command_at, Command, Reference, Reply, What, Row, Node, node_in, IsTree, uid_of, kst_at, word_of, Transfer, parts_of, segment_at, word_reply, node_gone, is_filed, is_there, pages_in, pages_of, Processor, Run, action_of, clear_or, own_or_run, transfer_or, Outcome, after, committed, committed_at, with_made, write_failed, Keeps, without_move, IsMachine, AllRead, IsReadFor, IsReading, Refers, Truncates, Wants, cpu_at, frames_of_owner, is_active, next_command, no_processor, no_run, or_zero, process_at, processor_at, run_at, refusal_of, reply_of, uid_of_command, State, Storage, fault_told, frame_lost, old_word, page_made, pages_after, started, told, transfer_failed, with_pages, with_store, MayFailBy, not_both, Command as command, Reply as reply, Aim as aim, with_links, with_nodes, Action, Action as act}
-use Rattle.machine_model.proofs.JobStays.{Stays, all_back, all_taken, emptying, evicted, evicting, is_back, is_emptied, page_left, emptying_victim}
-use Rattle.machine_model.proofs.ActionCases.{action_by, by_end}
-use Rattle.machine_model.proofs.CommandFacts.{LeadsToSegment, truncate_stands}
+use Rattle.machine_model.proofs.Laws.{Stays, all_back, all_taken, emptying, evicted, evicting, is_back, is_emptied, page_left, emptying_victim, action_by, by_end, LeadsToSegment, truncate_stands, inside_is, told_reads, told_process, FindsCut, FindsOut, FindsPage, active_there, stored_is, KeepsName, PathsStay, paths_changed, paths_less, paths_more, paths_same, active_at, told_transfer}
 use Rattle.machine_model.proofs.CommitKept.{effected}
 use Rattle.machine_model.proofs.CommitRights.{deleted_names, truncated_names, quota_moves, node_moved}
-use Rattle.machine_model.proofs.InsideLaws.{inside_is}
-use Rattle.machine_model.proofs.LeaveSeen.{told_reads, told_process}
-use Rattle.machine_model.proofs.LookFacts.{FindsCut, FindsOut, FindsPage}
-use Rattle.machine_model.proofs.PageShown.{active_there, stored_is}
-use Rattle.machine_model.proofs.PathsKept.{KeepsName, PathsStay, paths_changed, paths_less, paths_more, paths_same}
-use Rattle.machine_model.proofs.TransferKept.{active_at}
 use Rattle.machine_model.proofs.VictimLaws.{some_there}
-use Rattle.machine_model.proofs.ClearLaws.{told_transfer}
 use Rattle.page_control.proofs.Looks.{stored_out}
 
 -- one node changes

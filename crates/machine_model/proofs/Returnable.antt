@@ -1,12 +1,7 @@
 -- What the owner's job has taken may come back: its pages one after the other, and then its descriptors.
 use Rattle.machine_model.proofs.Prelude.{◌≡◌, ◌<◌, ℕ, suc, Bool, true, false, ◌||◌, List, [], ◌∷◌, length, Option, Some, None, inr, refl, sym, ap, subst, ◌∙◌, length-set, Frame, bound_page, frame_at, is_bound, Ptw, frame_in, Sdw, leads, leads_at, place_of, sdws_at, word_of, has, CutDescriptor, page_at, AreApart, AreDistinct, has_cut, names, seen, here_if, with_here, with_relink, AreThere, HadRights, Keeps, cut_of_owner, descriptor_of, frames_of_owner, IsLeaving, IsRelinkable, MayComeBack, MayRelink, with_all_here, is_cut_at, State, Storage, AreNumbered, IsWorking, has_head, has_tail, not_both, or_parts, Frame as frame, Ptw as ptw, Sdw as sdw, jobs_page_or_zero as page_or_zero}
-use Rattle.machine_model.proofs.ActiveSeen.{active_place}
+use Rattle.machine_model.proofs.Laws.{active_place, going_word, map_list, cut_at_same, by_places, descriptors_put, not_null, words_put}
 use Rattle.machine_model.proofs.BackKept.{relink_there}
-use Rattle.machine_model.proofs.ChainLaws.{going_word}
-use Rattle.machine_model.proofs.ListLaws.{map_list}
-use Rattle.machine_model.proofs.OwnedLaws.{cut_at_same}
-use Rattle.machine_model.proofs.Places.{by_places}
-use Rattle.machine_model.proofs.TakeSeen.{descriptors_put, not_null, words_put}
 
 or_right : (a b : Bool) → b ≡ true → (a || b) ≡ true
 or_right true b h = refl

@@ -3,8 +3,7 @@
 use Rattle.machine_model.proofs.Prelude.{[], ◌≡◌, ◌<◌, ℕ, List, ◌∷◌, length, Option, Some, None, sym, ◌∙◌, What, Mover, Aim, finish_of, copy_or_commit, Outcome, seen, Keeps, cut_of_owner, shown, State, What as what, Aim as aim, Action, Action as act}
 use Rattle.machine_model.proofs.CommitKept.{idle_over, segs_over}
 use Rattle.machine_model.proofs.DeleteKept.{gones_done, gones_idle}
-use Rattle.machine_model.proofs.DueLaws.{none_due}
-use Rattle.machine_model.proofs.LookLaws.{IsLook}
+use Rattle.machine_model.proofs.Laws.{none_due, IsLook}
 use Rattle.machine_model.proofs.TruncateKept.{leaves_done, leaves_idle}
 pub use Rattle.machine_model.proofs.StepKept.{Asks, AsksCommit, AsksCreate, AsksEmpty, AsksSegment, AsksTake, AsksVictim, HasWaited, IsLooking, IsMoving, look_idle, look_still, nothing_over, process_here, wait_goes, wait_shape}
 use Rattle.machine_model.proofs.StepKept.{CanDo, IsReady}

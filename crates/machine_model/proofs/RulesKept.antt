@@ -1,12 +1,8 @@
 -- Each step of each processor keeps the machine's promise: along the rules in their order, what an action asks follows
 -- from the promise, but for what the store says and for what the flat store answers.
 use Rattle.machine_model.proofs.Prelude.{◌≡◌, ◌≢◌, ◌<◌, ℕ, ◌/◌, ◌*◌, Bool, true, false, not, ◌&&◌, ◌||◌, ◌==◌, cond, eqb, is_some, List, [], ◌∷◌, length, position, Option, Some, None, inl, inr, refl, sym, ap, subst, ◌∙◌, nat_le, option_map, eqb_tells, leb_tells, HeldPage, HeldSeg, What, frame_of, seg_of, reference_of, Command, Reference, Ptw, Sdw, uid_at, by_descriptor, by_page, by_seg, by_word, Move, Transfer, leads, sdws_at, word_of, table_of, next_out, new_word, permits, word_reply, HasHadItsTurn, Phase, action_of, by_move, clear_or, come_to, finish_of, go_on_with, has_had_its_turn, is_empty, load_or_idle, look_of, once_cleared, own_or_run, refer_or_take, run_process, take_or_wait, transfer_or, Outcome, names, led_to, seen, IsAtWork, Keeps, cpu_at, descriptor_of, is_due, next_command, or_zero, process_at, processor_at, shown, Processor, Owner, State, held_page, cond_both, not-true, not-false, and_parts, held_page_of as page_of, Reply as reply, Ptw as ptw, Sdw as sdw, Move as move, Phase as phase, Action, Action as act}
-use Rattle.machine_model.proofs.ActionCases.{action_by}
-use Rattle.machine_model.proofs.FindLaws.{number_new, page_new}
-use Rattle.machine_model.proofs.KeepLaws.{IsNoOwner}
-use Rattle.machine_model.proofs.LookLaws.{look_is}
+use Rattle.machine_model.proofs.Laws.{action_by, number_new, page_new, IsNoOwner, look_is, CanFillPage}
 use Rattle.machine_model.proofs.RuleKept.{Asks, finish_can, look_can, move_can}
-use Rattle.machine_model.proofs.SeatLaws.{CanFillPage}
 use Rattle.machine_model.proofs.StepKept.{CanDo, CanLeave, IsMine, to_hold}
 
 -- an action can be done whose conditions hold

@@ -1,17 +1,14 @@
 -- What the rules know of their action gives what the job, the processes and the script ask of it.
 use Rattle.machine_model.proofs.Prelude.{◌≡◌, ◌<◌, ℕ, Bool, true, false, cond, length, Some, refl, ap, Transfer, Outcome, after, AllCome, MayAnswer, IsMachine, IsReading, cpu_at, process_at, State, transfer_failed, transferred, with_faults, ◌+◌, ◌≤◌, List, arith, Command, Keeps, uid_of_command, Action, Action as act}
 use Rattle.machine_model.proofs.ListSizes.{command_few}
-use Rattle.machine_model.proofs.LookFacts.{FindsTaken}
-use Rattle.machine_model.proofs.ComingKept.{all_come, come_same, tells}
+use Rattle.machine_model.proofs.Laws.{FindsTaken, all_come, come_same, tells, reader_no_owner, comes_next, by_end}
 use Rattle.machine_model.proofs.JustTaken.{look_taken}
 use Rattle.machine_model.proofs.ReadKept.{IsPast, MayRead}
 use Rattle.machine_model.proofs.ScheduleKept.{IsAnswering, MaySchedule}
 use Rattle.machine_model.proofs.StepAsks.{reads_answering, reads_for}
 use Rattle.machine_model.proofs.StepKept.{CanDo, due_other, empty_other, online_other}
 use Rattle.machine_model.proofs.StepKnows.{AnswersOne, Knows}
-use Rattle.machine_model.proofs.TransferKept.{reader_no_owner}
 use Rattle.machine_model.proofs.WorkStep.{MayWork}
-use Rattle.machine_model.proofs.SpeakLaws.{comes_next}
 
 -- a processor that has a process may answer its next command
 pub may_answer : (s : State) (c k : ℕ) → IsMachine s → c < length s.processors
@@ -102,13 +99,9 @@ module _ (s : State) (c : ℕ) (o : Outcome) (m : IsMachine s) (there : c < leng
 
     come_end : (t : Transfer) → (o.failed ≡ true → IsAnswering s c) → AllCome (after s c (act.EndTransfer t) o)
     unfolding after
-    come_end t may = by o.failed refl
-      where
-        by : (f : Bool) → o.failed ≡ f
-            → AllCome (cond f (transfer_failed s c t o.faults) (transferred (with_faults s o.faults) c t))
-        by true e = all_come s c (act.EndTransfer t) (record { failed = true; faults = o.faults }) m.script m.come
-            (λ h. may_answer s c (may e).process m there (may e).its)
-        by false e = come_same s (transferred (with_faults s o.faults) c t) refl refl m.come
+    come_end t may = by_end AllCome o _ _ (λ e. come_same s (transferred (with_faults s o.faults) c t) refl refl m.come)
+        (λ e. all_come s c (act.EndTransfer t) (record { failed = true; faults = o.faults }) m.script m.come
+        (λ h. may_answer s c (may e).process m there (may e).its))
 
     quiet : (a : Action) → tells a ≡ false → AllCome (after s c a o)
     quiet a off = all_come s c a o m.script m.come (λ h. cc)

@@ -1,18 +1,12 @@
 -- What the rules know where they choose an action: who owns the supervisor, and whose command it is.
 use Rattle.machine_model.proofs.Prelude.{eqb_self, not_both, eqb-true, ◌≡◌, ◌≢◌, ◌<◌, ℕ, true, false, not, ◌&&◌, eqb, List, [], ◌∷◌, length, position, Option, Some, None, inl, inr, refl, sym, ap, subst, ◌∙◌, ◌⊎◌, ◌/◌, cond_both, reference_of, Command, Reference, What, Mover, table_of, next_out, IsMovedFor, IsTakenBy, IsTakenFor, TakenIn, Transfer, Aim, Phase, Processor, action_of, by_move, clear_or, come_to, finish_of, go_on_with, has_had_its_turn, is_empty, load_or_idle, look_of, move_of, once_cleared, own_or_run, refer_or_take, run_process, take_or_wait, transfer_or, copy_or_commit, Outcome, IsMachine, flat_of, is_due, next_command, or_zero, process_at, processor_at, Owner, State, FailsIn, IsWorking, MayFailBy, TakesSome, Reply, is_end, reply_to_command, is_refusal, Move, What as what, Move as move, Aim as aim, Phase as phase, Command as command, Action, ForTransfer, Action as act}
-use Rattle.machine_model.proofs.ActionCases.{action_by}
+use Rattle.machine_model.proofs.Laws.{action_by, LookFinds, look_finds, FindsActive, FindsFull, FindsOut, FindsTaken, FindsVictim, IsIdle, Speaks, speaks, speaks_of, takes_tree, fails_more, IsNoOwner}
 use Rattle.machine_model.proofs.JustTaken.{look_taken}
 use Rattle.machine_model.proofs.LookAsks.{page_active}
 use Rattle.machine_model.proofs.MoveFound.{move_found}
 use Rattle.machine_model.proofs.ReadyLaws.{IsOutOfUse}
-use Rattle.machine_model.proofs.LookFacts.{LookFinds, look_finds, FindsActive, FindsFull, FindsOut, FindsTaken, FindsVictim}
-use Rattle.machine_model.proofs.OwnedLaws.{IsIdle}
 use Rattle.machine_model.proofs.RuleKept.{IsLooking, look_idle, process_here, IsMoving}
-use Rattle.machine_model.proofs.SpeakLaws.{Speaks, speaks, speaks_of}
-use Rattle.machine_model.proofs.StandLaws.{takes_tree}
 use Rattle.machine_model.proofs.StepKept.{IsMine}
-use Rattle.machine_model.proofs.FailLaws.{fails_more}
-use Rattle.machine_model.proofs.KeepLaws.{IsNoOwner}
 use Rattle.machine_model.proofs.WorkKept.{page_fails}
 use Rattle.machine_model.proofs.WorkStep.{IsEmptying, Looks, BeginsMove, moving_rests}
 use Rattle.machine_model.proofs.TakeAsks.{takes_none}

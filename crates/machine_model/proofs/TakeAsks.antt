@@ -1,10 +1,7 @@
 -- What a look that takes asks: what a tree command must have out of use, and what is taken of a segment.
 use Rattle.machine_model.proofs.Prelude.{◌≡◌, ◌<◌, ℕ, zero, suc, ◌+◌, Bool, true, false, ◌&&◌, cond, eqb, List, [], ◌∷◌, map, Some, inl, inr, refl, ap, ◌∙◌, arith, ◌/◌, filter, range_with_len, eqb_tells, Command, What, Sdw, leads, IsKnownAt, descriptors_taken, first_taken, frames_taken, what_taken, Outcome, seen, Keeps, descriptor_of, is_connected, or_zero, uid_of_command, uid_of_number, Says, shown, State, and-false, eqb_self, Command as command, What as what, Sdw as sdw, Aim as aim, Action as act}
-use Rattle.machine_model.proofs.ChainLaws.{CanTakeAll}
+use Rattle.machine_model.proofs.Laws.{CanTakeAll, FindsTaken, IsIdle, idle_names}
 use Rattle.machine_model.proofs.CutRights.{take_away_says}
-use Rattle.machine_model.proofs.LookFacts.{FindsTaken}
-use Rattle.machine_model.proofs.OwnedLaws.{IsIdle}
-use Rattle.machine_model.proofs.OwnerLaws.{idle_names}
 use Rattle.machine_model.proofs.RuleKept.{AsksTake}
 use Rattle.machine_model.proofs.TakeLists.{pages_bound, pages_taken, trailers_taken}
 use Rattle.machine_model.proofs.TookKept.{ArePairs, CanTook, has_pair, is_pair}

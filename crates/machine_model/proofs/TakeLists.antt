@@ -1,10 +1,7 @@
 -- What a job takes of a segment: the pages of its table that are here, each in a frame of its own, and the descriptors
 -- of its trailers, each once.
 use Rattle.machine_model.proofs.Prelude.{◌≡◌, ◌≤◌, ℕ, zero, suc, ◌+◌, Bool, true, false, ◌||◌, cond, eqb, count_by, List, [], ◌∷◌, drop, get_or, Option, Some, ◌⊎◌, inl, inr, refl, sym, ap, ◌∙◌, arith, eqb_tells, list_any-append, sum_by-cons, What, Ptw, Sdw, uid_at, is_trailer, trailers_of, leads, leads_at, place_of, table_of, times, has, names_frame, Aim, page_at, AreDistinct, IsAimed, names, led_to, seen, Keeps, descriptor_of, frames_from, frames_in, here_in, is_active, trailers_in, shown, CutDescriptor, State, or_cases, page_is, times_few, times_one, What as what, Ptw as ptw, Sdw as sdw, false_from_ne_true, eqb_self}
-use Rattle.machine_model.proofs.ActiveSeen.{active_place}
-use Rattle.machine_model.proofs.ChainLaws.{CanTakeAll, bound_shown, names_uid}
-use Rattle.machine_model.proofs.OwnedLaws.{IsIdle}
-use Rattle.machine_model.proofs.OwnerLaws.{idle_names}
+use Rattle.machine_model.proofs.Laws.{active_place, CanTakeAll, bound_shown, names_uid, IsIdle, idle_names}
 use Rattle.machine_model.proofs.TookKept.{ArePairs, CanTook, has_pair}
 
 -- ---- pages

@@ -1,11 +1,6 @@
 -- The machine keeps its promise where a job takes pages and cuts descriptors.
 use Rattle.machine_model.proofs.Prelude.{◌≡◌, ℕ, Bool, true, false, ◌&&◌, eqb, count_by, List, [], ◌∷◌, ◌++◌, length, Option, Some, None, inl, inr, refl, sym, ap, subst, ◌∙◌, arith, list_any, eqb_tells, Plan, What, Sdw, NamesAllGoing, has, at_put_two, Aim, taken, page_at, takes, IsAimed, KeepsBook, waits_for, led_to, seen, cut_all, cut_one, note_of, take_all, take_one, took, IsAtWork, Keeps, StoreSays, is_fault, cut_of_owner, descriptor_of, frames_of_owner, or_zero, processor_at, Seen, shown, CutDescriptor, Owner, State, or_parts, Entry as entry, Sdw as sdw}
-use Rattle.machine_model.proofs.ChainLaws.{CanTakeAll, HasTaken, names_linked, names_uid, takes_keep}
-use Rattle.machine_model.proofs.DescriptorLaws.{cut_keeps}
-use Rattle.machine_model.proofs.KeepLaws.{quiet_push}
-use Rattle.machine_model.proofs.Places.{by_places}
-use Rattle.machine_model.proofs.TakeSeen.{HasTables, cut_one_seen, take_all_seen}
-use Rattle.machine_model.proofs.TransferKept.{kept_with}
+use Rattle.machine_model.proofs.Laws.{CanTakeAll, HasTaken, names_linked, names_uid, takes_keep, cut_keeps, quiet_push, by_places, HasTables, cut_one_seen, take_all_seen, kept_with}
 
 -- ---- descriptors
 

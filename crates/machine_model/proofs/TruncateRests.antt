@@ -1,23 +1,15 @@
 -- What a `truncate` must have out of use is so where it takes effect: the pages that it cuts off are those that its job
 -- took, and the one that keeps a word is here again.
 use Rattle.machine_model.proofs.Prelude.{cond_both, not-false, cases_Bool, not-true, nat_tests, eqb_self, ne_eqb, [], ◌≡◌, ◌≢◌, ◌<◌, ◌≤◌, ◌*◌, ℕ, zero, suc, ◌+◌, ◌-◌, ◌/◌, ◌%◌, Bool, true, false, not, ◌&&◌, cond, eqb, List, ◌∷◌, ◌++◌, length, take, replicate, get_or, set, Option, Some, None, ◌⊎◌, inl, inr, refl, sym, ap, subst, ◌∙◌, arith, nat_le, nat_lt, Result, Ok, Err, eqb_tells, leb_tells, get_or-set_same, get_or_past, length-set, Path, Reply, Node, after_reference, bound_page, started_page, Ptw, frame_in, words_in, place_of, table_of, node_at, segment_at, is_zero_page, without_words, is_lost, zero_words, has, is_going_frame, page_of, LosesNoPage, OfNode, at_put_two, page_at, first_past, pages_past, stays, with_cut, without_page, AreDistinct, names, seen, are_zeros, here_if, page_in, with_here, Keeps, cut_of_owner, flat_of, frames_of_owner, is_active, process_at, Seen, shown, use_of, State, Storage, with_owner, with_pages, IsTakenFor, only_found, and-false, binding_at, read_at, has_head, has_tail, not_both, page_is, map_kept, Command as command, Frame as frame, Ptw as ptw, effects_cut as cut, FrameUse as frame_use, page_referred}
-use Rattle.machine_model.proofs.ChainLaws.{going_word}
+use Rattle.machine_model.proofs.Laws.{going_word, map_list, bound_word, pool_room_range_has as range_has, put_here, put_other, put_two_here, by_places, binding_is, words_put, none_some, active_at, word_within}
 use Rattle.machine_model.proofs.CommitAsks.{IsOut, Rests}
 use Rattle.machine_model.proofs.CommitKept.{effected}
 use Rattle.machine_model.proofs.CommitRests.{cut_led, none_cut, page_bound, path_uid}
 use Rattle.machine_model.proofs.DeleteKept.{bound_unread, taken_word}
 use Rattle.machine_model.proofs.FinishKept.{bound_within}
-use Rattle.machine_model.proofs.ListLaws.{map_list}
 use Rattle.machine_model.proofs.PagesCut.{put_two_other, AreCutOff, HasPlaces, IsCutOff, bound_in, cut_places, page_cut_off, pages_cut_off, read_in, word_in}
-use Rattle.machine_model.proofs.PageShown.{bound_word}
-use Rattle.machine_model.proofs.PoolRoom.{range_has}
 use Rattle.machine_model.proofs.VictimLaws.{in_range_is, link_member, member_link}
-use Rattle.machine_model.proofs.Places.{put_here, put_other, put_two_here, by_places}
-use Rattle.machine_model.proofs.TakeSeen.{binding_is, words_put}
-use Rattle.machine_model.proofs.TieLaws.{none_some}
 use Rattle.machine_model.proofs.TruncateKept.{QuietWords, all_left, cut_store, leaf, leaves, segment}
-use Rattle.machine_model.proofs.TransferKept.{active_at}
-use Rattle.machine_model.proofs.WordLaws.{word_within}
 use Rattle.machine_model.proofs.ActiveKept.{started_after}
 
 -- ---- the page that the words cut

@@ -2,8 +2,7 @@
 -- inactive.
 use Rattle.machine_model.proofs.Prelude.{◌≡◌, ◌≢◌, ℕ, true, false, List, [], Option, Some, None, refl, sym, ap, ◌∙◌, MayDeactivate, superior_in, is_going_descriptor, leads_to, node_in, holding, led_to, seen, segs_gone, Keeps, cut_of_owner, descriptor_of, flat_of, frames_of_owner, is_active, cut_uid, descriptor_use, shown, CutDescriptor, State, Storage, IsWhole, TakenWhole, going_for}
 use Rattle.machine_model.proofs.ActiveKept.{IsOver, segs_gone_rest}
-use Rattle.machine_model.proofs.TieLaws.{none_some}
-use Rattle.machine_model.proofs.WholeLaws.{no_page_left}
+use Rattle.machine_model.proofs.Laws.{none_some, no_page_left}
 
 -- ---- once all is gone
 

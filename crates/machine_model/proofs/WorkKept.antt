@@ -1,11 +1,6 @@
 -- What the owner's job rests on stays so through every action.
 use Rattle.machine_model.proofs.Prelude.{◌≡◌, ◌≤◌, ℕ, Bool, true, false, cond, List, [], ◌∷◌, ◌++◌, Option, Some, None, ◌⊎◌, inl, inr, refl, sym, ap, subst, ◌∙◌, arith, get_or, set, nat_le, Ok, leb_tells, Plan, reference_of, Command, Reference, Entry, Node, segment_at, store_after, is_stored, is_stored_from, length_reply, stored_from, is_filed, refusal, custody_after, custody_after-push, Mover, Core, reads_of, after_reference, frame_at, started_page, Aim, Phase, holding, Keeps, IsMovedFor, MovesForNext, MovesIn, Tables, tables_of, past_page, with_copy, flat_of, is_active, outside_refusal, refusal_of, uid_of_number, read_at, IsUnread, State, Storage, IsWhole, Spares, FailsBy, FailsIn, MayChange, MayFailBy, append-nil, append_assoc, Frame, Command as command, Reply as reply, core_map_with_frame as with_frame, Aim as aim, Phase as phase, Frame as frame, false_from_ne_true}
-use Rattle.machine_model.proofs.CommandFacts.{LeadsToSegment, length_stands, truncate_stands}
-use Rattle.machine_model.proofs.InsideLaws.{inside_is}
-use Rattle.machine_model.proofs.ListLaws.{map_list}
-use Rattle.machine_model.proofs.LookFacts.{FindsActive, FindsCut, FindsPage, IsAbout}
-use Rattle.machine_model.proofs.ReleaseSeen.{set_either}
-use Rattle.machine_model.proofs.WholeLaws.{whole_next}
+use Rattle.machine_model.proofs.Laws.{LeadsToSegment, length_stands, truncate_stands, inside_is, map_list, FindsActive, FindsCut, FindsPage, IsAbout, set_either, whole_next}
 
 -- ---- entries that spare a segment
 
