@@ -1,9 +1,6 @@
 -- What custody sees of a machine where a segment becomes active, or is it no more.
 use Rattle.machine_model.proofs.Prelude.{◌≡◌, ◌≢◌, ◌<◌, ℕ, zero, suc, ◌+◌, Bool, true, false, not, ◌||◌, cond, eqb, List, [], ◌∷◌, ◌++◌, length, set, get_or, replicate, Option, Some, None, inl, inr, refl, sym, ap, ◌∙◌, arith, list_any, position_or_len, cases_Bool, or_parts, eqb-true, eqb_tells, leb_tells, get_or_past, get_or-set_same, get_or-set_other, length-set, position_or_len-set, Ptw, ActiveSegs, IsOneToOne, entry_at, table_at, uid_at, uid_in, Sdw, is_for, leads, leads_at, place_of, word_of, filed_word, made_active, table_for, at_put, activated, no_more_active, names, led_to, seen, descriptor_of, is_active, State, passed_there, Ptw as ptw, Active as Entry, active_deactivated as deactivated, Sdw as sdw, Entry as entry, true_from_ne_false}
-use Rattle.machine_model.proofs.Places.{by_place}
-use Rattle.machine_model.proofs.TieLaws.{none_some}
-use Rattle.machine_model.proofs.WordLaws.{found}
-use Rattle.machine_model.proofs.CountLaws.{any_set}
+use Rattle.machine_model.proofs.Basics.{by_place, none_some, found, any_set}
 
 -- ---- where something is found
 
@@ -220,12 +217,10 @@ module _ (ast : ActiveSegs) (u : ℕ) (active : is_active ast u ≡ true) (once 
   unfolding place_of
   words_less v q n = cc (
     position_or_len-set (is_for v) ast.entries (place_of ast.entries u) None None (sym (not_its v n)),
-    get_or-set_other ast.tables (place_of ast.entries u) (position_or_len (is_for v) ast.entries) blank [] other,
+    get_or-set_other ast.tables (place_of ast.entries u) (position_or_len (is_for v) ast.entries) (replicate (length
+        (table_at ast.tables (place_of ast.entries u))) ptw.Null) [] other,
   )
     where
-      blank : List Ptw
-      blank = replicate (length (table_at ast.tables (place_of ast.entries u))) ptw.Null
-
       other : position_or_len (is_for v) ast.entries ≢ place_of ast.entries u
       other e = elim (cases_Bool (list_any (is_for v) ast.entries)) [
         | inl is ↦ (let no : false ≡ true = sym (not_its v n)

@@ -74,7 +74,7 @@ module _ (p : Plan) (s : Store) (k : ℕ) (going : (progress_of s k).ended ≡ f
       sym e.1,
       end_of c (by (tries_on (progress_of s j) c r) (cc (here e.1))),
     )
-    | inr n ↦ absurd (not_both h (cc (away n.1)))
+    | inr n ↦ absurd (not_both h (cc (at k ∙ get_or-set_other s.processes j k now ended_progress n.1)))
   ]
     where
       now : Progress
@@ -86,9 +86,6 @@ module _ (p : Plan) (s : Store) (k : ℕ) (going : (progress_of s k).ended ≡ f
 
       here : k ≡ j → progress_of (after_command p s j c r) k ≡ now
       here e = cc (at k, get_or-set_same s.processes j now ended_progress (going_within s j its))
-
-      away : k ≢ j → progress_of (after_command p s j c r) k ≡ progress_of s k
-      away n = at k ∙ get_or-set_other s.processes j k now ended_progress n
 
       by : (x : Bool) → (cond x (record (progress_of s j) { tries = (progress_of s j).tries + 1; faulted = false })
           (record { place = (progress_of s j).place + 1; tries = 0; ended = is_end c; faulted = false })).ended ≡ true

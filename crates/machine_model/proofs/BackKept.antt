@@ -183,11 +183,8 @@ module _ (s : State) (c faults : ℕ) (fs : List ℕ) (ds : List CutDescriptor) 
       same : write_failed s c faults ≡ with_owner (told now c None reply.Device) None
       same = λ i. with_owner (told (segs_back (pages_back told_of (frames i)) (cut i)) c None reply.Device) None
 
-      on_told : GoesOn (seen told_of) fs ds
-      on_told = goes_with refl on.none on
-
       pages : IsBack told_of (pages_back told_of fs) ds
-      pages = pages_are_back told_of fs ds k.store.kept.places told_book on_told (rw (← cut) k.cut)
+      pages = pages_are_back told_of fs ds k.store.kept.places told_book (goes_with refl on.none on) (rw (← cut) k.cut)
 
       segs : IsBack (pages_back told_of fs) now []
       segs = segs_are_back (pages_back told_of fs) ds pages.tables pages.book pages.on pages.there
@@ -210,16 +207,13 @@ module _ (s : State) (c faults : ℕ) (fs : List ℕ) (ds : List CutDescriptor) 
       same : write_failed s c faults ≡ with_owner (told now c None reply.Device) None
       same = λ i. with_owner (told (segs_back (pages_back told_of (frames i)) (cut i)) c None reply.Device) None
 
-      can_told : CanFinish (seen told_of) f u p (Some (looking c))
-      can_told = finish_with refl refl can.none can
-
       looks : State
       looks = with_owner now (Some (looking c))
 
       book : KeepsBook (seen looks)
       book = subst KeepsBook (sym (back_seen told_of f u p
           (Some (looking c)) k.store.kept.places told_book can.leaving))
-          (back_keeps (seen told_of) f u p (Some (looking c)) told_book can_told)
+          (back_keeps (seen told_of) f u p (Some (looking c)) told_book (finish_with refl refl can.none can))
 
       over : KeepsBook (seen (with_owner now None))
       over = job_over (seen looks) None book refl refl can.none refl nobody refl

@@ -53,29 +53,20 @@ module _ (test : ℕ → Bool) where
       at : find test (reverse xs ++ x ∷ []) ≡ Some v
       at = cc (turned x xs)
 
-      front_some : (ys zs : List ℕ) (w : ℕ) → find test ys ≡ Some w → find test (ys ++ zs) ≡ Some w
-      front_some ys zs w e = found_front test ys zs w e
-
       past : (ys zs : List ℕ) → find test ys ≡ None → find test (ys ++ zs) ≡ find test zs
       past ys zs e = past_front test ys zs e
 
       by : (r : Option ℕ) → find test (reverse xs) ≡ r
           → (find test (reverse xs) ≡ Some v → AllFail test (up v)) → AllFail test (up v)
-      by (Some w) e rest = rest (e ∙ (sym (front_some (reverse xs) (x ∷ []) w e) ∙ at))
-      by None e rest = rw (← is) (none_turned xs e)
+      by (Some w) e rest = rest (e ∙ (sym (found_front test (reverse xs) (x ∷ []) w e) ∙ at))
+      by None e rest = rw (← (chain.0 ∙ ap up same)) (none_turned xs e)
         where
-          one : find test (x ∷ []) ≡ Some v
-          one = sym (past (reverse xs) (x ∷ []) e) ∙ at
-
           same : x ≡ v
-          same = alone (test x) one
+          same = alone (test x) (sym (past (reverse xs) (x ∷ []) e) ∙ at)
             where
               alone : (b : Bool) → cond b (Some x) None ≡ Some v → x ≡ v
               alone true i = cc
               alone false i = cc
-
-          is : xs ≡ up v
-          is = chain.0 ∙ ap up same
 
 -- ---- a chain of the tree
 
@@ -105,12 +96,10 @@ module _ (ns : List Node) (t : IsTree ns) (ast : ActiveSegs) where
       → IfSome n.superior (λ w. is_active ast w ≡ true)
   superior_active u v n h at = by n.superior (superior_found ns v n at)
     where
-      above_fail : AllFail idle (above ns v)
-      above_fail = first_turned idle (above ns) (u ∷ above ns u) v (whole u) h
-
       by : (o : Option ℕ) → superior_in ns v ≡ o → IfSome o (λ w. is_active ast w ≡ true)
       by None e = tt
-      by (Some w) e = active_of w (subst (AllFail idle) (above_once ns t v ∙ ap (step_up (above ns)) e) above_fail).0
+      by (Some w) e = active_of w (subst (AllFail idle) (above_once ns t v ∙ ap (step_up (above ns)) e)
+          (first_turned idle (above ns) (u ∷ above ns u) v (whole u) h)).0
 
   -- each link of the chain of a node that is there is there
   link_there : (xs : List ℕ) → AreDirectories ns xs → (u v : ℕ) → is_some (node_in ns u) ≡ true

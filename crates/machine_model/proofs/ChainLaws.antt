@@ -3,9 +3,7 @@ use Rattle.machine_model.proofs.Prelude.{◌≡◌, ℕ, Bool, true, false, List
 use Rattle.machine_model.proofs.DescriptorLaws.{CanFinishSeg, gone_seg_keeps}
 use Rattle.machine_model.proofs.DueLaws.{HasLeft, HasLeftCut, none_due, LeavesFirst}
 use Rattle.machine_model.proofs.FrameLaws.{CanFinish, gone_keeps, take_keeps}
-use Rattle.machine_model.proofs.OwnedLaws.{IsIdle}
-use Rattle.machine_model.proofs.Places.{by_places}
-use Rattle.machine_model.proofs.TieLaws.{bound_used}
+use Rattle.machine_model.proofs.Basics.{IsIdle, by_places, bound_used}
 
 -- ---- what is named, by the page in a frame
 

@@ -1,10 +1,7 @@
 -- The signal of what was taken is given, and a processor clears.
 use Rattle.machine_model.proofs.Prelude.{◌≡◌, ℕ, Bool, true, false, cond, not, eqb, List, [], ◌∷◌, map, filter, Option, Some, None, refl, sym, ap, subst, ◌∙◌, arith, HeldPage, HeldSeg, What, names_seg, names_page, IsLawful, after_entry, DescriptorUse, SomethingGoes, NamesAllGoing, NoneDue, Seat, leads_to, names_frame, names_descriptor, names_number, cleared, at_put, custody_next, cleared_at, told_at, dropped, warned, done_dropping, Phase, KeepsBook, HoldsRight, AreHeldPages, AreHeldSegs, AreOfProcess, is_pending, says, waits_for, Seen, shown, seat_of, descriptor_use, cut_uid, Processor, Owner, few_kept, What as what, custody_bound_page as bound_page, next_told as told, signal_given as signalled, Phase as phase}
-use Rattle.machine_model.proofs.BookNext.{book_next}
+use Rattle.machine_model.proofs.Basics.{book_next, pages_kept, right_like, segs_kept, under_way_alike, kept_step, by_place, put_map, bound_used}
 use Rattle.machine_model.proofs.DueLaws.{HasSaid, none_due, owned_signal, owned_clear}
-use Rattle.machine_model.proofs.HeldLaws.{pages_kept, right_like, segs_kept, under_way_alike, kept_step}
-use Rattle.machine_model.proofs.Places.{by_place, put_map}
-use Rattle.machine_model.proofs.TieLaws.{bound_used}
 
 -- ---- what custody sees of what is dropped
 

@@ -79,10 +79,8 @@ failed_write s c faults = record {
         (run_at u.runs (process_at (all_back s c faults) c))
         (next_command u (process_at (all_back s c faults) c)) reply.Device)
         ≡ set s.runs (process_at (all_back s c faults) c) (run_after (run_at s.runs (process_at
-        (all_back s c faults) c))
-        (next_command s (process_at (all_back s c faults) c)) reply.Device)
-    set_of u same =
-        let k = process_at (all_back s c faults) c in
+        (all_back s c faults) c)) (next_command s (process_at (all_back s c faults) c)) reply.Device)
+    set_of u same = let k = process_at (all_back s c faults) c in
         λ i. set (same.runs i) k (run_after (run_at (same.runs i) k)
         (command_at (same.plan i) k (run_at (same.runs i) k).place) reply.Device)
 

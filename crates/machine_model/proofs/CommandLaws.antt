@@ -1,10 +1,7 @@
 -- What a step of a processor brings that has a process while nobody owns the supervisor, and of one that has none
 -- while no processor has.
 use Rattle.machine_model.proofs.Prelude.{and_parts, ◌≡◌, ◌≢◌, ◌<◌, ℕ, ◌+◌, ◌-◌, Bool, true, false, not, cond, nat_lt, List, length, Option, Some, None, is_some, set, refl, sym, ap, subst, ◌∙◌, inl, inr, arith, get_or-set_same, Transfer, Want, Refer, Runner, no_runner, Outline, Turn, runner_at, want_at, with_runner, with_frame, wanted_fits, want_lack, lack, all_rank, command_rank, command_left, Comes, Clears, Works, Loads, Leaves, Commands, rule_of, Step, ends, comes, clears, reads, loses, works, awaits_clear, awaits_transfer, loads, idles, leaves, fills, replies, faults, enters, waits, IsEnded, HasLost, HasLoaded, HasLeft, IsFilled, IsReplied, with_bound, not_reading, IsKept, IsReference, IsPast, IsNearer, CommandStep, not_both, Frame as frame, outline_frame_in as frame_in, measures_is_over as is_over}
-use Rattle.machine_model.proofs.LackLaws.{lack_le, wanted_more, here_more, here_now}
-use Rattle.machine_model.proofs.OuterLaws.{over_set, offline_set, over_same, all_fewer, all_turn, all_loaded, all_online}
-use Rattle.machine_model.proofs.GoesLaws.{all_set, gone_from}
-use Rattle.machine_model.proofs.RuleLaws.{tells}
+use Rattle.machine_model.proofs.Basics.{lack_le, wanted_more, here_more, here_now, over_set, offline_set, over_same, all_fewer, all_turn, all_loaded, all_online, all_set, gone_from, tells}
 use Rattle.machine_model.proofs.StepLaws.{inside, none_due}
 
 -- nothing is due while nobody owns the supervisor, so no processor clears

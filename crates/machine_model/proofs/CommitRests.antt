@@ -260,9 +260,6 @@ module _ (s : State) (c : ℕ) (path : Path) (keeps : Keeps s) (h : IsTakenFor s
     pages_now = cond_both (is_active s.store.ast u) (with_inactive freed_store u) freed_store
         (λ x. x.pages ≡ freed_store.pages) (λ e. refl) (λ e. refl)
 
-    reads_was : (f q : ℕ) → freed (seen s).reads fs f ≡ Some (u, q) → (seen s).reads f ≡ Some (u, q)
-    reads_was f q e = (freed_was (seen s).reads fs f (u, q) e).0
-
     no_page_now : HasNoPage (shown now) u
     no_page_now f e = elim (page_cases now.words (freed (seen s).bound fs f) (freed (seen s).reads fs f) u
         ((λ i. uid_of_page (page_of (frame_use now.words
@@ -271,7 +268,7 @@ module _ (s : State) (c : ℕ) (path : Path) (keeps : Keeps s) (h : IsTakenFor s
         ∙ e)) [
           | inl x ↦ (let was = freed_was (seen s).bound fs f (u, x.0) x.1 in
               not_both (bound_taken f x.0 was.0) was.1)
-          | inr x ↦ not_read f x.0 (reads_was f x.0 x.2)
+          | inr x ↦ not_read f x.0 ((freed_was (seen s).reads fs f (u, x.0) x.2).0)
         ]
 
     no_link_now : HasNoDescriptor (shown now) u

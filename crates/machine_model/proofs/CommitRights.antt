@@ -174,9 +174,6 @@ module _ (s now : State) (old : Keeps s) (k : Keeps now) (none : now.owner ≡ N
         → IsEntitled now.store.accounts.nodes now.store.whos now.store.links.known j e
     one_right j e held h = by (descriptor_of now.store.links j e.number) refl
       where
-        linked : led_to now.store.ast.entries (descriptor_of now.store.links j e.number) ≡ Some e.uid
-        linked = linked_now now k none j e.number e.uid held
-
         by : (y : Sdw) → descriptor_of now.store.links j e.number ≡ y
             → IsEntitled now.store.accounts.nodes now.store.whos now.store.links.known j e
         by sdw.Fault i = cc
@@ -191,7 +188,7 @@ module _ (s now : State) (old : Keeps s) (k : Keeps now) (none : now.owner ≡ N
         }
           where
             active : uid_at now.store.ast.entries place ≡ Some e.uid
-            active = sym (ap (led_to now.store.ast.entries) i) ∙ linked
+            active = sym (ap (led_to now.store.ast.entries) i) ∙ (linked_now now k none j e.number e.uid held)
 
             active_was : uid_at s.store.ast.entries place ≡ Some e.uid
             active_was = ap (λ (es : List (Option Segment)). uid_at es place) (sym entries) ∙ active

@@ -127,11 +127,8 @@ module _ (s : State) (k n u : ℕ) (cuts : Cuts s) (linked : (seen s).linked k n
       leads_there : uid_at s.store.ast.entries aste ≡ Some u
       leads_there = cc
 
-      uid_is : note.uid ≡ u
-      uid_is = ap or_zero leads_there
-
       its : (x : Node) → node_in s.store.accounts.nodes note.uid ≡ Some x → node_in s.store.accounts.nodes u ≡ Some x
-      its x at = ap (node_in s.store.accounts.nodes) (sym uid_is) ∙ at
+      its x at = ap (node_in s.store.accounts.nodes) (sym (ap or_zero leads_there)) ∙ at
 
   one_cut : (c : ℕ) (a : Aim) (w : What) → Cuts (cut_one s c a w (k, n))
   one_cut c a w = let p = parts (descriptor_of s.store.links k n) refl in

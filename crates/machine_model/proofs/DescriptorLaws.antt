@@ -1,10 +1,7 @@
 -- A descriptor is connected, cut, gone, or back.
 use Rattle.machine_model.proofs.Prelude.{◌≡◌, ℕ, true, false, List, [], ◌∷◌, ◌++◌, Option, Some, None, refl, sym, ap, subst, ◌∙◌, What, IsLawful, after_entry, known_uid, DescriptorUse, NamesAllGoing, NobodyHoldsSeg, is_current_descriptor, is_going_descriptor, names_descriptor, leads_to, reconnected, NoneDue, at_put_two, custody_next, nobody_holds_seg, nobody_holds_going_seg, cut, gone_seg, back_seg, connected, Aim, KeepsBook, HoldsRight, IsAimed, AreApart, has_cut, is_pending, waits_for, Seen, flat, shown, descriptor_use, cut_uid, cut_use, is_cut_at, frames_of_owner, cut_of_owner, CutDescriptor, Owner, Entry, IsAllowed, FillsOnline, pending_after, IsRun, progress_of, or_parts, Entry as entry, DescriptorUse as descriptor, custody_cut as descriptor_cut}
-use Rattle.machine_model.proofs.BookNext.{book_next}
+use Rattle.machine_model.proofs.Basics.{book_next, right_alike, right_descriptor, owned_cut, owned_like, like_descriptor, cut_at_same, cut_at_other, current_descriptor_is_not_going, by_places, one_place_of_two, put_two_here}
 use Rattle.machine_model.proofs.DueLaws.{HasLeftCut, owned_left_cut}
-use Rattle.machine_model.proofs.HeldLaws.{right_alike, right_descriptor}
-use Rattle.machine_model.proofs.OwnedLaws.{owned_cut, owned_like, like_descriptor, cut_at_same, cut_at_other, current_descriptor_is_not_going}
-use Rattle.machine_model.proofs.Places.{by_places, one_place_of_two, put_two_here}
 
 -- ---- what was cut
 

@@ -1,7 +1,6 @@
 -- What goes is the owner's alone where its signal is given, a processor clears, and what went is gone or back.
 use Rattle.machine_model.proofs.Prelude.{◌≡◌, ◌≢◌, ℕ, Bool, true, false, cond, ◌||◌, eqb, List, ◌∷◌, Option, Some, None, inl, inr, refl, sym, ap, subst, ◌∙◌, eqb_tells, What, FrameUse, DescriptorUse, SomethingGoes, Custody, Seat, has, is_going_frame, is_going_descriptor, names_frame, names_descriptor, cleared, NoneDue, with_descriptor, answered_clear, IsOwned, IsShaped, AreDistinct, AreApart, has_cut, says, waits_for, is_cut_at, frames_of_owner, cut_of_owner, CutDescriptor, Owner, next_with_frame as with_frame, next_signalled as signalled}
-use Rattle.machine_model.proofs.Places.{by_place, by_places}
-use Rattle.machine_model.proofs.OwnedLaws.{cut_at_tells}
+use Rattle.machine_model.proofs.Basics.{by_place, by_places, cut_at_tells}
 
 -- nothing is due where the owner waits for nothing
 pub none_due : (c : Custody) (o : Option Owner) → IsOwned c o → waits_for o ≡ None → NoneDue c
@@ -63,8 +62,8 @@ owned_clear c o d w k = record {
   says = λ v h. (let both = k.says v h in (
     goes_same c (answered_clear c d w) refl refl both.0,
     record {
-      frames = λ f g. names_same v f ∙ both.1.frames f g;
-      descriptors = λ j n g. names_descriptor_same v j n ∙ both.1.descriptors j n g;
+      frames = λ f g. refl ∙ both.1.frames f g;
+      descriptors = λ j n g. refl ∙ both.1.descriptors j n g;
     },
   ));
   shaped = k.shaped;
@@ -73,13 +72,6 @@ owned_clear c o d w k = record {
     was : (e : ℕ) (v : What) → ((answered_clear c d w).seat e).due ≡ Some v → (c.seat e).due ≡ Some v
     was e v = by_place (λ (x : Seat). x.due ≡ Some v → (c.seat e).due ≡ Some v) c.seat d
         (record (cleared c w (c.seat d)) { due = None }) e (λ i h. cc) (λ n h. h)
-
-    names_same : (v : What) (f : ℕ) → names_frame (answered_clear c d w) v f ≡ names_frame c v f
-    names_same _ f = refl
-
-    names_descriptor_same : (v : What) (j n : ℕ)
-        → names_descriptor (answered_clear c d w) v j n ≡ names_descriptor c v j n
-    names_descriptor_same _ j n = refl
 
 -- ---- gone, or back
 

@@ -26,9 +26,6 @@ unread_any core u h f p e = no_and passes (position_none
 -- ---- a segment
 
 module _ (s : State) (c u : ℕ) (k : Keeps s) (idle : IsIdle s.owner) (still : is_pending s.owner ≡ false) where
-  over : IsOver (segs_gone s (cut_of_owner s.owner))
-  over = nothing_over s k idle still
-
   segment_asks : (fs : List ℕ) (pairs : List (ℕ × ℕ)) → StoreKept (segment_taken s c u fs pairs).store
       → IsFaithful s.plan (flat_of s) (segment_taken s c u fs pairs).store → ArePairs (seen s).linked (what.Seg u) pairs
       → (fs ≡ [] → pairs ≡ [] → MayDeactivate (flat_of (segs_gone s (cut_of_owner s.owner)))
@@ -51,7 +48,8 @@ module _ (s : State) (c u : ℕ) (k : Keeps s) (idle : IsIdle s.owner) (still : 
   empty_asks kept shown_is active unread inferiors = segment_asks (frames_from s.store.ast u 0)
       (trailers_in s.store u) kept shown_is (trailers_taken s (what.Seg u) u k (eqb_self u))
       (λ none none_cut. whole_may s u k
-      (nothing_whole s c u k idle active (unread_any s.store.pages.core u unread) none none_cut) idle.frames over active
+      (nothing_whole s c u k idle active (unread_any s.store.pages.core u unread) none none_cut) idle.frames
+      (nothing_over s k idle still) active
       (rw idle.cut inferiors))
 
 -- ---- for its length

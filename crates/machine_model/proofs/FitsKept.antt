@@ -159,8 +159,7 @@ module _ (s : State) (c : ℕ) (o : Outcome) (m : IsMachine s) (working : IsWork
     move_fits its r move.Fault kept = take_fits s.owner refl kept
     move_fits its r _ kept = seat_fits _ _ kept refl refl refl refl refl
 
-    come_fits : p.cpu.process ≡ Some (process_at s c) → (x : Option Command)
-        → Fits (come_to s p.cpu (process_at s c) x)
+    come_fits : p.cpu.process ≡ Some (process_at s c) → (x : Option Command) → Fits (come_to s p.cpu (process_at s c) x)
     come_fits its None kept = take_fits s.owner refl kept
     come_fits its (Some cmd) kept = by (reference_of cmd) kept
       where
@@ -235,14 +234,11 @@ module _ (s : State) (c : ℕ) (o : Outcome) (m : IsMachine s) (entitled : IsEnt
   pub fits_kept : IsMachine now → IsReading now → IsFitting now
   fits_kept after_m after_reading = by s.stopped refl
     where
-      none_owns : s.owner ≡ None → (outline_of now).owner ≡ (outline_of s).owner → now.owner ≡ None
-      none_owns none same = no_owner now (same ∙ owner_none s none)
-
       replied : rule_of (outline_of s) c ≡ Commands → IsReplied (outline_of s) c (outline_of now) → IsFitting now
       replied h i = owned s.owner refl
         where
           owned : (x : Option Owner) → s.owner ≡ x → IsFitting now
-          owned None e = none_fits now (none_owns e i.owner)
+          owned None e = none_fits now (no_owner now (i.owner ∙ owner_none s e))
           owned (Some q) e = other_fits s c o m working fitting (no_owner_of h) q e (rest_of h) after_m.keeps
 
       on : s.stopped ≡ false → IsFitting now

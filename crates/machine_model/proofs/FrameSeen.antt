@@ -1,9 +1,8 @@
 -- What the outline of a machine shows of a page: whether it is in a frame, and whether it is stored.
 use Rattle.machine_model.proofs.Prelude.{◌≡◌, ℕ, true, false, ◌&&◌, eqb, Some, None, inl, inr, refl, sym, ◌∙◌, position_or_len, eqb_tells, bound_page, Frame, store_frame, has_record, word_of, names, seen, Keeps, is_here, is_of, bare, outline_of, is_active, State, not_both, page_is, Frame as frame, finishing_page_of as page_of, outline_frame_in as frame_in, false_from_ne_true}
 use Rattle.machine_model.proofs.ActiveSeen.{any_at, some_within}
-use Rattle.machine_model.proofs.OutlineReads.{map_at}
+use Rattle.machine_model.proofs.Basics.{map_at, found}
 use Rattle.machine_model.proofs.PageShown.{stored_is}
-use Rattle.machine_model.proofs.WordLaws.{found}
 
 of_page : (u p : ℕ) (x : Frame) → is_of u p x ≡ true → page_of x ≡ Some (u, p)
 of_page u p frame.Free h = cc

@@ -54,11 +54,8 @@ module _ (s : State) (k : ℕ) (r : Reference) (keeps : Keeps s) where
     pub due_is : reply_to_reference s.plan t k r
         ≡ cond (stores_page t u r.offset r.kind) (room_reply s.plan t inside.node word) word
     unfolding reply_to_reference
-    due_is = cc (not_past, its)
+    due_is = cc (not_past, (found_uid t.nodes u inside.node inside.there))
       where
-        its : inside.node.uid ≡ u
-        its = found_uid t.nodes u inside.node inside.there
-
         not_past : nat_le (1024 * inside.node.pages) r.offset ≡ false
         not_past = elim (leb_tells (1024 * inside.node.pages) r.offset) [
           | inl e ↦ (let le = e.1 in let lt = inside.within in absurd (omega arith))

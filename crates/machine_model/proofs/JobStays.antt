@@ -123,8 +123,7 @@ all_back s c faults = segs_back (pages_back (fault_told s (Some (process_at s c)
     (cut_of_owner s.owner)
 
 pub is_back : (s : State) (c faults : ℕ) → Stays s (all_back s c faults)
-is_back s c faults =
-    let told = fault_told s (Some (process_at s c)) faults in
+is_back s c faults = let told = fault_told s (Some (process_at s c)) faults in
     let pages = pages_back told (frames_of_owner s.owner) in
     stays_on told (assumption)
     (stays_on pages (frames_back told (frames_of_owner s.owner)) (cut_back pages (cut_of_owner s.owner)))

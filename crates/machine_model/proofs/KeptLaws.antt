@@ -1,7 +1,6 @@
 -- Each step keeps what is true of an outline, where its sizes stay, and where what a command's effect leaves is kept.
 use Rattle.machine_model.proofs.Prelude.{◌≡◌, ◌≢◌, ◌<◌, ℕ, zero, suc, Bool, true, false, not, cond, eqb, List, [], ◌∷◌, length, Option, Some, None, is_some, set, get_or, Contains, refl, sym, ap, subst, ◌∙◌, inl, inr, arith, list_any, eqb_tells, get_or-set_other, length-set, list_any_at, Frame, entry_at, uid_in, off_chain, IsOffChain, Transfer, Want, Refer, Truncate, Runner, no_runner, Work, EvictFrame, EmptyPlace, CommitCommand, Stage, Look, Taken, Waiting, Copying, Keeper, Outline, Turn, runner_at, want_at, at_stage, is_of, is_here, dues, Comes, Clears, Loads, Leaves, Commands, rule_of, owns, IsIn, JobStep, activates, connects, takes_segment, takes_frame, takes_for_commit, signals, frees_frame, frees_page, empties, empties_at_once, gives_up, starts, answers, begins_move, copies, commits_move, AreAlike, AreOf, CanStart, is_wanted_here, with_link, with_runners, without_owner, now_reading, IsAnswered, Step, comes, clears, reads, loses, works, loads, leaves, fills, replies, faults, enters, IsReplied, IsKept, HasSizes, AreTied, HasJob, FitsStage, FitsWork, AreSpared, EndsChain, is_wanted, is_spared, first_false, not_both, second_false, Frame as frame, Active as Entry, outline_frame_in as frame_in, wanted_chain as chain_of, finishing_is_bound as is_bound, finishing_page_of as page_of, finishing_uid_of as uid_of, OutlineKeptIsAtWork as IsAtWork, false_from_ne_true, eqb_self}
-use Rattle.machine_model.proofs.CountLaws.{dues_set}
-use Rattle.machine_model.proofs.RuleLaws.{tells}
+use Rattle.machine_model.proofs.Basics.{dues_set, tells}
 use Rattle.machine_model.proofs.StepLaws.{inside, none_due}
 use Rattle.machine_model.proofs.TiedLaws.{ties_alike, ties_set, at_set, tied_same, tied_frame, tied_started, tied_ended, tied_quiet, is_started, frame_at_set}
 
@@ -18,16 +17,13 @@ keeper_stage (Some o) = o.stage
 same_cpu : (t : Outline) (c d : ℕ) (a b : Stage) → IsIn t c a → IsIn t d b → c ≡ d
 same_cpu t c d a b h i = ap keeper_cpu (sym h ∙ i)
 
-same_stage : (t : Outline) (c d : ℕ) (a b : Stage) → IsIn t c a → IsIn t d b → a ≡ b
-same_stage t c d a b h i = ap keeper_stage (sym h ∙ i)
-
 -- a job of one owner in one stage
 job_of : {t : Outline} (c : ℕ) (stage : Stage) → IsIn t c stage → IsAtWork t.runners c → FitsStage t (want_at t c) stage
     → HasJob t
 job_of {t} c stage owner work fits = record {
   at_work = λ d b h. rw (← (same_cpu t c d stage b owner h)) work;
   fits = λ d b h. rw (← (same_cpu t c d stage b owner h)) (subst (λ (x : Stage). FitsStage t (want_at t c) x)
-      (same_stage t c d stage b owner h) fits);
+      (ap keeper_stage (sym owner ∙ h)) fits);
   quiet = λ none. (let no = sym none ∙ owner in absurd cc);
 }
 

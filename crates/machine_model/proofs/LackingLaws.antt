@@ -39,9 +39,6 @@ module _ (s : State) (keeps : Keeps s) where
 
   module _ (k u : ℕ) (r : Reference) (active : is_active s.store.ast u ≡ true)
       (h : LacksRecord (tables_of s.store) k u r) where
-    same : h.node.uid ≡ u
-    same = found_uid s.store.accounts.nodes u h.node h.there
-
     unstored : is_stored t.stored u (r.offset / 1024) ≡ false
     unstored = keeps.faithful.pages.stored u (r.offset / 1024) ∙ h.unstored
 
@@ -73,7 +70,7 @@ module _ (s : State) (keeps : Keeps s) where
 
     -- it lacks a record alone
     pub lacks : lacks_record s.plan t k r.offset r.kind h.node ≡ true
-    lacks = rw (permitted, short, same, stores, unspent, full) refl
+    lacks = rw (permitted, short, (found_uid s.store.accounts.nodes u h.node h.there), stores, unspent, full) refl
 
     known : known_uid t k r.number ≡ Some u
     known = cc
@@ -91,11 +88,8 @@ module _ (s : State) (keeps : Keeps s) where
       within = h.within;
     }
 
-    its : is_uid (Some u) u ≡ true
-    its = eqb_self u
-
     pub awaits : awaits_by s.plan t k u (Some r) ≡ true
-    awaits = cc (known, its, there, lacks)
+    awaits = cc (known, (eqb_self u), there, lacks)
 
 -- ---- the flat store
 

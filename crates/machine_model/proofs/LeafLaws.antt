@@ -47,13 +47,10 @@ module _ (entries : List (Option Entry)) (tree : IsTree entries) where
         | inr n ↦ absurd (not_both i n.0)
       ]
 
-  tells_inferior : (u : ℕ) (o : Option Entry) → superior_in o ≡ Some u → is_inferior_of u o ≡ true
-  tells_inferior u o h = ap (is_inferior_in u) h ∙ eqb_self u
-
   -- where nothing is found there is no inferior
   none_below : (place u : ℕ) → uid_at entries place ≡ Some u → least_inferior entries place ≡ None
       → HasNoInferior entries place
-  none_below place u at none q v same h = not_both (tells_inferior u (entry_at entries q) (h ∙ sym (sym at ∙ same)))
+  none_below place u at none q v same h = not_both (ap (is_inferior_in u) (h ∙ sym (sym at ∙ same)) ∙ eqb_self u)
       (position_none (is_inferior_of u) entries None q (sym (ap (least_inferior_of entries) at) ∙ none) refl)
 
   -- an inferior has a higher rank, so fewer segments are above it
@@ -155,10 +152,8 @@ pub leaf_inferiors : (s : State) (place u : ℕ) → Keeps s → uid_at s.store.
     → node_superior (node_in (flat_of s).nodes v) ≢ Some u
 leaf_inferiors s place u k at leaf v active h = by (node_in s.store.accounts.nodes v) refl (cc)
   where
-    there : uid_at s.store.ast.entries (place_of s.store.ast.entries v) ≡ Some v
-    there = (active_place s.store.ast v active).1
-
     by : (x : Option Node) → node_in s.store.accounts.nodes v ≡ x → node_superior x ≡ Some u → ⊥
     by None e i = none_some i
     by (Some n) e i = leaf (place_of s.store.ast.entries v) u at
-        (k.store.counted.active.superiors (place_of s.store.ast.entries v) v n there e ∙ i)
+        (k.store.counted.active.superiors (place_of s.store.ast.entries v) v n
+        ((active_place s.store.ast v active).1) e ∙ i)

@@ -1,4 +1,5 @@
 mod Prelude
+mod Basics
 mod Laws
 pub mod AccessTakenAway
 pub mod Accounts

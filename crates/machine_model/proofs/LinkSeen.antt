@@ -1,10 +1,8 @@
 -- Whether the descriptor of a processor's next command is connected, while a job takes pages and descriptors.
 use Rattle.machine_model.proofs.Prelude.{◌≡◌, ℕ, false, List, [], ◌∷◌, Some, None, refl, sym, ap, ◌∙◌, reference_of, Command, Reference, command_at, What, Sdw, Links, leads, descriptor_cut, unlinked, trailer_gone, Aim, CutDescriptor, KeepsLink, seg_gone, segment_taken, segs_gone, took, around, is_linked, reference_in, runner_by, cpu_at, cut_of_owner, descriptor_of, next_command, processor_at, run_at, State, What as what, Sdw as sdw, Aim as aim}
 use Rattle.machine_model.proofs.ComingKept.{SameRuns}
-use Rattle.machine_model.proofs.Places.{by_places}
+use Rattle.machine_model.proofs.Basics.{by_places, none_some, took_has}
 use Rattle.machine_model.proofs.TakeSeen.{descriptors_put, linked_within}
-use Rattle.machine_model.proofs.TieLaws.{none_some}
-use Rattle.machine_model.proofs.EffectLaws.{took_has}
 
 -- a descriptor that faults goes on doing so
 abbrev pub StillFaults : Links → Links → Type 0

@@ -39,11 +39,8 @@ module _ (s : State) (u : ℕ) (k : Keeps s) (active : is_active s.store.ast u �
   pub table_few : length (table_of s.store.ast u) ≤ 256
   table_few = by (node_in s.store.accounts.nodes u) refl
     where
-      there : is_there s.store.accounts.nodes u ≡ true
-      there = k.store.counted.active.there place u its_place
-
       by : (x : Option Node) → node_in s.store.accounts.nodes u ≡ x → length (table_of s.store.ast u) ≤ 256
-      by None e = cc (sym (ap is_some e) ∙ there)
+      by None e = cc (sym (ap is_some e) ∙ (k.store.counted.active.there place u its_place))
       by (Some n) e = rw (k.store.kept.sized (pool_of n) place (pool_small n)
           (k.store.counted.active.pools place u n its_place e)) (words_few (pool_of n) (pool_small n))
 
@@ -127,12 +124,9 @@ module _ (s : State) (u : ℕ) (k : Keeps s) (active : is_active s.store.ast u �
     | inr n ↦ below xs are.2 q (cc)
   ]
 
-  own : eqb u u ≡ true
-  own = eqb_self u
-
   -- so 32 descriptors at the most lead to it
   pub descriptors_few : length (trailers_in s.store u) ≤ 32
-  descriptors_few = let are = trailers_taken s (what.Seg u) u k own in
+  descriptors_few = let are = trailers_taken s (what.Seg u) u k (eqb_self u) in
       let few = length-le_from_distinct_below (map (λ (y : ℕ × ℕ). y.0) (trailers_in s.store u)) 32
       (distinct (trailers_in s.store u) are) (below (trailers_in s.store u) are) in
       omega (arith, (length-map (trailers_in s.store u) (λ (y : ℕ × ℕ). y.0)))

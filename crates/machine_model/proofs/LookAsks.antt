@@ -172,7 +172,8 @@ module _ (s : State) (c : ℕ) (o : Outcome) (m : IsMachine s) (idle : IsIdle s.
         let none : n.pages ≡ 0 = sym (ap pages_of at) ∙ flat in absurd (omega arith))
     | inr e ↦ (let fits = four_pow n.pages most in
         let size : length (table_of s.store.ast u) ≡ 4 ^ (pool_for n.pages + 1) =
-        long ∙ ap (λ (b : Bool). 4 ^ (cond b 0 (pool_for n.pages) + 1)) e in
+        (keeps.store.kept.sized (pool_of n) place four in_pool) ∙ ap (λ (b : Bool). 4 ^ (cond b 0
+        (pool_for n.pages) + 1)) e in
         subst (λ (x : ℕ). p < x) (sym size) (omega arith))
   ]
     where
@@ -187,9 +188,6 @@ module _ (s : State) (c : ℕ) (o : Outcome) (m : IsMachine s) (idle : IsIdle s.
 
       four : pool_of n < 4
       four = pool_small n
-
-      long : length (table_of s.store.ast u) ≡ 4 ^ (pool_of n + 1)
-      long = keeps.store.kept.sized (pool_of n) place four in_pool
 
   -- ---- a page is made
 

@@ -2,11 +2,8 @@
 -- connected.
 use Rattle.machine_model.proofs.Prelude.{◌≡◌, ◌≢◌, ◌<◌, ℕ, true, false, List, [], ◌∷◌, ◌++◌, length, set, Option, Some, None, sym, ap, ◌∙◌, Mode, Ptw, framed, uid_at, Transfer, place_of, sdws_at, table_of, linked, at_put, at_put_two, back_seg, page_brought, connected, here, lost, page_started, with_transfer, is_out, led_to, seen, descriptor_of, no_processor, processor_at, Processor, CutDescriptor, Owner, State, brought, with_created, with_pages, Entry as entry, Frame as frame, Ptw as ptw, Sdw as sdw}
 use Rattle.machine_model.proofs.LeaveSeen.{unread_put as none_put}
-use Rattle.machine_model.proofs.ListLaws.{put_list}
-use Rattle.machine_model.proofs.Places.{put_two_map}
-use Rattle.machine_model.proofs.SeenLaws.{bound_put, reads_put}
+use Rattle.machine_model.proofs.Basics.{put_list, put_two_map, bound_put, reads_put, word_put}
 use Rattle.machine_model.proofs.TakeSeen.{HasTables, descriptors_put, words_put}
-use Rattle.machine_model.proofs.WordLaws.{word_put}
 
 -- a processor with another transfer
 abbrev pub with_reading : State → ℕ → Option Transfer → List Processor

@@ -1,8 +1,6 @@
 -- The move that segment control has under way is that of the supervisor's owner, after each action.
 use Rattle.machine_model.proofs.Prelude.{◌≡◌, ℕ, eqb, not, ◌&&◌, List, [], ◌∷◌, position, Option, Some, None, refl, sym, ap, subst, ◌∙◌, cond_both, reference_of, Command, Reference, What, bound_page, frame_in, Move, Transfer, table_of, next_out, Aim, Phase, Processor, action_of, by_move, clear_or, come_to, copy_or_commit, finish_of, go_on_with, has_had_its_turn, is_empty, load_or_idle, look_of, once_cleared, own_or_run, refer_or_take, run_process, take_or_wait, transfer_or, Outcome, after, committed, committed_at, with_effect, cut_all, cut_one, emptied, here_if, leaving_if, owner_signalled, segment_taken, take_all, take_one, took, with_choice, with_hand_moved, with_here, without_first_frame, write_failed, phase_signalled, AsksMover, mover_in, mover_of, copy_failed, page_copied, IsMachine, frames_from, frames_of_owner, is_due, next_command, process_at, processor_at, trailers_in, uid_of_command, Owner, State, Storage, with_store, with_faults, Command as command, What as what, Move as move, Aim as aim, Phase as phase, Action, move_of, Action as act}
-use Rattle.machine_model.proofs.JobStays.{is_back, is_emptied}
-use Rattle.machine_model.proofs.ActionCases.{action_by, by_end}
-use Rattle.machine_model.proofs.EffectLaws.{effect_rests}
+use Rattle.machine_model.proofs.Basics.{is_back, is_emptied, action_by, by_end, effect_rests}
 use Rattle.machine_model.proofs.LookLaws.{IsLook, look_is}
 
 -- ---- what the rules know

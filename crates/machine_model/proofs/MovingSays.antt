@@ -12,10 +12,8 @@ module _ (s : State) (c : ℕ) (o : Outcome) (k : Keeps s) where
   pub copied_says : (m : Mover) (p : ℕ) → Says s c o (act.CopyPage m p) → o.failed ≡ false
       → StoreSays (page_copied (with_faults s o.faults) c m p)
   unfolding after
-  copied_says m p says h = says_is k says (cc) (alike (flat_of s)) k.conserved.total (none_rest s now refl refl refl)
-    where
-      now : State
-      now = page_copied (with_faults s o.faults) c m p
+  copied_says m p says h = says_is k says (cc) (alike (flat_of s)) k.conserved.total (none_rest s (page_copied
+      (with_faults s o.faults) c m p) refl refl refl)
 
   pub copy_failed_says : (m : Mover) (p : ℕ) → Says s c o (act.CopyPage m p) → o.failed ≡ true
       → StoreSays (copy_failed s c o.faults)

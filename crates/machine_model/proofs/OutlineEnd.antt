@@ -58,11 +58,6 @@ rest_keeper : (entries : List (Option Active)) (o : Owner) (uid : ℕ) (w : What
 rest_keeper entries o uid w f rest h frames = ap (λ (x : Owner). keeper_of entries (without_first_frame (Some x)))
     (λ i. record { cpu = o.cpu; phase = h i; frames = frames i; cut = o.cut })
 
-done_outline : (s : State) (f : ℕ) → outline_of (page_done s f)
-    ≡ record (with_stored (with_frame (outline_of s) f frame.Free) (stored_then s f) (full_then s f))
-    { owner = keeper_of s.store.ast.entries (without_first_frame s.owner) }
-done_outline s f = gone_outline s f (without_first_frame s.owner)
-
 pub page_outlined : (s : State) (o : Owner) (uid : ℕ) (w : What) (f : ℕ) (rest : List ℕ) → s.owner ≡ Some o
     → o.phase ≡ phase.Waiting (aim.Deactivating uid) w → o.frames ≡ f ∷ rest → dues (outline_of s).runners ≡ 0
     → MayRelease (outline_of s) f (stored_then s f) (full_then s f)
@@ -70,7 +65,11 @@ pub page_outlined : (s : State) (o : Owner) (uid : ℕ) (w : What) (f : ℕ) (re
 page_outlined s o uid w f rest owner h frames due may =
     job_to (outline_of s) (with_stored (at_stage (with_frame (outline_of s) f frame.Free) o.cpu
     (Waiting (EmptyPlace (place_of s.store.ast.entries uid) rest))) (stored_then s f) (full_then s f))
-    (outline_of (page_done s f)) o.cpu (cc (rest_keeper s.store.ast.entries o uid w f rest h frames, done_outline s f))
+    (outline_of (page_done s f)) o.cpu (cc (
+      rest_keeper s.store.ast.entries o uid w f rest h frames,
+      (gone_outline s f
+          (without_first_frame s.owner)),
+    ))
     (frees_page (place_of s.store.ast.entries uid) f rest (stored_then s f) (full_then s f)
     (cc (in_stage s o (phase.Waiting (aim.Deactivating uid) w) owner h)) due may)
 

@@ -1,9 +1,6 @@
 -- In the outline of the machine, a transfer that fails is a step that frees its frame and leaves less to come.
 use Rattle.machine_model.proofs.Prelude.{◌≡◌, ◌≢◌, ◌<◌, ℕ, zero, suc, ◌+◌, Bool, false, List, [], ◌∷◌, length, map, Option, Some, None, is_some, set, refl, sym, ap, subst, ◌∙◌, append-nil, get_or-set_same, get_or-set_other, length-set, Plan, Command, is_end, released_by, Transfer, Processor, State, no_processor, no_run, next_command, processor_at, cpu_at, process_at, run_at, fault_told, frame_lost, goes_on, run_after, transfer_failed, Runner, Moved, runner_at, with_runner, with_frame, Reads, rule_of, HasLost, Step, loses, Around, around, bare, runner_by, runner_of, outline_of, CanTell, IsPlaced, Reply as reply, Frame as frame}
-use Rattle.machine_model.proofs.OutlineReads.{at_outline, set_map, seen_online, seen_running, seen_due, seen_reading, seen_since}
-use Rattle.machine_model.proofs.OutlineAlone.{step_to}
-use Rattle.machine_model.proofs.OutlineJob.{map_change}
-use Rattle.machine_model.proofs.OutlineAnswer.{told_left, outline_left, left_is}
+use Rattle.machine_model.proofs.Basics.{at_outline, set_map, seen_online, seen_running, seen_due, seen_reading, seen_since, step_to, map_change, told_left, outline_left, left_is}
 
 set_twice : {A : Type 0} (xs : List A) (i : ℕ) (x y : A) → set (set xs i x) i y ≡ set xs i y
 set_twice [] i x y = refl
@@ -128,10 +125,6 @@ lost_runner s c n t lt = subst (λ (y : Runner). HasLost y (runner_of (failed_ar
           ∙ sym (ap (λ (m : ℕ). m + 1) (seen_since (around s) (processor_at s.processors c)));
     })
   where
-    inner : processor_at (lost_state s c n t).processors c
-        ≡ record (processor_at s.processors c) { cpu = record (cpu_at s.processors c) { transfer = None } }
-    inner = get_or-set_same s.processors c _ no_processor lt
-
     tried : Bool
     tried = goes_on (run_at s.runs (process_at (lost_state s c n t) c))
         (next_command (lost_state s c n t) (process_at (lost_state s c n t) c)) reply.Device
@@ -145,7 +138,7 @@ lost_runner s c n t lt = subst (λ (y : Runner). HasLost y (runner_of (failed_ar
     is = rw (
       get_or-set_same (lost_state s c n t).processors c _ no_processor
           (subst (λ (m : ℕ). c < m) (sym (length-set s.processors c _)) lt),
-      inner,
+      (get_or-set_same s.processors c _ no_processor lt),
     )
 
 pub loss_outlined : (s : State) (c k n : ℕ) (t : Transfer) (x : Command) → rule_of (outline_of s) c ≡ Reads

@@ -1,8 +1,6 @@
 -- In the outline of the machine, each step of a move is a step of the owner's job.
 use Rattle.machine_model.proofs.Prelude.{◌≡◌, ◌<◌, ◌≤◌, ℕ, zero, suc, ◌+◌, ◌-◌, Bool, true, false, cond, List, [], ◌∷◌, map, Some, None, refl, sym, le_refl, arith, length, Command, Frame, Ptw, ptw_at, modified_of, Mover, table_of, first_out, next_out, is_filed, State, Owner, process_at, fault_told, with_faults, with_store, copy_failed, move_begun, move_committed, page_copied, with_moved, without_move, Copying, Look, at_stage, dues, HasMoved, JobStep, answers, begins_move, commits_move, copies, with_stored, around, bare, outline_of, runner_of, CanTell, full_there, Processor, Reply as reply, Frame as frame, is_out_word as is_out, Phase as phase}
-use Rattle.machine_model.proofs.OutlineAnswer.{ends_job}
-use Rattle.machine_model.proofs.OutlineEnd.{in_stage}
-use Rattle.machine_model.proofs.OutlineJob.{in_look}
+use Rattle.machine_model.proofs.Basics.{ends_job, in_stage, in_look}
 use Rattle.machine_model.proofs.WantMoved.{put_is, put_on, runner_same}
 
 -- ---- it begins

@@ -1,15 +1,9 @@
 -- Each step of the owner of the supervisor is a step of the outline, where it finds what its actions ask; and so each
 -- step of the machine is.
 use Rattle.machine_model.proofs.Prelude.{◌≡◌, ◌≢◌, ◌≤◌, ℕ, zero, suc, Bool, true, false, not, cond, eqb, List, [], ◌∷◌, length, position, count_by, Option, Some, None, is_some, get_or, refl, sym, ap, subst, ◌∙◌, inl, inr, arith, ◌-◌, position_or_len, cases_lt, Decides-ltb, eqb_tells, get_or_past, position-Some, fails_before_first, Command, What, first_off_chain, hand_past, place_of, table_of, next_out, Transfer, Mover, Aim, Phase, copy_failed, page_copied, State, Owner, or_zero, no_processor, is_due, next_command, processor_at, cpu_at, process_at, frames_of_owner, frames_from, trailers_in, action_of, is_over, Outcome, after, turn_of, with_faults, with_store, deactivation_begun, eviction_done, page_done, segment_taken, took, write_failed, committed, committed_at, Moved, Runner, no_runner, Stage, Look, Copying, dues, Works, rule_of, IsIn, JobStep, Step, works, AreOf, CanEmpty, around, stage_of, outline_of, Foresees, IsLook, KeepsLink, MayAnswer, MayEmpty, What as what, Aim as aim, Phase as phase, Action, ForTransfer, clear_or, copy_or_commit, finish_of, go_on_with, look_of, once_cleared, own_or_run, run_process, transfer_or, Action as act}
-use Rattle.machine_model.proofs.ActionCases.{by_end}
-use Rattle.machine_model.proofs.CountLaws.{count_cons}
+use Rattle.machine_model.proofs.Basics.{by_end, count_cons, at_outline, is_owner, seen_due, clear_outlined, online_outlined, activate_outlined, connect_outlined, in_job, in_look, deactivate_at_once_outlined, deactivate_outlined, eviction_outlined, give_up_outlined, in_stage, page_outlined, start_outlined, answer_outlined, commit_outlined, create_outlined, failed_outlined, running_at}
 use Rattle.machine_model.proofs.OutlineMove.{copy_failed_outlined, copy_outlined, move_outlined, begin_outlined}
-use Rattle.machine_model.proofs.OutlineReads.{at_outline, is_owner, seen_due}
-use Rattle.machine_model.proofs.OutlineAlone.{clear_outlined, online_outlined}
-use Rattle.machine_model.proofs.OutlineJob.{activate_outlined, connect_outlined, in_job, in_look}
 use Rattle.machine_model.proofs.OutlineTake.{evict_outlined, signal_outlined, take_away_outlined, take_segment_outlined, took_like, took_owner}
-use Rattle.machine_model.proofs.OutlineEnd.{deactivate_at_once_outlined, deactivate_outlined, eviction_outlined, give_up_outlined, in_stage, page_outlined, start_outlined}
-use Rattle.machine_model.proofs.OutlineAnswer.{answer_outlined, commit_outlined, create_outlined, failed_outlined, running_at}
 use Rattle.machine_model.proofs.OutlineWaits.{awaits_clear_outlined, awaits_transfer_outlined, end_outlined}
 use Rattle.machine_model.proofs.OutlineStep.{Goal, IsAtRest, clears_rule, comes_rule, reads_rule, run_goal, transfer_goal, works_seen}
 
@@ -143,12 +137,9 @@ due_at : (s : State) (c d : ℕ) → Foresees s c → position is_due s.processo
     → is_some (cpu_at s.processors d).due ≡ false
 due_at s c d f none = by (cpu_at s.processors d).online refl
   where
-    not_due : is_due (processor_at s.processors d) ≡ false
-    not_due = none_at is_due s.processors none d no_processor refl
-
     by : (b : Bool) → (cpu_at s.processors d).online ≡ b → is_some (cpu_at s.processors d).due ≡ false
     by false off = cc (f.quiet d off)
-    by true on = cc (on, not_due)
+    by true on = cc (on, (none_at is_due s.processors none d no_processor refl))
 
 dues_over : (s : State) (c : ℕ) → Foresees s c → position is_due s.processors ≡ None → dues (outline_of s).runners ≡ 0
 unfolding dues
@@ -242,8 +233,7 @@ owner_goal s c out f rest (Some w) owner = by (eqb w.cpu c) refl
         at_same same f (works_seen s c rest (own ∙ is)) has
       where
         at_same : w.cpu ≡ c → Foresees s c → rule_of (outline_of s) c ≡ Works
-            → is_some (cpu_at s.processors c).process ≡ true
-            → Goal s c out (go_on_with s (process_at s c) w w.phase)
+            → is_some (cpu_at s.processors c).process ≡ true → Goal s c out (go_on_with s (process_at s c) w w.phase)
         at_same same = rw (← same) (λ g h i. phase_goal s w out g h owner i w.phase refl)
 
     by : (b : Bool) → eqb w.cpu c ≡ b → Goal s c out (cond b (go_on_with s (process_at s c) w w.phase)
@@ -261,15 +251,13 @@ transfer_or_goal s c out f on due (Some t) is = transfer_goal s c out t f (reads
 transfer_or_goal s c out f on due None is = owner_goal s c out f (assumption) s.owner refl
 
 clear_or_goal : (s : State) (c : ℕ) (out : Outcome) → Foresees s c → (cpu_at s.processors c).online ≡ true
-    → (x : Option What) → (cpu_at s.processors c).due ≡ x
-    → Goal s c out (clear_or s c (processor_at s.processors c) x)
+    → (x : Option What) → (cpu_at s.processors c).due ≡ x → Goal s c out (clear_or s c (processor_at s.processors c) x)
 unfolding after
 clear_or_goal s c out f on (Some w) is = clear_outlined s c w (clears_rule s c w on is)
 clear_or_goal s c out f on None is = transfer_or_goal s c out f on is (cpu_at s.processors c).transfer refl
 
 online_goal : (s : State) (c : ℕ) (out : Outcome) → Foresees s c → (b : Bool) → (cpu_at s.processors c).online ≡ b
-    → Goal s c out (cond (not b) act.Online (clear_or s c (processor_at s.processors c)
-    (cpu_at s.processors c).due))
+    → Goal s c out (cond (not b) act.Online (clear_or s c (processor_at s.processors c) (cpu_at s.processors c).due))
 unfolding after
 online_goal s c out f true is = clear_or_goal s c out f is (cpu_at s.processors c).due refl
 online_goal s c out f false is = online_outlined s c (comes_rule s c is)

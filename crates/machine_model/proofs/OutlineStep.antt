@@ -1,9 +1,6 @@
 -- Each step of the machine is a step of its outline, where the machine finds what its actions ask.
 use Rattle.machine_model.proofs.Prelude.{◌≡◌, ℕ, ◌*◌, ◌/◌, Bool, true, false, not, cond, ◌&&◌, eqb, nat_lt, nat_le, List, [], ◌∷◌, length, count_by, Option, Some, None, is_some, refl, sym, ap, ◌∙◌, inl, inr, arith, Decides-ltb, reference_of, Command, Reference, RefKind, What, HeldSeg, Held, frame_of, seg_of, Ptw, Sdw, sdw_at, new_word, permits, word_reply, Transfer, Move, by_descriptor, by_held, by_page, by_seg, by_word, State, Owner, or_zero, next_command, processor_at, cpu_at, process_at, run_at, sdws_at, word_of, transfer_failed, transferred, uid_of_held, with_faults, has_had_its_turn, is_empty, Outcome, after, turn_of, Moved, Comes, Clears, Reads, Works, Loads, Leaves, Commands, rule_of, Step, reference_in, holds_page, outline_of, Foresees, MayAnswer, MayEnter, MayLose, Ptw as ptw, Sdw as sdw, Reply as reply, Move as move, Action, by_move, come_to, has_process, load_or_idle, move_of, refer_or_take, run_process, take_or_wait, Action as act, cond_both}
-use Rattle.machine_model.proofs.ActionCases.{by_end}
-use Rattle.machine_model.proofs.OutlineReads.{is_owner, rule_seen}
-use Rattle.machine_model.proofs.OutlineAlone.{IsFree, enter_outlined, fault_outlined, fill_page_outlined, fill_seg_outlined, idle_outlined, leave_outlined, load_outlined, owned_outlined, transfer_outlined}
-use Rattle.machine_model.proofs.OutlineAnswer.{plain_outlined, through_outlined}
+use Rattle.machine_model.proofs.Basics.{by_end, is_owner, rule_seen, IsFree, enter_outlined, fault_outlined, fill_page_outlined, fill_seg_outlined, idle_outlined, leave_outlined, load_outlined, owned_outlined, transfer_outlined, plain_outlined, through_outlined}
 use Rattle.machine_model.proofs.OutlineLoss.{loss_outlined}
 
 -- ---- which rule applies
@@ -154,8 +151,7 @@ take_goal s c o h (Some w) some may = owned_outlined s c w h some
 move_goal : (s : State) (c k : ℕ) (o : Outcome) (r : Reference) → rule_of (outline_of s) c ≡ Commands
     → (cpu_at s.processors c).process ≡ Some k → reference_in (next_command s k) ≡ Some r → MayAnswer s c
     → (m : Move) → move_of s (cpu_at s.processors c) k r ≡ m
-    → (s.owner ≡ None → by_move s.owner r m ≡ act.TakeSupervisor → MayEnter s c)
-    → Goal s c o (by_move s.owner r m)
+    → (s.owner ≡ None → by_move s.owner r m ≡ act.TakeSupervisor → MayEnter s c) → Goal s c o (by_move s.owner r m)
 unfolding after
 move_goal s c k o r h process next may move.FillSeg is enters = fill_seg_outlined s c k r h process next
     (fill_seg_new (cpu_at s.processors c).assoc (sdws_at s.store.links.descriptors k) (word_of s.store.ast) r
@@ -204,8 +200,7 @@ going_on : (s : State) (c : ℕ) → MayAnswer s c → (run_at s.runs (process_a
 going_on s c may = cc
 
 pub run_goal : (s : State) (c : ℕ) (o : Outcome) → Foresees s c → IsAtRest s c → is_owner s.owner c ≡ false
-    → (x : Option ℕ) → (cpu_at s.processors c).process ≡ x
-    → Goal s c o (run_process s (processor_at s.processors c) x)
+    → (x : Option ℕ) → (cpu_at s.processors c).process ≡ x → Goal s c o (run_process s (processor_at s.processors c) x)
 unfolding after
 run_goal s c o f rest own None none = load_goal s c o rest (loads_rule s c rest own none) s.ready refl
 run_goal s c o f rest own (Some k) process =
@@ -214,11 +209,8 @@ run_goal s c o f rest own (Some k) process =
     may : MayAnswer s c
     may = f.answers (cc)
 
-    at_k : process_at s c ≡ k
-    at_k = ap or_zero process
-
     by : (b : Bool) → (has_had_its_turn (processor_at s.processors c) && not (is_empty s.ready)) ≡ b
         → Goal s c o (cond b act.Leave (come_to s (cpu_at s.processors c) k (next_command s k)))
     by true turn = leave_outlined s c (leaves_rule s c k rest own process turn) (going_on s c may) (free_of s c rest)
     by false turn = command_goal s c k o (commands_rule s c k rest own process turn) process may (next_command s k) refl
-        (λ none is. f.enters none rest.transfer (cc at_k))
+        (λ none is. f.enters none rest.transfer (cc (ap or_zero process)))

@@ -1,7 +1,6 @@
 -- In the outline of the machine, taking, signalling and finishing are steps of the owner's job.
 use Rattle.machine_model.proofs.Prelude.{◌≡◌, ◌≢◌, ◌≤◌, ℕ, suc, ◌+◌, List, [], ◌∷◌, ◌++◌, length, map, Option, Some, None, refl, sym, ap, subst, ◌∙◌, inl, inr, ◌⊎◌, append_assoc, zero-add, What, bound_page, core_frame, command_at, Plain, Active, leads_at, place_of, is_filed, Aim, Processor, CutDescriptor, State, Storage, Owner, next_command, no_processor, run_at, processor_at, frames_of_owner, cut_of_owner, cut_all, cut_one, eviction_begun, leaving_if, owner_signalled, signalled, take_all, take_one, told_from, took, with_choice, with_leaving, Runner, EvictFrame, Look, Taken, Waiting, runner_at, at_stage, IsIn, JobStep, takes_segment, takes_frame, takes_for_commit, signals, CanEmpty, CanEvict, AreAlike, AreOf, with_runners, Around, around, bare, lacks_record, left_in, want_of, runner_by, runner_of, work_of, keeper_of, outline_of, Aim as aim, Phase as phase, jobs_told_at as told_at, eqb_self}
-use Rattle.machine_model.proofs.OutlineReads.{map_at, seen_online, seen_running, seen_due, seen_reading, seen_since, seen_tried}
-use Rattle.machine_model.proofs.OutlineJob.{job_to, in_job}
+use Rattle.machine_model.proofs.Basics.{map_at, seen_online, seen_running, seen_due, seen_reading, seen_since, seen_tried, job_to, in_job}
 use Rattle.machine_model.proofs.ChoiceLaws.{choice_bare}
 use Rattle.machine_model.proofs.LeaveSeen.{told_has, told_online, told_process, told_reads}
 use Rattle.machine_model.proofs.SaysLaws.{leaving_pages}
@@ -140,9 +139,6 @@ want_like a b p nodes whos known next = by p.cpu.process
       next = next i;
     }) k (next i k)
 
-next_like : (s t : State) → LooksLike s t → (around t).next ≡ (around s).next
-next_like s t like = λ i. λ k. command_at (like.plan i) k (run_at (like.runs i) k).place
-
 -- all but what is due, connected and held stands
 pub like_alike : (s t : State) (c : ℕ) → LooksLike s t → (runner_of (around t) (processor_at s.processors c)).linked
     ≡ (runner_of (around s) (processor_at s.processors c)).linked
@@ -161,7 +157,8 @@ like_alike s t c like linked = record {
   tried = λ d. at t d (λ x. x.tried) ∙ seen_tried (around t) (processor_at s.processors d)
       ∙ sym (at s d (λ x. x.tried) ∙ seen_tried (around s) (processor_at s.processors d));
   want = at t c (λ x. x.want) ∙ want_like (around s) (around t) (processor_at s.processors c)
-      (cc) like.whos like.known (next_like s t like) ∙ sym (at s c (λ x. x.want));
+      (cc) like.whos like.known (λ i. λ k. command_at (like.plan i) k (run_at (like.runs i) k).place) ∙ sym (at s c
+      (λ x. x.want));
   linked = at t c (λ x. x.linked) ∙ linked ∙ sym (at s c (λ x. x.linked));
   due = at t c (λ x. x.due) ∙ seen_due (around t) (processor_at s.processors c)
       ∙ sym (at s c (λ x. x.due) ∙ seen_due (around s) (processor_at s.processors c));

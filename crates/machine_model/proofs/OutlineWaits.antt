@@ -1,9 +1,7 @@
 -- In the outline of the machine, what the owner waits for is there; and where the machine has ended, so has its
 -- outline.
 use Rattle.machine_model.proofs.Prelude.{◌≡◌, ℕ, zero, suc, Bool, true, false, not, ◌||◌, List, [], ◌∷◌, length, Some, is_some, get_or, refl, ap, ◌∙◌, list_any, What, Aim, Processor, State, Owner, is_due, processor_at, cpu_at, ForClear, ForTransfer, has_process, is_empty, is_over, Ended, WaitsFor, Works, rule_of, IsEnded, Step, ends, awaits_clear, awaits_transfer, around, bare, work_of, outline_of, and_parts, not_true, Frame as frame, Phase as phase, outline_frame_in as frame_in}
-use Rattle.machine_model.proofs.OutlineReads.{at_outline, map_at, seen_online, seen_running, seen_due}
-use Rattle.machine_model.proofs.OutlineJob.{in_look}
-use Rattle.machine_model.proofs.OutlineEnd.{in_stage}
+use Rattle.machine_model.proofs.Basics.{at_outline, map_at, seen_online, seen_running, seen_due, in_look, in_stage}
 
 -- the owner waits for a clear
 pub awaits_clear_outlined : (s : State) (o : Owner) (a : Aim) (w : What) (d : ℕ) → rule_of (outline_of s) o.cpu ≡ Works

@@ -260,7 +260,7 @@ apart_push : (ds : List CutDescriptor) (d : CutDescriptor) → AreApart ds → h
 apart_push [] d apart new = (refl, tt)
 apart_push (x ∷ xs) d apart new = (
   cut_push_other xs d x.process x.number not_it ∙ apart.0,
-  apart_push xs d apart.1 later,
+  apart_push xs d apart.1 both.1,
 )
   where
     by : (b : Bool) → is_cut_at d.process d.number x ≡ b → (b || has_cut xs d.process d.number) ≡ false
@@ -270,9 +270,6 @@ apart_push (x ∷ xs) d apart new = (
 
     both : (is_cut_at d.process d.number x ≡ false) × (has_cut xs d.process d.number ≡ false)
     both = by (is_cut_at d.process d.number x) refl new
-
-    later : has_cut xs d.process d.number ≡ false
-    later = both.1
 
     not_it : x.process ≡ d.process → x.number ≡ d.number → ⊥
     not_it a b = not_both (cc (cut_at_same x)) both.0

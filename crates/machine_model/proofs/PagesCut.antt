@@ -1,8 +1,7 @@
 -- Pages are cut off one after the other: which frames are bound then, which pages are being read into them, and which
 -- words the pages have.
 use Rattle.machine_model.proofs.Prelude.{cases_Bool, eqb-true, eqb_self, ◌≡◌, ◌≢◌, ◌<◌, ℕ, Bool, true, false, cond, eqb, List, [], ◌∷◌, length, Option, None, ◌⊎◌, inl, inr, refl, sym, ◌∙◌, eqb_tells, length-set, reads_of, Ptw, binding_at, bindings, place_of, word_of, read_at, has, at_put_two, without_page, without_pages, Storage, has_head, has_tail, not_both, Frame as frame, Ptw as ptw}
-use Rattle.machine_model.proofs.Places.{put_two_here, by_places}
-use Rattle.machine_model.proofs.SeenLaws.{bound_put, reads_put}
+use Rattle.machine_model.proofs.Basics.{put_two_here, by_places, bound_put, reads_put}
 use Rattle.machine_model.proofs.TakeSeen.{words_put}
 
 -- what is seen of a store
@@ -129,9 +128,6 @@ module _ (st : Storage) (u p : ℕ) (ps : List ℕ) (now : Storage)
   other_word : (v q : ℕ) → (v ≡ u → q ≡ p → ⊥) → word_in mid v q ≡ word_in st v q
   other_word v q n = one.words v q ∙ put_two_other (λ x y. word_in st x y) u p ptw.Null v q n
 
-  this_word : word_in mid u p ≡ ptw.Null
-  this_word = one.words u p ∙ put_two_here (λ x y. word_in st x y) u p ptw.Null
-
   was_leaving : (q g : ℕ) → word_in mid u q ≡ ptw.Leaving g → word_in st u q ≡ ptw.Leaving g
   was_leaving q g e = cut_leaving u q g one e
 
@@ -162,7 +158,11 @@ module _ (st : Storage) (u p : ℕ) (ps : List ℕ) (now : Storage)
         ∙ other_word v q (λ a b. (has_parts p ps q (n a)).0 (sym b));
     nulls = λ q i. elim (has_cases p ps q i) [
       | inl e ↦ rest.nulls q e
-      | inr e ↦ rest.words u q (λ x. e.1) ∙ (cc (e.0, this_word))
+      | inr e ↦ rest.words u q (λ x. e.1) ∙ (cc (
+        e.0,
+        (one.words u p ∙ put_two_here
+            (λ x y. word_in st x y) u p ptw.Null),
+      ))
     ];
     bound = λ g n. rest.bound g (λ q i e. n q (has_tail p ps q i) (was_leaving q g e))
         ∙ bound_mid g (n p (has_head p ps));

@@ -188,11 +188,9 @@ module _ (ast : ActiveSegs) (pool : ℕ) where
       member : IsMember place places
       member = found_member (λ q. is_none (entry_at ast.entries q)) places place free
 
-      is_free : is_none (entry_at ast.entries place) ≡ true
-      is_free = find_passes (λ q. is_none (entry_at ast.entries q)) places place free
-
       none : has_its ns place ≡ false
-      none = false_from_ne_true (has_its ns place) (λ e. not_both (entry_at ast.entries place) is_free
+      none = false_from_ne_true (has_its ns place) (λ e. not_both (entry_at ast.entries place) (find_passes
+          (λ q. is_none (entry_at ast.entries q)) places place free)
           (has_some ns place e))
         where
           not_both : (o : Option Entry) → is_none o ≡ true → is_some o ≡ true → ⊥

@@ -409,8 +409,7 @@ module _ (s : State) (c : ℕ) (o : Outcome) (m : IsMachine s) (there : c < leng
   reading_kept (act.BeginMove u volume) may kept = h
   reading_kept (act.CopyPage m q) may kept = by_end IsReading o _ _ (λ e. h)
       (λ e. told_read (fault_told (with_store s (without_move s.store))
-      (Some k) o.faults) c None reply.Device h there may.0
-      (elsewhere may.1))
+      (Some k) o.faults) c None reply.Device h there may.0 (elsewhere may.1))
   reading_kept (act.CommitMove m) may kept = record {
     each = λ d. still_reads h (record {
       transfer = refl;

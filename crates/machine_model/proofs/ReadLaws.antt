@@ -1,11 +1,6 @@
 -- What a step of a processor brings that reads a page in, while the owner waits for that.
 use Rattle.machine_model.proofs.Prelude.{◌≡◌, ◌≢◌, ◌≤◌, ◌<◌, ℕ, Bool, true, false, cond, List, Option, Some, None, is_some, set, refl, sym, ap, ◌∙◌, inr, arith, get_or-set_other, Transfer, Want, Runner, no_runner, Look, Outline, Turn, runner_at, want_at, with_runner, with_frame, is_of, wanted_fits, over, dues, readers, all_rank, job_rank, Reads, rule_of, IsIn, Step, ends, comes, clears, reads, loses, works, awaits_clear, awaits_transfer, loads, idles, leaves, fills, replies, faults, enters, waits, HasLost, with_bound, not_reading, IsKept, IsUnderWay, AwaitsTransfer, IsReader, Rule, Frame as frame, outline_frame_in as frame_in, measures_parts_of as parts_of}
-use Rattle.machine_model.proofs.CountLaws.{readers_set}
-use Rattle.machine_model.proofs.RankLaws.{falls_reading}
-use Rattle.machine_model.proofs.JobLaws.{ranked, small_of}
-use Rattle.machine_model.proofs.LackLaws.{lack_le, wanted_more, here_same, here_more}
-use Rattle.machine_model.proofs.OuterLaws.{all_fewer}
-use Rattle.machine_model.proofs.GoesLaws.{all_set, same_command}
+use Rattle.machine_model.proofs.Basics.{readers_set, falls_reading, ranked, small_of, lack_le, wanted_more, here_same, here_more, all_fewer, all_set, same_command}
 use Rattle.machine_model.proofs.StepLaws.{inside, none_due, other_than}
 
 -- the rule that applies to a processor that reads, while the owner looks

@@ -67,15 +67,9 @@ all_in_use : (flags : List Bool) (r : ℕ)
     → eqb (count_by (λ flag. flag) flags) (length flags) ≡ true
 all_in_use flags r h = elim (eqb_tells (count_by (λ flag. flag) flags) (length flags)) [
   | inl e ↦ e.0
-  | inr n ↦ absurd (n.1 (omega (arith, less, most, same, now)))
+  | inr n ↦ absurd (n.1 (omega (arith, (count_less flags r), (count_by-le-length (λ flag. flag) flags), same, now)))
 ]
   where
-    less : count_by (λ flag. flag) (set flags r false) ≤ count_by (λ flag. flag) flags
-    less = count_less flags r
-
-    most : count_by (λ flag. flag) flags ≤ length flags
-    most = count_by-le-length (λ flag. flag) flags
-
     same : length (set flags r false) ≡ length flags
     same = length-set flags r false
 

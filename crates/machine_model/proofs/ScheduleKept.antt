@@ -87,12 +87,9 @@ module _ (b : State) (c k : ℕ) (r : Reply) (h : IsScheduled b) (there : c < le
   its_still : (cpu_at ps c).process ≡ Some k
   its_still = seats.process c ∙ its
 
-  process_is : process_at (told_by b c k None r) c ≡ k
-  process_is = ap or_zero its_still
-
   ready_is : (left_at (told_by b c k None r) c).ready
       ≡ b.ready ++ cond (b.plan.initializer && eqb k 0) (range 1 (length b.plan.processes - 1)) []
-  ready_is = rw (process_is, get_or-set_same b.runs k run no_run known, over, next)
+  ready_is = rw ((ap or_zero its_still), get_or-set_same b.runs k run no_run known, over, next)
 
   pub ended_kept : IsScheduled (left_at (told_by b c k None r) c)
   ended_kept = rw ready_is (end_kept b.plan b.runs b.ready ps c k _ run

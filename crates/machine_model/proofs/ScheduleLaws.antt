@@ -1,9 +1,6 @@
 -- Which processes run and which are ready, where a process is loaded, leaves its processor, is answered or ends.
 use Rattle.machine_model.proofs.Prelude.{◌≡◌, ◌≢◌, ◌<◌, ◌≤◌, ℕ, zero, suc, ◌+◌, ◌-◌, Bool, true, false, ◌||◌, ◌&&◌, cond, eqb, List, [], ◌∷◌, ◌++◌, length, set, Some, None, ◌⊎◌, inl, inr, refl, sym, ap, subst, ◌∙◌, arith, eqb_tells, get_or-set_other, get_or-set_same, Plan, has, range, AreDistinct, cpu_at, no_processor, no_run, processor_at, run_at, AreScheduled, HasTurn, MayRun, Processor, Run, append-nil, not_both, or_parts, eqb_self, some_same, false_from_ne_true}
-use Rattle.machine_model.proofs.ListLaws.{put_list}
-use Rattle.machine_model.proofs.OwnedLaws.{distinct_push, push_other, push_same}
-use Rattle.machine_model.proofs.Places.{by_place}
-use Rattle.machine_model.proofs.TieLaws.{none_some}
+use Rattle.machine_model.proofs.Basics.{put_list, distinct_push, push_other, push_same, by_place, none_some}
 
 -- ---- nobody's process changes
 

@@ -51,7 +51,5 @@ pub took_stands : (s : State) (c : ℕ) (a : Aim) (w : What) (fs : List ℕ) (pa
     → refusal_of s k cmd ≡ None → refusal_of (took s c a w fs pairs) k cmd ≡ None
 unfolding refusal_of
 took_stands s c a w fs pairs k cmd h =
-    (λ i. refusal (reply_to_tree_command ((took_like s c a w fs pairs).plan i) (flat i) k cmd)) ∙ h
-  where
-    flat : flat_of (took s c a w fs pairs) ≡ flat_of s
-    flat = cut_all_flat (take_all s c a w fs) c a w pairs ∙ take_all_flat s c a w fs
+    (λ i. refusal (reply_to_tree_command ((took_like s c a w fs pairs).plan i) ((cut_all_flat
+    (take_all s c a w fs) c a w pairs ∙ take_all_flat s c a w fs) i) k cmd)) ∙ h

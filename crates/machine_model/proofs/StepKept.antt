@@ -452,8 +452,7 @@ module _ (s : State) (c : ℕ) (o : Outcome) (k : Keeps s) (there : c < length s
 
   page_leaves : (f : ℕ) → CanDo s c o (act.FinishPage f)
       → Keeps (by_outcome o (page_done (with_faults s o.faults) f) (write_failed s c o.faults))
-  page_leaves f can = let on = empties_goes can.0 can.2.what (f ∷ can.1) can.2.waited can.2.frames in
-      by_end Keeps o _ _
+  page_leaves f can = let on = empties_goes can.0 can.2.what (f ∷ can.1) can.2.waited can.2.frames in by_end Keeps o _ _
       (λ e. (let w = can.2.asks.well e in page_kept s f o.faults can.1 (cut_of_owner s.owner)
       can.2.waited.owner.owner k can.2.waited.owner.mine w.0 on w.1 w.2))
       (λ e. (let i = can.2.asks.ill e in all_failed_kept s c o.faults (frames_of_owner s.owner)
@@ -482,8 +481,7 @@ module _ (s : State) (c : ℕ) (o : Outcome) (k : Keeps s) (there : c < length s
   unfolding after
   keeps_by victim act.Online can = online_kept s c (s.spare - 1) k there (online_other s c k can) can
   keeps_by victim (act.Clear w) can = clear_kept s c (s.spare - 1) k there (due_other s c w k can) w can
-  keeps_by victim (act.EndTransfer t) can =
-      by_end Keeps o _ _
+  keeps_by victim (act.EndTransfer t) can = by_end Keeps o _ _
       (λ e. (let w = can.well e in transferred_kept s c t k can.mine o.faults w.0 w.1))
       (λ e. (let i = can.ill e in failed_kept s c t k can.mine o.faults i.rose i.may i.tell i.says))
   keeps_by victim (act.Load n) can = load_kept s c (s.spare - 1) k there (empty_other s c k can.1) n can.0 can.1 can.2
@@ -518,8 +516,7 @@ module _ (s : State) (c : ℕ) (o : Outcome) (k : Keeps s) (there : c < length s
       took_kept s c aim.Committing w fs pairs k can.can (owns_here can.owner) (works_here can.owner) can.says
   keeps_by victim (act.BeginMove u volume) can = begun_kept s c k (look_idle can.looking) (look_still can.looking)
       (works_here can.looking.owner) u volume can.asks
-  keeps_by victim (act.CopyPage m p) can =
-      by_end Keeps o _ _
+  keeps_by victim (act.CopyPage m p) can = by_end Keeps o _ _
       (λ e. (let w = can.1.well e in copied_kept s c k (move_idle m can.0) (move_still m can.0)
       (works_here can.0.owner) m p o.faults w.0 w.1))
       (λ e. (let i = can.1.ill e in copy_failed_kept s c o.faults k (move_idle m can.0) (move_still m can.0) i.rose

@@ -24,13 +24,10 @@ some_pair : (xs : List (ℕ × ℕ)) (k n : ℕ) → 1 ≤ count_by (is_trailer 
 some_pair [] k n h = absurd (omega arith)
 some_pair (x ∷ xs) k n h = by (is_trailer k n x) refl (some_pair xs k n)
   where
-    sum : count_by (is_trailer k n) (x ∷ xs) ≡ tally (is_trailer k n x) + count_by (is_trailer k n) xs
-    sum = sum_by-cons (λ y. tally (is_trailer k n y)) x xs
-
     by : (b : Bool) → is_trailer k n x ≡ b → (1 ≤ count_by (is_trailer k n) xs → has_pair xs k n ≡ true)
         → (b || has_pair xs k n) ≡ true
     by true e rest = refl
-    by false e rest = rest (omega (arith, (ap tally e), h, sum))
+    by false e rest = rest (omega (arith, (ap tally e), h, (sum_by-cons (λ y. tally (is_trailer k n y)) x xs)))
 
 -- each descriptor that leads to a segment is one of its trailers
 pub trailer_listed : (s : State) (u k n : ℕ) → Keeps s → is_active s.store.ast u ≡ true → (seen s).linked k n ≡ Some u

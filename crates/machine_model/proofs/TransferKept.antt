@@ -3,11 +3,9 @@ use Rattle.machine_model.proofs.Prelude.{◌≡◌, ◌<◌, ◌≤◌, ℕ, Boo
 use Rattle.machine_model.proofs.ActiveSeen.{any_at}
 use Rattle.machine_model.proofs.AnswerLaws.{fault_keeps, owner_keeps}
 use Rattle.machine_model.proofs.KeepLaws.{IsNoOwner, faults_push}
-use Rattle.machine_model.proofs.ListLaws.{map_length, within_by}
+use Rattle.machine_model.proofs.Basics.{map_length, within_by, IsIdle, nobody, none_some}
 use Rattle.machine_model.proofs.MoveSeen.{brought_seen, lose_seen, start_seen}
-use Rattle.machine_model.proofs.OwnedLaws.{IsIdle, nobody}
 use Rattle.machine_model.proofs.TellKept.{CanTell, told_keeps, works_counted}
-use Rattle.machine_model.proofs.TieLaws.{none_some}
 use Rattle.machine_model.proofs.TransferLaws.{CanStart, end_keeps, lose_keeps, start_keeps}
 
 -- ---- what is put together

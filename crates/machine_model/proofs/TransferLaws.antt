@@ -1,11 +1,7 @@
 -- A page is being read into a frame, is in it, or the reading failed; a page is made in a free frame.
 use Rattle.machine_model.proofs.Prelude.{◌≡◌, ◌≢◌, ◌<◌, ℕ, true, Option, Some, None, inl, inr, refl, sym, ap, ◌∙◌, Ptw, Transfer, IsLawful, after_entry, DescriptorUse, NobodyHoldsPage, is_current_frame, is_going_frame, at_put, at_put_two, custody_next, nobody_holds_page, lost, here, with_transfer, KeepsBook, HoldsRight, AreUnderWay, names, is_out, is_pending, Seen, shown, seat_of, frame_use, Processor, page_is, Ptw as ptw, FrameUse as frame, custody_is_started as is_started, page_started as started, page_brought as brought}
-use Rattle.machine_model.proofs.BookNext.{book_next}
+use Rattle.machine_model.proofs.Basics.{book_next, right_frame, right_like, like_frame, owned_like, by_place, one_place, put_here, put_other, put_two_here, none_some, out_none, tied_start, tied_lost, tied_here, other_use_here}
 use Rattle.machine_model.proofs.FrameLaws.{in_no_frame}
-use Rattle.machine_model.proofs.HeldLaws.{right_frame, right_like}
-use Rattle.machine_model.proofs.OwnedLaws.{like_frame, owned_like}
-use Rattle.machine_model.proofs.Places.{by_place, one_place, put_here, put_other, put_two_here}
-use Rattle.machine_model.proofs.TieLaws.{none_some, out_none, tied_start, tied_lost, tied_here, other_use_here}
 
 -- ---- processors with their transfers
 

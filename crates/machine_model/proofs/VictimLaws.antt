@@ -123,9 +123,6 @@ module _ (s : State) (keeps : Keeps s) (about : ℕ) where
   abbrev chain : List ℕ
   chain = chain_of ns about
 
-  tree : IsTree ns
-  tree = keeps.store.accounts.tree
-
   abbrev is_off : ℕ → Bool
   is_off place = off_chain chain (entry_at entries place)
 
@@ -152,7 +149,8 @@ module _ (s : State) (keeps : Keeps s) (about : ℕ) where
           let sup = inferior_tells u (entry_at entries q) (position_at (is_inferior_of u) entries None q i).1 in
           let w = some_entry (entry_at entries q) u sup in
           uid_off (entry_at entries q) w.0 w.1 (elim (cases_Bool (is_link chain w.0)) [
-            | inl e ↦ absurd (not_both (member_link chain u (link_up ns tree about w.0 u (link_member chain w.0 e)
+            | inl e ↦ absurd (not_both (member_link chain u (link_up ns keeps.store.accounts.tree about w.0 u
+                (link_member chain w.0 e)
                 (superior_is q w.0 u w.1 sup))) (off_uid (entry_at entries place) u off at))
             | inr e ↦ e
           ])

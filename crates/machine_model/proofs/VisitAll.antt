@@ -134,9 +134,6 @@ module _ (s : State) (o : Outcome) (all : KeepsAll s) (over : is_over s ≡ true
       (fault_alike s.plan (s.entries ++ entry.Take place ∷ []) None))
       (one_still s.plan ((s.entries ++ entry.Take place ∷ []) ++ entry.Fault None ∷ []) (entry.BackPage place) refl)
 
-  no_cut : (owner : Option Owner) → owner ≡ None → cut_of_owner owner ≡ []
-  no_cut owner e = ap cut_of_owner e
-
   -- the page leaves
   gone_says : (page : ℕ × ℕ) → bound_page (frame_in s.store.pages place) ≡ Some page → o.failed ≡ false
       → StoreSays (left_with false)
@@ -150,7 +147,7 @@ module _ (s : State) (o : Outcome) (all : KeepsAll s) (over : is_over s ≡ true
         left_count before.store.pages (home_in before.store (page_in before.store place).0)
             (page_in before.store place).1 place (left_of (words_in before.store.pages place)),
         taken_pages s o,
-      )) (no_cut s.owner none))
+      )) (ap cut_of_owner none))
     where
       same : after_visit s o ≡ left_with false
       same = is_now page bound false well

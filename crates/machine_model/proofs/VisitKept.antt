@@ -49,12 +49,9 @@ module _ (s : State) (f u p : ℕ) (k : Keeps s) (none : s.owner ≡ None) (bare
     here = page_here;
     still = ap waits_for none;
     others = idle_names (shown (seen s)) s.owner (what.Page f) k.book.going_owned no_frames no_cut;
-    this = own;
+    this = eqb_self f;
     aimed = (f, cc, refl, no_cut);
   }))
-    where
-      own : eqb f f ≡ true
-      own = eqb_self f
 
   abbrev waited : State
   waited = with_owner taking (Some waiting)
@@ -105,11 +102,8 @@ module _ (s : State) (f u p : ℕ) (k : Keeps s) (none : s.owner ≡ None) (bare
   tables_still : HasTables waited
   tables_still = tables_kept s f (bound_page (frame_in s.store.pages f)) k.store.kept.places
 
-  bound_still : (seen waited).bound f ≡ Some (u, p)
-  bound_still = waited_book.tied.back f u p (ap names leaving_now)
-
   page_still : page_in after_take.store f ≡ (u, p)
-  page_still = cc (binding_is waited f, bound_still)
+  page_still = cc (binding_is waited f, (waited_book.tied.back f u p (ap names leaving_now)))
 
   taken_faults : count_by is_fault (s.entries ++ entry.Take f ∷ []) ≡ count_by is_fault s.entries
   taken_faults = omega (arith, faults_push s.entries (entry.Take f))
@@ -140,7 +134,7 @@ module _ (s : State) (f u p : ℕ) (k : Keeps s) (none : s.owner ≡ None) (bare
   visit_back faults n rose may says = kept_with
       (record (page_back (fault_told after_take None faults) f) { visited = n })
       (rw none (subst KeepsBook (sym (back_seen told f u p None tables_still told_book leaving_now))
-      (back_keeps (seen told) f u p None told_book can_back))) says (let two =
+      (back_keeps (seen told) f u p None told_book (finish_with refl refl bare.due can_finish)))) says (let two =
       faults_push (s.entries ++ entry.Take f ∷ []) (entry.Fault None) in
       let three = faults_push ((s.entries ++ entry.Take f ∷ []) ++ entry.Fault None ∷ []) (entry.BackPage f) in
       let few = k.few_faults in omega (arith, taken_faults, two, three, few, rose))
@@ -151,9 +145,6 @@ module _ (s : State) (f u p : ℕ) (k : Keeps s) (none : s.owner ≡ None) (bare
 
       told_book : KeepsBook (seen told)
       told_book = fault_keeps (seen waited) None waited_book may
-
-      can_back : CanFinish (seen told) f u p None
-      can_back = finish_with refl refl bare.due can_finish
 
 -- ---- the visit
 

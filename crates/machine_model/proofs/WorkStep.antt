@@ -228,14 +228,12 @@ module _ (s : State) (c u : ℕ) (k : Keeps s) (idle : IsIdle s.owner) (none : g
   by_lists (f ∷ fs) pairs whole numbered few =
       took_work (f ∷ fs) pairs (inl (λ e. (let no_one = e in cc))) whole numbered few
 
-  own : eqb u u ≡ true
-  own = eqb_self u
-
   pub begun_work : IsWorking (deactivation_begun s c u)
   begun_work = by_lists (frames_from s.store.ast u 0) (trailers_in s.store u)
       (begun_whole s c u k idle none active (unread_any s.store.pages.core u unread))
       (took_numbered s c (aim.Deactivating u) (what.Seg u) (frames_from s.store.ast u 0) (trailers_in s.store u) k
-      (rw idle.cut tt) (segment_takes s (aim.Deactivating u) (what.Seg u) u 0 k idle own (λ gs cs. refl)).pairs_are)
+      (rw idle.cut tt) (segment_takes s (aim.Deactivating u) (what.Seg u) u 0 k idle (eqb_self u)
+      (λ gs cs. refl)).pairs_are)
       (took_few s c (aim.Deactivating u) (what.Seg u) (frames_from s.store.ast u 0) (trailers_in s.store u) idle
       (omega (arith, frames_from_few s u 0 k, trailers_few s u k)))
 
@@ -444,7 +442,7 @@ module _ (s : State) (c : ℕ) (o : Outcome) (m : IsMachine s) (w : IsWorking s)
       (looking_goes s c l.looking) (moved (first_off_chain s.store.ast pool chain)) l.finds.unread
       (λ v h i. leaf_inferiors s l.finds.place u keeps at leaf.2 v (was v (first_off_chain s.store.ast pool chain) h)
       (ap (λ (ns : List Node). superior_in (node_in ns v)) keeps.faithful.tree.nodes ∙ i))
-      (subst (MayFailBy now.store (process_at s c)) (sym l.next) (same_fails (first_off_chain s.store.ast pool chain)))
+      (subst (MayFailBy now.store (process_at s c)) (sym l.next) (fails))
     where
       now : State
       now = with_store s (with_hand_moved s.store pool chain)
@@ -466,10 +464,6 @@ module _ (s : State) (c : ℕ) (o : Outcome) (m : IsMachine s) (w : IsWorking s)
 
       fails : MayFailBy s.store (process_at s c) (Some l.command)
       fails = about_fails s (process_at s c) l.command keeps l.finds.link.about l.finds.link.case
-
-      same_fails : (x : Option ℕ) → MayFailBy (record s.store { ast = hand_past s.store.ast pool x }) (process_at s c)
-          (Some l.command)
-      same_fails x = fails
 
   -- the process that a failure of a transfer is told of
   abbrev told_process : Transfer → ℕ
