@@ -173,11 +173,8 @@ tells_device (move.Plain r) = is_device r
 tells_device _ = false
 
 by_word_plain : (w : Ptw) (how : RefKind) → tells_device (by_word w how) ≡ false
-by_word_plain ptw.Null how = by (eqb (new_word 0 how) 0)
-  where
-    by : (b : Bool) → tells_device (cond b (move.Plain (word_reply 0 how)) move.Fault) ≡ false
-    by true = word_plain 0 how
-    by false = refl
+by_word_plain ptw.Null how = cond_both (eqb (new_word 0 how) 0) (move.Plain (word_reply 0 how)) move.Fault
+    (λ x. tells_device x ≡ false) (λ e. word_plain 0 how) (λ e. refl)
 by_word_plain _ how = refl
 
 pub move_plainly : (held : Held) (ds : List Sdw) (words : ℕ → ℕ → Ptw) (r : Reference)

@@ -1,5 +1,5 @@
 -- What the rules know of their action gives what the job, the processes and the script ask of it.
-use Rattle.machine_model.proofs.Prelude.{◌≡◌, ◌<◌, ℕ, Bool, true, false, cond, length, Some, refl, ap, Transfer, Outcome, after, AllCome, MayAnswer, IsMachine, IsReading, cpu_at, process_at, State, transfer_failed, transferred, with_faults, ◌+◌, ◌≤◌, List, arith, Command, Keeps, uid_of_command, Action, Action as act}
+use Rattle.machine_model.proofs.Prelude.{◌≡◌, ◌<◌, ℕ, true, false, length, Some, refl, ap, Transfer, Outcome, after, AllCome, MayAnswer, IsMachine, IsReading, cpu_at, process_at, State, transferred, with_faults, ◌+◌, ◌≤◌, List, arith, Command, Keeps, uid_of_command, Action, Action as act}
 use Rattle.machine_model.proofs.ListSizes.{command_few}
 use Rattle.machine_model.proofs.Laws.{FindsTaken, all_come, come_same, tells, reader_no_owner, comes_next, by_end}
 use Rattle.machine_model.proofs.JustTaken.{look_taken}

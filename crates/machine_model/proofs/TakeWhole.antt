@@ -1,6 +1,6 @@
 -- A job that makes a segment inactive takes it whole: each of its pages that is in a frame, where none is being read
 -- into one, and each descriptor that leads to it.
-use Rattle.machine_model.proofs.Prelude.{◌≡◌, ◌≢◌, ◌≤◌, ℕ, zero, suc, ◌+◌, Bool, true, false, ◌||◌, cond, eqb, count_by, List, [], ◌∷◌, get_or, Option, Some, None, ◌⊎◌, inl, inr, refl, sym, ap, subst, ◌∙◌, arith, list_any-append, sum_by-cons, What, Ptw, Plain, binding_at, bindings, frame_in, bound_page, reads_of, Sdw, is_trailer, trailers_of, leads_at, place_of, table_of, read_at, times, has, is_going_descriptor, is_going_frame, leads_to, page_of, uid_of_page, Aim, KeepsBook, has_cut, names, led_to, seen, cut_all, cut_one, deactivation_begun, leaving_if, note_of, segment_taken, take_all, take_one, took, Keeps, cut_of_owner, descriptor_of, frames_from, frames_in, frames_of_owner, here_in, is_active, trailers_in, bound_use, cut_uid, descriptor_use, frame_use, is_cut_at, shown, CutDescriptor, State, Storage, IsWhole, TakenWhole, aimed_at, going_for, some_same, or_cases, or_true, eqb_self, What as what, Ptw as ptw, Sdw as sdw, Aim as aim}
+use Rattle.machine_model.proofs.Prelude.{◌≡◌, ◌≢◌, ◌≤◌, ℕ, zero, suc, Bool, true, false, ◌||◌, cond, eqb, count_by, List, [], ◌∷◌, get_or, Option, Some, None, ◌⊎◌, inl, inr, refl, sym, ap, subst, ◌∙◌, arith, list_any-append, sum_by-cons, What, Ptw, Plain, binding_at, bindings, frame_in, bound_page, reads_of, Sdw, is_trailer, trailers_of, leads_at, place_of, table_of, read_at, times, has, is_going_descriptor, is_going_frame, leads_to, page_of, uid_of_page, Aim, KeepsBook, has_cut, names, led_to, seen, cut_all, cut_one, deactivation_begun, leaving_if, note_of, segment_taken, take_all, take_one, took, Keeps, cut_of_owner, descriptor_of, frames_from, frames_in, frames_of_owner, here_in, is_active, trailers_in, bound_use, cut_uid, descriptor_use, frame_use, is_cut_at, shown, CutDescriptor, State, Storage, IsWhole, TakenWhole, aimed_at, going_for, some_same, or_cases, or_true, eqb_self, What as what, Ptw as ptw, Sdw as sdw, Aim as aim}
 use Rattle.machine_model.proofs.Laws.{active_place, IsIdle, none_some, page_used, whole_idle}
 use Rattle.machine_model.proofs.TakeLists.{segment_takes}
 use Rattle.machine_model.proofs.TookKept.{ArePairs, CanTook, has_pair, is_pair, linked_before, pairs_left, took_keeps}

@@ -1,6 +1,6 @@
 -- A visit of the shutdown keeps the whole promise, where the call of the store does what it says; and what holds of the
 -- frames that were visited.
-use Rattle.machine_model.proofs.Prelude.{◌≡◌, ◌≤◌, ℕ, ◌+◌, ◌++◌, ◌∷◌, [], Bool, true, false, not, cond, ◌&&◌, Option, Some, None, refl, sym, ap, subst, ◌∙◌, list_any, Rose, bound_page, IsPlan, Plan, Transfer, Store, frame_in, words_in, has_process, is_empty, is_over, Outcome, AllCome, are_zeros, here_if, leaving_if, left_of, page_back, page_gone, page_in, with_here, without_first_frame, IsFaithful, Keeps, StoreKept, StoreSays, mover_of, KeepsAll, cpu_at, cut_of_owner, flat_of, home_in, IsScheduled, left_page, without_left, after_visit, page_taken, visited_if, Owner, State, fault_told, with_faults, AreIdle, What as what, Entry as entry, Aim as aim}
+use Rattle.machine_model.proofs.Prelude.{◌≡◌, ◌≤◌, ℕ, ◌+◌, ◌++◌, ◌∷◌, [], Bool, true, false, not, cond, ◌&&◌, Option, Some, None, refl, sym, ap, subst, ◌∙◌, list_any, Rose, bound_page, IsPlan, Plan, Transfer, Store, frame_in, words_in, has_process, is_empty, is_over, Outcome, AllCome, are_zeros, here_if, leaving_if, left_of, page_back, page_gone, page_in, with_here, without_first_frame, IsFaithful, Keeps, StoreKept, StoreSays, mover_of, KeepsAll, cpu_at, cut_of_owner, flat_of, home_in, IsScheduled, left_page, without_left, after_visit, page_taken, visited_if, State, fault_told, with_faults, AreIdle, What as what, Entry as entry, Aim as aim}
 use Rattle.machine_model.proofs.Laws.{IsAlike, alike, alike_by, alike_on, fault_alike, one_still, took_like, left_count, left_flat, left_nodes, none_rest, says_by, none_some}
 use Rattle.machine_model.proofs.MoverTied.{here_moving, leaving_moving}
 use Rattle.machine_model.proofs.OverLaws.{over_bare, over_faults, over_free, over_none, over_unread}
