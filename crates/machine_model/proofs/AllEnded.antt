@@ -1,5 +1,5 @@
 -- Once no process is ready or running each has ended, and the book is complete.
-use Rattle.machine_model.proofs.Prelude.{◌≡◌, ◌≢◌, ◌<◌, ℕ, zero, suc, ◌+◌, Bool, true, false, not, ◌||◌, cond, eqb, length, List, [], ◌∷◌, get_or, set, Option, Some, None, inl, inr, refl, sym, ap, ◌∙◌, arith, replicate, filter, list_any, eqb_tells, get_or-set_other, get_or-set_same, Plan, command_at, Command, Entry, Reply, has, after_command, effect_of, gone_on, is_end, takes_effect, tries_on, IsAnswer, IsComplete, IsEnd, IsLawful, IsLegal, IsLegalFrom, MayFault, after_do, after_entry, after_fault, is_part, last_of, part, store_after, store_from, Progress, Store, at_first, boot, progress_of, with_progress, has_process, is_empty, is_over, KeepsAll, cpu_at, flat_of, run_at, HasTurn, MayRun, State, Processor, and_parts, not_both, going_within, Command as command, Entry as entry, true_from_ne_false}
+use Rattle.machine_model.proofs.Prelude.{◌≡◌, ◌≢◌, ◌<◌, ℕ, zero, suc, ◌+◌, Bool, true, false, not, ◌||◌, cond, eqb, length, List, [], ◌∷◌, get_or, set, Option, Some, None, inl, inr, refl, sym, ap, ◌∙◌, arith, replicate, filter, list_any, eqb_tells, get_or-set_other, get_or-set_same, Plan, command_at, Command, Entry, Reply, has, after_command, effect_of, gone_on, is_end, takes_effect, tries_on, IsAnswer, IsComplete, IsEnd, IsLawful, IsLegal, IsLegalFrom, MayFault, after_do, after_entry, after_fault, is_part, last_of, part, store_after, store_from, Progress, Store, at_first, boot, progress_of, with_progress, has_process, is_empty, is_over, KeepsAll, cpu_at, flat_of, run_at, HasTurn, MayRun, State, Processor, and_parts, not_both, going_within, Command as command, Entry as entry, true_from_ne_false, cond_both}
 use Rattle.machine_model.proofs.RunLaws.{base_same}
 use Rattle.machine_model.proofs.TieLaws.{none_some}
 
@@ -182,11 +182,8 @@ module _ (p : Plan) (k : ℕ) where
           → ((progress_of (after_entry p s e) k).ended ≡ false → IsEnd p k (last_of (filter (is_part k) es)))
           → IsEnd p k (last_of (cond (is_part k e) (e ∷ filter (is_part k) es) (filter (is_part k) es)))
       by true i rest = rw (none_later (after_entry p s e) es i h.1) (ends_now e (entry_ends p s k going e h.0 i))
-      by false i rest = on (is_part k e)
-        where
-          on : (b : Bool) → IsEnd p k (last_of (cond b (e ∷ filter (is_part k) es) (filter (is_part k) es)))
-          on true = end_on e (filter (is_part k) es) (rest i)
-          on false = rest i
+      by false i rest = cond_both (is_part k e) (e ∷ filter (is_part k) es) (filter (is_part k) es)
+          (λ xs. IsEnd p k (last_of xs)) (λ x. end_on e (filter (is_part k) es) (rest i)) (λ x. rest i)
 
 boot_goes : (p : Plan) (k : ℕ) → k < length p.processes → (progress_of (boot p) k).ended ≡ false
 unfolding boot
