@@ -1,5 +1,5 @@
 -- Once no process is ready or running each has ended, and the book is complete.
-use Rattle.machine_model.proofs.Prelude.{◌≡◌, ◌≢◌, ◌<◌, ℕ, zero, suc, ◌+◌, Bool, true, false, not, ◌||◌, cond, eqb, length, List, [], ◌∷◌, get_or, set, Option, Some, None, inl, inr, refl, sym, ap, ◌∙◌, arith, replicate, filter, list_any, eqb_tells, get_or-set_other, get_or-set_same, Plan, command_at, Command, Entry, Reply, has, after_command, effect_of, gone_on, is_end, takes_effect, tries_on, IsAnswer, IsComplete, IsEnd, IsLawful, IsLegal, IsLegalFrom, MayFault, after_do, after_entry, after_fault, is_part, last_of, part, store_after, store_from, Progress, Store, at_first, boot, progress_of, with_progress, has_process, is_empty, is_over, KeepsAll, cpu_at, flat_of, run_at, HasTurn, MayRun, State, Processor, and_parts, not_both, going_within, Command as command, Entry as entry, true_from_ne_false, cond_both}
+use Rattle.machine_model.proofs.Prelude.{◌≡◌, ◌≢◌, ◌<◌, ℕ, zero, suc, ◌+◌, Bool, true, false, not, ◌||◌, cond, eqb, length, List, [], ◌∷◌, get_or, set, Option, Some, None, inl, inr, refl, sym, ap, ◌∙◌, arith, replicate, filter, list_any, eqb_tells, get_or-set_other, get_or-set_same, Plan, command_at, Command, Entry, Reply, has, after_command, effect_of, gone_on, is_end, takes_effect, tries_on, IsAnswer, IsComplete, IsEnd, IsLawful, IsLegal, IsLegalFrom, MayFault, after_do, after_entry, after_fault, is_part, last_of, part, store_after, store_from, Progress, Store, at_first, boot, progress_of, with_progress, has_process, is_empty, is_over, KeepsAll, cpu_at, flat_of, run_at, HasTurn, MayRun, State, Processor, and_parts, not_both, going_within, Command as command, Entry as entry, true_from_ne_false, cond_both, eq-eqb}
 use Rattle.machine_model.proofs.RunLaws.{base_same}
 use Rattle.machine_model.proofs.TieLaws.{none_some}
 
@@ -172,10 +172,7 @@ module _ (p : Plan) (k : ℕ) where
       (λ g. book_ends (after_entry p s e) es g h.1 over)
     where
       ends_now : (d : Entry) → IsItsEnd p s k going d → IsEnd p k (last_of (cond (is_part k d) (d ∷ []) []))
-      ends_now (entry.Do j place cpu frame r) its = rw (own j its.0) (rw (← its.0) its.1)
-        where
-          own : (i : ℕ) → i ≡ k → eqb i k ≡ true
-          own i x = elim (eqb_tells i k) [ inl y ↦ y.0 | inr n ↦ absurd (n.1 x) ]
+      ends_now (entry.Do j place cpu frame r) its = rw (eq-eqb j k its.0) (rw (← its.0) its.1)
       ends_now _ its = absurd its
 
       by : (b : Bool) → (progress_of (after_entry p s e) k).ended ≡ b

@@ -1,6 +1,6 @@
 -- What each step of the owner brings: the job goes on with the same command, the command is past, or what it lacked is
 -- there.
-use Rattle.machine_model.proofs.Prelude.{◌≡◌, ◌≤◌, ◌<◌, ℕ, ◌+◌, Bool, true, false, not, cond, ◌||◌, ◌&&◌, eqb, ◌∷◌, length, Some, None, set, refl, sym, ap, subst, ◌∙◌, inl, inr, le_refl, le_of_eq, arith, eqb_tells, get_or-set_same, Transfer, Want, Refer, Truncate, Runner, no_runner, EvictFrame, EmptyPlace, CommitCommand, Stage, Look, Taken, Waiting, Copying, Outline, runner_at, want_at, at_stage, with_entry, with_frame, is_here, page_fits, reads_page, wanted_fits, wanted_link, want_lack, all_rank, lack, offline, over, IsIn, JobStep, activates, connects, takes_segment, takes_frame, takes_for_commit, signals, frees_frame, frees_page, empties, empties_at_once, begins_move, copies, commits_move, HasMoved, gives_up, starts, answers, AreAlike, CanStart, IsWantedPage, IsAnswered, with_link, with_runners, with_stored, without_owner, now_reading, entry_for, IsKept, lack_at, is_at, IsReference, IsSameCommand, IsPast, IsMended, Goes, Frame as frame, measures_is_over as is_over}
+use Rattle.machine_model.proofs.Prelude.{◌≡◌, ◌≤◌, ◌<◌, ℕ, ◌+◌, Bool, true, false, not, cond, ◌||◌, ◌&&◌, eqb, ◌∷◌, length, Some, None, set, refl, sym, ap, subst, ◌∙◌, inl, inr, le_refl, le_of_eq, arith, eqb_tells, get_or-set_same, Transfer, Want, Refer, Truncate, Runner, no_runner, EvictFrame, EmptyPlace, CommitCommand, Stage, Look, Taken, Waiting, Copying, Outline, runner_at, want_at, at_stage, with_entry, with_frame, is_here, page_fits, reads_page, wanted_fits, wanted_link, want_lack, all_rank, lack, offline, over, IsIn, JobStep, activates, connects, takes_segment, takes_frame, takes_for_commit, signals, frees_frame, frees_page, empties, empties_at_once, begins_move, copies, commits_move, HasMoved, gives_up, starts, answers, AreAlike, CanStart, IsWantedPage, IsAnswered, with_link, with_runners, with_stored, without_owner, now_reading, entry_for, IsKept, lack_at, is_at, IsReference, IsSameCommand, IsPast, IsMended, Goes, Frame as frame, measures_is_over as is_over, eq-eqb}
 use Rattle.machine_model.proofs.JobLaws.{alike_self}
 use Rattle.machine_model.proofs.LackLaws.{lack_le, freed_fits}
 use Rattle.machine_model.proofs.OuterLaws.{over_set, offline_set, over_same, over_like, offline_like, all_le, all_fewer}
@@ -118,14 +118,11 @@ connects_goes s c within owner = inl (record {
     same : runner_at (with_link s c).runners c ≡ record (runner_at s.runners c) { linked = true }
     same = get_or-set_same s.runners c (record (runner_at s.runners c) { linked = true }) no_runner within
 
-eqb_from : (i j : ℕ) → i ≡ j → eqb i j ≡ true
-eqb_from i j e = elim (eqb_tells i j) [ inl x ↦ x.0 | inr x ↦ absurd (x.1 e) ]
-
 -- a page that is being read in by its processor fits
 started_page : (s : Outline) (f uid page u q : ℕ) (makes : Bool) → u ≡ uid → q ≡ page
     → page_fits s (Some (record { frame = f; uid = uid; page = page })) u q makes ≡ true
 started_page s f uid page u q makes a b =
-    rw (eqb_from uid u (sym a), eqb_from page q (sym b)) (last (is_here s.frames u q))
+    rw (eq-eqb uid u (sym a), eq-eqb page q (sym b)) (last (is_here s.frames u q))
   where
     last : (x : Bool) → (x || true) ≡ true
     last true = refl

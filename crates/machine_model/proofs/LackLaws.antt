@@ -1,5 +1,5 @@
 -- What the tables lack for a command, as frames, transfers and stored pages change.
-use Rattle.machine_model.proofs.Prelude.{◌≡◌, ◌≢◌, ◌≤◌, ◌<◌, ℕ, Bool, true, false, not, cond, ◌||◌, ◌&&◌, eqb, List, length, Option, Some, None, set, refl, sym, ap, ◌∙◌, ◌⊎◌, inl, inr, le_refl, arith, list_any, eqb_tells, none-some, Frame, Transfer, Want, Refer, Truncate, Length, Other, Outline, Runner, with_frame, is_of, is_here, reads_page, page_fits, wanted_fits, wanted_link, want_lack, lack, with_stored, is_wanted, is_spared, and_from, or_left, and_parts, Frame as frame, jobs_page_or_zero as page_or_zero, outline_frame_in as frame_in, FinishingMayRelease as MayRelease, finishing_page_of as page_of}
+use Rattle.machine_model.proofs.Prelude.{◌≡◌, ◌≢◌, ◌≤◌, ◌<◌, ℕ, Bool, true, false, not, cond, ◌||◌, ◌&&◌, eqb, List, length, Option, Some, None, set, refl, sym, ap, ◌∙◌, ◌⊎◌, inl, inr, le_refl, arith, list_any, eqb_tells, none-some, Frame, Transfer, Want, Refer, Truncate, Length, Other, Outline, Runner, with_frame, is_of, is_here, reads_page, page_fits, wanted_fits, wanted_link, want_lack, lack, with_stored, is_wanted, is_spared, and_from, or_left, and_parts, Frame as frame, jobs_page_or_zero as page_or_zero, outline_frame_in as frame_in, FinishingMayRelease as MayRelease, finishing_page_of as page_of, eq-eqb}
 use Rattle.machine_model.proofs.CountLaws.{any_set}
 
 -- ---- less lacks where more fits
@@ -115,12 +115,9 @@ not_page : (x : Frame) (uid page : ℕ) → is_of uid page x ≡ false → page_
 not_page (frame.Bound u q used modified) uid page out h =
     let a = ap (λ (o : Option (ℕ × ℕ)). (page_or_zero o).0) h in
     let b : q ≡ page = ap (λ (o : Option (ℕ × ℕ)). (page_or_zero o).1) h in
-    let is : (eqb u uid && eqb q page) ≡ true = and_from (eqb u uid) (eqb q page) (same u uid a) (same q page b) in
+    let is : (eqb u uid && eqb q page) ≡ true = and_from (eqb u uid) (eqb q page) (eq-eqb u uid a) (eq-eqb q page b) in
     let no = sym is ∙ out in
     absurd cc
-  where
-    same : (i j : ℕ) → i ≡ j → eqb i j ≡ true
-    same i j e = elim (eqb_tells i j) [ inl x ↦ x.0 | inr x ↦ absurd (x.1 e) ]
 not_page _ uid page out h = absurd (none-some (uid, page) h)
 
 pub freed_fits : (s : Outline) (f : ℕ) (stored : ℕ → ℕ → Bool) (full : ℕ → Bool) (w : Want) (r : Option Transfer)

@@ -1,7 +1,7 @@
 -- The names that the proofs of this crate take from elsewhere.
 pub use Rattle.std.proofs.Common.{Bool, Contains, List, None, Option, Some, [], add-zero, ap, arith, cond, count_by, drop, eqb, false, get_or, if◌then◌else◌, inl, inr, is_none, is_some, le_of_eq, le_refl, le_trans, leb, length, map, not, position, refl, replicate, reverse, set, slice_get, subst, suc, sum, sum_by, sym, take, true, zero, zero-add, ℕ, ℤ, ◌&&◌, ◌*◌, ◌++◌, ◌+◌, ◌-◌, ◌<◌, ◌||◌, ◌∙◌, ◌∷◌, ◌≡◌, ◌≢◌, ◌≤◌, ◌⊎◌}
 pub use Rattle.std.proofs.Math.Bool.{and-false}
-pub use Rattle.std.proofs.lemmas.Bool.{and_from, and_parts as bool_and_parts, cases_Bool, cases_eq, cases_lt, cond_both, eqb-true, false_from_ne_true, ne_eqb, not-false, not-true, or_left, or_parts, true_from_ne_false}
+pub use Rattle.std.proofs.lemmas.Bool.{and_from, eq-eqb, and_parts as bool_and_parts, cases_Bool, cases_eq, cases_lt, cond_both, eqb-true, false_from_ne_true, ne_eqb, not-false, not-true, or_left, or_parts, true_from_ne_false}
 pub use Rattle.std.proofs.lemmas.Bool.Decides.{Decides-ltb, eqb_tells, leb_tells, nat_tests}
 pub use Rattle.std.proofs.lemmas.Grind.{reverse_onto}
 pub use Rattle.std.proofs.lemmas.List.{append-nil, append_assoc, get_or-replicate, get_or-set_other, get_or-set_same, get_or_past, length-append, length-map, length-replicate, length-reverse, length-set}

@@ -1,6 +1,6 @@
 -- Each step of each processor keeps the machine's promise: along the rules in their order, what an action asks follows
 -- from the promise, but for what the store says and for what the flat store answers.
-use Rattle.machine_model.proofs.Prelude.{◌≡◌, ◌≢◌, ◌<◌, ℕ, ◌/◌, ◌*◌, Bool, true, false, not, ◌&&◌, ◌||◌, ◌==◌, cond, eqb, is_some, List, [], ◌∷◌, length, position, Option, Some, None, inl, inr, refl, sym, ap, subst, ◌∙◌, nat_le, option_map, eqb_tells, leb_tells, HeldPage, HeldSeg, What, frame_of, seg_of, reference_of, Command, Reference, Ptw, Sdw, uid_at, by_descriptor, by_page, by_seg, by_word, Move, Transfer, leads, sdws_at, word_of, table_of, next_out, new_word, permits, word_reply, HasHadItsTurn, Phase, action_of, by_move, clear_or, come_to, finish_of, go_on_with, has_had_its_turn, is_empty, load_or_idle, look_of, once_cleared, own_or_run, refer_or_take, run_process, take_or_wait, transfer_or, Outcome, names, led_to, seen, IsAtWork, Keeps, cpu_at, descriptor_of, is_due, next_command, or_zero, process_at, processor_at, shown, Processor, Owner, State, held_page, cond_both, not-true, not-false, and_parts, held_page_of as page_of, Reply as reply, Ptw as ptw, Sdw as sdw, Move as move, Phase as phase, Action, Action as act}
+use Rattle.machine_model.proofs.Prelude.{◌≡◌, ◌≢◌, ◌<◌, ℕ, ◌/◌, ◌*◌, Bool, true, false, not, ◌&&◌, ◌||◌, ◌==◌, cond, eqb, is_some, List, [], ◌∷◌, length, position, Option, Some, None, inl, inr, refl, sym, ap, subst, ◌∙◌, nat_le, option_map, eqb_tells, leb_tells, HeldPage, HeldSeg, What, frame_of, seg_of, reference_of, Command, Reference, Ptw, Sdw, uid_at, by_descriptor, by_page, by_seg, by_word, Move, Transfer, leads, sdws_at, word_of, table_of, next_out, new_word, permits, word_reply, HasHadItsTurn, Phase, action_of, by_move, clear_or, come_to, finish_of, go_on_with, has_had_its_turn, is_empty, load_or_idle, look_of, once_cleared, own_or_run, refer_or_take, run_process, take_or_wait, transfer_or, Outcome, names, led_to, seen, IsAtWork, Keeps, cpu_at, descriptor_of, is_due, next_command, or_zero, process_at, processor_at, shown, Processor, Owner, State, held_page, cond_both, not-true, not-false, and_parts, held_page_of as page_of, Reply as reply, Ptw as ptw, Sdw as sdw, Move as move, Phase as phase, Action, Action as act, some_same, eqb-true}
 use Rattle.machine_model.proofs.Laws.{action_by, number_new, page_new, IsNoOwner, look_is, CanFillPage}
 use Rattle.machine_model.proofs.RuleKept.{Asks, finish_can, look_can, move_can}
 use Rattle.machine_model.proofs.StepKept.{CanDo, CanLeave, IsMine, to_hold}
@@ -172,16 +172,10 @@ module _ (s : State) (c : ℕ) (o : Outcome) (k : Keeps s) (there : c < length s
       → Asks s c o (own_or_run s c p x) → CanDo s c o (own_or_run s c p x)
   owner_can on due idle None e = run_can (λ q h. cc) on due idle p.cpu.process refl
   owner_can on due idle (Some q) e = cond_both (q.cpu == c) _ _ (Can s c o)
-      (λ same. phase_can (record { owner = q; mine = e; same = eqb_is q.cpu c same }) q.phase refl)
+      (λ same. phase_can (record { owner = q; mine = e; same = eqb-true q.cpu c same }) q.phase refl)
       (λ differ. run_can (λ x h y. eqb_isnt q.cpu c differ
-      (ap (λ (z : Owner). z.cpu) (owner_is q x (sym e ∙ h)) ∙ y)) on due idle p.cpu.process refl)
+      (ap (λ (z : Owner). z.cpu) (some_same q x (sym e ∙ h)) ∙ y)) on due idle p.cpu.process refl)
     where
-      owner_is : (x y : Owner) → Some x ≡ Some y → x ≡ y
-      owner_is x y h = cc
-
-      eqb_is : (a b : ℕ) → eqb a b ≡ true → a ≡ b
-      eqb_is a b h = elim (eqb_tells a b) [ inl y ↦ y.1 | inr m ↦ absurd (let no = sym h ∙ m.0 in cc) ]
-
       eqb_isnt : (a b : ℕ) → eqb a b ≡ false → a ≢ b
       eqb_isnt a b h = elim (eqb_tells a b) [ inl y ↦ absurd (let no = sym y.0 ∙ h in cc) | inr m ↦ m.1 ]
 
