@@ -27,9 +27,7 @@ all_both p xs ys a b = list_all-append p xs ys ∙ and_from (list_all p xs) (lis
 pub short_field : (p : ℕ → Bool) → ((b : ℕ) → p b ≡ true → is_field_byte b ≡ true) → (text : List ℕ)
     → ((nat_le 1 (length text) && nat_le (length text) 32) && list_all p text) ≡ true → IsField text
 short_field p stands text h =
-    let parts = and_parts (nat_le 1 (length text) && nat_le (length text) 32) (list_all p text) h in
-    let long = (and_parts (nat_le 1 (length text)) (nat_le (length text) 32) parts.0).0 in
-    record { some = grind (arith, nat_tests); bytes = all_from p is_field_byte stands text parts.1 }
+    record { some = grind (arith, nat_tests); bytes = all_from p is_field_byte stands text (grind (arith, nat_tests)) }
 
 byte_is_printable : (b : ℕ) → is_field_byte b ≡ true → is_printable_byte b ≡ true
 byte_is_printable b h = grind (arith, nat_tests)
@@ -75,9 +73,8 @@ onto_byte b c cs f fs z = rw z refl
 before_space : (b : ℕ) (bs rest : List ℕ) → list_all is_field_byte (b ∷ bs) ≡ true
     → fields_of ((b ∷ bs) ++ (32 ∷ rest)) ≡ (b ∷ bs) ∷ fields_of rest
 before_space b [] rest h =
-    let parts = and_parts (is_field_byte b) true h in
-    fields_byte b (32 ∷ rest) (byte_is_no_space b parts.0) ∙ onto_space b rest (fields_of (32 ∷ rest))
-    ∙ ap (λ (fs : List (List ℕ)). (b ∷ []) ∷ fs) (fields_space rest)
+    let byte = fields_byte b (32 ∷ rest) (byte_is_no_space b (grind (arith, nat_tests))) in
+    cc (onto_space b rest (fields_of (32 ∷ rest)), fields_space rest)
 before_space b (c ∷ cs) rest h =
     let parts = and_parts (is_field_byte b) (list_all is_field_byte (c ∷ cs)) h in
     let next = and_parts (is_field_byte c) (list_all is_field_byte cs) parts.1 in
@@ -87,8 +84,7 @@ before_space b (c ∷ cs) rest h =
 
 alone : (b : ℕ) (bs : List ℕ) → list_all is_field_byte (b ∷ bs) ≡ true → fields_of (b ∷ bs) ≡ (b ∷ bs) ∷ []
 alone b [] h =
-    let parts = and_parts (is_field_byte b) true h in
-    fields_byte b [] (byte_is_no_space b parts.0) ∙ ap (onto_field b []) fields_nil
+    fields_byte b [] (byte_is_no_space b (grind (arith, nat_tests))) ∙ ap (onto_field b []) fields_nil
 alone b (c ∷ cs) h =
     let parts = and_parts (is_field_byte b) (list_all is_field_byte (c ∷ cs)) h in
     let next = and_parts (is_field_byte c) (list_all is_field_byte cs) parts.1 in
@@ -128,5 +124,5 @@ pub front_field : {w rest : List ℕ} {fields : List (List ℕ)} → IsField w �
     → HasFields (w ++ (32 ∷ rest)) (w ∷ fields)
 front_field {w} {rest} h r = record {
   printable = printable_before w rest h.bytes r.printable;
-  split = first_of w rest h.some h.bytes ∙ ap (λ (fs : List (List ℕ)). w ∷ fs) r.split;
+  split = cc (first_of w rest h.some h.bytes, r.split);
 }

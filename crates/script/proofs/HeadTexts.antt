@@ -1,11 +1,11 @@
 -- The text of what stands before the processes is read back (own).
-use Rattle.script.proofs.Prelude.{◌≡◌, ℕ, ◌+◌, ◌<◌, ◌≤◌, Bool, true, false, ◌&&◌, nat_le, nat_lt, List, [], ◌∷◌, ◌++◌, length, map, flat_map, sum_by, Ok, codes, refl, ap, ◌∙◌, arith, append_assoc, nat_tests, length-append, sum_by-append, decimal, list_all, list_any, AllByRecursion, is_name, DraftPlan, blank, reach, ArePools, has_name, have_own_names, have_own_volumes, is_before, is_bulk, is_fail, is_from, is_volume, IsPlan, records_of, bulk_line, fail_line, later_at, line_at, fail_in, new_volume_in, pools_in, volume_line, four_fields, next_field, no_fields, one_field, print_in, six_fields, three_fields, two_fields, Plan, bulk_text, call_text, ended, fail_text, head_text, machine_text, numbers_text, onward_text, print_text, quota_text, volume_text, volume_name, Stage, Bulk, Fail, Print, VolumeLine, and_false, and_parts, lt_from}
+use Rattle.script.proofs.Prelude.{◌≡◌, ℕ, ◌+◌, ◌<◌, ◌≤◌, Bool, true, false, nat_le, nat_lt, List, [], ◌∷◌, ◌++◌, length, map, flat_map, sum_by, Ok, codes, refl, ap, ◌∙◌, arith, append_assoc, nat_tests, length-append, sum_by-append, sum_by-cons, decimal, list_all, list_any, AllByRecursion, is_name, DraftPlan, blank, reach, ArePools, has_name, have_own_names, have_own_volumes, is_bulk, is_fail, is_from, is_volume, IsPlan, records_of, later_at, line_at, fail_in, new_volume_in, pools_in, four_fields, next_field, no_fields, one_field, print_in, six_fields, three_fields, two_fields, Plan, bulk_text, ended, fail_text, head_text, machine_text, numbers_text, print_text, quota_text, volume_text, Stage, Bulk, Fail, Print, VolumeLine, and_false, and_parts}
 use Rattle.script.proofs.FieldTexts.{IsField, HasFields, front_field, last_field}
 use Rattle.script.proofs.PushLaws.{other_volumes, others_before}
 use Rattle.script.proofs.Reaching.{Reaches, reaches_both, reaches_line, reaches_nothing}
 use Rattle.script.proofs.ValueTexts.{decimal_field, name_field, number_again}
 use Rattle.script.proofs.VolumeTexts.{AreVolumes, call_again, call_field, new_name_again, volume_again, volume_field, write_again, write_field}
-use Rattle.script.proofs.SmallLaws.{nil_after, outside, within}
+use Rattle.script.proofs.SmallLaws.{nil_after, outside}
 use Rattle.script.specs.declared.drafts.Stage.TheVariants as stage
 use Rattle.script.specs.declared.plan.Print.TheVariants as print
 use Rattle.script.specs.declared.plan.TheConstants.{MOST_PROCESSORS}
@@ -17,9 +17,6 @@ number_fields : (n : ℕ) (ns : List ℕ) → n ≤ 1000000 → AllByRecursion (
 number_fields n [] h each = rw (nil_after (decimal n)) (last_field (decimal_field n h))
 number_fields n (m ∷ ns) h each = front_field (decimal_field n h) (number_fields m ns each.0 each.1)
 
-machine_word : IsField (codes "machine")
-machine_word = record { some = omega arith; bytes = refl }
-
 -- the draft after the line of the machine
 abbrev pub after_machine : ℕ → ℕ → List ℕ → DraftPlan
 after_machine processors frames pools = record blank {
@@ -27,92 +24,40 @@ after_machine processors frames pools = record blank {
   plan = record blank.plan { processors = processors; frames = frames; pools = pools };
 }
 
-machine_again : (processors frames a b c d : ℕ) → 1 ≤ processors → processors ≤ MOST_PROCESSORS → 4 ≤ frames
-    → frames ≤ 1024 → ArePools (a ∷ b ∷ c ∷ d ∷ []) → line_at stage.Machine blank (codes "machine")
-    (map decimal (processors ∷ frames ∷ a ∷ b ∷ c ∷ d ∷ [])) ≡ Ok (after_machine processors frames (a ∷ b ∷ c ∷ d ∷ []))
-unfolding line_at later_at pools_in six_fields four_fields three_fields two_fields one_field next_field no_fields
-machine_again processors frames a b c d p0 p1 f0 f1 h =
-    let many : nat_le (a + b + c + d) 1024 ≡ true = grind (arith, nat_tests) in
-    rw (
-      number_again 1 MOST_PROCESSORS processors (omega arith) p0 p1,
-      number_again 4 1024 frames (omega arith) f0 f1,
-      number_again 12 1024 a (omega arith) (omega (arith, h)) (omega (arith, h)),
-      number_again 1 1024 b (omega arith) (omega (arith, h)) (omega (arith, h)),
-      number_again 1 1024 c (omega arith) (omega (arith, h)) (omega (arith, h)),
-      number_again 1 1024 d (omega arith) (omega (arith, h)) (omega (arith, h)),
-      many,
-    ) refl
-
 pub machine_reaches : (processors frames : ℕ) (pools : List ℕ) → 1 ≤ processors → processors ≤ MOST_PROCESSORS
     → 4 ≤ frames → frames ≤ 1024 → ArePools pools → Reaches blank (ended (machine_text processors frames pools))
     (after_machine processors frames pools)
-unfolding machine_text
+unfolding machine_text line_at later_at pools_in six_fields four_fields three_fields two_fields one_field next_field no_fields
 machine_reaches processors frames (a ∷ b ∷ c ∷ d ∷ []) p0 p1 f0 f1 h =
     let fields = number_fields processors (frames ∷ a ∷ b ∷ c ∷ d ∷ []) (omega arith)
-    (omega arith, (omega (arith, h), (omega (arith, h), (omega (arith, h), (omega (arith, h), tt))))) in
-    reaches_line (front_field machine_word fields) refl (machine_again processors frames a b c d p0 p1 f0 f1 h)
+    (omega arith, (omega arith, (omega arith, (omega arith, (omega arith, tt))))) in
+    let many : nat_le (a + b + c + d) 1024 ≡ true = grind (arith, nat_tests) in
+    reaches_line {word = codes "machine"} (front_field (record { some = omega arith; bytes = refl }) fields) refl (rw (
+      number_again 1 MOST_PROCESSORS processors (omega arith) p0 p1,
+      number_again 4 1024 frames (omega arith) f0 f1,
+      number_again 12 1024 a (omega arith) (omega arith) (omega arith),
+      number_again 1 1024 b (omega arith) (omega arith) (omega arith),
+      number_again 1 1024 c (omega arith) (omega arith) (omega arith),
+      number_again 1 1024 d (omega arith) (omega arith) (omega arith),
+      many,
+    ) refl)
 machine_reaches processors frames _ p0 p1 f0 f1 h = absurd h
 
 -- ---- the quota
 
-quota_again : (base : DraftPlan) (quota : ℕ) → quota ≤ 16384
-    → line_at stage.Quota (record base { stage = stage.Quota }) (codes "quota") (decimal quota ∷ [])
-    ≡ Ok (record base { stage = stage.FirstVolume; plan = record base.plan { quota = quota } })
-unfolding line_at later_at one_field next_field no_fields
-quota_again base quota h = rw (number_again 0 16384 quota (omega arith) (omega arith) h) refl
-
 pub quota_reaches : (base : DraftPlan) (quota : ℕ) → quota ≤ 16384
     → Reaches (record base { stage = stage.Quota }) (ended (quota_text quota))
     (record base { stage = stage.FirstVolume; plan = record base.plan { quota = quota } })
-unfolding quota_text
-quota_reaches base quota h = reaches_line (front_field (record { some = omega arith; bytes = refl })
-    (last_field (decimal_field quota (omega arith)))) refl (quota_again base quota h)
+unfolding quota_text line_at later_at one_field next_field no_fields
+quota_reaches base quota h = reaches_line {word = codes "quota"} (front_field (record { some = omega arith; bytes = refl })
+    (last_field (decimal_field quota (omega arith)))) refl
+    (rw (number_again 0 16384 quota (omega arith) (omega arith) h) refl)
 
 -- ---- the volumes
-
-sum_cons : (v : VolumeLine) (vs : List VolumeLine) → sum_by records_of (v ∷ vs) ≡ v.records + sum_by records_of vs
-sum_cons v vs = let parts : sum_by records_of (v ∷ vs) ≡ 0 + v.records + sum_by records_of vs =
-    sum_by-append records_of (v ∷ []) vs in omega (arith, parts)
-
-volume_fields : (v : VolumeLine) → is_volume v ≡ true → HasFields (volume_text v)
-    (codes "volume" ∷ v.name ∷ decimal v.records ∷ decimal v.entries ∷ [])
-unfolding volume_text is_volume
-volume_fields v h =
-    let p = and_parts (is_name v.name) (is_from 1 16384 v.records && is_from 1 4097 v.entries) h in
-    let q = and_parts (is_from 1 16384 v.records) (is_from 1 4097 v.entries) p.1 in
-    let r = (within 1 16384 v.records q.0).1 in
-    let e = (within 1 4097 v.entries q.1).1 in
-    front_field (record { some = omega arith; bytes = refl }) (front_field (name_field v.name p.0) (front_field
-    (decimal_field v.records (omega (arith, r))) (last_field (decimal_field v.entries (omega (arith, e))))))
-
-volume_line_again : (d : DraftPlan) (v : VolumeLine) → is_volume v ≡ true → list_any (has_name v.name) d.plan.volumes
-    ≡ false → length d.plan.volumes < 4 → sum_by records_of d.plan.volumes + v.records ≤ 16384
-    → volume_line d (v.name ∷ decimal v.records ∷ decimal v.entries ∷ [])
-    ≡ Ok (record d { stage = stage.Volumes; plan = record d.plan { volumes = d.plan.volumes ++ v ∷ [] } })
-unfolding new_volume_in three_fields two_fields one_field next_field no_fields is_volume
-volume_line_again d v h new room sum =
-    let p = and_parts (is_name v.name) (is_from 1 16384 v.records && is_from 1 4097 v.entries) h in
-    let q = and_parts (is_from 1 16384 v.records) (is_from 1 4097 v.entries) p.1 in
-    let r = within 1 16384 v.records q.0 in
-    let e = within 1 4097 v.entries q.1 in
-    let few : nat_le 4 (length d.plan.volumes) ≡ false = grind (arith, nat_tests) in
-    let fits : nat_lt 16384 (sum_by records_of d.plan.volumes + v.records) ≡ false = grind (arith, nat_tests) in
-    rw (
-      new_name_again d.plan.volumes v.name p.0 new,
-      number_again 1 16384 v.records (omega arith) r.0 r.1,
-      number_again 1 4097 v.entries (omega arith) e.0 e.1,
-      few,
-      fits,
-    ) refl
 
 -- a volume may stand at this stage
 abbrev takes_volume : Stage → Bool
 takes_volume s = is_from 2 3 (reach s)
-
-volume_at : (s : Stage) (d : DraftPlan) (fields : List (List ℕ)) → takes_volume s ≡ true
-    → line_at s d (codes "volume") fields ≡ volume_line d fields
-unfolding line_at
-volume_at s d fields h = simp (and_false, outside s 2 3 (omega arith) h, h)
 
 -- a draft at a stage, with these volumes
 abbrev with_volumes : DraftPlan → Stage → List VolumeLine → DraftPlan
@@ -122,8 +67,25 @@ volume_reaches : (base : DraftPlan) (s : Stage) (done : List VolumeLine) (v : Vo
     → is_volume v ≡ true → list_any (has_name v.name) done ≡ false → length done < 4
     → sum_by records_of done + v.records ≤ 16384
     → Reaches (with_volumes base s done) (ended (volume_text v)) (with_volumes base stage.Volumes (done ++ v ∷ []))
-volume_reaches base s done v takes h new room sum = reaches_line (volume_fields v h) refl
-    (volume_at s (with_volumes base s done) _ takes ∙ volume_line_again (with_volumes base s done) v h new room sum)
+unfolding volume_text line_at new_volume_in three_fields two_fields one_field next_field no_fields is_volume
+volume_reaches base s done v takes h new room sum =
+    let named : is_name v.name ≡ true = grind (arith, nat_tests) in
+    let r : (1 ≤ v.records) × (v.records ≤ 16384) = (grind (arith, nat_tests), grind (arith, nat_tests)) in
+    let e : (1 ≤ v.entries) × (v.entries ≤ 4097) = (grind (arith, nat_tests), grind (arith, nat_tests)) in
+    let few : nat_le 4 (length done) ≡ false = grind (arith, nat_tests) in
+    let fits : nat_lt 16384 (sum_by records_of done + v.records) ≡ false = grind (arith, nat_tests) in
+    reaches_line {word = codes "volume"} (front_field (record { some = omega arith; bytes = refl }) (front_field (name_field v.name named)
+    (front_field (decimal_field v.records (omega arith)) (last_field (decimal_field v.entries (omega arith)))))) refl
+    (simp (
+      and_false,
+      outside s 2 3 (omega arith) takes,
+      takes,
+      new_name_again done v.name named new,
+      number_again 1 16384 v.records (omega arith) r.0 r.1,
+      number_again 1 4097 v.entries (omega arith) e.0 e.1,
+      few,
+      fits,
+    ))
 
 -- what holds of the volumes that stand and of those that follow
 record FitVolumes (done vs : List VolumeLine) : Type 0 where
@@ -139,7 +101,7 @@ fit_next done v vs h =
       each = (and_parts (is_volume v) (list_all is_volume vs) h.each).1;
       own = ap have_own_names (append_assoc done (v ∷ []) vs) ∙ h.own;
       few = omega (arith, length-append done (v ∷ []), h.few);
-      sum = omega (arith, sum_by-append records_of done (v ∷ []), sum_cons v vs, sum_cons v [], h.sum);
+      sum = omega (arith, sum_by-append records_of done (v ∷ []), sum_by-cons records_of v vs, h.sum);
     }
 
 -- the lines of volumes, each on its own line
@@ -151,7 +113,7 @@ more_volumes : (base : DraftPlan) (done vs : List VolumeLine) → FitVolumes don
 more_volumes base done [] h = rw (nil_after done) reaches_nothing
 more_volumes base done (v ∷ vs) h = reaches_both
     (volume_reaches base stage.Volumes done v refl (and_parts (is_volume v) (list_all is_volume vs) h.each).0
-    (others_before done v vs h.own) (omega (arith, h.few)) (omega (arith, h.sum, sum_cons v vs)))
+    (others_before done v vs h.own) (omega (arith, h.few)) (omega (arith, h.sum, sum_by-cons records_of v vs)))
     (rw (append_assoc done (v ∷ []) vs) at (more_volumes base (done ++ v ∷ []) vs (fit_next done v vs h)))
 
 volumes_reach : (base : DraftPlan) (vs : List VolumeLine) → 1 ≤ length vs → FitVolumes [] vs
@@ -159,22 +121,17 @@ volumes_reach : (base : DraftPlan) (vs : List VolumeLine) → 1 ≤ length vs �
 volumes_reach base [] some h = absurd (omega arith)
 volumes_reach base (v ∷ vs) some h = reaches_both
     (volume_reaches base stage.FirstVolume [] v refl (and_parts (is_volume v) (list_all is_volume vs) h.each).0
-    (others_before [] v vs h.own) (omega (arith, h.few)) (omega (arith, h.sum, sum_cons v vs)))
+    (others_before [] v vs h.own) (omega (arith, h.few)) (omega (arith, h.sum, sum_by-cons records_of v vs)))
     (more_volumes base (v ∷ []) vs (fit_next [] v vs h))
 
 -- ---- what is printed
 
-print_again : (base : DraftPlan) (p : Print) (word : List ℕ) → print_in word ≡ Ok p
-    → line_at stage.Volumes (record base { stage = stage.Volumes }) (codes "print") (word ∷ [])
-    ≡ Ok (record base { stage = stage.Bulks; plan = record base.plan { print = p } })
-unfolding line_at later_at one_field next_field no_fields
-print_again base p word h = rw h refl
-
 printed : (base : DraftPlan) (word : List ℕ) (p : Print) → IsField word → print_in word ≡ Ok p
     → Reaches (record base { stage = stage.Volumes }) (ended (codes "print" ++ (32 ∷ word)))
     (record base { stage = stage.Bulks; plan = record base.plan { print = p } })
-printed base word p f h = reaches_line (front_field (record { some = omega arith; bytes = refl }) (last_field f)) refl
-    (print_again base p word h)
+unfolding line_at later_at one_field next_field no_fields
+printed base word p f h = reaches_line {word = codes "print"}
+    (front_field (record { some = omega arith; bytes = refl }) (last_field f)) refl (rw h refl)
 
 print_reaches : (base : DraftPlan) (p : Print) → Reaches (record base { stage = stage.Volumes }) (ended (print_text p))
     (record base { stage = stage.Bulks; plan = record base.plan { print = p } })
@@ -186,44 +143,6 @@ print_reaches base print.Replies = printed base (codes "replies") print.Replies
 print_reaches base print.All = printed base (codes "all") print.All (record { some = omega arith; bytes = refl }) refl
 
 -- ---- fast stores
-
--- the parts of a call or of places, of a volume and with a number
-numbered_parts : (volumes volume most n : ℕ) → (nat_lt volume volumes && is_from 1 most n) ≡ true → (volume < volumes)
-    × (1 ≤ n) × (n ≤ most)
-numbered_parts volumes volume most n h =
-    let p = and_parts (nat_lt volume volumes) (is_from 1 most n) h in
-    let w = within 1 most n p.1 in
-    (lt_from volume volumes p.0, w.0, w.1)
-
-bulk_parts : (volumes : ℕ) (b : Bulk) → is_bulk volumes b ≡ true → (b.volume < volumes) × (1 ≤ b.places)
-    × (b.places ≤ 1024)
-unfolding is_bulk
-bulk_parts volumes b h = numbered_parts volumes b.volume 1024 b.places h
-
-bulk_fields : (vs : List VolumeLine) (b : Bulk) → AreVolumes vs → is_bulk (length vs) b ≡ true
-    → HasFields (bulk_text vs b) (codes "bulk" ∷ volume_name vs b.volume ∷ decimal b.places ∷ [])
-unfolding bulk_text
-bulk_fields vs b a h =
-    let p = bulk_parts (length vs) b h in
-    front_field (record { some = omega arith; bytes = refl }) (front_field
-    (volume_field vs b.volume p.0 a.each) (last_field (decimal_field b.places (omega (arith, p)))))
-
-bulk_line_again : (d : DraftPlan) (b : Bulk) → AreVolumes d.plan.volumes → is_bulk (length d.plan.volumes) b ≡ true
-    → list_any (is_before b.volume) d.plan.bulks ≡ false → bulk_line d
-    (volume_name d.plan.volumes b.volume ∷ decimal b.places ∷ [])
-    ≡ Ok (record d { stage = stage.Bulks; plan = record d.plan { bulks = d.plan.bulks ++ b ∷ [] } })
-unfolding two_fields one_field next_field no_fields
-bulk_line_again d b a h new =
-    let p = bulk_parts (length d.plan.volumes) b h in
-    rw (
-      volume_again d.plan.volumes b.volume p.0 a.each a.own,
-      new,
-      number_again 1 1024 b.places (omega arith) (omega (arith, p)) (omega (arith, p)),
-    ) refl
-
-bulk_at : (d : DraftPlan) (fields : List (List ℕ)) → line_at stage.Bulks d (codes "bulk") fields ≡ bulk_line d fields
-unfolding line_at later_at
-bulk_at d fields = refl
 
 record FitBulks (volumes : ℕ) (done bs : List Bulk) : Type 0 where
   each : list_all (is_bulk volumes) bs ≡ true
@@ -239,58 +158,26 @@ with_bulks base bs = record base { stage = stage.Bulks; plan = record base.plan 
 bulks_reach : (base : DraftPlan) (done bs : List Bulk) → AreVolumes base.plan.volumes
     → FitBulks (length base.plan.volumes) done bs
     → Reaches (with_bulks base done) (bulks_text base.plan.volumes bs) (with_bulks base (done ++ bs))
+unfolding bulk_text is_bulk line_at later_at two_fields one_field next_field no_fields
 bulks_reach base done [] a h = rw (nil_after done) reaches_nothing
 bulks_reach base done (b ∷ bs) a h =
-    let fits = is_bulk (length base.plan.volumes) in
-    let parts = and_parts (fits b) (list_all fits bs) h.each in
-    reaches_both (reaches_line (bulk_fields base.plan.volumes b a parts.0) refl (bulk_at (with_bulks base done) _
-    ∙ bulk_line_again (with_bulks base done) b a parts.0 (other_volumes done b bs h.own)))
-    (rw (append_assoc done (b ∷ []) bs) at (bulks_reach base (done ++ b ∷ []) bs a (record {
-      each = parts.1;
+    let v : b.volume < length base.plan.volumes = grind (arith, nat_tests, h.each) in
+    let n : (1 ≤ b.places) × (b.places ≤ 1024) = (grind (arith, nat_tests, h.each), grind (arith, nat_tests, h.each)) in
+    reaches_both (reaches_line {word = codes "bulk"} (front_field (record { some = omega arith; bytes = refl }) (front_field
+    (volume_field base.plan.volumes b.volume v a.each) (last_field (decimal_field b.places (omega arith))))) refl (rw (
+      volume_again base.plan.volumes b.volume v a.each a.own,
+      other_volumes done b bs h.own,
+      number_again 1 1024 b.places (omega arith) n.0 n.1,
+    ) refl)) (rw (append_assoc done (b ∷ []) bs) at (bulks_reach base (done ++ b ∷ []) bs a (record {
+      each = grind (arith, nat_tests, h.each);
       own = ap have_own_volumes (append_assoc done (b ∷ []) bs) ∙ h.own;
     })))
 
 -- ---- calls that fail
 
-fail_parts : (volumes : ℕ) (f : Fail) → is_fail volumes f ≡ true → (f.volume < volumes) × (1 ≤ f.number)
-    × (f.number ≤ 1000000)
-unfolding is_fail
-fail_parts volumes f h = numbered_parts volumes f.volume 1000000 f.number h
-
--- the fields of the line of a call that fails, after its word
-abbrev fail_fields_text : List VolumeLine → Fail → List (List ℕ)
-fail_fields_text vs f = volume_name vs f.volume ∷ call_text f.write ∷ (decimal f.number ++ onward_text f.onward) ∷ []
-
-fail_fields : (vs : List VolumeLine) (f : Fail) → AreVolumes vs → is_fail (length vs) f ≡ true
-    → HasFields (fail_text vs f) (codes "fail" ∷ fail_fields_text vs f)
-unfolding fail_text
-fail_fields vs f a h =
-    let p = fail_parts (length vs) f h in
-    front_field (record { some = omega arith; bytes = refl }) (front_field (volume_field vs f.volume p.0 a.each)
-    (front_field (write_field f.write) (last_field (call_field f.number f.onward (omega (arith, p))))))
-
-fail_line_again : (d : DraftPlan) (f : Fail) → AreVolumes d.plan.volumes → is_fail (length d.plan.volumes) f ≡ true
-    → length d.plan.fails < 100 → fail_line d (fail_fields_text d.plan.volumes f)
-    ≡ Ok (record d { stage = stage.Fails; plan = record d.plan { fails = d.plan.fails ++ f ∷ [] } })
-unfolding fail_in three_fields two_fields one_field next_field no_fields
-fail_line_again d f a h room =
-    let p = fail_parts (length d.plan.volumes) f h in
-    let few : nat_lt (length d.plan.fails) 100 ≡ true = grind (arith, nat_tests) in
-    rw (
-      volume_again d.plan.volumes f.volume p.0 a.each a.own,
-      write_again f.write,
-      call_again f.number f.onward (omega (arith, p)) (omega (arith, p)),
-      few,
-    ) refl
-
 -- a call that fails may stand at this stage, or a process may begin
 abbrev pub takes_fail : Stage → Bool
 takes_fail s = is_from 3 5 (reach s)
-
-fail_at : (s : Stage) (d : DraftPlan) (fields : List (List ℕ)) → takes_fail s ≡ true
-    → line_at s d (codes "fail") fields ≡ fail_line d fields
-unfolding line_at later_at
-fail_at s d fields h = simp (and_false, outside s 3 5 (omega arith) h, h)
 
 -- the stage after calls that fail
 abbrev pub stage_after_fails : Stage → List Fail → Stage
@@ -319,16 +206,26 @@ with_fails base s fs = record base { stage = s; plan = record base.plan { fails 
 fails_reach : (base : DraftPlan) (s : Stage) (done fs : List Fail) → takes_fail s ≡ true → AreVolumes base.plan.volumes
     → FitFails (length base.plan.volumes) done fs → Reaches (with_fails base s done) (fails_text base.plan.volumes fs)
     (with_fails base (stage_after_fails s fs) (done ++ fs))
+unfolding fail_text is_fail line_at later_at fail_in three_fields two_fields one_field next_field no_fields
 fails_reach base s done [] takes a h = rw (nil_after done) reaches_nothing
 fails_reach base s done (f ∷ fs) takes a h =
-    let fits = is_fail (length base.plan.volumes) in
-    let parts = and_parts (fits f) (list_all fits fs) h.each in
+    let vs = base.plan.volumes in
+    let v : f.volume < length base.plan.volumes = grind (arith, nat_tests, h.each) in
+    let n : (1 ≤ f.number) × (f.number ≤ 1000000) = (grind (arith, nat_tests, h.each), grind (arith, nat_tests, h.each)) in
+    let few : nat_lt (length done) 100 ≡ true = grind (arith, nat_tests, h.few) in
     let rest = fails_reach base stage.Fails (done ++ f ∷ []) fs refl a
-    (record { each = parts.1; few = omega (arith, length-append done (f ∷ []), h.few) }) in
-    reaches_both (reaches_line (fail_fields base.plan.volumes f a parts.0) refl
-    (fail_at s (with_fails base s done) _ takes
-    ∙ fail_line_again (with_fails base s done) f a parts.0 (omega (arith, h.few))))
-    (rw (append_assoc done (f ∷ []) fs, still_fails fs) at rest)
+    (record { each = grind (arith, nat_tests, h.each); few = omega (arith, length-append done (f ∷ []), h.few) }) in
+    reaches_both (reaches_line {word = codes "fail"} (front_field (record { some = omega arith; bytes = refl }) (front_field
+    (volume_field vs f.volume v a.each) (front_field (write_field f.write)
+    (last_field (call_field f.number f.onward n.1))))) refl (simp (
+      and_false,
+      outside s 3 5 (omega arith) takes,
+      takes,
+      volume_again vs f.volume v a.each a.own,
+      write_again f.write,
+      call_again f.number f.onward n.0 n.1,
+      few,
+    ))) (rw (append_assoc done (f ∷ []) fs, still_fails fs) at rest)
 
 -- ---- the whole head
 

@@ -1,5 +1,5 @@
 -- Laws of printable lines (own).
-use Rattle.script.proofs.Prelude.{◌≡◌, ℕ, ◌+◌, ◌<◌, ◌≤◌, true, false, ◌&&◌, List, [], length, refl, sym, ap, ◌∙◌, arith, Bool, get_or, take, nat_tests, common_steps, take_all, list_all_more, line_found, line_unfed, line_last, is_printable, is_printable_byte}
+use Rattle.script.proofs.Prelude.{◌≡◌, ℕ, ◌+◌, ◌<◌, ◌≤◌, true, false, ◌&&◌, List, [], length, refl, sym, ap, ◌∙◌, arith, Bool, get_or, take, nat_tests, common_steps, and_false, take_all, list_all_more, line_found, line_unfed, line_last, is_printable, is_printable_byte}
 use Rattle.script.proofs.LaneLaws.{front_read}
 
 pub none_printable : true ≡ is_printable []
@@ -23,10 +23,6 @@ unfolding is_printable
 one_unprintable bs i lt out =
     let here : is_printable_byte (get_or bs i 0) ≡ false = grind (arith, nat_tests) in
     sym (list_all_more is_printable_byte bs i 0 lt ∙ rw here (and_false _))
-  where
-    and_false : (z : Bool) → (z && false) ≡ false
-    and_false true = refl
-    and_false false = refl
 
 pub stays_unprintable : (bs : List ℕ) (i : ℕ) → i < length bs → is_printable (take i bs) ≡ false
     → is_printable (take (i + 1) bs) ≡ false

@@ -1,5 +1,5 @@
 -- Laws of the texts of paths (own).
-use Rattle.script.proofs.Prelude.{◌≡◌, ℕ, ◌≤◌, Bool, true, false, cond, ◌&&◌, nat_le, eqb, List, [], ◌∷◌, ◌++◌, length, Option, Some, None, Ok, Err, refl, sym, ap, ◌∙◌, arith, nat_tests, common_steps, list_all, AllByRecursion, is_name, is_name_byte, names_text, path_text, IsName, IsPath, onto_piece, path_of, pieces_of, if_path, is_path, path_in, and_from, and_parts}
+use Rattle.script.proofs.Prelude.{◌≡◌, ℕ, ◌≤◌, Bool, true, false, cond, eqb, List, [], ◌∷◌, ◌++◌, length, Option, Some, None, Ok, Err, refl, sym, ap, ◌∙◌, arith, nat_tests, common_steps, list_all, AllByRecursion, is_name, is_name_byte, names_text, path_text, IsName, IsPath, onto_piece, path_of, pieces_of, if_path, is_path, path_in, and_from, and_parts}
 use Rattle.script.specs.declared.refusals.Cause.TheVariants as cause
 
 pieces_nil : pieces_of [] ≡ [] ∷ []
@@ -36,32 +36,25 @@ some_text (name ∷ names) bs e = e
 
 -- no sign stands in a name
 no_sign : (b : ℕ) → is_name_byte b ≡ true → eqb b 62 ≡ false
-no_sign b h = split (eqb b 62) refl
-  where
-    split : (z : Bool) → eqb b 62 ≡ z → eqb b 62 ≡ false
-    split true z = let e : b ≡ 62 = grind (arith, nat_tests) in let clash : false ≡ true = rw e at h in absurd (cc)
-    split false z = z
+no_sign b h = grind (arith, nat_tests)
 
 name_bytes : (name : List ℕ) → is_name name ≡ true → (1 ≤ length name) × (list_all is_name_byte name ≡ true)
 unfolding is_name
-name_bytes name h =
-    let parts = and_parts (nat_le 1 (length name) && nat_le (length name) 32) (list_all is_name_byte name) h in
-    let long = (and_parts (nat_le 1 (length name)) (nat_le (length name) 32) parts.0).0 in
-    (grind (arith, nat_tests), parts.1)
+name_bytes name h = (grind (arith, nat_tests), grind (arith, nat_tests))
 
 name_before : (name : List ℕ) (names : List (List ℕ)) → list_all is_name_byte name ≡ true
     → pieces_of (names_text names) ≡ [] ∷ names → pieces_of (name ++ names_text names) ≡ name ∷ names
 name_before [] names h ih = ih
 name_before (b ∷ bs) names h ih =
-    let parts = and_parts (is_name_byte b) (list_all is_name_byte bs) h in
-    pieces_byte b (bs ++ names_text names) (no_sign b parts.0) ∙ ap (onto_piece b) (name_before bs names parts.1 ih)
+    let rest = name_before bs names (grind (arith, nat_tests)) ih in
+    cc (pieces_byte b (bs ++ names_text names) (no_sign b (grind (arith, nat_tests))), rest)
 
 names_again : (names : List (List ℕ)) → list_all is_name names ≡ true → pieces_of (names_text names) ≡ [] ∷ names
 names_again [] h = pieces_nil
 names_again (name ∷ names) h =
     let parts = and_parts (is_name name) (list_all is_name names) h in
-    pieces_sign (name ++ names_text names) ∙ ap (λ (t : List (List ℕ)). [] ∷ t)
-    (name_before name names (name_bytes name parts.0).1 (names_again names parts.1))
+    let rest = name_before name names (name_bytes name parts.0).1 (names_again names parts.1) in
+    cc (pieces_sign (name ++ names_text names))
 
 each_name : (names : List (List ℕ)) → AllByRecursion IsName names → list_all is_name names ≡ true
 each_name [] h = refl
@@ -75,27 +68,20 @@ each_is_name (name ∷ names) h = let parts = and_parts (is_name name) (list_all
 -- a path keeps the rules that a script asks of it, and the other way round
 pub path_is : (names : List (List ℕ)) → IsPath names → is_path names ≡ true
 unfolding is_path
-path_is names h = let few = h.few in and_from (nat_le (length names) 9) (list_all is_name names)
-    (grind (arith, nat_tests)) (each_name names h.each)
+path_is names h = grind (arith, nat_tests, h.few, each_name names h.each)
 
 pub path_from : (names : List (List ℕ)) → is_path names ≡ true → IsPath names
 unfolding is_path
-path_from names h =
-    let parts = and_parts (nat_le (length names) 9) (list_all is_name names) h in
-    let few = parts.0 in
-    record { few = grind (arith, nat_tests); each = each_is_name names parts.1 }
+path_from names h = record { few = grind (arith, nat_tests); each = each_is_name names (grind (arith, nat_tests)) }
 
 root_again : path_of (62 ∷ []) ≡ Some []
 unfolding path_of
 root_again = refl
 
-below_again : (c : ℕ) (cs : List ℕ) → path_of (62 ∷ c ∷ cs) ≡ if_path (pieces_of (c ∷ cs))
-unfolding path_of
-below_again c cs = refl
-
 text_again : (text : List ℕ) → 1 ≤ length text → path_of (62 ∷ text) ≡ if_path (pieces_of text)
+unfolding path_of
 text_again [] some = absurd (omega arith)
-text_again (c ∷ cs) some = below_again c cs
+text_again (c ∷ cs) some = refl
 
 -- each path is read from its text
 pub path_again : (names : List (List ℕ)) → is_path names ≡ true → path_of (path_text names) ≡ Some names

@@ -6,7 +6,7 @@ pub use Rattle.std.proofs.lemmas.Fmt.{decimal_by_steps, decimal_nonempty, length
 pub use Rattle.std.proofs.lemmas.Grind.{common_steps}
 pub use Rattle.std.proofs.lemmas.List.{length-append, length-map, take_all, take_at}
 pub use Rattle.std.proofs.lemmas.List.Folds.{list_all-append, list_all_more, list_any-append}
-pub use Rattle.std.proofs.lemmas.List.Sums.{sum_by-append}
+pub use Rattle.std.proofs.lemmas.List.Sums.{sum_by-append, sum_by-cons}
 pub use Rattle.std.proofs.lemmas.Nat.{pow-add}
 pub use Rattle.std.proofs.lemmas.Simd.{leading_from_mask_l, length-chunk, map-map, mask_l-mod, run_in_chunk_fails, run_in_chunk_le, run_in_chunk_stops, trailing_mask_l, zip2_of_maps, zip2_splat, zip2_splat_left}
 pub use Rattle.std.proofs.lemmas.Slice.Eq.{bytes_eq-Decides}

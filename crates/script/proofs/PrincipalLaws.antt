@@ -1,5 +1,5 @@
 -- The texts of principals and of rows are fields, and are read back as what they are the texts of (own).
-use Rattle.script.proofs.Prelude.{◌≡◌, ℕ, ◌≤◌, Bool, true, false, cond, List, [], ◌∷◌, ◌++◌, length, Option, Some, None, Ok, refl, sym, ap, subst, ◌∙◌, arith, IfSome, list_all, bytes_eq, nat_tests, who_again, row_again, is_label, is_label_byte, IsLabel, default_project, before_dot, after_dot, IsWho, who_of, who_text, parts_text, IsRow, any_text, part_of, row_alone, row_of, row_or, row_parts_text, row_text, row_with, Who, Row, is_who, is_part, is_row, who_in, row_in, and_from, and_parts}
+use Rattle.script.proofs.Prelude.{◌≡◌, ℕ, Bool, true, false, cond, List, ◌∷◌, ◌++◌, length-append, Option, Some, None, Ok, refl, sym, ap, subst, ◌∙◌, arith, IfSome, list_all, bytes_eq, nat_tests, who_again, row_again, is_label, is_label_byte, IsLabel, default_project, before_dot, after_dot, IsWho, who_of, who_text, parts_text, IsRow, any_text, part_of, row_alone, row_of, row_or, row_parts_text, row_text, row_with, Who, Row, is_who, is_part, is_row, who_in, row_in, and_from, and_parts}
 use Rattle.script.proofs.FieldTexts.{is_field_byte, IsField, all_both, short_field}
 
 -- ---- labels
@@ -15,16 +15,14 @@ label_field text h = short_field is_label_byte label_byte_is_field text h
 
 pub who_in_again : (who : Who) → is_who who ≡ true → who_in (who_text who) ≡ Ok who
 who_in_again who h =
-    let parts = and_parts (is_label who.person) (is_label who.project) h in
-    let whole : IsWho who = record { person = parts.0; project = parts.1 } in
+    let whole : IsWho who = record { person = grind (arith, nat_tests); project = grind (arith, nat_tests) } in
     rw (who_again (who_text who) (who_of (who_text who)) refl who whole refl) refl
 
 dotted_field : (xs ys : List ℕ) → IsField xs → list_all is_field_byte ys ≡ true → IsField (xs ++ (46 ∷ ys))
-dotted_field xs ys x y = record { some = some xs x.some; bytes = all_both is_field_byte xs (46 ∷ ys) x.bytes y }
-  where
-    some : (xs : List ℕ) → 1 ≤ length xs → 1 ≤ length (xs ++ (46 ∷ ys))
-    some [] h = absurd (omega arith)
-    some (b ∷ bs) h = omega arith
+dotted_field xs ys x y = record {
+  some = omega (arith, x.some, length-append xs (46 ∷ ys));
+  bytes = all_both is_field_byte xs (46 ∷ ys) x.bytes y;
+}
 
 parts_field : (a b : List ℕ) → is_label a ≡ true → is_label b ≡ true → IsField (parts_text a b)
 parts_field a b ha hb = chosen (bytes_eq b default_project)
@@ -35,8 +33,7 @@ parts_field a b ha hb = chosen (bytes_eq b default_project)
 
 pub who_field : (who : Who) → is_who who ≡ true → IsField (who_text who)
 unfolding who_text
-who_field who h = let parts = and_parts (is_label who.person) (is_label who.project) h in parts_field who.person
-    who.project parts.0 parts.1
+who_field who h = parts_field who.person who.project (grind (arith, nat_tests)) (grind (arith, nat_tests))
 
 -- ---- rows
 
@@ -50,20 +47,17 @@ row_in_again row h =
     let whole : IsRow row = record { person = labels_in row.person parts.0; project = labels_in row.project parts.1 } in
     rw (row_again (row_text row) (row_of (row_text row)) refl row whole refl) refl
 
-any_field : IsField any_text
-any_field = record { some = omega arith; bytes = refl }
-
 row_parts_field : (person project : Option (List ℕ)) → is_part person ≡ true → is_part project ≡ true
     → IsField (row_parts_text person project)
-row_parts_field None None ha hb = any_field
-row_parts_field None (Some b) ha hb = dotted_field any_text b any_field (label_field b hb).bytes
+row_parts_field None None ha hb = record { some = omega arith; bytes = refl }
+row_parts_field None (Some b) ha hb = dotted_field any_text b (record { some = omega arith; bytes = refl })
+    (label_field b hb).bytes
 row_parts_field (Some a) None ha hb = dotted_field a any_text (label_field a ha) refl
 row_parts_field (Some a) (Some b) ha hb = parts_field a b ha hb
 
 pub row_field : (row : Row) → is_row row ≡ true → IsField (row_text row)
 unfolding row_text
-row_field row h = let parts = and_parts (is_part row.person) (is_part row.project) h in row_parts_field row.person
-    row.project parts.0 parts.1
+row_field row h = row_parts_field row.person row.project (grind (arith, nat_tests)) (grind (arith, nat_tests))
 
 -- ---- a row that was read has labels as its parts
 

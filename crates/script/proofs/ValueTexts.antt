@@ -1,5 +1,5 @@
 -- The texts of values: each is a field, and is read back as the value (own).
-use Rattle.script.proofs.Prelude.{◌≡◌, ℕ, ◌+◌, ◌-◌, ◌*◌, ◌/◌, ◌%◌, ◌^◌, ◌<◌, ◌≤◌, true, nat_le, List, [], ◌∷◌, ◌++◌, length, Some, Ok, refl, sym, ap, ◌∙◌, arith, nat_tests, decimal_by_steps, decimal_nonempty, length-decimal-le, is_ascii_digit, decimal, list_all, is_name, is_name_byte, names_text, path_text, octal_digits, is_octal_digit, octal_digits_all, length-octal_digits, octal_reads_back, decimal_value, decimal_value_from, is_path, number_in, word_in, path_in, and_from, and_parts}
+use Rattle.script.proofs.Prelude.{◌≡◌, ℕ, ◌+◌, ◌-◌, ◌*◌, ◌/◌, ◌%◌, ◌^◌, ◌<◌, ◌≤◌, true, ◌&&◌, nat_le, List, [], ◌∷◌, ◌++◌, length, Some, Ok, refl, sym, ap, ◌∙◌, arith, nat_tests, decimal_by_steps, decimal_nonempty, length-decimal-le, is_ascii_digit, decimal, list_all, is_name, is_name_byte, names_text, path_text, octal_digits, is_octal_digit, octal_digits_all, length-octal_digits, octal_reads_back, decimal_value, decimal_value_from, is_path, number_in, word_in, path_in, and_from, and_parts}
 use Rattle.script.proofs.FieldTexts.{is_field_byte, IsField, all_from, all_both, short_field}
 use Rattle.script.proofs.PathLaws.{path_again}
 use Rattle.script.proofs.NumberLaws.{nil_step}
@@ -51,16 +51,14 @@ unfolding decimal_value
 decimal_again n h =
     let some = decimal_nonempty n (omega arith) in
     let short : length (decimal n) ≤ 10 = length-decimal-le 10 n (omega arith) (omega arith) (omega arith) in
-    let low : nat_le 1 (length (decimal n)) ≡ true = grind (arith, nat_tests) in
-    let high : nat_le (length (decimal n)) 10 ≡ true = grind (arith, nat_tests) in
-    rw (low, high) (decimal_stands n (omega arith)).value
+    let fits : (nat_le 1 (length (decimal n)) && nat_le (length (decimal n)) 10) ≡ true = grind (arith, nat_tests) in
+    rw fits (decimal_stands n (omega arith)).value
 
 pub number_again : (low high n : ℕ) → high ≤ 1000000 → low ≤ n → n ≤ high → number_in low high (decimal n) ≡ Ok n
 unfolding number_in
 number_again low high n top l u =
-    let from : nat_le low n ≡ true = grind (arith, nat_tests) in
-    let to : nat_le n high ≡ true = grind (arith, nat_tests) in
-    rw (decimal_again n (omega arith), from, to) refl
+    let within : (nat_le low n && nat_le n high) ≡ true = grind (arith, nat_tests) in
+    rw (decimal_again n (omega arith), within) refl
 
 pub decimal_digits : (n : ℕ) → n ≤ 1000000 → list_all is_ascii_digit (decimal n) ≡ true
 decimal_digits n h = (decimal_stands n (omega arith)).digits

@@ -1,5 +1,5 @@
 -- The names of volumes, modes, amounts and calls that fail: each is a field, and is read back (own).
-use Rattle.script.proofs.Prelude.{◌≡◌, ℕ, suc, zero, ◌+◌, ◌-◌, ◌<◌, ◌≤◌, Bool, true, false, ◌&&◌, eqb, ltb, List, [], ◌∷◌, ◌++◌, length, take, Some, Ok, refl, sym, ap, subst, ◌∙◌, arith, get_or, ℤ, pos, negsuc, nat_tests, take_at, bytes_eq-Decides, is_ascii_digit, decimal, is_negative, unsigned_abs, list_all, list_any, bytes_eq, is_name, Mode, has_name, have_own_names, is_from, is_volume, amount_in, call_in, ends_with_plus, is_write_in, mode_in, new_name_in, number_from, volume_in, call_text, onward_text, mode_text, sign_text, volume_name, VolumeLine, and_parts, first_false, second_false}
+use Rattle.script.proofs.Prelude.{◌≡◌, ℕ, suc, zero, ◌+◌, ◌-◌, ◌<◌, ◌≤◌, Bool, true, false, eqb, List, [], ◌∷◌, ◌++◌, length, take, Some, Ok, refl, sym, ap, subst, ◌∙◌, arith, get_or, ℤ, pos, negsuc, nat_tests, take_at, bytes_eq-Decides, is_ascii_digit, decimal, is_negative, unsigned_abs, list_all, list_any, bytes_eq, is_name, Mode, has_name, have_own_names, is_from, is_volume, amount_in, call_in, ends_with_plus, is_write_in, mode_in, new_name_in, number_from, volume_in, call_text, onward_text, mode_text, sign_text, volume_name, VolumeLine, first_false, second_false}
 use Rattle.std.proofs.lemmas.List.{length_push}
 use Rattle.mnames.specs.declared.modes.Mode.TheVariants as mode
 use Rattle.script.proofs.FieldTexts.{is_field_byte, IsField, all_both}
@@ -39,14 +39,13 @@ number_again_from n (v ∷ vs) (suc k) lt h =
 
 volume_is_named : (v : VolumeLine) → is_volume v ≡ true → is_name v.name ≡ true
 unfolding is_volume
-volume_is_named v h = (and_parts (is_name v.name) (is_from 1 16384 v.records && is_from 1 4097 v.entries) h).0
+volume_is_named v h = grind (arith, nat_tests)
 
 pub name_of_volume : (vs : List VolumeLine) (k : ℕ) → k < length vs → list_all is_volume vs ≡ true
     → is_name (volume_name vs k) ≡ true
 name_of_volume [] k lt h = absurd (omega arith)
-name_of_volume (v ∷ vs) zero lt h = volume_is_named v (and_parts (is_volume v) (list_all is_volume vs) h).0
-name_of_volume (v ∷ vs) (suc k) lt h = name_of_volume vs k (omega arith)
-    (and_parts (is_volume v) (list_all is_volume vs) h).1
+name_of_volume (v ∷ vs) zero lt h = volume_is_named v (grind (arith, nat_tests))
+name_of_volume (v ∷ vs) (suc k) lt h = name_of_volume vs k (omega arith) (grind (arith, nat_tests))
 
 pub volume_field : (vs : List VolumeLine) (k : ℕ) → k < length vs → list_all is_volume vs ≡ true
     → IsField (volume_name vs k)
@@ -70,21 +69,17 @@ new_name_again vs name h new = rw (h, new) refl
 pub mode_again : (m : Mode) → mode_in (mode_text m) ≡ Ok m
 unfolding mode_in mode_text
 mode_again mode.Null = refl
-mode_again mode.Read = refl
-mode_again mode.Write = refl
-mode_again mode.Both = refl
+mode_again _ = refl
 
 pub mode_field : (m : Mode) → IsField (mode_text m)
 unfolding mode_text
 mode_field mode.Null = record { some = omega arith; bytes = refl }
-mode_field mode.Read = record { some = omega arith; bytes = refl }
-mode_field mode.Write = record { some = omega arith; bytes = refl }
-mode_field mode.Both = record { some = omega arith; bytes = refl }
+mode_field _ = record { some = omega arith; bytes = refl }
 
 -- ---- amounts
 
 not_below : (n : ℕ) → is_negative (pos n) ≡ false
-not_below n = let past : ltb n 0 ≡ false = grind (arith, nat_tests) in past
+not_below n = grind (arith, nat_tests)
 
 pub amount_again : (z : ℤ) → is_from 1 16384 (unsigned_abs z) ≡ true
     → amount_in (sign_text (is_negative z) ++ decimal (unsigned_abs z)) ≡ Ok z
@@ -135,18 +130,16 @@ cut_plus xs = rw (before_plus xs) (take_at xs (43 ∷ []) (length xs) refl)
 digit_at : (xs : List ℕ) (i : ℕ) → i < length xs → list_all is_ascii_digit xs ≡ true → is_ascii_digit (get_or xs i 0)
     ≡ true
 digit_at [] i lt h = absurd (omega arith)
-digit_at (x ∷ xs) zero lt h = (and_parts (is_ascii_digit x) (list_all is_ascii_digit xs) h).0
-digit_at (x ∷ xs) (suc i) lt h = digit_at xs i (omega arith)
-    (and_parts (is_ascii_digit x) (list_all is_ascii_digit xs) h).1
+digit_at (x ∷ xs) zero lt h = grind (arith, nat_tests)
+digit_at (x ∷ xs) (suc i) lt h = digit_at xs i (omega arith) (grind (arith, nat_tests))
 
 digit_is_no_plus : (b : ℕ) → is_ascii_digit b ≡ true → eqb b 43 ≡ false
 digit_is_no_plus b h = grind (arith, nat_tests)
 
 no_plus : (n : ℕ) → n ≤ 1000000 → ends_with_plus (decimal n) ≡ false
 no_plus n h =
-    let some = (decimal_field n h).some in
     digit_is_no_plus (get_or (decimal n) (length (decimal n) - 1) 0)
-    (digit_at (decimal n) (length (decimal n) - 1) (omega (arith, some)) (decimal_digits n h))
+    (digit_at (decimal n) (length (decimal n) - 1) (omega (arith, (decimal_field n h).some)) (decimal_digits n h))
 
 pub call_field : (n : ℕ) (onward : Bool) → n ≤ 1000000 → IsField (decimal n ++ onward_text onward)
 call_field n true h =
