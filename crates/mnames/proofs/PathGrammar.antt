@@ -53,11 +53,7 @@ split_name [] (c ∷ cs) [] s hx hc h = absurd (cc)
 split_name [] (c ∷ cs) (y ∷ ys) s hx hc h = absurd (sign_is_none c (cc) (first_byte c cs hc))
 split_name (x ∷ xs) [] ys s hx hc h = absurd (sign_is_none x (cc) (first_byte x xs hx))
 split_name (x ∷ xs) (c ∷ cs) ys s hx hc h =
-    let rest : xs ++ names_text ys ≡ cs ++ (62 ∷ s) = cc in
-    let heads : x ≡ c = cc in
-    let both : (xs ≡ cs) × (names_text ys ≡ 62 ∷ s) = split_name xs cs ys s (later_bytes x xs hx) (later_bytes c cs hc)
-    rest in
-    let tails : xs ≡ cs = both.0 in
+    let both = split_name xs cs ys s (later_bytes x xs hx) (later_bytes c cs hc) (cc) in
     (cc, both.1)
 
 -- not before another byte
@@ -72,15 +68,13 @@ goes_past (x ∷ xs) [] ys b s hx hc ne h =
     let heads : x ≡ b = cc in
     (rw (← heads) (first_byte x xs hx), omega arith)
 goes_past (x ∷ xs) (c ∷ cs) ys b s hx hc ne h =
-    let rest : xs ++ names_text ys ≡ cs ++ (b ∷ s) = cc in
-    let both : (is_name_byte b ≡ true) × (length cs < length xs) =
-    goes_past xs cs ys b s (later_bytes x xs hx) (later_bytes c cs hc) ne rest in
+    let both = goes_past xs cs ys b s (later_bytes x xs hx) (later_bytes c cs hc) ne (cc) in
     (both.0, omega arith)
 
 -- a name has a first byte
 begins_name : (x : List ℕ) (xs : List (List ℕ)) (b : ℕ) (s : List ℕ) → IsName x → x ++ names_text xs ≡ b ∷ s
     → is_name_byte b ≡ true
-begins_name [] xs b s h e = let n : 1 ≤ 0 = name_long [] h in absurd (omega arith)
+begins_name [] xs b s h e = absurd (omega (arith, name_long [] h))
 begins_name (x ∷ xs) ys b s h e =
     let heads : x ≡ b = cc in
     subst (λ (n : ℕ). is_name_byte n ≡ true) heads (first_byte x xs (name_bytes (x ∷ xs) h))
@@ -90,21 +84,12 @@ names_same : (xs ys : List (List ℕ)) → AllByRecursion IsName xs → AllByRec
 names_same [] [] hx hy h = refl
 names_same [] (y ∷ ys) hx hy h = absurd (cc)
 names_same (x ∷ xs) [] hx hy h = absurd (cc)
-names_same (x ∷ []) (y ∷ []) hx hy h =
-    let bytes : x ++ [] ≡ y ++ [] = cc in
-    let same : x ≡ y = sym (append-nil x) ∙ bytes ∙ append-nil y in
-    cc
+names_same (x ∷ []) (y ∷ []) hx hy h = cc (append-nil x, append-nil y)
 names_same (x ∷ xs) (y ∷ z ∷ zs) hx hy h =
-    let bytes : x ++ names_text xs ≡ y ++ names_text (z ∷ zs) = cc in
-    let both : (x ≡ y) × (names_text xs ≡ names_text (z ∷ zs)) =
-    split_name x y xs (z ++ names_text zs) (name_bytes x hx.0) (name_bytes y hy.0) bytes in
-    let rest : xs ≡ z ∷ zs = names_same xs (z ∷ zs) hx.1 hy.1 both.1 in
-    let same : x ≡ y = both.0 in
-    cc
+    let both = split_name x y xs (z ++ names_text zs) (name_bytes x hx.0) (name_bytes y hy.0) (cc) in
+    cc (names_same xs (z ∷ zs) hx.1 hy.1 both.1)
 names_same (x ∷ z ∷ zs) (y ∷ []) hx hy h =
-    let bytes : y ++ names_text [] ≡ x ++ names_text (z ∷ zs) = cc in
-    let both : (y ≡ x) × ([] ≡ names_text (z ∷ zs)) = split_name y x [] (z ++ names_text zs) (name_bytes y hy.0)
-    (name_bytes x hx.0) bytes in
+    let both = split_name y x [] (z ++ names_text zs) (name_bytes y hy.0) (name_bytes x hx.0) (cc) in
     absurd (let nothing : [] ≡ names_text (z ∷ zs) = both.1 in cc)
 
 -- ---- the longest front with which some names begin
@@ -141,9 +126,7 @@ cut [] n k lt le = absurd (omega arith)
 cut (b ∷ bs) n zero lt le = absurd (omega arith)
 cut (b ∷ bs) zero (suc k) lt le = (take k bs, refl)
 cut (b ∷ bs) (suc n) (suc k) lt le =
-    let rest : (rest : List ℕ) × (take k bs ≡ take n bs ++ (get_or bs n 0 ∷ rest)) =
-    cut bs n k (omega arith) (omega arith) in
-    (rest.0, cc)
+    let rest = cut bs n k (omega arith) (omega arith) in (rest.0, cc (rest.1))
 
 -- no name begins past a front that is stuck
 stuck_name : (text : List ℕ) (n k : ℕ) (x : List ℕ) (xs : List (List ℕ)) (more : List ℕ) → IsStuck text n → n < k
@@ -159,19 +142,15 @@ stuck_name text n k x xs more h lt le name e = chosen (cases_eq n 0)
     chosen : (n ≡ 0) ⊎ (n ≡ 0 → ⊥) → ⊥
     chosen (inl z) =
         let front : take n text ≡ [] = ap (λ (i : ℕ). take i text) z in
-        let first : is_name_byte (get_or text n 0) ≡ true = begins_name x xs (get_or text n 0) (after ++ more) name
-        (bytes ∙ ap (λ (t : List ℕ). t ++ (get_or text n 0 ∷ (after ++ more))) front) in
-        let not_first : is_name_byte (get_or text n 0) ≡ false = h.run.stop (omega arith) (omega arith) in
-        cc
+        let first = begins_name x xs (get_or text n 0) (after ++ more) name (bytes
+        ∙ ap (λ (t : List ℕ). t ++ (get_or text n 0 ∷ (after ++ more))) front) in
+        cc (h.run.stop (omega arith) (omega arith))
     chosen (inr nz) =
-        let past : (is_name_byte (get_or text n 0) ≡ true) × (length (take n text) < length x) =
-        goes_past x (take n text) xs (get_or text n 0) (after ++ more) (name_bytes x name) h.run.each (h.other nz)
-        bytes in
+        let past = goes_past x (take n text) xs (get_or text n 0) (after ++ more) (name_bytes x name) h.run.each
+        (h.other nz) bytes in
         let long : length (take n text) ≡ n = grind (arith, common_steps) in
-        let few : length x ≤ 32 = name_short x name in
-        let byte : is_name_byte (get_or text n 0) ≡ true = past.0 in
-        let other : is_name_byte (get_or text n 0) ≡ false = h.run.stop (omega arith) (omega arith) in
-        cc
+        let few = name_short x name in
+        cc (past.0, h.run.stop (omega arith) (omega arith))
 
 stuck_longest : (m : ℕ) (text : List ℕ) (n : ℕ) → IsStuck text n → Longest (suc m) (62 ∷ text) (suc n)
 stuck_longest m text n h = record {
@@ -182,19 +161,15 @@ stuck_longest m text n h = record {
   where
     start : (n ≡ 0) ⊎ (n ≡ 0 → ⊥) → Begins (suc m) (62 ∷ take n text)
     start (inl z) =
-        let front : take n text ≡ [] = ap (λ (i : ℕ). take i text) z in
         ((97 ∷ []) ∷ [], 97 ∷ [], omega arith, (one_letter, tt), cc)
     start (inr nz) =
-        let long : length (take n text) ≡ n = let w : n ≤ length text = h.run.within in grind (arith, common_steps) in
-        let short : n ≤ 32 = h.run.short in
+        let long : length (take n text) ≡ n = grind (arith, common_steps, h.run.within) in
         let name : IsName (take n text) = run_is_name (take n text) (omega arith) (omega arith) h.run.each in
         (take n text ∷ [], [], omega arith, (name, tt), refl)
 
     none : (k : ℕ) → n < k → k ≤ length text → Begins (suc m) (62 ∷ take k text) → ⊥
     none k lt le ([], more, few, each, e) = cc
-    none k lt le (x ∷ xs, more, few, each, e) =
-        let bytes : x ++ names_text xs ≡ take k text ++ more = cc in
-        stuck_name text n k x xs more h lt le each.0 bytes
+    none k lt le (x ∷ xs, more, few, each, e) = stuck_name text n k x xs more h lt le each.0 (cc)
 
     over : (k : ℕ) → suc n < k → k ≤ length (62 ∷ text) → Begins (suc m) (take k (62 ∷ text)) → ⊥
     over zero lt le b = omega arith
@@ -204,17 +179,19 @@ stuck_longest m text n h = record {
 name_before : (m : ℕ) (x rest : List ℕ) (k : ℕ) → IsName x → IsAtSign rest → Longest m rest k
     → Longest (suc m) (62 ∷ (x ++ rest)) (suc (length x + k))
 name_before m x rest k name sign h = record {
-  within = let w : k ≤ length rest = h.within in omega (arith, w, length-append x rest);
+  within = omega (arith, h.within, length-append x rest);
   begins = start h.begins;
   longest = over;
 }
   where
     start : Begins m (take k rest) → Begins (suc m) (62 ∷ take (length x + k) (x ++ rest))
-    start (names, more, few, each, e) =
-        let bytes : x ++ names_text names ≡ take (length x + k) (x ++ rest) ++ more =
-        ap (λ (t : List ℕ). x ++ t) e ∙ sym (append_assoc x (take k rest) more)
-        ∙ ap (λ (t : List ℕ). t ++ more) (sym (take-append-add x rest k)) in
-        (x ∷ names, more, omega arith, (name, each), cc)
+    start (names, more, few, each, e) = (
+      x ∷ names,
+      more,
+      omega arith,
+      (name, each),
+      cc (append_assoc x (take k rest) more, take-append-add x rest k),
+    )
 
     inner : (s : List ℕ) (y : List ℕ) (ys : List (List ℕ)) (more : List ℕ) → IsName y → y ++ names_text ys ≡ x
         ++ (62 ∷ (s ++ more)) → names_text ys ≡ (62 ∷ s) ++ more
@@ -225,21 +202,12 @@ name_before m x rest k name sign h = record {
     none [] j at b lt = absurd (omega arith)
     none (c ∷ s) j at ([], more, few, each, e) lt = absurd (cc)
     none (c ∷ s) j at (y ∷ ys, more, few, each, e) lt =
-        let bytes : y ++ names_text ys ≡ (x ++ (c ∷ take j s)) ++ more = cc in
-        let joined : y ++ names_text ys ≡ x ++ (62 ∷ (take j s ++ more)) = bytes ∙ append_assoc x (c ∷ take j s) more
-        ∙ ap (λ (b : ℕ). x ++ (b ∷ (take j s ++ more))) at in (
-          ys,
-          more,
-          omega arith,
-          each.1,
-          inner (take j s) y ys more each.0 joined ∙ ap (λ (b : ℕ). b ∷ (take j s ++ more)) (sym at),
-        )
+        (ys, more, omega arith, each.1, cc (inner (take j s) y ys more each.0 (cc (append_assoc x (c ∷ take j s) more))))
 
     past : (j : ℕ) → k < j → j ≤ length rest → Begins (suc m) (62 ∷ take (length x + j) (x ++ rest)) → ⊥
     past zero lt le b = omega arith
     past (suc j) lt le b =
-        let front : take (length x + suc j) (x ++ rest) ≡ x ++ take (suc j) rest = take-append-add x rest (suc j) in
-        h.longest (suc j) lt le (none rest j sign (rw (← front) b) (omega arith))
+        h.longest (suc j) lt le (none rest j sign (rw (take-append-add x rest (suc j)) at b) (omega arith))
 
     over : (n : ℕ) → suc (length x + k) < n → n ≤ length (62 ∷ (x ++ rest))
         → Begins (suc m) (take n (62 ∷ (x ++ rest))) → ⊥
@@ -259,13 +227,11 @@ bytes_more (x ∷ xs) k = suc (length x + bytes_more xs k)
 
 names_more_is : (xs : List (List ℕ)) (m : ℕ) → names_more xs m ≡ length xs + m
 names_more_is [] m = omega arith
-names_more_is (x ∷ xs) m = let rest : names_more xs m ≡ length xs + m = names_more_is xs m in omega arith
+names_more_is (x ∷ xs) m = omega (arith, names_more_is xs m)
 
 bytes_more_is : (xs : List (List ℕ)) (k : ℕ) → bytes_more xs k ≡ length (names_text xs) + k
 bytes_more_is [] k = omega arith
-bytes_more_is (x ∷ xs) k =
-    let rest : bytes_more xs k ≡ length (names_text xs) + k = bytes_more_is xs k in
-    omega (arith, length-append x (names_text xs))
+bytes_more_is (x ∷ xs) k = omega (arith, bytes_more_is xs k, length-append x (names_text xs))
 
 at_sign : (xs : List (List ℕ)) (rest : List ℕ) → IsAtSign rest → IsAtSign (names_text xs ++ rest)
 at_sign [] rest h = h
@@ -309,12 +275,8 @@ longest_after : (xs : List (List ℕ)) (m : ℕ) (text rest : List ℕ) (k : ℕ
     → length xs + m ≡ 9 → text ≡ names_text xs ++ rest → Longest m rest k
     → IsLongestStart text (length (names_text xs) + k)
 longest_after xs m text rest k each sign count same h =
-    let all : Longest (names_more xs m) (names_text xs ++ rest) (bytes_more xs k) =
-    names_before xs m rest k each sign h in
-    let nine : names_more xs m ≡ 9 = names_more_is xs m ∙ count in
-    let counted : Longest 9 (names_text xs ++ rest) (bytes_more xs k) = rw (← nine) all in
-    let placed : Longest 9 (names_text xs ++ rest) (length (names_text xs) + k) = rw (← (bytes_more_is xs k)) counted in
-    longest_start text (length (names_text xs) + k) (rw same placed)
+    longest_start text (length (names_text xs) + k)
+    (rw same (rw (names_more_is xs m ∙ count, bytes_more_is xs k) at (names_before xs m rest k each sign h)))
 
 all_taken : (text : List ℕ) → take (length text) text ≡ text
 all_taken [] = refl
@@ -333,46 +295,33 @@ never_shorter text k h lt names path e = h.longest (length text) lt (omega arith
 short_texts : (xs : List (List ℕ)) → AllByRecursion IsName xs → length (names_text xs) ≤ 33 * length xs
 short_texts [] h = omega arith
 short_texts (x ∷ xs) h =
-    let rest : length (names_text xs) ≤ 33 * length xs = short_texts xs h.1 in
-    let short : length x ≤ 32 = name_short x h.0 in
-    omega (arith, length-append x (names_text xs))
+    omega (arith, short_texts xs h.1, name_short x h.0, length-append x (names_text xs))
 
 -- the ninth name is there, and a sign follows
 pub full_is_no_path : (xs : List (List ℕ)) (text after : List ℕ) → IsPath xs → 9 ≤ length xs → text ≡ names_text xs
     ++ (62 ∷ after) → IsNoPath text (length (names_text xs))
 full_is_no_path xs text after path full same =
-    let few : length xs ≤ 9 = path.few in
-    let start : IsLongestStart text (length (names_text xs) + 0) =
-    longest_after xs 0 text (62 ∷ after) 0 path.each refl (omega arith) same (none_more after) in
-    let here : IsLongestStart text (length (names_text xs)) =
-    subst (λ (n : ℕ). IsLongestStart text n) (omega arith) start in
-    let long : length text ≡ length (names_text xs) + length (62 ∷ after) = ap length same
-    ∙ length-append (names_text xs) (62 ∷ after) in
-    assumption (never_shorter text (length (names_text xs)) here (omega (arith, long)))
+    let here : IsLongestStart text (length (names_text xs)) = subst (λ (n : ℕ). IsLongestStart text n) (omega arith)
+    (longest_after xs 0 text (62 ∷ after) 0 path.each refl (omega arith) same (none_more after)) in
+    let long = ap length same ∙ length-append (names_text xs) (62 ∷ after) in
+    assumption (never_shorter text (length (names_text xs)) here (omega arith))
+
+-- a name has a byte
+never_nothing : (x : List ℕ) (xs : List (List ℕ)) → IsName x → x ++ names_text xs ≡ [] → ⊥
+never_nothing [] xs h e = omega (arith, name_long [] h)
+never_nothing (b ∷ bs) xs h e = cc
 
 -- a sign at the end is no path, but alone
 ends_at_sign : (xs ys : List (List ℕ)) → AllByRecursion IsName xs → AllByRecursion IsName ys → names_text ys
     ≡ names_text xs ++ (62 ∷ []) → ⊥
 ends_at_sign [] [] hx hy e = cc
-ends_at_sign [] (y ∷ ys) hx hy e =
-    let bytes : y ++ names_text ys ≡ [] = cc in
-    nothing y ys hy.0 bytes
-  where
-    nothing : (y : List ℕ) (ys : List (List ℕ)) → IsName y → y ++ names_text ys ≡ [] → ⊥
-    nothing [] ys h e = let n : 1 ≤ 0 = name_long [] h in omega arith
-    nothing (b ∷ bs) ys h e = cc
+ends_at_sign [] (y ∷ ys) hx hy e = never_nothing y ys hy.0 (cc)
 ends_at_sign (x ∷ xs) [] hx hy e = cc
-ends_at_sign (x ∷ []) (y ∷ ys) hx hy e =
-    let bytes : y ++ names_text ys ≡ (x ++ []) ++ (62 ∷ []) = cc in
-    let both : (y ≡ x) × (names_text ys ≡ 62 ∷ []) = split_name y x ys [] (name_bytes y hy.0) (name_bytes x hx.0)
-    (bytes ∙ append_assoc x [] (62 ∷ [])) in
-    ends_at_sign [] ys tt hy.1 both.1
-ends_at_sign (x ∷ z ∷ zs) (y ∷ ys) hx hy e =
-    let bytes : y ++ names_text ys ≡ (x ++ names_text (z ∷ zs)) ++ (62 ∷ []) = cc in
-    let both : (y ≡ x) × (names_text ys ≡ names_text (z ∷ zs) ++ (62 ∷ [])) =
-    split_name y x ys ((z ++ names_text zs) ++ (62 ∷ [])) (name_bytes y hy.0) (name_bytes x hx.0)
-    (bytes ∙ append_assoc x (names_text (z ∷ zs)) (62 ∷ [])) in
-    ends_at_sign (z ∷ zs) ys hx.1 hy.1 both.1
+ends_at_sign (x ∷ []) (y ∷ ys) hx hy e = ends_at_sign [] ys tt hy.1
+    (split_name y x ys [] (name_bytes y hy.0) (name_bytes x hx.0) (cc (append_assoc x [] (62 ∷ [])))).1
+ends_at_sign (x ∷ z ∷ zs) (y ∷ ys) hx hy e = ends_at_sign (z ∷ zs) ys hx.1 hy.1
+    (split_name y x ys ((z ++ names_text zs) ++ (62 ∷ [])) (name_bytes y hy.0) (name_bytes x hx.0)
+    (cc (append_assoc x (names_text (z ∷ zs)) (62 ∷ [])))).1
 
 -- no name follows the sign
 pub stuck_is_no_path : (xs : List (List ℕ)) (text after : List ℕ) (n : ℕ) → IsPath xs → length xs < 9 → 1 < length text
@@ -388,9 +337,9 @@ stuck_is_no_path xs text after n path room more same h =
     long = ap length same ∙ length-append (names_text xs) (62 ∷ after)
 
     ended : after ≡ [] → (names : List (List ℕ)) → IsPath names → text ≢ path_text names
-    ended z [] p e = let one : length text ≡ 1 = ap length e in omega (arith, more, one)
+    ended z [] p e = omega (arith, more, ap length e)
     ended z (y ∷ ys) p e = ends_at_sign xs (y ∷ ys) path.each p.each
-        (sym e ∙ same ∙ ap (λ (t : List ℕ). names_text xs ++ (62 ∷ t)) z)
+        (cc)
 
     empty : (t : List ℕ) → length t ≡ 0 → t ≡ []
     empty [] e = refl
@@ -403,9 +352,7 @@ stuck_is_no_path xs text after n path room more same h =
         last : (n ≡ 0) ⊎ (n ≡ 0 → ⊥) → length after ≡ 0
         last (inl z) = omega (arith, e, z)
         last (inr nz) = let lt : n < length after = h.inside nz in absurd (omega (arith, lt, e))
-    never (inr ne) =
-        let w : n ≤ length after = h.run.within in
-        never_shorter text (length (names_text xs) + suc n) start (omega (arith, long, w, ne))
+    never (inr ne) = never_shorter text (length (names_text xs) + suc n) start (omega (arith, long, h.run.within, ne))
 
 -- a text that doesn't begin with the sign
 pub unsigned_is_no_path : (text : List ℕ) → (0 < length text → get_or text 0 0 ≢ 62) → IsNoPath text 0
@@ -448,11 +395,8 @@ pub record IsRunSoFar (text : List ℕ) (i : ℕ) : Type 0 where
 pub run_more : (text : List ℕ) (i : ℕ) → IsRunSoFar text i → i < length text → i ≢ 32 → is_name_byte (get_or text i 0)
     ≡ true → IsRunSoFar text (i + 1)
 run_more text i h lt ne byte = record {
-  short = let s : i ≤ 32 = h.short in omega arith;
-  each =
-      let front : list_all is_name_byte (take i text ++ (get_or text i 0 ∷ [])) ≡ true =
-      rw (list_all-append, h.each, byte) refl in
-      rw (take_more text i 0 lt) front;
+  short = omega arith;
+  each = rw (take_more text i 0 lt, list_all-append, h.each, byte) refl;
 }
 
 pub run_whole : (text : List ℕ) (i : ℕ) → IsRunSoFar text i → i ≤ length text
@@ -462,19 +406,15 @@ run_whole text i h within stop = assumption
 pub stuck_at_byte : (text rest : List ℕ) (n : ℕ) → IsRun text n → rest ≡ drop n text → 0 < length rest
     → get_or rest 0 0 ≢ 62 → IsStuck text n
 stuck_at_byte text rest n h same lt ne =
-    let w : n ≤ length text = h.within in
-    let inside : n < length text = let some : 0 < length (drop n text) =
-    rw (← same) lt in grind (arith, common_steps) in
-    let at : get_or rest 0 0 ≡ get_or text n 0 = ap (λ (t : List ℕ). get_or t 0 0) (same ∙ drop-cons text n 0 inside) in
-    record { run = h; inside = λ nz. inside; other = λ nz e. ne (at ∙ e) }
+    let inside : n < length text = grind (arith, common_steps, h.within, rw same at lt) in
+    let at = drop-cons text n 0 inside in
+    record { run = h; inside = λ nz. inside; other = λ nz e. ne (cc) }
 
 pub stuck_at_start : (text front : List ℕ) (n : ℕ) → IsRun text n → front ≡ take n text → length front ≡ 0
     → IsStuck text 0
 stuck_at_start text front n h same none =
-    let w : n ≤ length text = h.within in
-    let long : length (take n text) ≡ n = grind (arith, common_steps) in
-    let counted : length front ≡ length (take n text) = ap length same in
-    let nothing : n ≡ 0 = omega arith in
+    let long : length (take n text) ≡ n = grind (arith, common_steps, h.within) in
+    let nothing : n ≡ 0 = omega (arith, ap length same) in
     record {
       run = rw (← nothing) h;
       inside = λ nz. absurd (nz refl);
@@ -484,10 +424,8 @@ stuck_at_start text front n h same none =
 -- and where a name ends there
 pub front_is_name : (text front : List ℕ) (n : ℕ) → IsRun text n → front ≡ take n text → 0 < length front → IsName front
 front_is_name text front n h same some =
-    let w : n ≤ length text = h.within in
-    let long : length (take n text) ≡ n = grind (arith, common_steps) in
-    let short : n ≤ 32 = h.short in
-    let counted : length front ≡ length (take n text) = ap length same in
+    let long : length (take n text) ≡ n = grind (arith, common_steps, h.within) in
+    let counted = ap length same in
     subst IsName (sym same) (run_is_name (take n text) (omega arith) (omega arith) h.each)
 
 pub front_is_short : (text front : List ℕ) (n : ℕ) → IsRun text n → front ≡ take n text → 0 < length front
@@ -517,85 +455,61 @@ pub read_more : (text : List ℕ) (names : List (List ℕ)) (rest after behind n
     → HasRead text names rest → rest ≡ b ∷ after → length names < 9 → IsName name → after ≡ name ++ behind
     → IsAtSign behind → HasRead text (names ++ name ∷ []) behind
 read_more text names rest after behind name b h split room is_one parts sign = record {
-  whole = whole;
+  whole =
+      let at : b ≡ 62 = subst IsAtSign split h.sign in
+      cc (append_assoc (names_text names) (62 ∷ name) behind, names_text_one_more names name);
   path = record {
     few = omega (arith, length-append names (name ∷ []));
     each = each_one_more names name h.path.each is_one;
   };
   sign = sign;
 }
-  where
-    at : IsAtSign rest → rest ≡ b ∷ after → b ≡ 62
-    at s e = subst IsAtSign e s
-
-    whole : text ≡ names_text (names ++ name ∷ []) ++ behind
-    whole = h.whole ∙ ap (λ (t : List ℕ). names_text names ++ t) (split ∙ ap (λ (c : ℕ). c ∷ after) (at h.sign split)
-        ∙ ap (λ (t : List ℕ). 62 ∷ t) parts) ∙ sym (append_assoc (names_text names) (62 ∷ name) behind)
-        ∙ ap (λ (t : List ℕ). t ++ behind) (sym (names_text_one_more names name))
 
 -- where the bytes before what is left end
 pub read_length : (text : List ℕ) (names : List (List ℕ)) (rest : List ℕ) → HasRead text names rest
     → (length text ≡ length (names_text names) + length rest) × (length (names_text names) ≤ 297)
 read_length text names rest h =
-    let short : length (names_text names) ≤ 33 * length names = short_texts names h.path.each in
-    let few : length names ≤ 9 = h.path.few in
-    (cc (length-append (names_text names) rest), omega arith)
+    (cc (length-append (names_text names) rest), omega (arith, short_texts names h.path.each, h.path.few))
 
 pub read_whole : (text : List ℕ) (names : List (List ℕ)) (rest : List ℕ) → HasRead text names rest → 1 < length text
     → length rest ≡ 0 → text ≡ path_text names
 read_whole text names (b ∷ bs) h more none = absurd (omega arith)
-read_whole text [] [] h more none = let e : length text ≡ 0 = ap length h.whole in absurd (omega arith)
+read_whole text [] [] h more none = absurd (omega (arith, ap length h.whole))
 read_whole text (x ∷ xs) [] h more none = h.whole ∙ append-nil (names_text (x ∷ xs))
 
 pub read_full : (text : List ℕ) (names : List (List ℕ)) (rest after : List ℕ) (b : ℕ) → HasRead text names rest → rest
     ≡ b ∷ after → 9 ≤ length names → IsNoPath text (length text - length rest)
 read_full text names rest after b h split full =
     let at : b ≡ 62 = subst IsAtSign split h.sign in
-    let same : text ≡ names_text names ++ (62 ∷ after) = h.whole
-    ∙ ap (λ (t : List ℕ). names_text names ++ t) (split ∙ ap (λ (c : ℕ). c ∷ after) at) in
-    let long : length text ≡ length (names_text names) + length rest = (read_length text names rest h).0 in
-    subst (λ (n : ℕ). IsNoPath text n) (omega arith) (full_is_no_path names text after h.path full same)
+    let long = (read_length text names rest h).0 in
+    subst (λ (n : ℕ). IsNoPath text n) (omega arith) (full_is_no_path names text after h.path full (cc))
 
 pub read_stuck : (text : List ℕ) (names : List (List ℕ)) (rest after : List ℕ) (b n : ℕ) → HasRead text names rest
     → rest ≡ b ∷ after → length names < 9 → 1 < length text → IsStuck after n
     → IsNoPath text (length text - length after + n)
 read_stuck text names rest after b n h split room more stuck =
     let at : b ≡ 62 = subst IsAtSign split h.sign in
-    let same : text ≡ names_text names ++ (62 ∷ after) = h.whole
-    ∙ ap (λ (t : List ℕ). names_text names ++ t) (split ∙ ap (λ (c : ℕ). c ∷ after) at) in
-    let long : length text ≡ length (names_text names) + length rest = (read_length text names rest h).0 in
-    let one : length rest ≡ length (b ∷ after) = ap length split in
-    subst (λ (n : ℕ). IsNoPath text n) (omega arith) (stuck_is_no_path names text after n h.path room more same stuck)
+    let long = (read_length text names rest h).0 in
+    let one = ap length split in
+    subst (λ (n : ℕ). IsNoPath text n) (omega arith) (stuck_is_no_path names text after n h.path room more (cc) stuck)
 
 -- ---- each path is read from its text
-
--- a name has a byte
-never_nothing : (x : List ℕ) (xs : List (List ℕ)) → IsName x → x ++ names_text xs ≡ [] → ⊥
-never_nothing [] xs h e = let n : 1 ≤ 0 = name_long [] h in omega arith
-never_nothing (b ∷ bs) xs h e = cc
 
 pub path_again : (text : List ℕ) (names : List (List ℕ)) → text ≡ path_text names → IsPath names → (p : List (List ℕ))
     → IsPath p → text ≡ path_text p → names ≡ p
 path_again text [] e h [] hp ep = refl
-path_again text [] e h (x ∷ xs) hp ep =
-    let bytes : x ++ names_text xs ≡ [] = cc in
-    absurd (never_nothing x xs hp.each.0 bytes)
-path_again text (x ∷ xs) e h [] hp ep =
-    let bytes : x ++ names_text xs ≡ [] = cc in
-    absurd (never_nothing x xs h.each.0 bytes)
+path_again text [] e h (x ∷ xs) hp ep = absurd (never_nothing x xs hp.each.0 (cc))
+path_again text (x ∷ xs) e h [] hp ep = absurd (never_nothing x xs h.each.0 (cc))
 path_again text (x ∷ xs) e h (y ∷ ys) hp ep = names_same (x ∷ xs) (y ∷ ys) h.each hp.each (sym e ∙ ep)
 
 -- the names above the last of a path
 pub front_is_path : (names front : List (List ℕ)) (name : List ℕ) → IsPath names → names ≡ front ++ name ∷ []
     → IsPath front
 front_is_path names front name h e = record {
-  few = omega (arith, few, length-append front (name ∷ []));
+  few = omega (arith, h.few, ap length e, length-append front (name ∷ []));
   each = each_front front (rw (← e) h.each);
 }
   where
-    few : length (front ++ name ∷ []) ≤ 9
-    few = subst (λ (xs : List (List ℕ)). length xs ≤ 9) e h.few
-
     each_front : (xs : List (List ℕ)) → AllByRecursion IsName (xs ++ name ∷ []) → AllByRecursion IsName xs
     each_front [] a = tt
     each_front (x ∷ xs) a = (a.0, each_front xs a.1)

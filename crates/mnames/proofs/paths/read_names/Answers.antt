@@ -1,6 +1,5 @@
-use Rattle.std.proofs.Common.{ℕ, ◌<◌, ◌≤◌, length, sym, subst, arith}
+use Rattle.std.proofs.Common.{◌<◌, ◌≤◌, length, arith}
 use Rattle.std.proofs.lemmas.Bool.Decides.{nat_tests}
-use Rattle.mnames.specs.Reading.{IsNoPath}
 use Rattle.mnames.proofs.PathGrammar.{read_more, read_full, read_stuck}
 use Rattle.mnames.proofs.paths.read_names.Goals as goal
 
