@@ -1,7 +1,7 @@
 -- Laws of octal text: what a digit adds, and that twelve digits of a word read back as the word.
 use Rattle.std.proofs.Common.{◌≡◌, ℕ, suc, zero, ◌+◌, ◌-◌, ◌*◌, ◌/◌, ◌%◌, ◌^◌, ◌<◌, ◌≤◌, ◌↔◌, Bool, true, false}
 use Rattle.std.proofs.Common.{nat_le, ◌&&◌, List, [], ◌∷◌, ◌++◌, length, All, IsSome, IfSome, Option, Some, None, refl}
-use Rattle.std.proofs.Common.{sym, subst, ◌∙◌, arith, get_or, take, drop, set, add-one}
+use Rattle.std.proofs.Common.{sym, ◌∙◌, arith, get_or, take, drop, set, add-one}
 use Rattle.std.specs.List.{list_all}
 use Rattle.std.proofs.lemmas.List.{append_assoc, drop-set, length_push, take_more, take_all}
 use Rattle.std.proofs.lemmas.List.Folds.{list_all_more, list_all_at}
@@ -15,7 +15,6 @@ use Rattle.std.proofs.lemmas.Str.{IsUtf8-from_ascii, IsAscii-append}
 use Rattle.std.proofs.lemmas.Str.Ascii.{IsAscii-nil}
 use Rattle.std.proofs.Math.Nat.{pow-le-pow_right}
 use Rattle.mword.specs.Octal.{octal_digits, is_octal_digit, octal_number, is_octal, octal_value, IsOctal}
-use Rattle.laws.proofs.Bools.{and_first, and_right}
 
 pub octal_number_push : (ds : List ℕ) (d : ℕ) → octal_number (ds ++ d ∷ []) ≡ octal_number ds * 8 + (d - 48)
 unfolding octal_number
@@ -54,8 +53,7 @@ pub octal_number_digits : (count n : ℕ) → n < 8 ^ count → octal_number (oc
 unfolding octal_digits octal_number
 octal_number_digits zero n h = omega arith
 octal_number_digits (suc count) n h =
-    let e : 8 ^ (count + 1) ≡ 8 ^ count * 8 = pow_more 8 count in
-    let e' : 8 ^ suc count ≡ 8 ^ count * 8 = rw add-one at e in
+    let e = rw add-one at (pow_more 8 count) in
     let k : n / 8 < 8 ^ count = omega arith in
     octal_number_push (octal_digits count (n / 8)) (48 + n % 8) ∙ rw (octal_number_digits count (n / 8) k) (omega arith)
 
@@ -72,38 +70,27 @@ digit_test b l u = grind (arith, nat_tests)
 
 digits_facts : (text : List ℕ) → list_all is_octal_digit text ≡ true → All (λ byte. (48 ≤ byte) × (byte ≤ 55)) text
 digits_facts [] h = All-nil (λ byte. (48 ≤ byte) × (byte ≤ 55))
-digits_facts (b ∷ bs) h =
-    let first : is_octal_digit b ≡ true = and_first (is_octal_digit b) (list_all is_octal_digit bs) h in
-    let rest : list_all is_octal_digit bs ≡ true = and_right (is_octal_digit b) (list_all is_octal_digit bs) h in
-    All-cons (λ byte. (48 ≤ byte) × (byte ≤ 55)) b bs (digit_facts b first) (digits_facts bs rest)
+digits_facts (b ∷ bs) h = All-cons (λ byte. (48 ≤ byte) × (byte ≤ 55)) b bs
+    (digit_facts b (grind (arith, nat_tests))) (digits_facts bs (grind (arith, nat_tests)))
 
 digits_test : (text : List ℕ) → All (λ byte. (48 ≤ byte) × (byte ≤ 55)) text → list_all is_octal_digit text ≡ true
 digits_test [] h = refl
 digits_test (b ∷ bs) h =
-    let first : (48 ≤ b) × (b ≤ 55) = All-head (λ byte. (48 ≤ byte) × (byte ≤ 55)) b bs h in
+    let first = All-head (λ byte. (48 ≤ byte) × (byte ≤ 55)) b bs h in
     rw (digit_test b first.0 first.1) (digits_test bs (All-tail (λ byte. (48 ≤ byte) × (byte ≤ 55)) b bs h))
 
 -- the test, and the facts that it stands for
 pub is_octal_facts : {text : List ℕ} → is_octal text ≡ true → IsOctal text
 unfolding is_octal
-is_octal_facts {text} h =
-    let lengths : (nat_le 1 (length text) && nat_le (length text) 12) ≡ true =
-    and_first (nat_le 1 (length text) && nat_le (length text) 12) (list_all is_octal_digit text) h in
-    let digits : list_all is_octal_digit text ≡ true =
-    and_right (nat_le 1 (length text) && nat_le (length text) 12) (list_all is_octal_digit text) h in
-    record {
-      some = grind (arith, nat_tests);
-      within = grind (arith, nat_tests);
-      digits = digits_facts text digits;
-    }
+is_octal_facts {text} h = record {
+  some = grind (arith, nat_tests);
+  within = grind (arith, nat_tests);
+  digits = digits_facts text (grind (arith, nat_tests));
+}
 
 pub is_octal_test : {text : List ℕ} → IsOctal text → is_octal text ≡ true
 unfolding is_octal
-is_octal_test {text} h =
-    let digits : list_all is_octal_digit text ≡ true = digits_test text h.digits in
-    let low : nat_le 1 (length text) ≡ true = grind (arith, nat_tests) in
-    let high : nat_le (length text) 12 ≡ true = grind (arith, nat_tests) in
-    rw (low, high, digits) refl
+is_octal_test {text} h = grind (arith, nat_tests, digits_test text h.digits, h.some, h.within)
 
 -- a digit more, in front of those that are written
 pub octal_digits_step : (place rest : ℕ) (digits all : List ℕ) → 0 < place → place ≤ length digits
@@ -113,12 +100,7 @@ unfolding octal_digits
 octal_digits_step zero rest digits all some h e = absurd (omega arith)
 octal_digits_step (suc place) rest digits all some h e =
     let low : suc place - 1 ≡ place = omega arith in
-    let within : place < length digits = omega arith in
-    let cut : drop place (set digits place (48 + rest % 8)) ≡ (48 + rest % 8) ∷ drop (place + 1) digits =
-    drop-set digits place (48 + rest % 8) within in
-    let cut' : drop place (set digits place (48 + rest % 8)) ≡ (48 + rest % 8) ∷ drop (suc place) digits =
-    rw add-one at cut in
-    rw (low, cut') (sym (append_assoc (octal_digits place (rest / 8)) ((48 + rest % 8) ∷ []) (drop (suc place) digits))
+    rw (low, rw add-one at (drop-set digits place (48 + rest % 8) (omega arith))) (sym (append_assoc (octal_digits place (rest / 8)) ((48 + rest % 8) ∷ []) (drop (suc place) digits))
     ∙ e)
 
 pub octal_digits_end : (place rest : ℕ) (digits all : List ℕ) → place ≤ 0 → octal_digits place rest
@@ -135,9 +117,7 @@ pub octal_value_stops : (text : List ℕ) (i : ℕ) → i < length text → (48 
     → octal_value text ≡ None
 unfolding octal_value is_octal
 octal_value_stops text i h other =
-    let f : is_octal_digit (get_or text i 0) ≡ false = grind (arith, nat_tests) in
-    let digits : list_all is_octal_digit text ≡ false = list_all_at is_octal_digit text i 0 h f in
-    rw digits (grind (arith, nat_tests))
+    rw (list_all_at is_octal_digit text i 0 h (grind (arith, nat_tests))) (grind (arith, nat_tests))
 
 pub octal_value_empty : (text : List ℕ) → length text ≡ 0 → octal_value text ≡ None
 unfolding octal_value is_octal
@@ -157,10 +137,7 @@ octal_more text i h l u d = list_all_more is_octal_digit text i 0 h ∙ rw (d, d
 pub octal_number_more : (text : List ℕ) (i : ℕ) {value : ℕ} → i < length text → value ≡ octal_number (take i text)
     → 8 * value + (get_or text i 0 - 48) ≡ octal_number (take (i + 1) text)
 octal_number_more text i h v =
-    let last : octal_number (take i text ++ get_or text i 0 ∷ [])
-    ≡ octal_number (take i text) * 8 + (get_or text i 0 - 48) = octal_number_push (take i text) (get_or text i 0) in
-    let cut : take (i + 1) text ≡ take i text ++ get_or text i 0 ∷ [] = take_more text i 0 h in
-    rw (cut, last, ← v) (omega arith)
+    rw (take_more text i 0 h, octal_number_push (take i text) (get_or text i 0), ← v) (omega arith)
 
 pub octal_bound_more : (i value digit : ℕ) → value < 8 ^ i → digit < 8 → 8 * value + digit < 8 ^ (i + 1)
 octal_bound_more i value digit h d = rw (pow_more 8 i) (omega arith)
@@ -174,10 +151,9 @@ pub octal_value_read : (text : List ℕ) {i value : ℕ} → 0 < length text →
 unfolding octal_value is_octal
 octal_value_read text {i} some within e d v =
     let whole : take i text ≡ text = take_all i text (omega arith) in
-    let digits : list_all is_octal_digit text ≡ true = rw (← whole) d in
     let low : nat_le 1 (length text) ≡ true = grind (arith, nat_tests) in
     let high : nat_le (length text) 12 ≡ true = grind (arith, nat_tests) in
-    rw (low, high, digits) (cc)
+    rw (low, high, rw whole at d) (cc)
 
 -- the word that is made of the value, which fits
 pub octal_value_made : (text : List ℕ) (value : ℕ) (r : Option ℕ) → octal_value text ≡ Some value → IsSome r
@@ -192,7 +168,7 @@ octal_exactly text r e = rw e (cases (is_octal text) refl)
   where
     cases : (b : Bool) → is_octal text ≡ b → IsSome (octal_value text) ↔ IsOctal text
     cases true t = rw t (λ _. is_octal_facts t, λ _. refl)
-    cases false t = rw t (λ n. absurd (cc), λ o. let f : false ≡ true = sym t ∙ is_octal_test o in absurd (cc))
+    cases false t = rw t (λ n. absurd (cc), λ o. absurd (cc (is_octal_test o)))
 
 -- what the proof of `digits_of` is given
 pub ruleset digits_of_steps = (octal_digits_step, octal_digits_end, octal_digits_text)

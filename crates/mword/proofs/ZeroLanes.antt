@@ -1,6 +1,6 @@
 -- Vectors joined by `|` are zero in each lane exactly where each vector is.
 use Rattle.std.proofs.Common.{◌≡◌, ℕ, ◌+◌, ◌-◌, ◌*◌, ◌≤◌, ◌↔◌, List, [], ◌∷◌, ◌++◌, length, bit_or, IsTrue, nat_eq}
-use Rattle.std.proofs.Common.{max, refl, sym, ap, subst, ◌∙◌, arith, take, drop}
+use Rattle.std.proofs.Common.{refl, sym, ap, subst, ◌∙◌, arith, take, drop}
 use Rattle.std.specs.List.{AllByRecursion}
 use Rattle.std.specs.Int.{bit_at}
 use Rattle.std.specs.Simd.Lanes.{zip2, fold_l, chunk}
@@ -17,14 +17,12 @@ abbrev Zeros : List ℕ → Type 0
 Zeros ws = AllByRecursion (λ w. w ≡ 0) ws
 
 or_zero_left : {a : ℕ} (b : ℕ) → bit_or a b ≡ 0 → a ≡ 0
-or_zero_left {a} b h = same_from_bits a 0 (λ i. let m : bit_at (bit_or a b) i ≡ max (bit_at a i) (bit_at b i) =
-    bit_at_or a b i in let z : bit_at 0 i ≡ 0 = bit_at-zero i in let n : bit_at (bit_or a b) i ≡ bit_at 0 i =
-    ap (λ x. bit_at x i) h in omega arith)
+or_zero_left {a} b h = same_from_bits a 0 (λ i.
+    omega (arith, bit_at_or a b i, bit_at-zero i, ap (λ x. bit_at x i) h))
 
 or_zero_right : (a : ℕ) {b : ℕ} → bit_or a b ≡ 0 → b ≡ 0
-or_zero_right a {b} h = same_from_bits b 0 (λ i. let m : bit_at (bit_or a b) i ≡ max (bit_at a i) (bit_at b i) =
-    bit_at_or a b i in let z : bit_at 0 i ≡ 0 = bit_at-zero i in let n : bit_at (bit_or a b) i ≡ bit_at 0 i =
-    ap (λ x. bit_at x i) h in omega arith)
+or_zero_right a {b} h = same_from_bits b 0 (λ i.
+    omega (arith, bit_at_or a b i, bit_at-zero i, ap (λ x. bit_at x i) h))
 
 -- lane by lane
 zeros_joined : (xs ys : List ℕ) → length xs ≡ length ys → Zeros (zip2 bit_or xs ys) → Zeros xs × Zeros ys
@@ -32,7 +30,7 @@ zeros_joined [] [] h z = (tt, tt)
 zeros_joined [] (y ∷ ys) h z = absurd (omega arith)
 zeros_joined (x ∷ xs) [] h z = absurd (omega arith)
 zeros_joined (x ∷ xs) (y ∷ ys) h z =
-    let r : Zeros xs × Zeros ys = zeros_joined xs ys (omega arith) z.1 in
+    let r = zeros_joined xs ys (omega arith) z.1 in
     ((or_zero_left {a = x} y z.0, r.0), (or_zero_right x {b = y} z.0, r.1))
 
 zeros_join : (xs ys : List ℕ) → Zeros xs → Zeros ys → Zeros (zip2 bit_or xs ys)
@@ -43,8 +41,7 @@ zeros_join (x ∷ xs) (y ∷ ys) zx zy = (cc (or_zero_l 0), zeros_join xs ys zx.
 fold_zero : (a : ℕ) (xs : List ℕ) → fold_l bit_or a xs ≡ 0 → (a ≡ 0) × Zeros xs
 fold_zero a [] h = (h, tt)
 fold_zero a (x ∷ xs) h =
-    let r : (bit_or a x ≡ 0) × Zeros xs = fold_zero (bit_or a x) xs h in
-    (or_zero_left {a = a} x r.0, (or_zero_right a {b = x} r.0, r.1))
+    let r = fold_zero (bit_or a x) xs h in (or_zero_left {a = a} x r.0, (or_zero_right a {b = x} r.0, r.1))
 
 zero_fold : {a : ℕ} (xs : List ℕ) → a ≡ 0 → Zeros xs → fold_l bit_or a xs ≡ 0
 zero_fold [] h z = h
@@ -82,10 +79,7 @@ four_chunks : (at : ℕ) (ws : List ℕ) → take 32 (drop at ws) ≡ chunk at 8
 four_chunks at ws =
     let third : at + 8 + 8 ≡ at + 16 = omega arith in
     let fourth : at + 16 + 8 ≡ at + 24 = omega arith in
-    let one : take 32 (drop at ws) ≡ chunk at 8 ws ++ chunk (at + 8) 24 ws = chunk_add at 8 24 ws in
-    let two : chunk (at + 8) 24 ws ≡ chunk (at + 8) 8 ws ++ chunk (at + 8 + 8) 16 ws = chunk_add (at + 8) 8 16 ws in
-    let three : chunk (at + 16) 16 ws ≡ chunk (at + 16) 8 ws ++ chunk (at + 16 + 8) 8 ws = chunk_add (at + 16) 8 8 ws in
-    cc
+    cc (chunk_add at 8 24 ws, chunk_add (at + 8) 8 16 ws, chunk_add (at + 16) 8 8 ws)
 
 pub zero_block : (at : ℕ) (ws : List ℕ) → at + 32 ≤ length ws
     → IsTrue (nat_eq (fold_l bit_or 0 (joined (chunk at 8 ws) (chunk (at + 8) 8 ws) (chunk (at + 16) 8 ws)
@@ -102,22 +96,18 @@ zero_block at ws h =
     let lab : length (zip2 bit_or a b) ≡ 8 = length-zip2 bit_or a b (la ∙ sym lb) ∙ la in
     let lcd : length (zip2 bit_or c d) ≡ 8 = length-zip2 bit_or c d (lc ∙ sym ld) ∙ lc in (
       λ t.
-          let z : Zeros (joined a b c d) = (fold_zero 0 (joined a b c d) (test_zero t)).1 in
-          let halves : Zeros (zip2 bit_or a b) × Zeros (zip2 bit_or c d) =
-          zeros_joined (zip2 bit_or a b) (zip2 bit_or c d) (cc) z in
-          let front : Zeros a × Zeros b = zeros_joined a b (la ∙ sym lb) halves.0 in
-          let back : Zeros c × Zeros d = zeros_joined c d (lc ∙ sym ld) halves.1 in
-          let all : Zeros (a ++ (b ++ (c ++ d))) = zeros_append a (b ++ (c ++ d)) front.0
-          (zeros_append b (c ++ d) front.1 (zeros_append c d back.0 back.1)) in
-          All-from_recursion (λ w. w ≡ 0) (take 32 (drop at ws)) (subst Zeros (sym (four_chunks at ws)) all),
+          let z = (fold_zero 0 (joined a b c d) (test_zero t)).1 in
+          let halves = zeros_joined (zip2 bit_or a b) (zip2 bit_or c d) (cc) z in
+          let front = zeros_joined a b (cc) halves.0 in
+          let back = zeros_joined c d (cc) halves.1 in
+          All-from_recursion (λ w. w ≡ 0) (take 32 (drop at ws)) (subst Zeros (sym (four_chunks at ws))
+          (zeros_append a (b ++ (c ++ d)) front.0 (zeros_append b (c ++ d) front.1 (zeros_append c d back.0 back.1)))),
       λ z.
-          let all : Zeros (a ++ (b ++ (c ++ d))) = subst Zeros (four_chunks at ws)
-          (recursion_from_All (λ w. w ≡ 0) (take 32 (drop at ws)) z) in
-          let bcd : Zeros (b ++ (c ++ d)) = zeros_back a (b ++ (c ++ d)) all in
-          let cd : Zeros (c ++ d) = zeros_back b (c ++ d) bcd in
-          let front : Zeros (zip2 bit_or a b) = zeros_join a b (zeros_front a (b ++ (c ++ d)) all)
-          (zeros_front b (c ++ d) bcd) in
-          let back : Zeros (zip2 bit_or c d) = zeros_join c d (zeros_front c d cd) (zeros_back c d cd) in
+          let all = subst Zeros (four_chunks at ws) (recursion_from_All (λ w. w ≡ 0) (take 32 (drop at ws)) z) in
+          let bcd = zeros_back a (b ++ (c ++ d)) all in
+          let cd = zeros_back b (c ++ d) bcd in
+          let front = zeros_join a b (zeros_front a (b ++ (c ++ d)) all) (zeros_front b (c ++ d) bcd) in
+          let back = zeros_join c d (zeros_front c d cd) (zeros_back c d cd) in
           zero_test (zero_fold (joined a b c d) refl (zeros_join (zip2 bit_or a b) (zip2 bit_or c d) front back)),
     )
 
@@ -127,8 +117,7 @@ pub zero_blocks_more : (block : ℕ) (ws : List ℕ) → AreZero (take (32 * blo
 zero_blocks_more block ws front here =
     let n : 32 * block + 32 - 32 * block ≡ 32 = omega arith in
     let m : 32 * (block + 1) ≡ 32 * block + 32 = omega arith in
-    let here' : AreZero (take 32 (drop (32 * block) ws)) =
-    subst (λ (k : ℕ). AreZero (take k (drop (32 * block) ws))) n here in
+    let here' = subst (λ (k : ℕ). AreZero (take k (drop (32 * block) ws))) n here in
     rw (m, take-add (32 * block) 32 ws) (All-append (λ w. w ≡ 0) (take (32 * block) ws)
     (take 32 (drop (32 * block) ws)) front here')
 

@@ -1,4 +1,4 @@
-use Rattle.std.proofs.Common.{◌<◌, ◌+◌, ◌*◌, ◌∙◌, ◌^◌, ℕ, refl, sym, ap, arith}
+use Rattle.std.proofs.Common.{◌+◌, ◌*◌, ◌∙◌, ℕ, refl, sym, ap, arith}
 use Rattle.std.proofs.lemmas.Grind.{common_steps}
 use Rattle.mword.specs.Octal.{octal_number}
 use Rattle.mword.proofs.OctalLaws.{octal_value_stops, octal_more, octal_number_more, octal_bound_more, octal_below}
@@ -13,15 +13,12 @@ loop-byte-init c = record { digits = refl; number = refl; bound = omega arith }
 
 pub overflow_mul-value : goal.overflow_mul-value
 overflow_mul-value c =
-    let small : c.loop-byte.value < 2 ^ 36 = octal_below c.loop-byte.byte-index c.loop-byte.value (omega arith)
-    c.loop-byte.invariant.bound in
-    omega arith
+    omega (arith, octal_below c.loop-byte.byte-index c.loop-byte.value (omega arith) c.loop-byte.invariant.bound)
 
 pub overflow_add-value : goal.overflow_add-value
 overflow_add-value c =
-    let small : c.loop-byte.value < 2 ^ 36 = octal_below c.loop-byte.byte-index c.loop-byte.value (omega arith)
-    c.loop-byte.invariant.bound in
-    omega (arith, c.type_inv.text c.loop-byte.byte-index)
+    let small = octal_below c.loop-byte.byte-index c.loop-byte.value (omega arith) c.loop-byte.invariant.bound in
+    omega (arith, c.type_inv.text c.loop-byte.byte-index, small)
 
 pub loop-byte-preserved : goal.loop-byte-preserved
 loop-byte-preserved c = assumption (
@@ -43,8 +40,7 @@ returns-in_default-clause-value c =
 
 pub returns-clause-value : goal.returns-clause-value
 returns-clause-value c =
-    let small : c.loop-byte.value < 2 ^ 36 = octal_below c.loop-byte.byte-index c.loop-byte.value (omega arith)
-    c.loop-byte.invariant.bound in
+    let small = octal_below c.loop-byte.byte-index c.loop-byte.value (omega arith) c.loop-byte.invariant.bound in
     octal_value_made c.args.text.now c.loop-byte.value c.new.result
     (octal_value_read c.args.text.now (grind (arith, common_steps))
     (omega arith) (omega arith) c.loop-byte.invariant.digits c.loop-byte.invariant.number)
