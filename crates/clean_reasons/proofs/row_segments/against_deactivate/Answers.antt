@@ -1,4 +1,4 @@
-use Rattle.clean_reasons.proofs.Prelude.{◌≡◌, ◌≢◌, ℕ, Some, true, sym, ◌∙◌, rules, custody_of, MayDeactivate, superior_in, HasNoDescriptor, HasNoPage, node_in, IsSo}
+use Rattle.clean_reasons.proofs.Prelude.{◌≡◌, true, sym, ◌∙◌, rules, custody_of, MayDeactivate, HasNoDescriptor, HasNoPage, IsSo}
 use Rattle.clean_reasons.proofs.RowLaws.{both_tell}
 use Rattle.book.specs.declared.entries.Entry.TheVariants as entry
 use Rattle.clean_reasons.proofs.row_segments.against_deactivate.Goals as goal
@@ -6,9 +6,7 @@ use Rattle.clean_reasons.proofs.row_segments.against_deactivate.Goals as goal
 pub returns : goal.returns
 returns c = λ s shown.
     let is : (custody_of c.args.custody.now).active c.args.uid ≡ true = sym c.is_active.ensures ∙ (search rules) in
-    let below : (v : ℕ) → (custody_of c.args.custody.now).active v ≡ true
-    → superior_in (node_in s.nodes v) ≢ Some c.args.uid =
-    c.in_default.ensures.none c.args.script.now s shown in
+    let below = c.in_default.ensures.none c.args.script.now s shown in
     both_tell (HasNoPage (custody_of c.args.custody.now) c.args.uid)
     (HasNoDescriptor (custody_of c.args.custody.now) c.args.uid)
     (MayDeactivate s (custody_of c.args.custody.now) c.args.uid)

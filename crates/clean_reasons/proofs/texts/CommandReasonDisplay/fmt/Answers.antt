@@ -1,14 +1,6 @@
 use Rattle.clean_reasons.proofs.Prelude.{command_text}
 use Rattle.clean_reasons.proofs.texts.CommandReasonDisplay.fmt.Goals as goal
 
-pub returns-in-NoneLeft-clause-writes : goal.returns-in-NoneLeft-clause-writes
-unfolding command_text
-returns-in-NoneLeft-clause-writes g c = rw c.in-NoneLeft.is c.write.ensures.writes
-
-pub returns-in-Refused-clause-writes : goal.returns-in-Refused-clause-writes
-unfolding command_text
-returns-in-Refused-clause-writes g c = rw c.in-Refused.is c.write-in-Refused.ensures.writes
-
 pub returns-in-Stored-clause-writes : goal.returns-in-Stored-clause-writes
 unfolding command_text
 returns-in-Stored-clause-writes g c = rw c.in-Stored.is c.write-in-Stored.ensures.writes
