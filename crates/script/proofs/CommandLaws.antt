@@ -66,10 +66,9 @@ below_power : (ds : List ℕ) (n i k : ℕ) → list_all is_octal_digit ds ≡ t
     → fold (λ number digit. number * 8 + (digit - 48)) n ds < 8 ^ k
 below_power [] n i k h l e = let same : i ≡ k = omega arith in subst (λ j. n < 8 ^ j) same l
 below_power (d ∷ ds) n i k h l e =
-    let parts = and_parts (is_octal_digit d) (list_all is_octal_digit ds) h in
-    let digit : d - 48 < 8 = grind (arith, nat_tests, parts.0) in
-    let more : 8 * n + (d - 48) < 8 ^ (i + 1) = octal_bound_more i n (d - 48) l digit in
-    below_power ds (n * 8 + (d - 48)) (i + 1) k parts.1 (omega arith) (omega arith)
+    let digit : d - 48 < 8 = grind (arith, nat_tests) in
+    let more = octal_bound_more i n (d - 48) l digit in
+    below_power ds (n * 8 + (d - 48)) (i + 1) k (grind (arith, nat_tests)) (omega arith) (omega arith)
 
 abbrev IsAWord : ℕ → Type 0
 IsAWord w = is_word w ≡ true
@@ -81,11 +80,9 @@ word_fits text w e = test (is_octal text) refl e
     test : (b : Bool) → is_octal text ≡ b → cond b (Some (octal_number text)) None ≡ Some w → is_word w ≡ true
     test true h e =
         let same : octal_number text ≡ w = cc in
-        let parts = and_parts (nat_le 1 (length text) && nat_le (length text) 12) (list_all is_octal_digit text) h in
-        let few = (and_parts (nat_le 1 (length text)) (nat_le (length text) 12) parts.0).1 in
         let short : length text ≤ 12 = grind (arith, nat_tests) in
         let fits : octal_number text < 2 ^ 36 = octal_below (length text) (octal_number text) short
-        (below_power text 0 0 (length text) parts.1 (omega arith) (omega arith)) in
+        (below_power text 0 0 (length text) (grind (arith, nat_tests)) (omega arith) (omega arith)) in
         subst IsAWord same (grind (arith, nat_tests))
     test false h e = absurd (cc)
 

@@ -107,22 +107,18 @@ pub record HasFields (line : List ℕ) (fields : List (List ℕ)) : Type 0 where
   pub printable : is_printable line ≡ true
   pub split : fields_of line ≡ fields
 
-printable_field : (w : List ℕ) → list_all is_field_byte w ≡ true → is_printable w ≡ true
-unfolding is_printable
-printable_field w h = all_from is_field_byte is_printable_byte byte_is_printable w h
-
-printable_before : (w rest : List ℕ) → list_all is_field_byte w ≡ true → is_printable rest ≡ true
-    → is_printable (w ++ (32 ∷ rest)) ≡ true
-unfolding is_printable
-printable_before w rest h r = all_both is_printable_byte w (32 ∷ rest)
-    (all_from is_field_byte is_printable_byte byte_is_printable w h) r
-
 pub last_field : {w : List ℕ} → IsField w → HasFields w (w ∷ [])
-last_field {w} h = record { printable = printable_field w h.bytes; split = only_of w h.some h.bytes }
+unfolding is_printable
+last_field {w} h = record {
+  printable = all_from is_field_byte is_printable_byte byte_is_printable w h.bytes;
+  split = only_of w h.some h.bytes;
+}
 
 pub front_field : {w rest : List ℕ} {fields : List (List ℕ)} → IsField w → HasFields rest fields
     → HasFields (w ++ (32 ∷ rest)) (w ∷ fields)
+unfolding is_printable
 front_field {w} {rest} h r = record {
-  printable = printable_before w rest h.bytes r.printable;
+  printable = all_both is_printable_byte w (32 ∷ rest)
+      (all_from is_field_byte is_printable_byte byte_is_printable w h.bytes) r.printable;
   split = cc (first_of w rest h.some h.bytes, r.split);
 }

@@ -1,5 +1,5 @@
 -- The printable front of a text, sixteen bytes at a time.
-use Rattle.script.proofs.Prelude.{◌≡◌, ◌≢◌, ℕ, ◌+◌, ◌%◌, ◌^◌, ◌<◌, ◌≤◌, Bool, true, false, List, [], ◌∷◌, zero, suc, length, take, get_or, map, not, Fits, w8, refl, sym, ap, subst, ◌∙◌, arith, inl, inr, ◌⊎◌, agree_below, agree_below_at, cases_lt, not-false, not-true, nat_tests, length-map, leading_from_mask_l, length-chunk, map-map, mask_l-mod, run_in_chunk_fails, run_in_chunk_le, run_in_chunk_stops, trailing_mask_l, prefix_len, NoFeedBefore, IsFront, IsPrintableTo, is_printable, is_printable_byte}
+use Rattle.script.proofs.Prelude.{◌≡◌, ◌≢◌, ℕ, ◌+◌, ◌%◌, ◌^◌, ◌<◌, ◌≤◌, Bool, true, false, List, [], ◌∷◌, zero, suc, length, take, get_or, map, not, Fits, w8, refl, sym, ap, subst, ◌∙◌, arith, inl, inr, ◌⊎◌, agree_below, agree_below_at, cases_lt, not-false, not-true, nat_tests, length-map, leading_from_mask_l, length-chunk, map-map, mask_l-mod, run_in_chunk_fails, run_in_chunk_le, run_in_chunk_stops, take_all, trailing_mask_l, prefix_len, NoFeedBefore, IsFront, IsPrintableTo, is_printable, is_printable_byte}
 use lib.Count.{count_trailing_zeros}
 use lib.Lanes.{chunk, mask_l, top}
 
@@ -12,17 +12,13 @@ front_whole (b ∷ bs) (suc n) le front =
     rw (front 0 (omega arith)) (front_whole bs n (omega (arith, le)) (λ k lt. front (suc k) (omega (arith, lt))))
 
 pub front_all : (bs : List ℕ) (n : ℕ) → n ≡ length bs → IsPrintableTo bs n → is_printable bs ≡ true
-unfolding is_printable
-front_all [] n is front = refl
-front_all (b ∷ bs) zero is front = absurd (omega (arith, is))
-front_all (b ∷ bs) (suc n) is front =
-    rw (front 0 (omega arith)) (front_all bs n (omega (arith, is)) (λ k lt. front (suc k) (omega (arith, lt))))
+front_all bs n is front =
+    rw (take_all n bs (omega (arith, is))) at (front_whole bs n (omega (arith, is)) front)
 
 -- no line feed is printable
 pub front_clear : (bs : List ℕ) (n : ℕ) → IsPrintableTo bs n → NoFeedBefore n bs
 front_clear bs n front = λ k lt feed.
-    let clash : is_printable_byte 10 ≡ true = ap is_printable_byte (sym feed) ∙ front k lt in
-    let z : false ≡ true = clash in cc
+    let z : false ≡ true = ap is_printable_byte (sym feed) ∙ front k lt in cc
 
 -- a byte more is printable
 pub front_more : (bs : List ℕ) (n : ℕ) → IsPrintableTo bs n → 32 ≤ get_or bs n 0 → get_or bs n 0 ≤ 126

@@ -1,15 +1,6 @@
 -- Laws of decimal numbers.
-use Rattle.script.proofs.Prelude.{◌≡◌, ℕ, ◌+◌, ◌-◌, ◌*◌, ◌^◌, ◌<◌, ◌≤◌, Bool, true, false, ◌&&◌, nat_le, cond, List, [], ◌∷◌, length, Option, Some, None, refl, sym, ap, ◌∙◌, arith, get_or, drop, nat_tests, common_steps, pow-add, is_ascii_digit, decimal_value, decimal_value_from, drop_at}
+use Rattle.script.proofs.Prelude.{◌≡◌, ℕ, ◌+◌, ◌-◌, ◌*◌, ◌^◌, ◌<◌, ◌≤◌, Bool, true, false, ◌&&◌, nat_le, cond, List, [], length, Option, Some, None, refl, sym, ap, ◌∙◌, arith, get_or, drop, nat_tests, common_steps, pow-add, is_ascii_digit, decimal_value, decimal_value_from, drop_at}
 use Rattle.std.proofs.Math.Nat.{pow-le-pow_right}
-
-digit_step : (before d : ℕ) (ds : List ℕ) → 48 ≤ d → d ≤ 57 → decimal_value_from before (d ∷ ds)
-    ≡ decimal_value_from (before * 10 + (d - 48)) ds
-unfolding decimal_value_from
-digit_step before d ds low high = let z : is_ascii_digit d ≡ true = grind (arith, nat_tests) in rw z refl
-
-other_step : (before d : ℕ) (ds : List ℕ) → (48 ≤ d → d ≤ 57 → ⊥) → decimal_value_from before (d ∷ ds) ≡ None
-unfolding decimal_value_from
-other_step before d ds out = let z : is_ascii_digit d ≡ false = grind (arith, nat_tests) in rw z refl
 
 pub nil_step : (before : ℕ) → decimal_value_from before [] ≡ Some before
 unfolding decimal_value_from
@@ -21,8 +12,9 @@ number_starts text = refl
 pub number_next : (text : List ℕ) (i value : ℕ) → i < length text → 48 ≤ get_or text i 0 → get_or text i 0 ≤ 57
     → decimal_value_from value (drop i text) ≡ decimal_value_from 0 text
     → decimal_value_from (value * 10 + (get_or text i 0 - 48)) (drop (i + 1) text) ≡ decimal_value_from 0 text
-number_next text i value lt low high h = sym (ap (decimal_value_from value) (drop_at text i lt)
-    ∙ digit_step value (get_or text i 0) (drop (i + 1) text) low high) ∙ h
+unfolding decimal_value_from
+number_next text i value lt low high h =
+    let z : is_ascii_digit (get_or text i 0) ≡ true = grind (arith, nat_tests) in rw (drop_at text i lt, z) at h
 
 pub number_below : (value digit i : ℕ) → value < 10 ^ i → digit ≤ 9 → value * 10 + digit < 10 ^ (i + 1)
 number_below value digit i h d = rw (pow-add 10 i 1) (omega arith)
@@ -32,10 +24,10 @@ number_fits value i h within = let m : 10 ^ i ≤ 10 ^ 10 = pow-le-pow_right (om
 
 pub number_stops : (text : List ℕ) (i value : ℕ) → i < length text → (48 ≤ get_or text i 0 → get_or text i 0 ≤ 57 → ⊥)
     → decimal_value_from value (drop i text) ≡ decimal_value_from 0 text → None ≡ decimal_value text
-unfolding decimal_value
+unfolding decimal_value decimal_value_from
 number_stops text i value lt out h =
-    let stopped : decimal_value_from 0 text ≡ None = sym h ∙ ap (decimal_value_from value) (drop_at text i lt)
-    ∙ other_step value (get_or text i 0) (drop (i + 1) text) out in
+    let z : is_ascii_digit (get_or text i 0) ≡ false = grind (arith, nat_tests) in
+    let stopped : decimal_value_from 0 text ≡ None = sym (rw (drop_at text i lt, z) at h) in
     rw stopped (both (nat_le 1 (length text) && nat_le (length text) 10))
   where
     both : (z : Bool) → None ≡ cond {A = Option ℕ} z None None

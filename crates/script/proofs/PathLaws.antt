@@ -62,8 +62,7 @@ each_name (name ∷ names) h = and_from (is_name name) (list_all is_name names) 
 
 each_is_name : (names : List (List ℕ)) → list_all is_name names ≡ true → AllByRecursion IsName names
 each_is_name [] h = tt
-each_is_name (name ∷ names) h = let parts = and_parts (is_name name) (list_all is_name names) h in
-    (parts.0, each_is_name names parts.1)
+each_is_name (name ∷ names) h = (grind (arith, nat_tests), each_is_name names (grind (arith, nat_tests)))
 
 -- a path keeps the rules that a script asks of it, and the other way round
 pub path_is : (names : List (List ℕ)) → IsPath names → is_path names ≡ true

@@ -1,26 +1,19 @@
 -- Laws of lists with one more element at the end (own).
-use Rattle.script.proofs.Prelude.{◌≡◌, ℕ, ◌+◌, Bool, true, false, eqb, not, List, [], ◌∷◌, ◌++◌, refl, sym, ap, ◌∙◌, arith, sum_by, nat_tests, common_steps, list_any-append, sum_by-append, bytes_eq-Decides, list_all, list_any, bytes_eq, goes_on, BeginsWithInitializer, are_apart, ends_once, has_name, have_own_names, have_own_volumes, is_before, is_end, ProcessPlan, Command, Bulk, VolumeLine, and_from, false_from_ne_true, or_from, or_parts, and_parts, is_false}
+use Rattle.script.proofs.Prelude.{◌≡◌, ℕ, ◌+◌, Bool, true, false, eqb, not, List, [], ◌∷◌, ◌++◌, refl, sym, ap, ◌∙◌, arith, sum_by, nat_tests, list_all-append, list_any-append, sum_by-append, sum_by-cons, bytes_eq-Decides, list_all, list_any, bytes_eq, goes_on, BeginsWithInitializer, are_apart, ends_once, has_name, have_own_names, have_own_volumes, is_before, is_end, ProcessPlan, Command, Bulk, VolumeLine, and_from, false_from_ne_true, or_from, or_parts}
 
 pub all_push : {A : Type 0} (f : A → Bool) (xs : List A) (x : A) → list_all f xs ≡ true → f x ≡ true
     → list_all f (xs ++ x ∷ []) ≡ true
-all_push f [] x h e = and_from (f x) true e refl
-all_push f (y ∷ ys) x h e = let parts = and_parts (f y) (list_all f ys) h in and_from (f y) (list_all f (ys ++ x ∷ []))
-    parts.0 (all_push f ys x parts.1 e)
+all_push f xs x h e = rw (list_all-append, h, e) refl
 
 true_not_false : true ≡ false → ⊥
 true_not_false e = cc
 
 pub any_push : {A : Type 0} (f : A → Bool) (xs : List A) (x : A) → list_any f xs ≡ false → f x ≡ false
     → list_any f (xs ++ x ∷ []) ≡ false
-any_push f [] x h e = or_from (f x) false e refl
-any_push f (y ∷ ys) x h e = let parts = or_parts (f y) (list_any f ys) h in or_from (f y)
-    (list_any f (ys ++ x ∷ [])) parts.0 (any_push f ys x parts.1 e)
+any_push f xs x h e = rw (list_any-append, h, e) refl
 
 pub sum_push : {A : Type 0} (f : A → ℕ) (xs : List A) (x : A) → sum_by f (xs ++ x ∷ []) ≡ sum_by f xs + f x
-sum_push f xs x = sum_by-append f xs (x ∷ []) ∙ ap (λ n. sum_by f xs + n) one
-  where
-    one : sum_by f (x ∷ []) ≡ f x
-    one = grind (arith, common_steps)
+sum_push f xs x = omega (arith, sum_by-append f xs (x ∷ []), sum_by-cons f x [])
 
 pub names_apart : (a b : List ℕ) → bytes_eq a b ≡ false → bytes_eq b a ≡ false
 names_apart a b h = false_from_ne_true (bytes_eq b a) (λ e. true_not_false
@@ -33,9 +26,7 @@ numbers_apart a b h = grind (arith, nat_tests)
 pub apart_parts : {A : Type 0} (alike : A → A → Bool) (x : A) (xs : List A) → are_apart alike (x ∷ xs) ≡ true
     → (list_any (alike x) xs ≡ false) × (are_apart alike xs ≡ true)
 unfolding are_apart
-apart_parts alike x xs h =
-    let parts = and_parts (not (list_any (alike x) xs)) (are_apart alike xs) h in
-    (is_false (list_any (alike x) xs) parts.0, parts.1)
+apart_parts alike x xs h = (grind (arith, nat_tests), grind (arith, nat_tests))
 
 apart_first : {A : Type 0} (alike : A → A → Bool) (x : A) (xs : List A) → list_any (alike x) xs ≡ false
     → are_apart alike xs ≡ true → are_apart alike (x ∷ xs) ≡ true
@@ -89,10 +80,8 @@ pub end_push : (cs : List Command) (c : Command) → list_all goes_on cs ≡ tru
     → ends_once (cs ++ c ∷ []) ≡ true
 unfolding ends_once
 end_push [] c h e = e
-end_push (a ∷ []) c h e = let parts = and_parts (goes_on a) true h in and_from (not (is_end a)) (is_end c) parts.0 e
-end_push (a ∷ b ∷ cs) c h e =
-    let parts = and_parts (goes_on a) (list_all goes_on (b ∷ cs)) h in and_from (not (is_end a))
-    (ends_once (b ∷ (cs ++ c ∷ []))) parts.0 (end_push (b ∷ cs) c parts.1 e)
+end_push (a ∷ []) c h e = grind (arith, nat_tests)
+end_push (a ∷ b ∷ cs) c h e = grind (arith, nat_tests, end_push (b ∷ cs) c (grind (arith, nat_tests)) e)
 
 -- the last process is replaced by another of the same principal
 pub begins_same : (xs : List ProcessPlan) (x y : ProcessPlan) → x.who ≡ y.who → BeginsWithInitializer (xs ++ x ∷ [])

@@ -1,5 +1,5 @@
 -- The text of a script is read back as the script (own).
-use Rattle.script.proofs.Prelude.{◌≡◌, ℕ, ◌+◌, ◌<◌, ◌≤◌, Bool, true, false, nat_le, nat_lt, List, [], ◌∷◌, ◌++◌, length, sum_by, Ok, codes, refl, sym, ap, ◌∙◌, arith, append_assoc, nat_tests, length-append, sum_by-cons, list_all, Who, DraftPlan, has_volume, initializer_who, is_inside, lines_of, BeginsWithInitializer, ends_once, IsPlan, is_command, is_end, is_process, is_who, weight, weight_of, finished, is_whole, script_of, command_line, later_at, line_at, next_field, no_fields, one_field, Plan, ProcessPlan, Fail, begin_text, commands_text, ended, process_text, processes_text, script_text, command_text, Command, Stage, and_false, and_parts}
+use Rattle.script.proofs.Prelude.{◌≡◌, ℕ, ◌+◌, ◌<◌, ◌≤◌, Bool, true, false, nat_le, nat_lt, List, [], ◌∷◌, ◌++◌, length, sum_by, Ok, codes, refl, sym, ap, ◌∙◌, arith, append_assoc, nat_tests, length-append, sum_by-cons, list_all, Who, DraftPlan, has_volume, initializer_who, is_inside, lines_of, BeginsWithInitializer, ends_once, IsPlan, is_command, is_end, is_process, is_who, weight, weight_of, finished, is_whole, script_of, command_line, later_at, line_at, next_field, no_fields, one_field, Plan, ProcessPlan, Fail, begin_text, commands_text, ended, process_text, processes_text, script_text, command_text, Command, Stage, and_false}
 use Rattle.script.proofs.CommandTexts.{command_again, word_is_no_comment}
 use Rattle.script.proofs.FieldTexts.{front_field, last_field}
 use Rattle.script.proofs.HeadTexts.{after_head, are_volumes, head_reaches, stage_after_fails, takes_after_fails, takes_fail}
@@ -8,7 +8,6 @@ use Rattle.script.proofs.Reaching.{Reaches, read_from, reaches_both, reaches_lin
 use Rattle.script.proofs.VolumeTexts.{AreVolumes}
 use Rattle.script.proofs.SmallLaws.{nil_after, outside}
 use Rattle.script.specs.declared.drafts.Stage.TheVariants as stage
-use Rattle.script.proofs.ScriptSteps.{text_nil, text_cons}
 
 -- ---- the commands of a process
 
@@ -116,17 +115,15 @@ processes_read : (base : DraftPlan) (s : Stage) (done : List ProcessPlan) (befor
     → list_all (is_process (length base.plan.volumes)) xs ≡ true → length done + length xs ≤ 32
     → u + sum_by weight_of xs ≤ 100000 → read_from n (between base s done before u)
     (processes_text base.plan.volumes false xs) ≡ Ok (record base.plan { processes = done ++ xs })
+unfolding processes_text
 processes_read base s done before u [] n may a h room le =
-    ap (read_from n (between base s done before u)) (text_nil base.plan.volumes false)
-    ∙ end_read n (between base s done before u) may
+    end_read n (between base s done before u) may
     ∙ ap (λ (t : List ProcessPlan). Ok (record base.plan { processes = t })) (sym (nil_after done))
 processes_read base s done before u (x ∷ xs) n may a h room le =
-    let parts = and_parts (is_process (length base.plan.volumes) x)
-    (list_all (is_process (length base.plan.volumes)) xs) h in
-    let step = (process_reaches base s done before u x may a parts.0 (omega (arith, room))
+    let step = (process_reaches base s done before u x may a (grind (arith, nat_tests)) (omega (arith, room))
     (omega (arith, le, sum_by-cons weight_of x xs))).reads n (processes_text base.plan.volumes false xs) in
-    ap (read_from n (between base s done before u)) (text_cons base.plan.volumes false x xs) ∙ step.1
-    ∙ processes_read base stage.Processes (done ++ x ∷ []) x.who (u + weight_of x) xs step.0 refl a parts.1
+    step.1
+    ∙ processes_read base stage.Processes (done ++ x ∷ []) x.who (u + weight_of x) xs step.0 refl a (grind (arith, nat_tests))
     (omega (arith, room, length-append done (x ∷ []))) (omega (arith, le, sum_by-cons weight_of x xs))
     ∙ ap (λ (t : List ProcessPlan). Ok (record base.plan { processes = t })) (append_assoc done (x ∷ []) xs)
 
@@ -135,15 +132,14 @@ first_read : (base : DraftPlan) (s : Stage) (before : Who) (xs : List ProcessPla
     → BeginsWithInitializer xs
     → length xs ≤ 32 → sum_by weight_of xs ≤ 100000 → read_from n (between base s [] before 0)
     (processes_text base.plan.volumes true xs) ≡ Ok (record base.plan { initializer = true; processes = xs })
+unfolding processes_text
 first_read base s before [] n may a h first room le = absurd first
 first_read base s before (x ∷ xs) n may a h first room le =
-    let parts = and_parts (is_process (length base.plan.volumes) x)
-    (list_all (is_process (length base.plan.volumes)) xs) h in
-    let step = (first_reaches base s before 0 x may a parts.0 first (omega (arith, le, sum_by-cons weight_of x xs))).reads n
+    let step = (first_reaches base s before 0 x may a (grind (arith, nat_tests)) first (omega (arith, le, sum_by-cons weight_of x xs))).reads n
     (processes_text base.plan.volumes false xs) in
-    ap (read_from n (between base s [] before 0)) (text_cons base.plan.volumes true x xs) ∙ step.1
+    step.1
     ∙ processes_read (initial base) stage.Processes (x ∷ []) initializer_who (0 + weight_of x) xs
-    step.0 refl a parts.1 (omega (arith, room)) (omega (arith, le, sum_by-cons weight_of x xs))
+    step.0 refl a (grind (arith, nat_tests)) (omega (arith, room)) (omega (arith, le, sum_by-cons weight_of x xs))
 
 after_head_read : (p : Plan) (first : Bool) (n : ℕ) → IsPlan p → p.initializer ≡ first
     → read_from n (after_head p) (processes_text p.volumes first p.processes) ≡ Ok p

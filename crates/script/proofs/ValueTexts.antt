@@ -105,8 +105,7 @@ pub path_field : (names : List (List ℕ)) → is_path names ≡ true → IsFiel
 unfolding is_path
 path_field [] h = record { some = omega arith; bytes = refl }
 path_field (name ∷ names) h =
-    let parts = and_parts (nat_le (length (name ∷ names)) 9) (list_all is_name (name ∷ names)) h in
-    record { some = omega arith; bytes = names_bytes (name ∷ names) parts.1 }
+    record { some = omega arith; bytes = names_bytes (name ∷ names) (grind (arith, nat_tests)) }
 
 pub path_in_again : (names : List (List ℕ)) → is_path names ≡ true → path_in (path_text names) ≡ Ok names
 path_in_again names h = rw (path_again names h) refl

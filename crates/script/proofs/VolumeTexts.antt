@@ -5,7 +5,6 @@ use Rattle.mnames.specs.declared.modes.Mode.TheVariants as mode
 use Rattle.script.proofs.FieldTexts.{is_field_byte, IsField, all_both}
 use Rattle.script.proofs.PushLaws.{apart_parts, names_apart}
 use Rattle.script.proofs.ValueTexts.{decimal_digits, decimal_field, name_field, number_again}
-use Rattle.script.proofs.VolumeLaws.{from_found, from_other}
 use Rattle.script.proofs.SmallLaws.{nil_after}
 
 -- ---- volumes
@@ -28,14 +27,14 @@ other_name name (v ∷ vs) (suc k) lt h = other_name name vs k (omega arith)
 
 number_again_from : (n : ℕ) (vs : List VolumeLine) (k : ℕ) → k < length vs → have_own_names vs ≡ true
     → number_from n vs (volume_name vs k) ≡ Some (n + k)
+unfolding number_from
 number_again_from n [] k lt h = absurd (omega arith)
-number_again_from n (v ∷ vs) zero lt h = from_found n v vs v.name (same_name v) ∙ ap (λ (m : ℕ). Some m) (omega arith)
+number_again_from n (v ∷ vs) zero lt h = rw (same_name v) (ap (λ (m : ℕ). Some m) (omega arith))
 number_again_from n (v ∷ vs) (suc k) lt h =
     let own = apart_parts (λ a b. has_name a.name b) v vs h in
     let other : has_name (volume_name vs k) v ≡ false =
     names_apart (volume_name vs k) v.name (other_name v.name vs k (omega arith) own.0) in
-    from_other n v vs (volume_name vs k) other ∙ number_again_from (n + 1) vs k (omega arith) own.1
-    ∙ ap (λ (m : ℕ). Some m) (omega arith)
+    rw other (number_again_from (n + 1) vs k (omega arith) own.1 ∙ ap (λ (m : ℕ). Some m) (omega arith))
 
 volume_is_named : (v : VolumeLine) → is_volume v ≡ true → is_name v.name ≡ true
 unfolding is_volume
