@@ -3,7 +3,7 @@ use Rattle.std.proofs.Common.{rules, ◌≡◌, ℕ, zero, suc, ◌+◌, ◌<◌
 use Rattle.std.proofs.Common.{eqb, List, [], ◌∷◌, ◌++◌, length, get_or, take, drop, drop-cons, add-one, Option, Some}
 use Rattle.std.proofs.Common.{None, refl, sym, ap, subst}
 use Rattle.std.proofs.Common.{◌∙◌, arith, IfSome, inl, inr}
-use Rattle.std.specs.Prelude.{codes, nat_lt, nat_le, ◌==◌, ◌-◌, ◌*◌, ◌/◌, ◌%◌}
+use Rattle.std.specs.Prelude.{codes, nat_lt, nat_le, ◌==◌, ◌/◌, ◌%◌}
 use Rattle.std.specs.Char.{is_ascii_digit}
 use Rattle.std.specs.Fmt.{decimal}
 use Rattle.std.specs.List.{AllByRecursion, slice_split, list_all, join_with_byte, before_first, after_first}
@@ -190,14 +190,12 @@ digits_again zero (b ∷ bs) len all = absurd (omega arith)
 digits_again (suc count) t len all =
     let whole : take count t ++ get_or t count 0 ∷ [] ≡ t = sym (take-suc t count 0 (omega arith))
     ∙ take_all (suc count) t (omega arith) in
-    let tests : (list_all is_octal_digit (take count t) && is_octal_digit (get_or t count 0)) ≡ true =
-    sym (list_all-push (take count t) (get_or t count 0)) ∙ ap (list_all is_octal_digit) whole ∙ all in
+    let tests = sym (list_all-push (take count t) (get_or t count 0)) ∙ ap (list_all is_octal_digit) whole ∙ all in
     let front : list_all is_octal_digit (take count t) ≡ true = grind (arith, nat_tests) in
     let digit : is_octal_digit (get_or t count 0) ≡ true = grind (arith, nat_tests) in
     let low : 48 ≤ get_or t count 0 = grind (arith, nat_tests) in
     let high : get_or t count 0 ≤ 55 = grind (arith, nat_tests) in
-    let number : octal_number t ≡ octal_number (take count t) * 8 + (get_or t count 0 - 48) =
-    ap octal_number (sym whole) ∙ octal_number_push (take count t) (get_or t count 0) in
+    let number = ap octal_number (sym whole) ∙ octal_number_push (take count t) (get_or t count 0) in
     let upper : octal_number t / 8 ≡ octal_number (take count t) = omega arith in
     let lower : 48 + octal_number t % 8 ≡ get_or t count 0 = omega arith in
     let short : length (take count t) ≡ count = grind (arith, common_steps) in
@@ -253,12 +251,7 @@ reply_lacks (reply.Word w) h = (
     tt,
   ),
 )
-reply_lacks (reply.Made u) h = (refl, (spaceless u h, tt))
-reply_lacks (reply.Known n) h = (refl, (spaceless n h, tt))
-reply_lacks (reply.Over u) h = (refl, (spaceless u h, tt))
-reply_lacks (reply.SegIs u l s) h = (refl, (spaceless u h.0, (refl, (spaceless l h.1, (refl, (spaceless s h.2, tt))))))
-reply_lacks (reply.DirIs u q n) h = (refl, (spaceless u h.0, (refl, (spaceless q h.1, (refl, (spaceless n h.2, tt))))))
-reply_lacks _ h = (refl, tt)
+reply_lacks _ h = search (rules, spaceless)
 
 reply_again : (r : Reply) → IsReply r → reply_of (reply_words r) ≡ Some r
 unfolding reply_of named_reply bare_text
@@ -372,11 +365,8 @@ unfolding reply_of
 reply_only [] = tt
 reply_only (w ∷ []) = bare_only w
 reply_only (w ∷ a ∷ []) = pair_only w a
-reply_only (w ∷ a ∷ b ∷ []) = tt
-reply_only (w ∷ a ∷ b ∷ c ∷ []) = tt
-reply_only (w ∷ a ∷ b ∷ c ∷ d ∷ []) = tt
 reply_only (w ∷ a ∷ x ∷ b ∷ y ∷ c ∷ []) = status_of_only w a x b y c
-reply_only (w ∷ a ∷ x ∷ b ∷ y ∷ c ∷ d ∷ ws) = tt
+reply_only _ = tt
 
 -- ---- entries
 
@@ -414,8 +404,7 @@ entry_words (entry.BackSeg k n) = codes "back" ∷ codes "seg" ∷ decimal k ∷
 join_what : (x : List ℕ) (w : What) → join_with_byte 32 (x ∷ what_words w) ≡ x ++ (32 ∷ what_text w)
 unfolding what_text
 join_what x what.All = refl
-join_what x (what.Page f) = refl
-join_what x (what.Seg u) = refl
+join_what x _ = refl
 
 -- the words of an entry, with a space between each two, are its text
 entry_text_is : (e : Entry) → entry_text e ≡ join_with_byte 32 (entry_words e)
@@ -441,31 +430,12 @@ what_lacks (what.Seg u) h = (refl, (spaceless u h, tt))
 
 entry_lacks : (e : Entry) → IsEntry e → AllLack is_space (entry_words e)
 entry_lacks (entry.Do k i c f r) h =
-    let dotted : lacks is_space (decimal k ++ (46 ∷ decimal i)) ≡ true =
-    lacks-append is_space (decimal k) (46 ∷ decimal i) (spaceless k h.0) (spaceless i h.1) in
+    let dotted = lacks-append is_space (decimal k) (46 ∷ decimal i) (spaceless k h.0) (spaceless i h.1) in
     (refl, (dotted, (spaceless c h.2, (optional_lacks f h.3, reply_lacks r h.4))))
 entry_lacks (entry.Signal c w) h = (refl, (spaceless c h.0, what_lacks w h.1))
 entry_lacks (entry.Clear c w) h = (refl, (spaceless c h.0, what_lacks w h.1))
 entry_lacks (entry.Fault k) h = (refl, (optional_lacks k h, tt))
-entry_lacks (entry.FillSeg c n) h = (refl, (spaceless c h.0, (refl, (spaceless n h.1, tt))))
-entry_lacks (entry.FillPage c f) h = (refl, (spaceless c h.0, (refl, (spaceless f h.1, tt))))
-entry_lacks (entry.GonePage f) h = (refl, (refl, (spaceless f h, tt)))
-entry_lacks (entry.BackPage f) h = (refl, (refl, (spaceless f h, tt)))
-entry_lacks (entry.GoneSeg k n) h = (refl, (refl, (spaceless k h.0, (spaceless n h.1, tt))))
-entry_lacks (entry.BackSeg k n) h = (refl, (refl, (spaceless k h.0, (spaceless n h.1, tt))))
-entry_lacks (entry.Release u p) h = (refl, (spaceless u h.0, (spaceless p h.1, tt)))
-entry_lacks (entry.Online c) h = (refl, (spaceless c h, tt))
-entry_lacks (entry.Load c k) h = (refl, (spaceless c h.0, (spaceless k h.1, tt)))
-entry_lacks (entry.Leave c) h = (refl, (spaceless c h, tt))
-entry_lacks (entry.Activate u) h = (refl, (spaceless u h, tt))
-entry_lacks (entry.Deactivate u) h = (refl, (spaceless u h, tt))
-entry_lacks (entry.Start f u p) h = (refl, (spaceless f h.0, (spaceless u h.1, (spaceless p h.2, tt))))
-entry_lacks (entry.Lose f) h = (refl, (spaceless f h, tt))
-entry_lacks (entry.Here f u p) h = (refl, (spaceless f h.0, (spaceless u h.1, (spaceless p h.2, tt))))
-entry_lacks (entry.Connect k n u) h = (refl, (spaceless k h.0, (spaceless n h.1, (spaceless u h.2, tt))))
-entry_lacks (entry.Moved k u w) h = (refl, (spaceless k h.0, (spaceless u h.1, (spaceless w h.2, tt))))
-entry_lacks (entry.Take f) h = (refl, (spaceless f h, tt))
-entry_lacks (entry.Cut k n) h = (refl, (spaceless k h.0, (spaceless n h.1, tt)))
+entry_lacks _ h = search (rules, spaceless)
 
 what_again : (w : What) → IsWhat w → what_of (what_words w) ≡ Some w
 what_again what.All h = refl
@@ -485,24 +455,17 @@ entry_again (entry.Signal c w) h = rw (number_again c h.0, what_again w h.1) ref
 entry_again (entry.Clear c w) h = rw (number_again c h.0, what_again w h.1) refl
 entry_again (entry.Fault k) h = rw (optional_again k h) refl
 entry_again (entry.Release u p) h = rw (number_again u h.0, number_again p h.1) refl
-entry_again (entry.Online c) h = rw (number_again c h) refl
 entry_again (entry.Load c k) h = rw (number_again c h.0, number_again k h.1) refl
-entry_again (entry.Leave c) h = rw (number_again c h) refl
-entry_again (entry.Activate u) h = rw (number_again u h) refl
-entry_again (entry.Deactivate u) h = rw (number_again u h) refl
 entry_again (entry.Start f u p) h = rw (number_again f h.0, number_again u h.1, number_again p h.2) refl
-entry_again (entry.Lose f) h = rw (number_again f h) refl
 entry_again (entry.Here f u p) h = rw (number_again f h.0, number_again u h.1, number_again p h.2) refl
 entry_again (entry.Connect k n u) h = rw (number_again k h.0, number_again n h.1, number_again u h.2) refl
 entry_again (entry.Moved k u w) h = rw (number_again k h.0, number_again u h.1, number_again w h.2) refl
-entry_again (entry.Take f) h = rw (number_again f h) refl
 entry_again (entry.Cut k n) h = rw (number_again k h.0, number_again n h.1) refl
 entry_again (entry.FillSeg c n) h = rw (number_again c h.0, number_again n h.1) refl
 entry_again (entry.FillPage c f) h = rw (number_again c h.0, number_again f h.1) refl
-entry_again (entry.GonePage f) h = rw (number_again f h) refl
-entry_again (entry.BackPage f) h = rw (number_again f h) refl
 entry_again (entry.GoneSeg k n) h = rw (number_again k h.0, number_again n h.1) refl
 entry_again (entry.BackSeg k n) h = rw (number_again k h.0, number_again n h.1) refl
+entry_again _ h = rw number_again refl
 
 three : {A : Type 0} {a b c d e f : A} → a ≡ b → c ≡ d → e ≡ f → a ∷ c ∷ e ∷ [] ≡ b ∷ d ∷ f ∷ []
 three p q r = cc
@@ -590,7 +553,6 @@ named_words (named.Seg k n) = codes "seg" ∷ decimal k ∷ decimal n ∷ []
 
 named_only : (fields : List (List ℕ)) → IfSome (named_of fields) (λ x. named_words x ≡ fields)
 named_only [] = tt
-named_only (a ∷ []) = tt
 named_only (a ∷ b ∷ []) = same a (codes "page") _ _ (λ o. IfSome o (λ x. named_words x ≡ a ∷ b ∷ []))
     (λ e. mapped (number_of b) (λ n. named.Page n) (λ x. named_words x ≡ a ∷ b ∷ [])
     (from_each (number_of b) (λ n. codes "page" ∷ decimal n ∷ [] ≡ a ∷ b ∷ [])
@@ -601,7 +563,7 @@ named_only (a ∷ b ∷ c ∷ []) = same a (codes "seg") _ _ (λ o. IfSome o (λ
     (both_each (number_of b) (number_of c) (λ x. codes "seg" ∷ decimal x.0 ∷ decimal x.1 ∷ [] ≡ a ∷ b ∷ c ∷ [])
     (λ n m f g. three (sym e) (number_only b n f) (number_only c m g))))
     tt
-named_only (a ∷ b ∷ c ∷ d ∷ fields) = tt
+named_only _ = tt
 
 gone_words : (x : Named) → entry_words (gone x) ≡ codes "gone" ∷ named_words x
 gone_words (named.Page f) = refl
@@ -622,14 +584,12 @@ filled_only a b c n m f g = same b (codes "seg") _ _ (λ o. IfSome o
 
 fill_only : (fields : List (List ℕ)) → IfSome (fill_of fields) (λ x. entry_words x ≡ codes "fill" ∷ fields)
 fill_only [] = tt
-fill_only (a ∷ []) = tt
-fill_only (a ∷ b ∷ []) = tt
 fill_only (a ∷ b ∷ c ∷ []) = chained (both (number_of a) (number_of c)) (filled b)
     (λ x. entry_words x ≡ codes "fill" ∷ a ∷ b ∷ c ∷ [])
     (both_each (number_of a) (number_of c) (λ x. IfSome (filled b x)
     (λ y. entry_words y ≡ codes "fill" ∷ a ∷ b ∷ c ∷ []))
     (λ n m f g. filled_only a b c n m (number_only a n f) (number_only c m g)))
-fill_only (a ∷ b ∷ c ∷ d ∷ fields) = tt
+fill_only _ = tt
 
 -- a text with a dot between two numbers
 dotted_only : (t : List ℕ) (k i : ℕ) → dotted_of t ≡ Some (k, i) → decimal k ++ (46 ∷ decimal i) ≡ t
@@ -738,8 +698,7 @@ reply_has _ = omega arith
 
 what_has : (w : What) → length (what_words w) ≤ 2
 what_has what.All = omega arith
-what_has (what.Page f) = omega arith
-what_has (what.Seg u) = omega arith
+what_has _ = omega arith
 
 entry_has : (e : Entry) → HasWords (entry_words e)
 entry_has (entry.Do k i c f r) = record { some = omega arith; few = omega (arith, reply_has r) }

@@ -79,8 +79,7 @@ piece_cut line start i order l =
     let within : i - start < length (drop start line) = grind (arith, common_steps) in
     let byte : get_or (drop start line) (i - start) 0 ≡ get_or line i 0 = grind (arith, common_steps) in
     let place : start + suc (i - start) ≡ i + 1 = omega (arith, order) in
-    let rest : drop (suc (i - start)) (drop start line) ≡ drop (i + 1) line =
-    drop-drop (suc (i - start)) start line ∙ ap (λ (n : ℕ). drop n line) place in
+    let rest = drop-drop (suc (i - start)) start line ∙ ap (λ (n : ℕ). drop n line) place in
     front_cut (drop start line) (i - start) within
     ∙ ap (λ (b : ℕ). take (i - start) (drop start line) ++ (b ∷ drop (suc (i - start)) (drop start line))) byte
     ∙ ap (λ (t : List ℕ). take (i - start) (drop start line) ++ (get_or line i 0 ∷ t)) rest
