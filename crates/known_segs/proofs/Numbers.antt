@@ -1,14 +1,13 @@
 -- What the number of a uid and the least free number are, place by place.
-use Rattle.std.proofs.Common.{◌≡◌, ◌≢◌, ℕ, suc, zero, ◌+◌, ◌<◌, ◌≤◌, Bool, true, false, List, [], ◌∷◌}
+use Rattle.std.proofs.Common.{◌≡◌, ◌≢◌, ℕ, suc, zero, ◌+◌, ◌<◌, Bool, true, false, List, [], ◌∷◌}
 use Rattle.std.proofs.Common.{length, Option, Some, None, refl, sym, ap}
-use Rattle.std.proofs.Common.{subst, ◌∙◌, arith, get_or, set, inl, inr, is_some, is_none, IsSome, IsNone}
+use Rattle.std.proofs.Common.{◌∙◌, arith, get_or, set, inl, inr, is_some, is_none, IsSome, IsNone}
 use Rattle.std.proofs.Common.{IsTrue}
 use Rattle.std.specs.Prelude.{◌↔◌}
 use Rattle.std.proofs.lemmas.Bool.{eqb-true, eq-eqb, both_ways, cases_eq, cases_lt}
 use Rattle.std.proofs.lemmas.List.{get_or_past, get_or-set_same, get_or-set_other, set-get_or}
 use Rattle.std.proofs.lemmas.List.Sums.{count_by-le-length}
 use Rattle.std.proofs.lemmas.List.Quantifiers.{position-Some}
-use Rattle.std.proofs.lemmas.Option.{none-some}
 use Rattle.std.proofs.lemmas.Grind.{common_steps}
 use Rattle.known_segs.specs.Known.{uid_of, stands_for, number_of, least_free, with_number, known_count, IsUnknown}
 use Rattle.known_segs.specs.Known.{HasOneNumberEach}
@@ -25,23 +24,19 @@ is_stands_for uid (Some u) e = let same : u ≡ uid = cc in eq-eqb u uid same
 pub within_since_known : (kst : List (Option ℕ)) (n : ℕ) {uid : ℕ} → uid_of kst n ≡ Some uid → n < length kst
 within_since_known kst n e = elim (cases_lt n (length kst)) [
   | inl lt ↦ lt
-  | inr past ↦
-      (let none : uid_of kst n ≡ None = get_or_past kst n None past in cc)
+  | inr past ↦ cc (get_or_past kst n None past)
 ]
 
 pub within_since_some : (kst : List (Option ℕ)) (n : ℕ) → IsSome (uid_of kst n) → n < length kst
 within_since_some kst n h = elim (cases_lt n (length kst)) [
   | inl lt ↦ lt
-  | inr past ↦
-      (let none : uid_of kst n ≡ None = get_or_past kst n None past in let yet : is_some (uid_of kst n) ≡ false =
-      ap is_some none in absurd (both_ways _ yet h))
+  | inr past ↦ absurd (both_ways _ (ap is_some (get_or_past kst n None past)) h)
 ]
 
 pub number_some : (kst : List (Option ℕ)) (uid n : ℕ) → number_of kst uid ≡ Some n → (n < length kst)
     × (uid_of kst n ≡ Some uid)
 number_some kst uid n e =
-    let h : (n < length kst) × (stands_for uid (get_or kst n None) ≡ true)
-    × ((k : ℕ) → k < n → stands_for uid (get_or kst k None) ≡ false) = position-Some (stands_for uid) kst n None e in
+    let h = position-Some (stands_for uid) kst n None e in
     (h.0, stands_for_is uid _ h.1)
 
 pub number_none : (kst : List (Option ℕ)) {uid : ℕ} → number_of kst uid ≡ None → IsUnknown kst uid
@@ -54,7 +49,7 @@ pub numbered : (kst : List (Option ℕ)) (uid : ℕ) (r : Option ℕ) → HasOne
     → (r ≡ Some n) ↔ (uid_of kst n ≡ Some uid)
 numbered kst uid None once e n = (λ h. cc, λ h. absurd (number_none kst (sym e) n h))
 numbered kst uid (Some m) once e n =
-    let h : (m < length kst) × (uid_of kst m ≡ Some uid) = number_some kst uid m (sym e) in (
+    let h = number_some kst uid m (sym e) in (
       (λ s. let same : m ≡ n = cc in rw (← same) h.1),
       λ known. cc (once m n uid h.1 known),
     )
@@ -69,8 +64,7 @@ free_is (Some u) e = cc
 
 pub free_some : (kst : List (Option ℕ)) (n : ℕ) → least_free kst ≡ Some n → (n < length kst) × (uid_of kst n ≡ None)
 free_some kst n e =
-    let h : (n < length kst) × (is_none (get_or kst n None) ≡ true)
-    × ((k : ℕ) → k < n → is_none (get_or kst k None) ≡ false) = position-Some is_none kst n None e in
+    let h = position-Some is_none kst n None e in
     (h.0, free_is _ h.1)
 
 all_known : (xs : List (Option ℕ)) → ((k : ℕ) → k < length xs → is_none (get_or xs k None) ≡ false) → known_count xs
@@ -78,16 +72,16 @@ all_known : (xs : List (Option ℕ)) → ((k : ℕ) → k < length xs → is_non
 all_known [] h = refl
 all_known (None ∷ xs) h = let no_place : true ≡ false = h 0 (omega arith) in cc
 all_known (Some u ∷ xs) h =
-    let ih : known_count xs ≡ length xs = all_known xs (λ k lt. h (suc k) (omega arith)) in
-    let more : known_count (Some u ∷ xs) ≡ 1 + known_count xs = grind (arith, common_steps) in omega arith
+    let more : known_count (Some u ∷ xs) ≡ 1 + known_count xs = grind (arith, common_steps) in
+    omega (arith, all_known xs (λ k lt. h (suc k) (omega arith)))
 
 some_free : (xs : List (Option ℕ)) (n : ℕ) → n < length xs → uid_of xs n ≡ None → known_count xs < length xs
 some_free [] n lt e = omega arith
-some_free (None ∷ xs) n lt e = let most : known_count xs ≤ length xs = count_by-le-length is_some xs in omega arith
+some_free (None ∷ xs) n lt e = omega (arith, count_by-le-length is_some xs)
 some_free (Some u ∷ xs) zero lt e = cc
 some_free (Some u ∷ xs) (suc n) lt e =
-    let ih : known_count xs < length xs = some_free xs n (omega arith) e in
-    let more : known_count (Some u ∷ xs) ≡ 1 + known_count xs = grind (arith, common_steps) in omega arith
+    let more : known_count (Some u ∷ xs) ≡ 1 + known_count xs = grind (arith, common_steps) in
+    omega (arith, some_free xs n (omega arith) e)
 
 pub count_full : (kst : List (Option ℕ)) → least_free kst ≡ None → known_count kst ≡ length kst
 count_full kst e = all_known kst (λ k lt. position_none is_none kst e k None lt)
@@ -96,17 +90,16 @@ count_full kst e = all_known kst (λ k lt. position_none is_none kst e k None lt
 pub room_is : (kst : List (Option ℕ)) (r : Option ℕ) (b : Bool) → length kst ≡ 256 → r ≡ least_free kst → b ≡ is_some r
     → IsTrue b ↔ (known_count kst < 256)
 room_is kst None b size e is =
-    let full : known_count kst ≡ length kst = count_full kst (sym e) in (λ h. cc, λ lt. absurd (omega arith))
+    (λ h. cc, λ lt. absurd (omega (arith, count_full kst (sym e))))
 room_is kst (Some n) b size e is =
-    let free : (n < length kst) × (uid_of kst n ≡ None) = free_some kst n (sym e) in
-    let less : known_count kst < length kst = some_free kst n free.0 free.1 in (λ _. omega arith, λ _. is)
+    let free = free_some kst n (sym e) in
+    let less = some_free kst n free.0 free.1 in (λ _. omega arith, λ _. is)
 
 -- a uid that is known keeps its number
 pub known_stays : {kst : List (Option ℕ)} (uid : ℕ) {n : ℕ} → Some n ≡ number_of kst uid
     → kst ≡ with_number kst uid (Some n)
 known_stays {kst} uid {n} e =
-    let h : uid_of kst n ≡ Some uid = (number_some kst uid n (sym e)).1 in
-    let same : set kst n (get_or kst n None) ≡ kst = set-get_or kst n None in rw (← h) (sym same)
+    rw (← (number_some kst uid n (sym e)).1) (sym (set-get_or kst n None))
 
 pub known_is_some : (kst : List (Option ℕ)) (uid n size : ℕ) → Some n ≡ number_of kst uid → IsNone (Some n)
     ↔ ((known_count kst ≡ size) × IsUnknown kst uid)
@@ -115,8 +108,8 @@ known_is_some kst uid n size e = (λ h. cc, λ h. absurd (h.1 n (number_some kst
 pub given_is_some : (kst : List (Option ℕ)) (uid n : ℕ) → length kst ≡ 256 → Some n ≡ least_free kst
     → IsNone (Some n) ↔ ((known_count kst ≡ 256) × IsUnknown kst uid)
 given_is_some kst uid n size e =
-    let free : (n < length kst) × (uid_of kst n ≡ None) = free_some kst n (sym e) in
-    let less : known_count kst < length kst = some_free kst n free.0 free.1 in
+    let free = free_some kst n (sym e) in
+    let less = some_free kst n free.0 free.1 in
     (λ h. cc, λ h. absurd (let full : known_count kst ≡ 256 = h.0 in omega arith))
 
 pub none_is_full : (kst : List (Option ℕ)) {uid : ℕ} {r : Option ℕ} → r ≡ None → length kst ≡ 256 → None
@@ -153,10 +146,7 @@ once_given kst {uid} n once lt unknown a b u e f =
     -- no other number stands for the uid
     clash : (i j : ℕ) → i ≡ n → j ≢ n → get_or given i None ≡ Some u → get_or given j None ≡ Some u → ⊥
     clash i j at_i off_j is other =
-        let there : get_or given n None ≡ Some uid = get_or-set_same kst n (Some uid) None lt in
-        let here : get_or given n None ≡ Some u = subst (λ (k : ℕ). get_or given k None ≡ Some u) at_i is in
-        let old : get_or given j None ≡ get_or kst j None = kept j off_j in
-        let known : uid_of kst j ≡ Some uid = cc in unknown j known
+        unknown j (cc (get_or-set_same kst n (Some uid) None lt, rw at_i at is, kept j off_j))
 
 -- a number given up
 pub once_forgotten : (kst : List (Option ℕ)) (n : ℕ) → HasOneNumberEach kst → n < length kst
@@ -166,9 +156,7 @@ once_forgotten kst n once lt a b u e f = once a b u (still kst n a u lt e) (stil
     still : (kst : List (Option ℕ)) (n a u : ℕ) → n < length kst → get_or (set kst n None) a None ≡ Some u
         → get_or kst a None ≡ Some u
     still kst n a u lt e = elim (cases_eq a n) [
-      | inl at_a ↦ (let gone : uid_of (set kst n None) n ≡ None = get_or-set_same kst n None None lt in
-          let here : get_or (set kst n None) n None ≡ Some u =
-          subst (λ (k : ℕ). get_or (set kst n None) k None ≡ Some u) at_a e in cc)
+      | inl at_a ↦ cc (get_or-set_same kst n None None lt, rw at_a at e)
       | inr off_a ↦ sym (get_or-set_other kst n a None None off_a) ∙ e
     ]
 

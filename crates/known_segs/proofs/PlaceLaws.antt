@@ -1,10 +1,9 @@
 -- The 256 places of a table, of which only the first are kept.
-use Rattle.std.proofs.Common.{◌≡◌, ℕ, suc, zero, ◌+◌, ◌-◌, ◌<◌, ◌≤◌, Bool, true, false, not, cond, eqb, nat_lt}
+use Rattle.std.proofs.Common.{◌≡◌, ℕ, suc, zero, ◌+◌, ◌-◌, ◌<◌, ◌≤◌, Bool, not, cond, eqb, nat_lt}
 use Rattle.std.proofs.Common.{List, [], ◌∷◌, ◌++◌, length, replicate, Option, Some, None, refl, sym, ap, subst, ◌∙◌}
 use Rattle.std.proofs.Common.{arith, get_or, set, take, inl, inr, is_none, IsSome, append_assoc}
 use Rattle.std.specs.List.{prefix_len}
 use Rattle.std.proofs.lemmas.Bool.{cases_lt}
-use Rattle.std.proofs.lemmas.Option.{none-some}
 use Rattle.std.proofs.lemmas.Bool.Decides.{nat_tests}
 use Rattle.std.proofs.lemmas.Grind.{common_steps}
 use Rattle.std.proofs.lemmas.List.{get_or_past, get_or_append_left, get_or-append_right, set-append_left, get_or_default}
@@ -93,17 +92,12 @@ padded_set kept n o lt = cc (length-set kept n o, set-append_left kept (rest kep
 pub at_most_next : (kept : Table) {n : ℕ} → length kept ≤ 256 → least_free (padded kept) ≡ Some n
     → (n ≤ length kept) × (n < 256)
 at_most_next kept {n} few e =
-    let h : (n < length (padded kept)) × (is_none (get_or (padded kept) n None) ≡ true)
-    × ((k : ℕ) → k < n → is_none (get_or (padded kept) k None) ≡ false) =
-    position-Some is_none (padded kept) n None e in
-    let size : length (padded kept) ≡ 256 = padded_size kept few in
-    let within : n < length (padded kept) = h.0 in
+    let h = position-Some is_none (padded kept) n None e in
+    let size = padded_size kept few in
+    let within = h.0 in
     elim (cases_lt (length kept) n) [
-      | inl lt ↦
-          (let taken : is_none (get_or (padded kept) (length kept) None) ≡ false = h.2 (length kept) lt in
-          let empty : uid_of (padded kept) (length kept) ≡ None = sym (padded_at kept (length kept))
-          ∙ get_or_past kept (length kept) None (omega arith) in
-          let none : is_none (get_or (padded kept) (length kept) None) ≡ true = ap is_none empty in absurd (cc))
+      | inl lt ↦ absurd (cc (h.2 (length kept) lt, ap is_none (sym (padded_at kept (length kept))
+          ∙ get_or_past kept (length kept) None (omega arith))))
       | inr le ↦ (omega arith, omega arith)
     ]
 
@@ -111,8 +105,8 @@ pub padded_push : (kept : Table) {n : ℕ} (uid : ℕ) → n ≡ length kept →
     ≡ set (padded kept) n (Some uid)
 unfolding padded
 padded_push kept {n} uid here lt =
-    let more : length (kept ++ Some uid ∷ []) ≡ length kept + 1 = length-append kept (Some uid ∷ []) in
-    let left : 256 - length kept ≡ suc (256 - length (kept ++ Some uid ∷ [])) = omega arith in
+    let left : 256 - length kept ≡ suc (256 - length (kept ++ Some uid ∷ [])) =
+    omega (arith, length-append kept (Some uid ∷ [])) in
     append_assoc kept (Some uid ∷ []) (replicate (256 - length (kept ++ Some uid ∷ [])) None)
     ∙ sym (set-append_right kept (rest kept) (length kept) n (Some uid) refl (omega arith)
     ∙ ap (λ (k : ℕ). kept ++ set (rest kept) k (Some uid)) (omega arith)
@@ -122,8 +116,8 @@ padded_push kept {n} uid here lt =
 pub padded_pop : (kept : Table) → length kept < 256 → padded (kept ++ None ∷ []) ≡ padded kept
 unfolding padded
 padded_pop kept lt =
-    let more : length (kept ++ None ∷ []) ≡ length kept + 1 = length-append kept (None ∷ []) in
-    let left : 256 - length kept ≡ suc (256 - length (kept ++ None ∷ [])) = omega arith in
+    let left : 256 - length kept ≡ suc (256 - length (kept ++ None ∷ [])) =
+    omega (arith, length-append kept (None ∷ [])) in
     cc (append_assoc kept (None ∷ []) (replicate (256 - length (kept ++ None ∷ [])) None))
 
 last_set : (kept : Table) (n : ℕ) → n + 1 ≡ length kept → set kept n None ≡ take n kept ++ None ∷ []
@@ -137,11 +131,7 @@ pub last_dropped : (kept : Table) {left now : Table} {n m : ℕ} → padded kept
 last_dropped kept {left} {n} shown few e here cut =
     let within : n ≤ length kept = omega arith in
     let short : length (take n kept) ≡ n = grind (arith, common_steps) in
-    let fits : length (take n kept) < 256 = omega arith in
-    let front : left ≡ take n kept = cut ∙ ap (λ (k : ℕ). take k kept) here in
-    ap (λ (t : Table). padded t) front ∙ sym (padded_pop (take n kept) fits)
-    ∙ ap (λ (t : Table). padded t) (sym (last_set kept n e)) ∙ padded_set kept n None (omega arith)
-    ∙ ap (λ (t : Table). set t n None) shown
+    cc (padded_pop (take n kept) (omega arith), last_set kept n e, padded_set kept n None (omega arith))
 
 pub cleared_is : (kept : Table) {now : Table} (n : ℕ) → padded kept ≡ now → n < length kept → padded (set kept n None)
     ≡ set now n None
@@ -198,12 +188,8 @@ pub push_is : (kept : Table) {now : Table} {n : ℕ} (uid : ℕ) → padded kept
     → least_free now ≡ Some n
     → length kept ≤ n → (padded (kept ++ Some uid ∷ []) ≡ set now n (Some uid)) × (length kept < 256)
 push_is kept {n} uid shown few free le =
-    let most : (n ≤ length kept) × (n < 256) = at_most_next kept {n = n} few (rw shown free) in
-    let low : n ≤ length kept = most.0 in
-    let high : n < 256 = most.1 in (
-      cc (padded_push kept {n = n} uid (omega (arith, low, le)) high),
-      omega arith,
-    )
+    let most = at_most_next kept {n = n} few (rw shown free) in
+    (cc (padded_push kept {n = n} uid (omega arith) most.1), omega arith)
 
 -- what a look at a place goes by
 pub ruleset place_seen = (at_kept, at_blank, size_is)

@@ -11,5 +11,4 @@ invariant_of-self c = rw c.clear.ensures (
 )
 
 pub returns-clause-once : goal.returns-clause-once
-returns-clause-once c = rw c.clear.ensures (once_forgotten c.self.inside.places c.args.n c.self.invariant.1
-    (within_since_some _ _ (rw c.self.view_is c.requires.known)))
+returns-clause-once c = (invariant_of-self c).1

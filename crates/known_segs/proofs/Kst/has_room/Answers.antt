@@ -1,5 +1,3 @@
-use Rattle.std.proofs.Common.{◌≡◌, length, subst, List, ℕ, Option}
-use Rattle.known_segs.specs.Known.{least_free}
 use Rattle.known_segs.proofs.Numbers.{room_is}
 use Rattle.known_segs.proofs.Kst.has_room.Goals as goal
 

@@ -1,4 +1,4 @@
-use Rattle.std.proofs.Common.{◌≡◌, length, subst, sym, ◌∙◌, List, ℕ, Option, Some, None}
+use Rattle.std.proofs.Common.{◌≡◌, subst, sym, ◌∙◌, List, ℕ, Option, Some, None}
 use Rattle.std.proofs.lemmas.List.{length-set}
 use Rattle.known_segs.specs.Known.{number_of, least_free}
 use Rattle.known_segs.proofs.Numbers.{known_stays, known_is_some, given_is_some, none_is_full, once_given, free_some}
@@ -23,8 +23,7 @@ returns-in_err-number-clause-full c =
 pub invariant_of-self : goal.invariant_of-self
 invariant_of-self c =
     let unknown : None ≡ number_of c.self.inside.places c.args.uid = sym c.in_default.is ∙ c.number_of.ensures.number in
-    let least : Some c.in_ok-number.number ≡ least_free c.self.inside.places = sym c.in_ok-number.was
-    ∙ c.least_free.ensures.number in
+    let least = sym c.in_ok-number.was ∙ c.least_free.ensures.number in
     rw c.set.ensures (
       length-set _ _ _ ∙ c.self.invariant.0,
       once_given _ _ c.self.invariant.1 (free_some _ _ (sym least)).0 (number_none _ (sym unknown)),
@@ -32,21 +31,15 @@ invariant_of-self c =
 
 pub returns-clause-full : goal.returns-clause-full
 returns-clause-full c =
-    let least : Some c.in_ok-number.number ≡ least_free c.self.inside.places = sym c.in_ok-number.was
-    ∙ c.least_free.ensures.number in
+    let least = sym c.in_ok-number.was ∙ c.least_free.ensures.number in
     given_is_some _ _ _ (rw (← c.self.view_is) c.self.invariant.0)
     (subst (λ (kst : List (Option ℕ)). Some c.in_ok-number.number ≡ least_free kst) c.self.view_is least)
 
 pub returns-clause-once : goal.returns-clause-once
-returns-clause-once c =
-    let unknown : None ≡ number_of c.self.inside.places c.args.uid = sym c.in_default.is ∙ c.number_of.ensures.number in
-    let least : Some c.in_ok-number.number ≡ least_free c.self.inside.places = sym c.in_ok-number.was
-    ∙ c.least_free.ensures.number in
-    rw c.set.ensures (once_given _ _ c.self.invariant.1 (free_some _ _ (sym least)).0 (number_none _ (sym unknown)))
+returns-clause-once c = (invariant_of-self c).1
 
 pub returns-clause-kept : goal.returns-clause-kept
 returns-clause-kept c =
-    let least : Some c.in_ok-number.number ≡ least_free c.self.inside.places = sym c.in_ok-number.was
-    ∙ c.least_free.ensures.number in
+    let least = sym c.in_ok-number.was ∙ c.least_free.ensures.number in
     let empty = (free_some _ _ (sym least)).1 in
     rw (c.set.ensures, ← c.self.view_is) (kept_given c.self.inside.places c.in_ok-number.number c.args.uid empty)

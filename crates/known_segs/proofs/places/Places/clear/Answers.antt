@@ -1,12 +1,10 @@
-use Rattle.std.proofs.Common.{◌<◌, length, sym, subst, arith, IsSome, List, Option, ℕ}
-use Rattle.known_segs.specs.Known.{uid_of}
+use Rattle.std.proofs.Common.{arith}
 use Rattle.known_segs.proofs.PlaceLaws.{known_is_kept, last_dropped, cleared_is}
 use Rattle.known_segs.proofs.places.Places.clear.Goals as goal
 
 pub index_mut-requires : goal.index_mut-requires
 index_mut-requires c =
-    let lt : c.args.n < length c.self.inside.kept.items = known_is_kept c.self.inside.kept.items c.args.n
-    (rw c.self.view_is c.requires) in
+    let lt = known_is_kept c.self.inside.kept.items c.args.n (rw c.self.view_is c.requires) in
     omega arith
 
 pub returns-then-n-len : goal.returns-then-n-len
@@ -15,6 +13,5 @@ returns-then-n-len c = last_dropped c.self.inside.kept.items c.self.view_is (ome
 
 pub returns-else-n-len : goal.returns-else-n-len
 returns-else-n-len c =
-    let lt : c.args.n < length c.self.inside.kept.items = known_is_kept c.self.inside.kept.items c.args.n
-    (rw c.self.view_is c.requires) in
+    let lt = known_is_kept c.self.inside.kept.items c.args.n (rw c.self.view_is c.requires) in
     cleared_is c.self.inside.kept.items c.args.n c.self.view_is lt

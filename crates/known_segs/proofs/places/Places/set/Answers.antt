@@ -1,17 +1,15 @@
-use Rattle.std.proofs.Common.{arith, ◌<◌, length}
+use Rattle.std.proofs.Common.{arith}
 use Rattle.known_segs.proofs.PlaceLaws.{set_is, push_is}
 use Rattle.known_segs.proofs.places.Places.set.Goals as goal
 
 pub push_reserved-requires : goal.push_reserved-requires
 push_reserved-requires c =
-    let lt : length c.self.inside.kept.items < 256 = (push_is c.self.inside.kept.items
-    c.args.uid c.self.view_is (omega arith) c.requires (omega arith)).1 in
+    let lt = (push_is c.self.inside.kept.items c.args.uid c.self.view_is (omega arith) c.requires (omega arith)).1 in
     omega arith
 
 pub invariant_of-self-else-number-len : goal.invariant_of-self-else-number-len
 invariant_of-self-else-number-len c =
-    let lt : length c.self.inside.kept.items < 256 = (push_is c.self.inside.kept.items
-    c.args.uid c.self.view_is (omega arith) c.requires (omega arith)).1 in
+    let lt = (push_is c.self.inside.kept.items c.args.uid c.self.view_is (omega arith) c.requires (omega arith)).1 in
     (omega arith, omega arith)
 
 pub returns-then-number-len : goal.returns-then-number-len
