@@ -179,24 +179,29 @@ no_end false r h = keeps_err
 other_keeps : (volumes : ℕ) (word : List ℕ) (fields : List (List ℕ)) → bytes_eq word (codes "end") ≡ false
     → Keeps (Goes volumes) (other_command_of word fields)
 unfolding other_command_of acl_of length_of truncate_of move_of status_of is_command
-other_keeps volumes word fields h = either_keeps (bytes_eq word (codes "acl")) (any_keeps _ (λ f. then_keeps (path_keeps f.0) (λ path p.
+other_keeps volumes word fields h = either_keeps (bytes_eq word (codes "acl"))
+    (any_keeps _ (λ f. then_keeps (path_keeps f.0) (λ path p.
     then_keeps (row_keeps f.1) (λ row r. any_keeps _ (λ mode. goes (and_from (is_path path) (is_row row) p r) refl)))))
     (either_keeps (bytes_eq word (codes "length")) (then_keeps (path_and_number_keeps 1 256 fields) (λ p n.
     goes (and_from (is_path p.0) (is_from 1 256 p.1) n.path n.number) refl))
     (either_keeps (bytes_eq word (codes "truncate")) (then_keeps (path_and_number_keeps 0 262144 fields) (λ p n.
     goes (and_from (is_path p.0) (nat_le p.1 262144) n.path (up_to_most 262144 p.1 n.number)) refl))
-    (either_keeps (bytes_eq word (codes "move")) (any_keeps _ (λ f. then_keeps (path_keeps f.0) (λ path p. then_keeps (amount_keeps f.1) (λ amount a.
+    (either_keeps (bytes_eq word (codes "move"))
+        (any_keeps _ (λ f. then_keeps (path_keeps f.0) (λ path p. then_keeps (amount_keeps f.1) (λ amount a.
     goes (and_from (is_path path) (is_from 1 16384 (unsigned_abs amount)) p a) refl))))
-    (either_keeps (bytes_eq word (codes "status")) (then_keeps (path_alone_keeps fields) (λ path p. goes p refl)) (no_end _ _ h)))))
+    (either_keeps (bytes_eq word (codes "status")) (then_keeps (path_alone_keeps fields) (λ path p. goes p refl))
+        (no_end _ _ h)))))
 
 reference_keeps : (volumes : ℕ) (word : List ℕ) (fields : List (List ℕ)) → bytes_eq word (codes "end") ≡ false
     → Keeps (Goes volumes) (reference_or word fields)
 unfolding reference_or read_of write_of add_of await_of is_command
 reference_keeps volumes word fields h =
-    either_keeps (bytes_eq word (codes "read")) (any_keeps _ (λ f. then_keeps (place_keeps f.0 f.1) (λ p n. goes n refl)))
+    either_keeps (bytes_eq word (codes "read"))
+        (any_keeps _ (λ f. then_keeps (place_keeps f.0 f.1) (λ p n. goes n refl)))
     (either_keeps (bytes_eq word (codes "write")) (then_keeps (place_and_word_keeps fields) (λ p n. goes n refl))
     (either_keeps (bytes_eq word (codes "add")) (then_keeps (place_and_word_keeps fields) (λ p n. goes n refl))
-    (either_keeps (bytes_eq word (codes "await")) (any_keeps _ (λ f. then_keeps (place_keeps f.0 f.1) (λ p h. then_keeps (word_keeps f.2) (λ w k.
+    (either_keeps (bytes_eq word (codes "await"))
+        (any_keeps _ (λ f. then_keeps (place_keeps f.0 f.1) (λ p h. then_keeps (word_keeps f.2) (λ w k.
     then_keeps (number_keeps 1 100000 f.3) (λ tries n. goes (and_from (is_place p.0 p.1)
     (is_word w && is_from 1 100000 tries) h (and_from (is_word w) (is_from 1 100000 tries) k n)) refl)))))
     (other_keeps volumes word fields h))))
@@ -205,14 +210,18 @@ reference_keeps volumes word fields h =
 pub command_keeps : (vs : List VolumeLine) (word : List ℕ) (fields : List (List ℕ))
     → bytes_eq word (codes "end") ≡ false → Keeps (Goes (length vs)) (command_of vs word fields)
 unfolding command_of mkdir_of mkseg_of initiate_of terminate_of delete_of is_command
-command_keeps vs word fields h = either_keeps (bytes_eq word (codes "mkdir")) (any_keeps _ (λ f. then_keeps (path_keeps f.0) (λ path p.
-    then_keeps (volume_keeps vs f.1) (λ volume v. goes (and_from (is_path path) (nat_lt volume (length vs)) p v) refl))))
-    (either_keeps (bytes_eq word (codes "mkseg")) (any_keeps _ (λ f. then_keeps (path_keeps f.0) (λ path p. then_keeps (number_keeps 1 256 f.1) (λ pages n.
+command_keeps vs word fields h = either_keeps (bytes_eq word (codes "mkdir"))
+    (any_keeps _ (λ f. then_keeps (path_keeps f.0) (λ path p.
+    then_keeps (volume_keeps vs f.1) (λ volume v. goes (and_from (is_path path) (nat_lt volume (length vs)) p v)
+        refl))))
+    (either_keeps (bytes_eq word (codes "mkseg"))
+        (any_keeps _ (λ f. then_keeps (path_keeps f.0) (λ path p. then_keeps (number_keeps 1 256 f.1) (λ pages n.
     then_keeps (volume_keeps vs f.2) (λ volume v. goes (and_from (is_path path)
     (is_from 1 256 pages && nat_lt volume (length vs)) p
     (and_from (is_from 1 256 pages) (nat_lt volume (length vs)) n v)) refl)))))
     (either_keeps (bytes_eq word (codes "initiate")) (then_keeps (path_alone_keeps fields) (λ path p. goes p refl))
-    (either_keeps (bytes_eq word (codes "terminate")) (any_keeps _ (λ f. then_keeps (number_keeps 0 255 f) (λ number n. goes (up_to_most 255 number n) refl)))
+    (either_keeps (bytes_eq word (codes "terminate"))
+        (any_keeps _ (λ f. then_keeps (number_keeps 0 255 f) (λ number n. goes (up_to_most 255 number n) refl)))
     (either_keeps (bytes_eq word (codes "delete")) (then_keeps (path_alone_keeps fields) (λ path p. goes p refl))
     (reference_keeps (length vs) word fields h)))))
 

@@ -63,7 +63,8 @@ placed n o h =
     record {
       number = decimal_field n (omega arith);
       offset = decimal_field o (omega arith);
-      again = rw (number_again 0 255 n (omega arith) (omega arith) few, number_again 0 999999 o (omega arith) (omega arith) near) refl;
+      again = rw (number_again 0 255 n (omega arith) (omega arith) few, number_again 0 999999 o (omega arith)
+          (omega arith) near) refl;
     }
 
 -- ---- each command is read back
@@ -75,7 +76,10 @@ pub record ReadBack (vs : List VolumeLine) (c : Command) : Type 0 where
 
 pub command_again : (vs : List VolumeLine) (c : Command) → AreVolumes vs → is_command (length vs) c ≡ true
     → ReadBack vs c
-unfolding command_text word_text arguments_text path_fields_text reference_text is_command command_of reference_or other_command_of mkdir_of mkseg_of initiate_of terminate_of read_of write_of add_of await_of acl_of length_of truncate_of delete_of move_of status_of end_of path_alone path_and_number place_and_word four_fields three_fields two_fields one_field next_field no_fields
+unfolding command_text word_text arguments_text path_fields_text reference_text is_command command_of reference_or
+    other_command_of mkdir_of mkseg_of initiate_of terminate_of read_of write_of add_of await_of acl_of length_of
+    truncate_of delete_of move_of status_of end_of path_alone path_and_number place_and_word four_fields three_fields
+    two_fields one_field next_field no_fields
 command_again vs (command.MkDir path volume) a h =
     let p : is_path path ≡ true = grind (arith, nat_tests) in
     let v : volume < length vs = grind (arith, nat_tests) in
@@ -88,8 +92,10 @@ command_again vs (command.MkSeg path pages volume) a h =
     let v : volume < length vs = grind (arith, nat_tests) in
     let n : (1 ≤ pages) × (pages ≤ 256) = (grind (arith, nat_tests), grind (arith, nat_tests)) in
     record {
-      fields = worded (command.MkSeg path pages volume) (three (path_field path p) (decimal_field pages (omega arith)) (volume_field vs volume v a.each));
-      again = rw (path_in_again path p, number_again 1 256 pages (omega arith) n.0 n.1, volume_again vs volume v a.each a.own) refl;
+      fields = worded (command.MkSeg path pages volume)
+          (three (path_field path p) (decimal_field pages (omega arith)) (volume_field vs volume v a.each));
+      again = rw (path_in_again path p, number_again 1 256 pages (omega arith) n.0 n.1, volume_again vs volume v
+          a.each a.own) refl;
     }
 command_again vs (command.Initiate path) a h = record {
   fields = worded (command.Initiate path) (last_field (path_field path h));

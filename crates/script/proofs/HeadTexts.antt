@@ -27,7 +27,8 @@ after_machine processors frames pools = record blank {
 pub machine_reaches : (processors frames : ℕ) (pools : List ℕ) → 1 ≤ processors → processors ≤ MOST_PROCESSORS
     → 4 ≤ frames → frames ≤ 1024 → ArePools pools → Reaches blank (ended (machine_text processors frames pools))
     (after_machine processors frames pools)
-unfolding machine_text line_at later_at pools_in six_fields four_fields three_fields two_fields one_field next_field no_fields
+unfolding machine_text line_at later_at pools_in six_fields four_fields three_fields two_fields one_field next_field
+    no_fields
 machine_reaches processors frames (a ∷ b ∷ c ∷ d ∷ []) p0 p1 f0 f1 h =
     let fields = number_fields processors (frames ∷ a ∷ b ∷ c ∷ d ∷ []) (omega arith)
     (omega arith, (omega arith, (omega arith, (omega arith, (omega arith, tt))))) in
@@ -49,7 +50,8 @@ pub quota_reaches : (base : DraftPlan) (quota : ℕ) → quota ≤ 16384
     → Reaches (record base { stage = stage.Quota }) (ended (quota_text quota))
     (record base { stage = stage.FirstVolume; plan = record base.plan { quota = quota } })
 unfolding quota_text line_at later_at one_field next_field no_fields
-quota_reaches base quota h = reaches_line {word = codes "quota"} (front_field (record { some = omega arith; bytes = refl })
+quota_reaches base quota h = reaches_line {word = codes "quota"}
+    (front_field (record { some = omega arith; bytes = refl })
     (last_field (decimal_field quota (omega arith)))) refl
     (rw (number_again 0 16384 quota (omega arith) (omega arith) h) refl)
 
@@ -74,7 +76,8 @@ volume_reaches base s done v takes h new room sum =
     let e : (1 ≤ v.entries) × (v.entries ≤ 4097) = (grind (arith, nat_tests), grind (arith, nat_tests)) in
     let few : nat_le 4 (length done) ≡ false = grind (arith, nat_tests) in
     let fits : nat_lt 16384 (sum_by records_of done + v.records) ≡ false = grind (arith, nat_tests) in
-    reaches_line {word = codes "volume"} (front_field (record { some = omega arith; bytes = refl }) (front_field (name_field v.name named)
+    reaches_line {word = codes "volume"} (front_field (record { some = omega arith; bytes = refl })
+        (front_field (name_field v.name named)
     (front_field (decimal_field v.records (omega arith)) (last_field (decimal_field v.entries (omega arith)))))) refl
     (simp (
       and_false,
@@ -163,7 +166,8 @@ bulks_reach base done [] a h = rw (nil_after done) reaches_nothing
 bulks_reach base done (b ∷ bs) a h =
     let v : b.volume < length base.plan.volumes = grind (arith, nat_tests, h.each) in
     let n : (1 ≤ b.places) × (b.places ≤ 1024) = (grind (arith, nat_tests, h.each), grind (arith, nat_tests, h.each)) in
-    reaches_both (reaches_line {word = codes "bulk"} (front_field (record { some = omega arith; bytes = refl }) (front_field
+    reaches_both (reaches_line {word = codes "bulk"}
+        (front_field (record { some = omega arith; bytes = refl }) (front_field
     (volume_field base.plan.volumes b.volume v a.each) (last_field (decimal_field b.places (omega arith))))) refl (rw (
       volume_again base.plan.volumes b.volume v a.each a.own,
       other_volumes done b bs h.own,
@@ -211,11 +215,13 @@ fails_reach base s done [] takes a h = rw (nil_after done) reaches_nothing
 fails_reach base s done (f ∷ fs) takes a h =
     let vs = base.plan.volumes in
     let v : f.volume < length base.plan.volumes = grind (arith, nat_tests, h.each) in
-    let n : (1 ≤ f.number) × (f.number ≤ 1000000) = (grind (arith, nat_tests, h.each), grind (arith, nat_tests, h.each)) in
+    let n : (1 ≤ f.number) × (f.number ≤ 1000000) =
+        (grind (arith, nat_tests, h.each), grind (arith, nat_tests, h.each)) in
     let few : nat_lt (length done) 100 ≡ true = grind (arith, nat_tests, h.few) in
     let rest = fails_reach base stage.Fails (done ++ f ∷ []) fs refl a
     (record { each = grind (arith, nat_tests, h.each); few = omega (arith, length-append done (f ∷ []), h.few) }) in
-    reaches_both (reaches_line {word = codes "fail"} (front_field (record { some = omega arith; bytes = refl }) (front_field
+    reaches_both (reaches_line {word = codes "fail"}
+        (front_field (record { some = omega arith; bytes = refl }) (front_field
     (volume_field vs f.volume v a.each) (front_field (write_field f.write)
     (last_field (call_field f.number f.onward n.1))))) refl (simp (
       and_false,

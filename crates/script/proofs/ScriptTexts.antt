@@ -26,7 +26,8 @@ behind base done u = record base {
 module _ (base : DraftPlan) (a : AreVolumes base.plan.volumes) where
   goes_on : (done : List Command) (u : ℕ) (c : Command) → is_command (length base.plan.volumes) c ≡ true
       → is_end c ≡ false → u + weight c ≤ 100000
-      → Reaches (inside base done u) (ended (command_text base.plan.volumes c)) (inside base (done ++ c ∷ []) (u + weight c))
+      → Reaches (inside base done u) (ended (command_text base.plan.volumes c))
+          (inside base (done ++ c ∷ []) (u + weight c))
   unfolding line_at later_at command_line
   goes_on done u c h going le =
       let few : nat_le (u + weight c) 100000 ≡ true = grind (arith, nat_tests) in
@@ -35,7 +36,8 @@ module _ (base : DraftPlan) (a : AreVolumes base.plan.volumes) where
 
   ends : (done : List Command) (u : ℕ) (c : Command) → is_command (length base.plan.volumes) c ≡ true
       → is_end c ≡ true → u + weight c ≤ 100000
-      → Reaches (inside base done u) (ended (command_text base.plan.volumes c)) (behind base (done ++ c ∷ []) (u + weight c))
+      → Reaches (inside base done u) (ended (command_text base.plan.volumes c))
+          (behind base (done ++ c ∷ []) (u + weight c))
   unfolding line_at later_at command_line
   ends done u c h end le =
       let few : nat_le (u + weight c) 100000 ≡ true = grind (arith, nat_tests) in
@@ -84,7 +86,8 @@ process_reaches base s done before u x may a h room le =
     let few : nat_lt (length done) 32 ≡ true = grind (arith, nat_tests) in
     let after : has_volume s ≡ true = grind (arith, nat_tests) in
     let outer : is_inside s ≡ false = grind (arith, nat_tests) in
-    reaches_both (reaches_line {word = codes "process"} (front_field (record { some = omega arith; bytes = refl }) (last_field (who_field x.who who))) refl
+    reaches_both (reaches_line {word = codes "process"}
+        (front_field (record { some = omega arith; bytes = refl }) (last_field (who_field x.who who))) refl
     (simp (and_false, outer, after, who_in_again x.who who, few)))
     (commands_reach (record base { plan = record base.plan { processes = done }; who = x.who }) a [] u
     (u + weight_of x) x.commands (grind (arith, nat_tests)) (grind (arith, nat_tests)) refl le)
@@ -94,7 +97,8 @@ first_reaches : (base : DraftPlan) (s : Stage) (before : Who) (u : ℕ) (x : Pro
     → u + weight_of x ≤ 100000 → Reaches (between base s [] before u) (process_text base.plan.volumes true x)
     (between (initial base) stage.Processes (x ∷ []) initializer_who (u + weight_of x))
 unfolding process_text weight_of begin_text line_at later_at is_process no_fields
-first_reaches base s before u x may a h who le = reaches_both {e = between (initial base) stage.Commands [] initializer_who u}
+first_reaches base s before u x may a h who le = reaches_both
+    {e = between (initial base) stage.Commands [] initializer_who u}
     (reaches_line {word = codes "initializer"} (last_field (record { some = omega arith; bytes = refl })) refl
     (simp (and_false, outside s 3 5 (omega arith) may, may))) (rw who (commands_reach
     (record base { plan = record base.plan { initializer = true; processes = [] }; who = initializer_who }) a [] u
@@ -123,7 +127,8 @@ processes_read base s done before u (x ∷ xs) n may a h room le =
     let step = (process_reaches base s done before u x may a (grind (arith, nat_tests)) (omega (arith, room))
     (omega (arith, le, sum_by-cons weight_of x xs))).reads n (processes_text base.plan.volumes false xs) in
     step.1
-    ∙ processes_read base stage.Processes (done ++ x ∷ []) x.who (u + weight_of x) xs step.0 refl a (grind (arith, nat_tests))
+    ∙ processes_read base stage.Processes (done ++ x ∷ []) x.who (u + weight_of x) xs step.0 refl a
+        (grind (arith, nat_tests))
     (omega (arith, room, length-append done (x ∷ []))) (omega (arith, le, sum_by-cons weight_of x xs))
     ∙ ap (λ (t : List ProcessPlan). Ok (record base.plan { processes = t })) (append_assoc done (x ∷ []) xs)
 
@@ -135,7 +140,8 @@ first_read : (base : DraftPlan) (s : Stage) (before : Who) (xs : List ProcessPla
 unfolding processes_text
 first_read base s before [] n may a h first room le = absurd first
 first_read base s before (x ∷ xs) n may a h first room le =
-    let step = (first_reaches base s before 0 x may a (grind (arith, nat_tests)) first (omega (arith, le, sum_by-cons weight_of x xs))).reads n
+    let step = (first_reaches base s before 0 x may a (grind (arith, nat_tests)) first
+        (omega (arith, le, sum_by-cons weight_of x xs))).reads n
     (processes_text base.plan.volumes false xs) in
     step.1
     ∙ processes_read (initial base) stage.Processes (x ∷ []) initializer_who (0 + weight_of x) xs
