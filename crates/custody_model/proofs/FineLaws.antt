@@ -43,15 +43,13 @@ by_place i k x y P here other = elim (eqb_tells i k) [ inl e ↦ rw e.0 (here e.
 -- ---- what is named
 
 pub names_same : (c e : Custody) (w : What) (f : ℕ) → e.frame f ≡ c.frame f → names_frame e w f ≡ names_frame c w f
-names_same c e what.All f h = refl
-names_same c e (what.Page g) f h = refl
 names_same c e (what.Seg u) f h = rw h refl
+names_same c e _ f h = refl
 
 pub names_descriptor_same : (c e : Custody) (w : What) (k n : ℕ) → e.descriptor k n ≡ c.descriptor k n
     → names_descriptor e w k n ≡ names_descriptor c w k n
-names_descriptor_same c e what.All k n h = refl
-names_descriptor_same c e (what.Page g) k n h = refl
 names_descriptor_same c e (what.Seg u) k n h = rw h refl
+names_descriptor_same c e _ k n h = refl
 
 warned : (b : Bool) (o p : Option What) (t u : What → Bool) → p ≡ o → ((w : What) → u w ≡ t w) → (b ≡ true)
     ⊎ IsSomeAnd o (λ w. t w ≡ true) → (b ≡ true) ⊎ IsSomeAnd p (λ w. u w ≡ true)
@@ -154,15 +152,12 @@ descriptor_fine {c} {b} {k} n x fine nobody = record {
 -- ---- what is taken
 
 pub going_taken : (x : FrameUse) → is_current_frame x ≡ true → is_going_frame (taken x) ≡ true
-going_taken frame.Free h = absurd (let no : false ≡ true = h in cc)
-going_taken (frame.Started u p) h = absurd (let no : false ≡ true = h in cc)
 going_taken (frame.Current u p) h = refl
-going_taken (frame.Going u p) h = absurd (let no : false ≡ true = h in cc)
+going_taken _ h = absurd (let no : false ≡ true = h in cc)
 
 pub going_cut : (x : DescriptorUse) → is_current_descriptor x ≡ true → is_going_descriptor (cut x) ≡ true
-going_cut descriptor.Free h = absurd (let no : false ≡ true = h in cc)
 going_cut (descriptor.Current u) h = refl
-going_cut (descriptor.Going u) h = absurd (let no : false ≡ true = h in cc)
+going_cut _ h = absurd (let no : false ≡ true = h in cc)
 
 -- a page is taken: its signal is still to come
 pub take_fine : {c : Custody} {b : Bool} (f : ℕ) → Fine c b → is_current_frame (c.frame f) ≡ true
@@ -331,8 +326,7 @@ kept_seg : (c : Custody) (w : What) (s : Seat) {k : ℕ} (n : ℕ) → s.process
     → (names_descriptor c w k n ≡ false) × (has s.segs n ≡ true)
 kept_seg c w s {k} n process h =
     let both = has-filter (λ m. not (names_number c w s.process m)) s.segs n h in
-    let named : names_number c w s.process n ≡ names_descriptor c w k n =
-    ap (λ (o : Option ℕ). names_number c w o n) process in
+    let named = ap (λ (o : Option ℕ). names_number c w o n) process in
     (grind (arith, nat_tests), both.1)
 
 cleared_none : (c : Custody) (w : What) (s : Seat) → (s.segs ≡ []) × (s.pages ≡ []) → ((cleared c w s).segs ≡ [])
@@ -486,10 +480,9 @@ come_online = record {
 }
 
 started_is_no_other : (x : FrameUse) → is_started x ≡ true → (is_current_frame x ≡ false) × (is_going_frame x ≡ false)
-started_is_no_other frame.Free h = (refl, refl)
-started_is_no_other (frame.Started u q) h = (refl, refl)
 started_is_no_other (frame.Current u q) h = absurd (let no : false ≡ true = h in cc)
 started_is_no_other (frame.Going u q) h = absurd (let no : false ≡ true = h in cc)
+started_is_no_other _ h = (refl, refl)
 
 free_fine : {c : Custody} {b : Bool} (f : ℕ) (x : FrameUse) → Fine c b → c.frame f ≡ frame.Free
     → Fine (with_frame c f x) b
@@ -519,9 +512,6 @@ pub fine_next : (p : Plan) (s : Store) (c : Custody) (b : Bool) (e : Entry) → 
 unfolding custody_next
 fine_next p s c b (entry.Do k i d f r) fine may online = ready_fine (c.ready ++ released_by p k (next_command p s k))
     (less_fine d fine (counted (c.seat d) ((c.seat d).count + 1) (is_try s k (next_command p s k) r) (fine.idle d)))
-fine_next p s c b (entry.Release u q) fine may online = fine
-fine_next p s c b (entry.Fault k) fine may online = fine
-fine_next p s c b (entry.Moved k u w) fine may online = fine
 fine_next p s c b (entry.Online d) fine may online = less_fine d fine (come_online)
 fine_next p s c b (entry.Load d k) fine may online = ready_fine (drop 1 c.ready) (less_fine d fine
     (emptied (c.seat d) (Some k) 0 false))
@@ -545,6 +535,7 @@ fine_next p s c b (entry.BackPage f) fine may online = frame_fine f (given_back 
 fine_next p s c b (entry.GoneSeg k n) fine may online = descriptor_fine n descriptor.Free fine may.nobody
 fine_next p s c b (entry.BackSeg k n) fine may online =
     descriptor_fine n (reconnected (c.descriptor k n)) fine may.nobody
+fine_next p s c b _ fine may online = fine
 
 -- at first nobody holds anything
 pub fine_first : (p : Plan) → Fine (nothing_held p) false
