@@ -64,8 +64,7 @@ pub counted_less : (c d : ℕ → ℕ) (xs : List (ℕ × ℕ)) (u q : ℕ) → 
     → IsOnce xs → is_stored xs u q ≡ true → ((s : ℕ) → d s ≡ cond (eqb u s) (c u - 1) (c s)) → (s : ℕ)
     → d s ≡ count_by (λ x. eqb x.0 s) (without_stored xs u (λ r. eqb r q))
 counted_less c d xs u q counts once on down s =
-    let less : count_by (λ x. eqb x.0 s) (without_stored xs u (λ r. eqb r q)) + cond {A = ℕ} (eqb u s) 1 0
-    ≡ count_by (λ x. eqb x.0 s) xs = count_without (λ x. eqb x.0 s) xs u q once on in
+    let less = count_without (λ x. eqb x.0 s) xs u q once on in
     let was : c s ≡ count_by (λ x. eqb x.0 s) xs = counts s in
     down s ∙ elim (cases_eq u s) [
       | inl same ↦

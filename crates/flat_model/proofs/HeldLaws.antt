@@ -47,8 +47,7 @@ module _ (p : Plan) (s : Store) (k : ℕ) where
 
   takes_word : (old : ℕ) (how : RefKind) → takes_effect (word_reply old how) ≡ true
   takes_word old kind.Read = refl
-  takes_word old (kind.Write w) = refl
-  takes_word old (kind.Add w) = refl
+  takes_word old _ = refl
 
   chosen : (a b c d e : Bool) (f : Option ℕ) (x : Reply) → takes_effect x ≡ true
       → ((a && (not b && (c && (not d && e)))) && is_some f) ≡ true → takes_effect (cond (not a) reply.NoAccess

@@ -39,13 +39,11 @@ place_small volumes (x ∷ xs) zero are =
     omega (arith, one, sum_by-cons weight_of x xs)
 place_small volumes (x ∷ xs) (suc k) are =
     let parts = and_parts (is_process volumes x) (list_all (is_process volumes) xs) are in
-    let rest : length (get_or xs k (record { who = nobody; commands = [] })).commands ≤ sum_by weight_of xs =
-    place_small volumes xs k parts.1 in
+    let rest = place_small volumes xs k parts.1 in
     omega (arith, rest, sum_by-cons weight_of x xs)
 
 pub place_fits : (p : Plan) (k place : ℕ) → IsPlan p → place < length (commands_of p k) → place + 1 < 2 ^ 32
 place_fits p k place plan lt =
-    let few : length (commands_of p k) ≤ sum_by weight_of p.processes =
-    place_small (length p.volumes) p.processes k plan.each in
+    let few = place_small (length p.volumes) p.processes k plan.each in
     let most : sum_by weight_of p.processes ≤ 100000 = plan.commands in
     omega (arith, lt, few, most)

@@ -21,8 +21,7 @@ places_weigh volumes (q ∷ qs) (x ∷ xs) places are =
 -- a script has too few commands for many uids
 pub few_uids : (p : Plan) (s : Store) → IsReached p s → s.next < 100003
 few_uids p s r =
-    let less : sum_by (λ q. q.place) s.processes ≤ sum_by weight_of p.processes =
-    places_weigh (length p.volumes) s.processes p.processes r.places r.plan.each in
+    let less = places_weigh (length p.volumes) s.processes p.processes r.places r.plan.each in
     let most : sum_by weight_of p.processes ≤ 100000 = r.plan.commands in
     omega (arith, r.uids, less, most)
 

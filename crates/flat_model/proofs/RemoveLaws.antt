@@ -50,8 +50,7 @@ none_counted [] u none = refl
 none_counted (x ∷ xs) u none =
     let first : (eqb x.0 u && eqb x.1 x.1) ≡ false = (or_parts (is_page u x.1 x) (is_stored xs u x.1) (none x.1)).0 in
     let apart : eqb x.0 u ≡ false = grind (arith, nat_tests) in
-    let rest : count_by (λ y. eqb y.0 u) xs ≡ 0 =
-    none_counted xs u (λ page. (or_parts (is_page u page x) (is_stored xs u page) (none page)).1) in
+    let rest = none_counted xs u (λ page. (or_parts (is_page u page x) (is_stored xs u page) (none page)).1) in
     sum_by-cons (λ (y : ℕ × ℕ). cond (eqb y.0 u) 1 0) x xs ∙ rw apart (omega (arith, rest))
 
 -- ---- by its path

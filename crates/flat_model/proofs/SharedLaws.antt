@@ -11,16 +11,12 @@ going_within t k h = elim (leb_tells (length t.processes) k) [
 
 pub pools_few : (pools : List ℕ) → ArePools pools → sum pools ≤ 1024
 pools_few [] h = absurd h
-pools_few (a ∷ []) h = absurd h
-pools_few (a ∷ b ∷ []) h = absurd h
-pools_few (a ∷ b ∷ c ∷ []) h = absurd h
 pools_few (a ∷ b ∷ c ∷ d ∷ []) h = (let few : a + b + c + d ≤ 1024 = h.4 in grind (arith, common_steps))
-pools_few (a ∷ b ∷ c ∷ d ∷ e ∷ rest) h = absurd h
+pools_few _ h = absurd h
 
 pub nonzero_alters : (how : RefKind) → eqb (new_word 0 how) 0 ≡ false → alters how ≡ true
 nonzero_alters kind.Read h = absurd (let no : true ≡ false = h in cc)
-nonzero_alters (kind.Write w) h = refl
-nonzero_alters (kind.Add w) h = refl
+nonzero_alters _ h = refl
 
 pub front_dropped : (xs ys : List Entry) → drop (length xs) (xs ++ ys) ≡ ys
 front_dropped xs ys = grind (arith, common_steps)
