@@ -109,22 +109,21 @@ pub least_since_marked : (s : ActiveSegs) (used : List (List Bool)) (pool offset
     → IsMarked s.sizes used s.entries
     → IsFirstFree (map_of used pool) offset → IsLeastFree s pool (first_of s.sizes pool + offset)
 least_since_marked s used pool offset lt marked first =
-    let long : length (map_of used pool) ≡ size_of s.sizes pool = marked.as_long pool lt in
-    let lt_offset : offset < length (map_of used pool) = first.within in
+    let long = marked.as_long pool lt in
+    let lt_offset = first.within in
     let within : offset < size_of s.sizes pool = omega arith in
     let free : is_some (entry_at s.entries (first_of s.sizes pool + offset)) ≡ false =
     sym (marked.flags pool offset lt within) ∙ first.free in
     record {
       in_pool = record { from = omega arith; to = omega arith };
       free = none_since (entry_at s.entries (first_of s.sizes pool + offset)) free;
-      least = λ q in_pool before. (let i : ℕ = q - first_of s.sizes pool in
-          let from : first_of s.sizes pool ≤ q = in_pool.from in
-          let to : q < first_of s.sizes pool + size_of s.sizes pool = in_pool.to in
+      least = λ q in_pool before. (let i = q - first_of s.sizes pool in
+          let from = in_pool.from in
+          let to = in_pool.to in
           let within_i : i < size_of s.sizes pool = omega arith in
           let before_i : i < offset = omega arith in
-          let at : first_of s.sizes pool + i ≡ q = omega arith in
-          subst (λ (k : ℕ). is_some (entry_at s.entries k) ≡ true) at
-          (sym (marked.flags pool i lt within_i) ∙ first.before i before_i));
+          subst (λ (k : ℕ). is_some (entry_at s.entries k) ≡ true)
+          (omega arith) (sym (marked.flags pool i lt within_i) ∙ first.before i before_i));
     }
   where
     none_since : (o : Option Entry) → is_some o ≡ false → o ≡ None
@@ -137,41 +136,31 @@ not_full s pool place least full = both_ways _ (ap is_some least.free) (full pla
 pub free_within : (s : ActiveSegs) (pool place : ℕ) → HasShape s → pool < 4 → IsLeastFree s pool place
     → place < length s.entries
 free_within s pool place shape lt least =
-    let to : place < first_of s.sizes pool + size_of s.sizes pool = least.in_pool.to in
-    let ends : first_of s.sizes pool + size_of s.sizes pool ≤ sum s.sizes =
-    pool_within s.sizes pool shape.pools.four lt in
-    let count : length s.entries ≡ sum s.sizes = shape.entry_count in omega arith
+    omega (arith, least.in_pool.to, pool_within s.sizes pool shape.pools.four lt, shape.entry_count)
 
 -- where a place is free the pool has room for one more
 pub room_since_free : (s : ActiveSegs) (pool place : ℕ) → HasShape s → pool < 4 → IsLeastFree s pool place
     → used_in s pool < size_of s.sizes pool
 room_since_free s pool place shape lt least =
-    let first : ℕ = first_of s.sizes pool in
-    let size : ℕ = size_of s.sizes pool in
-    let i : ℕ = place - first in
-    let from : first ≤ place = least.in_pool.from in
-    let to : place < first + size = least.in_pool.to in
-    let ends : first + size ≤ sum s.sizes = pool_within s.sizes pool shape.pools.four lt in
-    let count : length s.entries ≡ sum s.sizes = shape.entry_count in
-    let past : length (drop first s.entries) ≡ length s.entries - first = length-drop first s.entries in
-    let long : length (take size (drop first s.entries)) ≡ size =
-    length-take-le size (drop first s.entries) (omega arith) in
+    let first = first_of s.sizes pool in
+    let size = size_of s.sizes pool in
+    let i = place - first in
+    let from = least.in_pool.from in
+    let to = least.in_pool.to in
+    let ends = pool_within s.sizes pool shape.pools.four lt in
+    let count = shape.entry_count in
+    let past = length-drop first s.entries in
+    let long = length-take-le size (drop first s.entries) (omega arith) in
     let at : first + i ≡ place = omega arith in
-    let free : entry_at (take size (drop first s.entries)) i ≡ None =
-    get_or-take size (drop first s.entries) i None (omega arith) ∙ get_or-drop first s.entries i None
-    ∙ ap (entry_at s.entries) at ∙ least.free in
-    let few : used_in s pool < length (take size (drop first s.entries)) =
-    not_all_used (take size (drop first s.entries)) i (omega arith) free in
-    omega arith
+    let free = get_or-take size (drop first s.entries) i None (omega arith)
+    ∙ get_or-drop first s.entries i None ∙ ap (entry_at s.entries) at ∙ least.free in
+    omega (arith, not_all_used (take size (drop first s.entries)) i (omega arith) free)
 
 -- ---- the victim
 
 pub hand_inside : {sizes hands : List ℕ} {pool place : ℕ} → HasPools sizes hands → pool < 4 → IsInPool sizes pool place
     → get_or hands pool 0 < size_of sizes pool
-hand_inside {sizes} {pool} {place} pools lt in_pool =
-    let from : first_of sizes pool ≤ place = in_pool.from in
-    let to : place < first_of sizes pool + size_of sizes pool = in_pool.to in
-    pools.inside pool lt (omega arith)
+hand_inside {sizes} {pool} {place} pools lt in_pool = pools.inside pool lt (omega (arith, in_pool.from, in_pool.to))
 
 -- the active segments of these tables
 abbrev pub segs_of : List ℕ → List ℕ → List (Option Entry) → List (List Ptw) → ActiveSegs

@@ -38,8 +38,7 @@ descends_once xs (suc n) (suc m) place a b (q, least, d) (r, least', e) =
 pub victim_once : {s : ActiveSegs} {pool : ℕ} {chain : List ℕ} {a b : ℕ} → IsVictim s pool chain a
     → IsVictim s pool chain b → a ≡ b
 victim_once {s} {a} {b} v w =
-    let same : v.found ≡ w.found = same_Some _ _ (sym v.first ∙ w.first) in
-    descends_once s.entries v.leaf.0 w.leaf.0 v.found a b v.leaf.1 (rw same w.leaf.1)
+    descends_once s.entries v.leaf.0 w.leaf.0 v.found a b v.leaf.1 (rw (same_Some _ _ (sym v.first ∙ w.first)) w.leaf.1)
 
 leaf_has_none : (xs : List (Option Entry)) (n place leaf : ℕ) → Descends xs n place leaf → HasNoInferior xs leaf
 unfolding Descends
@@ -68,14 +67,12 @@ chain_has (u ∷ chain) uid (suc k, lt, e) = or_right _ _ (chain_has chain uid (
 off_not_there : (chain : List ℕ) (o : Option Entry) (u : ℕ) → off_chain chain o ≡ true → uid_in o ≡ Some u
     → list_any (λ v. eqb v u) chain ≡ false
 off_not_there chain None u off is = absurd (false≢true off)
-off_not_there chain (Some e) u off is =
-    let same : e.uid ≡ u = same_Some _ _ is in rw same at (not-true _ off)
+off_not_there chain (Some e) u off is = rw (same_Some _ _ is) at (not-true _ off)
 
 not_there_off : (chain : List ℕ) (o : Option Entry) (u : ℕ) → list_any (λ v. eqb v u) chain ≡ false → uid_in o ≡ Some u
     → off_chain chain o ≡ true
 not_there_off chain None u absent is = absurd (none-some u is)
-not_there_off chain (Some e) u absent is =
-    let same : u ≡ e.uid = sym (same_Some _ _ is) in ap not (rw same at absent)
+not_there_off chain (Some e) u absent is = ap not (rw (sym (same_Some _ _ is)) at absent)
 
 pub off_is_used : (chain : List ℕ) (o : Option Entry) → off_chain chain o ≡ true → (u : ℕ) × (uid_in o ≡ Some u)
 off_is_used chain None off = absurd (false≢true off)
@@ -83,17 +80,15 @@ off_is_used chain (Some e) off = (e.uid, refl)
 
 off_within : (xs : List (Option Entry)) (chain : List ℕ) (place : ℕ) → IsOffChain xs chain place → place < length xs
 off_within xs chain place off =
-    let used : (u : ℕ) × (uid_at xs place ≡ Some u) = off_is_used chain (entry_at xs place) off in used_within xs place
-    used.0 used.1
+    let used = off_is_used chain (entry_at xs place) off in used_within xs place used.0 used.1
 
 off_below : (xs : List (Option Entry)) (chain : List ℕ) (place q : ℕ) → HasItsSuperiors xs chain
     → IsOffChain xs chain place → IsLeastInferior xs place q → IsOffChain xs chain q
 off_below xs chain place q closed off least =
-    let used : (u : ℕ) × (uid_at xs q ≡ Some u) = used_since_superior (entry_at xs q) least.uid least.inferior in
+    let used = used_since_superior (entry_at xs q) least.uid least.inferior in
     elim (cases_Bool (list_any (λ v. eqb v used.0) chain)) [
       | inl there ↦
-          (let above : Contains chain least.uid = closed q used.0 least.uid used.1 (in_chain chain used.0 there)
-          least.inferior in
+          (let above = closed q used.0 least.uid used.1 (in_chain chain used.0 there) least.inferior in
           absurd (both_ways _ (off_not_there chain (entry_at xs place) least.uid off least.is)
           (chain_has chain least.uid above)))
       | inr absent ↦ not_there_off chain (entry_at xs q) used.0 absent used.1
@@ -190,8 +185,7 @@ none_distinct = tt
 
 all_differ : (x : ℕ) (xs : List ℕ) → list_any (eqb x) xs ≡ false → AllByRecursion (λ y. eqb x y ≡ false) xs
 all_differ x [] h = tt
-all_differ x (y ∷ xs) h = let parts : (eqb x y ≡ false) × (list_any (eqb x) xs ≡ false) =
-    or_parts _ _ h in (parts.0, all_differ x xs parts.1)
+all_differ x (y ∷ xs) h = let parts = or_parts _ _ h in (parts.0, all_differ x xs parts.1)
 
 one_more_distinct : (x : ℕ) (xs : List ℕ) → list_any (eqb x) xs ≡ false → IsDistinct eqb xs → IsDistinct eqb (x ∷ xs)
 unfolding IsDistinct
@@ -226,20 +220,20 @@ not_passed {xs} {place} way = elim (cases_Bool (list_any (eqb place) way.passed)
 pub way_goes_on : (xs : List (Option Entry)) (start place q steps : ℕ) → IsOnTheWay xs start place steps
     → IsLeastInferior xs place q → IsOnTheWay xs start q (steps + 1)
 way_goes_on xs start place q steps way least =
-    let used : (u : ℕ) × (uid_at xs q ≡ Some u) = used_since_superior (entry_at xs q) least.uid least.inferior in
-    let same : least.uid ≡ way.uid = same_Some _ _ (sym least.is ∙ way.is) in
+    let used = used_since_superior (entry_at xs q) least.uid least.inferior in
+    let same = same_Some _ _ (sym least.is ∙ way.is) in
     let higher : way.rank way.uid < way.rank used.0 = subst (λ (k : ℕ). way.rank k < way.rank used.0) same
     (way.law q used.0 least.uid used.1 least.inferior) in
     record {
       rank = way.rank;
       law = way.law;
       back = λ leaf d. way.back leaf (goes_down xs place q leaf least d);
-      same = λ more. (let n : more + (steps + 1) ≡ suc more + steps = omega arith in
-          ap (λ (k : ℕ). leaf_below xs k start) n ∙ way.same (suc more) ∙ one_step_more xs more place q least);
+      same = λ more. ap (λ (k : ℕ). leaf_below xs k start) (omega arith)
+          ∙ way.same (suc more) ∙ one_step_more xs more place q least;
       uid = used.0;
       is = used.1;
       passed = place ∷ way.passed;
-      count = (let n : length way.passed ≡ steps = way.count in omega arith);
+      count = omega (arith, way.count);
       distinct = one_more_distinct place way.passed (not_passed way) way.distinct;
       before = λ r h. elim (or_cases (eqb r place) (list_any (eqb r) way.passed) h) [
         | inl this ↦ (
@@ -247,35 +241,30 @@ way_goes_on xs start place q steps way least =
           subst (λ (k : ℕ). uid_at xs k ≡ Some way.uid) (sym (eqb-true r place this)) way.is,
           higher,
         )
-        | inr earlier ↦ (let was : (u : ℕ) × (uid_at xs r ≡ Some u) × (way.rank u < way.rank way.uid) =
-            way.before r earlier in
-            (was.0, was.1, (let l : way.rank was.0 < way.rank way.uid = was.2 in omega arith)))
+        | inr earlier ↦ (let was = way.before r earlier in
+            (was.0, was.1, (omega (arith, was.2))))
       ];
     }
 
 -- there are not as many steps as places
 pub way_ends : (xs : List (Option Entry)) (start place steps : ℕ) → IsOnTheWay xs start place steps → steps < length xs
 way_ends xs start place steps way =
-    let all : List ℕ = place ∷ way.passed in
+    let all = place ∷ way.passed in
     let below : (q : ℕ) → list_any (eqb q) all ≡ true → q < length xs =
     λ q h. elim (or_cases (eqb q place) (list_any (eqb q) way.passed) h) [
-      | inl this ↦ (let same : q ≡ place = eqb-true q place this in used_within xs q way.uid (rw same way.is))
-      | inr earlier ↦ (let was : (u : ℕ) × (uid_at xs q ≡ Some u) × (way.rank u < way.rank way.uid) =
-          way.before q earlier in used_within xs q was.0 was.1)
+      | inl this ↦ used_within xs q way.uid (rw (eqb-true q place this) way.is)
+      | inr earlier ↦ (let was = way.before q earlier in used_within xs q was.0 was.1)
     ] in
-    let most : length all ≤ length xs =
-    length-le_from_distinct_below all (length xs) (one_more_distinct place way.passed
-    (not_passed way) way.distinct) below in
-    let n : length way.passed ≡ steps = way.count in omega arith
+    let most = length-le_from_distinct_below all
+    (length xs) (one_more_distinct place way.passed (not_passed way) way.distinct) below in
+    omega (arith, way.count)
 
 -- as many steps down as there are places come to the leaf
 pub way_comes_to : (xs : List (Option Entry)) (start leaf steps : ℕ) → IsOnTheWay xs start leaf steps
     → HasNoInferior xs leaf → leaf ≡ leaf_below xs (length xs) start
 way_comes_to xs start leaf steps way none =
-    let less : steps < length xs = way_ends xs start leaf steps way in
-    let n : length xs - steps + steps ≡ length xs = omega arith in
     sym (stays_at_leaf xs (length xs - steps) leaf none) ∙ sym (way.same (length xs - steps))
-    ∙ ap (λ (k : ℕ). leaf_below xs k start) n
+    ∙ ap (λ (k : ℕ). leaf_below xs k start) (omega (arith, way_ends xs start leaf steps way))
 
 -- ---- once round a pool
 
@@ -303,11 +292,10 @@ round_found p first hand end x low high found = go (find p (places_from hand end
   where
     go : (o : Option ℕ) → find p (places_from hand end) ≡ o → (first ≤ x) × (x < end) × (p x ≡ true)
     go (Some y) is =
-        let same : y ≡ x = same_Some y x (sym (find_first p (places_from hand end) (places_from first hand) y is)
-        ∙ found) in
-        let h : (hand ≤ y) × (y < hand + (end - hand)) × (p y ≡ true) = found_within p (end - hand) hand y is in (
-          let a : hand ≤ y = h.0 in omega arith,
-          let b : y < hand + (end - hand) = h.1 in omega arith,
+        let same = same_Some y x (sym (find_first p (places_from hand end) (places_from first hand) y is) ∙ found) in
+        let h = found_within p (end - hand) hand y is in (
+          omega (arith, h.0),
+          omega (arith, h.1),
           ap p (sym same) ∙ h.2,
         )
     go None is =

@@ -1,5 +1,5 @@
 -- The entries after one of them changes: what is read there, and that they are still a part of a tree.
-use Rattle.active_segs.proofs.Prelude.{◌≡◌, ◌≢◌, ℕ, ◌+◌, ◌<◌, Bool, false, cond, eqb, List, length, Option, Some, None, refl, sym, ap, subst, ◌∙◌, arith, set, inl, inr, cases_eq, eq-eqb, ne_eqb, get_or-set_same, get_or-set_other, none-some, same_Some, Entry, entry_at, uid_in, superior_in, uid_at, superior_at, IsActive, HasNoInferior, IsOneToOne, SuperiorsAreActive, IsGrounded, IsTree, shown_within}
+use Rattle.active_segs.proofs.Prelude.{◌≡◌, ◌≢◌, ℕ, ◌+◌, ◌<◌, Bool, cond, eqb, List, length, Option, Some, None, refl, sym, ap, subst, ◌∙◌, arith, set, inl, inr, cases_eq, eq-eqb, ne_eqb, get_or-set_same, get_or-set_other, none-some, same_Some, Entry, entry_at, uid_in, superior_in, uid_at, superior_at, IsActive, HasNoInferior, IsOneToOne, SuperiorsAreActive, IsGrounded, IsTree, shown_within}
 
 pub entry_set : (xs : List (Option Entry)) (p : ℕ) (e : Option Entry) → p < length xs → entry_at (set xs p e) p ≡ e
 entry_set xs p e lt = get_or-set_same xs p e None lt
@@ -92,30 +92,26 @@ module _ (xs : List (Option Entry)) (p uid : ℕ) (superior : Option ℕ) (lt : 
   grounded_activated : IsGrounded ys
   unfolding rank_in
   grounded_activated =
-      let rank : ℕ → ℕ = tree.grounded.0 in
+      let rank = tree.grounded.0 in
       let rank' : ℕ → ℕ = λ u. cond (eqb u uid) (rank_in rank superior) (rank u) in
       let old : (s : ℕ) → IsActive xs s → rank' s ≡ rank s = λ s active.
-      (let ne : eqb s uid ≡ false = ne_eqb s uid (λ same. inactive active.0 (active.1 ∙ ap (λ (k : ℕ). Some k) same)) in
+      (let ne = ne_eqb s uid (λ same. inactive active.0 (active.1 ∙ ap (λ (k : ℕ). Some k) same)) in
       ap (λ (b : Bool). cond b (rank_in rank superior) (rank s)) ne) in
       let this : rank' uid ≡ rank_in rank superior = ap (λ (b : Bool). cond b (rank_in rank superior) (rank uid))
       (eq-eqb uid uid refl) in (
         rank',
         λ q u s e f. elim (cases_eq q p) [
           | inl at_q ↦
-              (let is_uid : uid ≡ u = same_Some _ _ (sym uid_new ∙ subst (λ (k : ℕ). uid_at ys k ≡ Some u) at_q e) in
+              (let is_uid = same_Some _ _ (sym uid_new ∙ subst (λ (k : ℕ). uid_at ys k ≡ Some u) at_q e) in
               let is_superior : superior ≡ Some s = sym superior_new
               ∙ subst (λ (k : ℕ). superior_at ys k ≡ Some s) at_q f in
-              let low : rank' s ≡ rank s = old s (above s is_superior) in
-              let high : rank' uid ≡ rank s + 1 = this ∙ ap (rank_in rank) is_superior in
-              let high' : rank' u ≡ rank s + 1 = subst (λ (k : ℕ). rank' k ≡ rank s + 1) is_uid high in
-              omega arith)
+              let high' : rank'
+              u ≡ rank s + 1 = subst (λ (k : ℕ). rank' k ≡ rank s + 1) is_uid (this ∙ ap (rank_in rank) is_superior) in
+              omega (arith, old s (above s is_superior)))
           | inr off_q ↦
               (let e' : uid_at xs q ≡ Some u = sym (uid_old q off_q) ∙ e in
               let f' : superior_at xs q ≡ Some s = sym (superior_old q off_q) ∙ f in
-              let less : rank s < rank u = tree.grounded.1 q u s e' f' in
-              let low : rank' s ≡ rank s = old s (tree.superiors q s f') in
-              let high : rank' u ≡ rank u = old u (q, e') in
-              omega arith)
+              omega (arith, tree.grounded.1 q u s e' f', old s (tree.superiors q s f'), old u (q, e')))
         ],
       )
 

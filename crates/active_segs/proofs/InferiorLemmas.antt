@@ -24,8 +24,7 @@ superior_of_active xs index p e indexed tree is = superior_placed xs index index
 -- no superior of an active segment is a segment that isn't active
 inactive_has_none : (xs : List (Option Entry)) (uid : ℕ) → SuperiorsAreActive xs → ((q : ℕ) → uid_at xs q ≢ Some uid)
     → (q : ℕ) → superior_at xs q ≢ Some uid
-inactive_has_none xs uid superiors inactive q e = let active : IsActive xs uid =
-    superiors q uid e in inactive active.0 active.1
+inactive_has_none xs uid superiors inactive q e = let active = superiors q uid e in inactive active.0 active.1
 
 superior_kept : (xs : List (Option Entry)) (p : ℕ) (e : Option Entry) (q : ℕ) → q ≢ p → superior_at (set xs p e) q
     ≡ superior_at xs q
@@ -37,12 +36,10 @@ superior_set xs p e lt = ap superior_in (entry_set xs p e lt)
 
 module _ (xs : List (Option Entry)) (maps : List (List Bool)) (notes : AreNoted xs maps) where
   within_maps : (r s : ℕ) → uid_at xs r ≡ Some s → r < length maps
-  within_maps r s active = let lt : r < length xs = used_within xs r s active in let n : length maps ≡ length xs =
-      notes.maps in omega arith
+  within_maps r s active = omega (arith, used_within xs r s active, notes.maps)
 
   within_map : (r s p : ℕ) → uid_at xs r ≡ Some s → p < length xs → p < length (map_of maps r)
-  within_map r s p active lt = let n : length (map_of maps r) ≡ length xs =
-      notes.as_long r (used_within xs r s active) in omega arith
+  within_map r s p active lt = omega (arith, notes.as_long r (used_within xs r s active))
 
   -- where nothing is active no inferior is noted
   not_noted : (r s p : ℕ) → uid_at xs r ≡ Some s → p < length xs → entry_at xs p ≡ None → in_use (map_of maps r) p
@@ -79,9 +76,8 @@ module _ (xs : List (Option Entry)) (maps : List (List Bool)) (notes : AreNoted 
   pub least_since_noted : (place q : ℕ) → place < length xs → IsFirstFree (map_of maps place) q
       → IsLeastInferior xs place q
   least_since_noted place q lt first =
-      let size : length (map_of maps place) ≡ length xs = notes.as_long place lt in
-      let within : q < length (map_of maps place) = first.within in
-      let h : IsInferior xs place q = (notes.free place q lt (omega arith)).0 first.free in
+      let h : IsInferior
+      xs place q = (notes.free place q lt (omega (arith, notes.as_long place lt, first.within))).0 first.free in
       record {
         uid = h.0;
         is = h.1;
@@ -94,15 +90,13 @@ module _ (xs : List (Option Entry)) (maps : List (List Bool)) (notes : AreNoted 
   -- the map of a place, as it is read
   pub noted_map : (place : ℕ) (map : List Bool) → place < length xs → map ≡ get_or maps place map → map
       ≡ map_of maps place
-  noted_map place map lt read = (let many : length maps ≡ length xs =
-      notes.maps in get_or_read maps place map (omega arith) read [])
+  noted_map place map lt read = get_or_read maps place map (omega (arith, notes.maps)) read []
 
   pub leaf_since_noted : (place : ℕ) → place < length xs → All (λ flag. flag ≡ true) (map_of maps place)
       → HasNoInferior xs place
   leaf_since_noted place lt all q uid is e =
-      let size : length (map_of maps place) ≡ length xs = notes.as_long place lt in
-      let within : q < length xs = superior_within xs q uid e in
-      both_ways _ ((notes.free place q lt within).1 (uid, is, e)) (all q false (omega arith))
+      let within = superior_within xs q uid e in
+      both_ways _ ((notes.free place q lt within).1 (uid, is, e)) (all q false (omega (arith, notes.as_long place lt)))
 
   pub leaf_read : (place : ℕ) (map : List Bool) → place < length xs → map ≡ get_or maps place map
       → All (λ flag. flag ≡ true) map → HasNoInferior xs place
@@ -151,8 +145,8 @@ module _ (xs : List (Option Entry)) (maps : List (List Bool)) (notes : AreNoted 
       → ((place q : ℕ) → q ≢ p → IsInferior (set xs p new) place q → IsInferior xs place q)
       → AreNoted (set xs p new) (noted maps above p b)
   noted_with new above p b here still was =
-      let size : length (set xs p new) ≡ length xs = length-set xs p new in
-      let many : length maps ≡ length xs = notes.maps in
+      let size = length-set xs p new in
+      let many = notes.maps in
       record {
         maps = as_many above p b ∙ many ∙ sym size;
         as_long = λ place within. as_long_still above p b place (omega arith) ∙ notes.as_long place (omega arith)
@@ -160,10 +154,8 @@ module _ (xs : List (Option Entry)) (maps : List (List Bool)) (notes : AreNoted 
         free = λ place q within within_q. elim (cases_eq q p) [
           | inl same ↦ rw same (here place (omega arith))
           | inr off ↦
-              (let kept : in_use (map_of (noted maps above p b) place) q ≡ in_use (map_of maps place) q =
-              elsewhere above p b place q (omega arith) off in
-              let old : (in_use (map_of maps place) q ≡ false) ↔ IsInferior xs place q =
-              notes.free place q (omega arith) (omega arith) in (
+              (let kept = elsewhere above p b place q (omega arith) off in
+              let old = notes.free place q (omega arith) (omega arith) in (
                 λ h. still place q off (old.0 (sym kept ∙ h)),
                 λ h. kept ∙ old.1 (was place q off h),
               ))
@@ -267,8 +259,7 @@ module _ (xs : List (Option Entry)) (maps : List (List Bool)) (notes : AreNoted 
               (let h : IsInferior xs place p =
               (notes.free place p within lt).0 (sym (ap (λ (m : List Bool). in_use m p) (map_there r p true place ne))
               ∙ off') in
-              let is_s : s ≡ h.0 = same_Some _ _ (sym is_superior ∙ h.2) in
-              ne (tree.once place r h.0 h.1 (active ∙ ap (λ (k : ℕ). Some k) is_s)))
+              ne (tree.once place r h.0 h.1 (active ∙ ap (λ (k : ℕ). Some k) (same_Some _ _ (sym is_superior ∙ h.2)))))
         ]
 
     pub noted_deactivated : (superior above : Option ℕ) → superior_at xs p ≡ superior

@@ -1,5 +1,5 @@
 -- The leaf below a place as a function: the least inferior, and steps down.
-use Rattle.active_segs.proofs.Prelude.{◌≡◌, ◌≢◌, ℕ, zero, suc, ◌<◌, Bool, true, false, List, length, Option, Some, None, refl, ap, ◌∙◌, get_or, inl, inr, position, cases_order, eq-eqb, ne_eqb, both_ways, position-Some, none-some, same_Some, Entry, uid_at, superior_at, HasNoInferior, is_inferior_in, is_inferior_of, least_inferior_of, least_inferior, stead_of, leaf_below, IsLeastInferior, position_none, position_nowhere}
+use Rattle.active_segs.proofs.Prelude.{◌≡◌, ◌≢◌, ℕ, zero, suc, ◌<◌, Bool, true, false, List, length, Option, Some, None, refl, ap, ◌∙◌, get_or, inl, inr, position, cases_order, eq-eqb, ne_eqb, both_ways, position-Some, none-some, same_Some, Entry, uid_at, superior_at, HasNoInferior, is_inferior_in, is_inferior_of, least_inferior_of, least_inferior, leaf_below, IsLeastInferior, position_none, position_nowhere}
 use Rattle.active_segs.proofs.EntryLemmas.{superior_within}
 
 pub inferior_yes : (u : ℕ) (o : Option ℕ) → o ≡ Some u → is_inferior_in u o ≡ true
@@ -19,8 +19,7 @@ position_is {X} p xs q d within passes before = at (position p xs) refl
     at : (o : Option ℕ) → position p xs ≡ o → o ≡ Some q
     at None is = absurd (both_ways _ (position_none p xs is q d within) passes)
     at (Some r) is =
-        let h : (r < length xs) × (p (get_or xs r d) ≡ true) × ((k : ℕ) → k < r → p (get_or xs k d) ≡ false) =
-        position-Some p xs r d is in
+        let h = position-Some p xs r d is in
         elim (cases_order r q) [
           | inl same ↦ ap (λ (k : ℕ). Some k) same
           | inr differ ↦ elim differ [

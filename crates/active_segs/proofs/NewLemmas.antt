@@ -1,15 +1,12 @@
 -- A new table keeps what every table keeps.
-use Rattle.active_segs.proofs.Prelude.{◌≡◌, ℕ, zero, suc, ◌+◌, ◌-◌, ◌<◌, ◌≤◌, Bool, true, false, cond, List, [], ◌∷◌, ◌++◌, length, Option, None, is_some, refl, sym, ap, ◌∙◌, arith, get_or, map, replicate, sum, count_by, both_ways, length-replicate, length-map, get_or-replicate, get_or-map, get_or_append_left, append_assoc, get_or-append_right, sum_by-cons, none-some, in_use, Ptw, Null, Entry, entry_at, uid_in, superior_in, uid_at, superior_at, table_at, null_tables, AreNullTables, IsKept, map_of, Pairs, place_of, first_of, size_of, length_of_four, all_same, zeros_read}
+use Rattle.active_segs.proofs.Prelude.{◌≡◌, ℕ, zero, suc, ◌+◌, ◌-◌, ◌<◌, ◌≤◌, Bool, true, false, cond, List, [], ◌∷◌, ◌++◌, length, Option, None, is_some, refl, sym, ap, ◌∙◌, arith, map, replicate, sum, count_by, both_ways, length-replicate, length-map, get_or-replicate, get_or-map, get_or_append_left, append_assoc, get_or-append_right, sum_by-cons, none-some, in_use, Ptw, Null, Entry, entry_at, uid_in, superior_in, uid_at, superior_at, table_at, null_tables, AreNullTables, IsKept, map_of, Pairs, place_of, first_of, size_of, length_of_four, all_same, zeros_read}
 use Rattle.active_segs.proofs.PlaceLemmas.{first_more}
 
 none_used : (n : ℕ) → count_by is_some (replicate n (let none : Option Entry = None in none)) ≡ 0
 none_used zero = refl
 none_used (suc n) =
-    let ih : count_by is_some (replicate n (let none : Option Entry = None in none)) ≡ 0 = none_used n in
-    let none : Option Entry = None in
-    let all : count_by is_some (none ∷ replicate n none) ≡ 0 + count_by is_some (replicate n none) =
-    sum_by-cons (λ (x : Option Entry). cond {A = ℕ} (is_some x) 1 0) none (replicate n none) in
-    omega arith
+    let none = None in
+    omega (arith, none_used n, sum_by-cons (λ (x : Option Entry). cond {A = ℕ} (is_some x) 1 0) none (replicate n none))
 
 new_map : (sizes : List ℕ) (pool : ℕ) → pool < length sizes → map_of (map (λ size. replicate size false) sizes) pool
     ≡ replicate (size_of sizes pool) false
@@ -38,8 +35,7 @@ kept_new sizes used xs tables maps index four few is_used is_xs is_tables is_map
             four = four;
             few = few;
             hand_count = refl;
-            inside = λ pool lt some. (let at : get_or {A = ℕ} (0 ∷ 0 ∷ 0 ∷ 0 ∷ []) pool 0 ≡ 0 =
-                zeros_read 4 pool in omega arith);
+            inside = λ pool lt some. omega (arith, zeros_read 4 pool);
           };
       entry_count = ap length is_xs ∙ length-replicate (sum sizes) None;
       table_count = ap length is_tables ∙ length_of_four (replicate 4 Null) (replicate 16 Null) (replicate 64 Null)
@@ -123,8 +119,7 @@ module _ (sizes : List ℕ) (four : length sizes ≡ 4) where
       ≡ table_at (replicate (size_of sizes pool) (blank words) ++ rest) (place - first_of sizes pool))
       → table_at (null_tables sizes) place ≡ table_at rest (place - first_of sizes (suc pool))
   past pool words rest place lt le here =
-      let next : first_of sizes (suc pool) ≡ first_of sizes pool + size_of sizes pool =
-      first_more sizes pool (omega arith) in
+      let next = first_more sizes pool (omega arith) in
       let n : place - first_of sizes pool - size_of sizes pool ≡ place - first_of sizes (suc pool) = omega arith in
       here (omega arith) ∙ of_the_rest (size_of sizes pool) (blank words) rest (place - first_of sizes pool)
       (omega arith) ∙ ap (table_at rest) n
@@ -139,20 +134,16 @@ module _ (sizes : List ℕ) (four : length sizes ≡ 4) where
 
   pub are_null : AreNullTables sizes (null_tables sizes)
   are_null zero place lt in_pool =
-      let to : place < first_of sizes 0 + size_of sizes 0 = in_pool.to in
       let none : first_of sizes 0 ≡ 0 = refl in
       ap (λ (tables : List (List Ptw)). table_at tables place) regrouped
-      ∙ of_these (size_of sizes 0) (blank 4) last_three place (omega arith)
+      ∙ of_these (size_of sizes 0) (blank 4) last_three place (omega (arith, in_pool.to))
   are_null (suc zero) place lt in_pool =
-      let from : first_of sizes 1 ≤ place = in_pool.from in
-      let to : place < first_of sizes 1 + size_of sizes 1 = in_pool.to in
-      past_first place from ∙ of_these (size_of sizes 1) (blank 16) last_two (place - first_of sizes 1) (omega arith)
+      past_first place in_pool.from
+      ∙ of_these (size_of sizes 1) (blank 16) last_two (place - first_of sizes 1) (omega (arith, in_pool.to))
   are_null (suc (suc zero)) place lt in_pool =
-      let from : first_of sizes 2 ≤ place = in_pool.from in
-      let to : place < first_of sizes 2 + size_of sizes 2 = in_pool.to in
-      past_second place from ∙ of_these (size_of sizes 2) (blank 64) last (place - first_of sizes 2) (omega arith)
+      past_second place in_pool.from
+      ∙ of_these (size_of sizes 2) (blank 64) last (place - first_of sizes 2) (omega (arith, in_pool.to))
   are_null (suc (suc (suc zero))) place lt in_pool =
-      let from : first_of sizes 3 ≤ place = in_pool.from in
-      let to : place < first_of sizes 3 + size_of sizes 3 = in_pool.to in
-      past_third place from ∙ get_or-replicate (size_of sizes 3) (place - first_of sizes 3) (blank 256) [] (omega arith)
+      past_third place in_pool.from
+      ∙ get_or-replicate (size_of sizes 3) (place - first_of sizes 3) (blank 256) [] (omega (arith, in_pool.to))
   are_null (suc (suc (suc (suc pool)))) place lt in_pool = absurd (omega arith)

@@ -1,5 +1,5 @@
 -- What a search finds among ascending uids, and what an edit at that place does.
-use Rattle.active_segs.proofs.Prelude.{◌≡◌, ◌≢◌, ℕ, zero, suc, ◌+◌, ◌-◌, ◌<◌, ◌≤◌, eqb, List, [], ◌∷◌, length, get_or, if◌then◌else◌, Some, None, Result, Ok, Err, IfOk, IfErr, refl, sym, ap, subst, arith, insert, remove, IsSearchInRange, IsBinarySearchResult, IsNonDecreasingBy, nat_cmp, ordering_index, ranked, IsNonDecreasingBy-from_default, length-insert, get_or-insert_below, get_or-insert_at, get_or-insert_above, nat_tests, place_of, IsAscending, IsFoundAt, BelongsAt, SetsPlace}
+use Rattle.active_segs.proofs.Prelude.{◌≡◌, ◌≢◌, ℕ, zero, suc, ◌+◌, ◌-◌, ◌<◌, eqb, List, [], ◌∷◌, length, get_or, if◌then◌else◌, Some, None, Result, Ok, Err, IfOk, IfErr, refl, sym, ap, subst, arith, insert, remove, IsSearchInRange, IsBinarySearchResult, IsNonDecreasingBy, nat_cmp, ordering_index, ranked, IsNonDecreasingBy-from_default, length-insert, get_or-insert_below, get_or-insert_at, get_or-insert_above, nat_tests, place_of, IsAscending, IsFoundAt, BelongsAt, SetsPlace}
 use Rattle.active_segs.specs.Pairs.{uid_in}
 
 -- no pair before the k-th has the uid
@@ -68,7 +68,6 @@ module _ (l : List (ℕ × ℕ)) (ascending : IsAscending l) (uid : ℕ) where
   comparisons_rise : IsNonDecreasingBy (λ pair. ordering_index (nat_cmp pair.0 uid)) l
   comparisons_rise = IsNonDecreasingBy-from_default (λ pair. ordering_index (nat_cmp pair.0 uid)) l (0, 0)
       (λ i j le within.
-      let uids_rise : uid_in l i ≤ uid_in l j = grind (arith, ascending i j, λ (same : i ≡ j). ap (uid_in l) same) in
       grind (arith, nat_tests))
 
   -- a binary search ends at the uid, or at the gap for it

@@ -9,21 +9,19 @@ sum_take_up [] zero = omega arith
 sum_take_up [] (suc i) = omega arith
 sum_take_up (x ∷ xs) zero = omega arith
 sum_take_up (x ∷ xs) (suc i) =
-    let ih : sum (take i xs) ≤ sum (take (suc i) xs) = sum_take_up xs i in
-    let a : sum (take (suc i) (x ∷ xs)) ≡ x + sum (take i xs) = sum_by-cons (λ (y : ℕ). y) x (take i xs) in
-    let b : sum (take (suc (suc i)) (x ∷ xs)) ≡ x + sum (take (suc i) xs) =
-    sum_by-cons (λ (y : ℕ). y) x (take (suc i) xs) in
-    omega arith
+    omega (
+      arith,
+      sum_take_up xs i,
+      sum_by-cons (λ (y : ℕ). y) x (take i xs),
+      sum_by-cons (λ (y : ℕ). y) x (take (suc i) xs),
+    )
 
 pub sum_take_le : (xs : List ℕ) (i : ℕ) → sum (take i xs) ≤ sum xs
 sum_take_le [] zero = omega arith
 sum_take_le [] (suc i) = omega arith
 sum_take_le (x ∷ xs) zero = omega arith
 sum_take_le (x ∷ xs) (suc i) =
-    let ih : sum (take i xs) ≤ sum xs = sum_take_le xs i in
-    let a : sum (take (suc i) (x ∷ xs)) ≡ x + sum (take i xs) = sum_by-cons (λ (y : ℕ). y) x (take i xs) in
-    let b : sum (x ∷ xs) ≡ x + sum xs = sum_by-cons (λ (y : ℕ). y) x xs in
-    omega arith
+    omega (arith, sum_take_le xs i, sum_by-cons (λ (y : ℕ). y) x (take i xs), sum_by-cons (λ (y : ℕ). y) x xs)
 
 first_up : (sizes : List ℕ) (p d : ℕ) → first_of sizes p ≤ first_of sizes (p + d)
 first_up sizes p zero = let same : p + 0 ≡ p = omega arith in rw same (omega arith)
@@ -54,25 +52,19 @@ pool_within sizes p four lt =
 pub placed_within : (sizes : List ℕ) (place pool offset : ℕ) → length sizes ≡ 4 → IsPlaced sizes place pool offset
     → place < sum sizes
 placed_within sizes place pool offset four placed =
-    let ends : first_of sizes pool + size_of sizes pool ≤ sum sizes = pool_within sizes pool four placed.known in
-    let w : offset < size_of sizes pool = placed.within in let i : place ≡ first_of sizes pool + offset =
-    placed.is in omega arith
+    omega (arith, pool_within sizes pool four placed.known, placed.within, placed.is)
 
 -- a place is in one pool
 pub placed_once : (sizes : List ℕ) (place p i q j : ℕ) → length sizes ≡ 4 → IsPlaced sizes place p i
     → IsPlaced sizes place q j → (p ≡ q) × (i ≡ j)
 placed_once sizes place p i q j four a b =
-    let ai : place ≡ first_of sizes p + i = a.is in let aw : i < size_of sizes p = a.within in
-    let bi : place ≡ first_of sizes q + j = b.is in let bw : j < size_of sizes q = b.within in
+    let ai = a.is in let aw = a.within in
+    let bi = b.is in let bw = b.within in
     elim (cases_order p q) [
       | inl same ↦ (same, (let f : first_of sizes p ≡ first_of sizes q = ap (first_of sizes) same in omega arith))
       | inr differ ↦ elim differ [
-        | inl before ↦
-            absurd (let h : first_of sizes p + size_of sizes p ≤ first_of sizes q =
-            pools_apart sizes p q (let k : p < 4 = a.known in omega arith) before in omega arith)
-        | inr after ↦
-            absurd (let h : first_of sizes q + size_of sizes q ≤ first_of sizes p =
-            pools_apart sizes q p (let k : q < 4 = b.known in omega arith) after in omega arith)
+        | inl before ↦ absurd (omega (arith, pools_apart sizes p q (omega (arith, a.known)) before))
+        | inr after ↦ absurd (omega (arith, pools_apart sizes q p (omega (arith, b.known)) after))
       ]
     ]
 
@@ -83,12 +75,10 @@ pub marked_set : {sizes : List ℕ} {used : List (List Bool)} {xs : List (Option
     → IsPlaced sizes place pool offset → is_some o ≡ b → IsMarked sizes
     (set used pool (set (map_of used pool) offset b)) (set xs place o)
 marked_set {sizes} {used} {xs} {place} {pool} {offset} b o four size marked placed is =
-    let map : List Bool = set (map_of used pool) offset b in
-    let lt : place < length xs = (let w : place < sum sizes =
-    placed_within sizes place pool offset four placed in omega arith) in
-    let pool_lt : pool < length used = (let m : length used ≡ 4 = marked.maps in let k : pool < 4 =
-    placed.known in omega arith) in
-    let here : map_of (set used pool map) pool ≡ map = get_or-set_same used pool map [] pool_lt in
+    let map = set (map_of used pool) offset b in
+    let lt : place < length xs = omega (arith, placed_within sizes place pool offset four placed) in
+    let pool_lt : pool < length used = omega (arith, marked.maps, placed.known) in
+    let here = get_or-set_same used pool map [] pool_lt in
     let there : (q : ℕ) → q ≢ pool → map_of (set used pool map) q ≡ map_of used q =
     λ q ne. get_or-set_other used pool q map [] ne in
     record {
@@ -105,27 +95,19 @@ marked_set {sizes} {used} {xs} {place} {pool} {offset} b o four size marked plac
               | inl same_i ↦
                   (let at : first_of sizes q + i ≡ place =
                   (let f : first_of sizes q ≡ first_of sizes pool = ap (first_of sizes) same in
-                  let p : place ≡ first_of sizes pool + offset = placed.is in omega arith) in
-                  let short : offset < length (map_of used pool) =
-                  (let l : length (map_of used pool) ≡ size_of sizes pool = marked.as_long pool placed.known in
-                  let w : offset < size_of sizes pool = placed.within in omega arith) in
-                  let on : in_use map offset ≡ b = get_or-set_same (map_of used pool) offset b false short in
-                  let entry : is_some (entry_at (set xs place o) place) ≡ b = ap is_some (entry_set xs place o lt)
-                  ∙ is in
-                  let map_is : map_of (set used pool map) q ≡ map = ap (map_of (set used pool map)) same ∙ here in
-                  let left : in_use (map_of (set used pool map) q) i ≡ b = rw map_is (ap (in_use map) same_i ∙ on) in
-                  left ∙ sym (ap (λ (k : ℕ). is_some (entry_at (set xs place o) k)) at ∙ entry))
+                  omega (arith, placed.is)) in
+                  let on = get_or-set_same (map_of used pool)
+                  offset b false (omega (arith, marked.as_long pool placed.known, placed.within)) in
+                  let left : in_use (map_of (set used pool map) q)
+                  i ≡ b = rw (ap (map_of (set used pool map)) same ∙ here) (ap (in_use map) same_i ∙ on) in
+                  left ∙ sym (ap (λ (k : ℕ). is_some (entry_at (set xs place o) k)) at
+                  ∙ (ap is_some (entry_set xs place o lt) ∙ is)))
               | inr off_i ↦
                   (let off : first_of sizes q + i ≢ place = λ e. off_i (placed_once sizes place q i pool offset four
                   (record { known = lt_q; within = lt_i; is = sym e }) placed).1 in
-                  let map_is : map_of (set used pool map) q ≡ map = ap (map_of (set used pool map)) same ∙ here in
-                  let kept : in_use map i ≡ in_use (map_of used pool) i =
-                  get_or-set_other (map_of used pool) offset i b false off_i in
-                  let was : in_use (map_of used q) i ≡ is_some (entry_at xs (first_of sizes q + i)) =
-                  marked.flags q i lt_q lt_i in
-                  ap (λ (m : List Bool). in_use m i) map_is ∙ kept
-                  ∙ ap (λ (k : ℕ). in_use (map_of used k) i) (sym same) ∙ was
-                  ∙ sym (ap is_some (entry_kept xs place o (first_of sizes q + i) off)))
+                  ap (λ (m : List Bool). in_use m i) (ap (map_of (set used pool map)) same ∙ here) ∙ get_or-set_other
+                  (map_of used pool) offset i b false off_i ∙ ap (λ (k : ℕ). in_use (map_of used k) i) (sym same)
+                  ∙ marked.flags q i lt_q lt_i ∙ sym (ap is_some (entry_kept xs place o (first_of sizes q + i) off)))
             ]
             | inr off_q ↦
                 (let off : first_of sizes q + i ≢ place = λ e. off_q (placed_once sizes place q i pool offset four
@@ -147,20 +129,14 @@ pub not_all_used : (xs : List (Option Entry)) (p : ℕ) → p < length xs → en
     → count_by is_some xs < length xs
 not_all_used xs p lt free =
     let e : Entry = record { uid = 0; superior = None } in
-    let more = used_set xs p (Some e) lt in
     let zero_bit : cond {A = ℕ} (is_some (entry_at xs p)) 1 0 ≡ 0 =
     ap (λ (o : Option Entry). cond {A = ℕ} (is_some o) 1 0) free in
-    let most : count_by is_some (set xs p (Some e)) ≤ length (set xs p (Some e)) =
-    count_by-le-length is_some (set xs p (Some e)) in
-    let size : length (set xs p (Some e)) ≡ length xs = length-set xs p (Some e) in omega arith
+    omega (arith, used_set xs p (Some e) lt, count_by-le-length is_some (set xs p (Some e)), length-set xs p (Some e))
 
 -- and the index has room
 pub index_has_room : {xs : List (Option Entry)} {index : Pairs} (p : ℕ) → IsIndexed xs index → p < length xs
     → entry_at xs p ≡ None → length index.pairs < index.room
-index_has_room {xs} {index} p indexed lt free =
-    let few : count_by is_some xs < length xs = not_all_used xs p lt free in
-    let c : length index.pairs ≡ count_by is_some xs = indexed.count in let r : index.room ≡ length xs =
-    indexed.room in omega arith
+index_has_room {xs} {index} p indexed lt free = omega (arith, not_all_used xs p lt free, indexed.count, indexed.room)
 
 pub index_lacks : {xs : List (Option Entry)} {index : Pairs} (uid : ℕ) → IsIndexed xs index
     → ((q : ℕ) → uid_at xs q ≢ Some uid) → place_of index.pairs uid ≡ None
@@ -186,10 +162,9 @@ module _ (xs : List (Option Entry)) (old new : Pairs) (p : ℕ) (lt : p < length
   indexed_activated e free inactive sets count = record {
     places = λ q u. elim (cases_eq e.uid u) [
       | inl same ↦
-          (let here : place_of new.pairs u ≡ Some p = this_place e.uid u (Some p) sets same in (
-            λ h. (let at : p ≡ q = same_Some p q (sym here ∙ h) in
-                subst (λ (k : ℕ). uid_at (set xs p (Some e)) k ≡ Some u) at
-                (uid_set xs p (Some e) lt ∙ ap (λ (k : ℕ). Some k) same)),
+          (let here = this_place e.uid u (Some p) sets same in (
+            λ h. (subst (λ (k : ℕ). uid_at (set xs p (Some e)) k ≡ Some u)
+                (same_Some p q (sym here ∙ h)) (uid_set xs p (Some e) lt ∙ ap (λ (k : ℕ). Some k) same)),
             λ h. elim (cases_eq q p) [
               | inl at_p ↦ here ∙ ap (λ (k : ℕ). Some k) (sym at_p)
               | inr off ↦ absurd (inactive q (sym (uid_kept xs p (Some e) q off) ∙ h
@@ -197,7 +172,7 @@ module _ (xs : List (Option Entry)) (old new : Pairs) (p : ℕ) (lt : p < length
             ],
           ))
       | inr differ ↦
-          (let there : place_of new.pairs u ≡ place_of old.pairs u = other_place e.uid u (Some p) sets differ in (
+          (let there = other_place e.uid u (Some p) sets differ in (
             λ h. (let was : uid_at xs q ≡ Some u = (indexed.places q u).0 (sym there ∙ h) in
                 let off : q ≢ p = λ same. none-some u (sym (ap uid_in free) ∙ (rw same at was)) in
                 uid_kept xs p (Some e) q off ∙ was),
@@ -207,10 +182,9 @@ module _ (xs : List (Option Entry)) (old new : Pairs) (p : ℕ) (lt : p < length
             ],
           ))
     ];
-    count = (let more = used_set xs p (Some e) lt in
-        let zero_bit : cond {A = ℕ} (is_some (entry_at xs p)) 1 0 ≡ 0 =
+    count = (let zero_bit : cond {A = ℕ} (is_some (entry_at xs p)) 1 0 ≡ 0 =
         ap (λ (o : Option Entry). cond {A = ℕ} (is_some o) 1 0) free in
-        let c : length old.pairs ≡ count_by is_some xs = indexed.count in omega arith);
+        omega (arith, used_set xs p (Some e) lt, indexed.count));
     room = room ∙ indexed.room ∙ sym (length-set xs p (Some e));
   }
 
@@ -219,17 +193,16 @@ module _ (xs : List (Option Entry)) (old new : Pairs) (p : ℕ) (lt : p < length
       → length new.pairs + 1 ≡ length old.pairs → IsIndexed (set xs p None) new
   indexed_deactivated e is once sets count = record {
     places = λ q u. elim (cases_eq e.uid u) [
-      | inl same ↦
-          (let here : place_of new.pairs u ≡ None = this_place e.uid u None sets same in (
-            λ h. absurd (none-some q (sym here ∙ h)),
-            λ h. elim (cases_eq q p) [
-              | inl at_p ↦ absurd (none-some u (sym (uid_set xs p None lt) ∙ (rw at_p at h)))
-              | inr off ↦ absurd (off (once q p u (sym (uid_kept xs p None q off) ∙ h)
-                  (ap uid_in is ∙ ap (λ (k : ℕ). Some k) same)))
-            ],
-          ))
+      | inl same ↦ (
+        λ h. absurd (none-some q (sym (this_place e.uid u None sets same) ∙ h)),
+        λ h. elim (cases_eq q p) [
+          | inl at_p ↦ absurd (none-some u (sym (uid_set xs p None lt) ∙ (rw at_p at h)))
+          | inr off ↦ absurd (off (once q p u (sym (uid_kept xs p None q off) ∙ h)
+              (ap uid_in is ∙ ap (λ (k : ℕ). Some k) same)))
+        ],
+      )
       | inr differ ↦
-          (let there : place_of new.pairs u ≡ place_of old.pairs u = other_place e.uid u None sets differ in (
+          (let there = other_place e.uid u None sets differ in (
             λ h. (let was : uid_at xs q ≡ Some u = (indexed.places q u).0 (sym there ∙ h) in
                 let off : q ≢ p = λ same. differ (same_Some e.uid u (sym (ap uid_in is) ∙ (rw same at was))) in
                 uid_kept xs p None q off ∙ was),
@@ -239,9 +212,8 @@ module _ (xs : List (Option Entry)) (old new : Pairs) (p : ℕ) (lt : p < length
             ],
           ))
     ];
-    count = (let less = used_set xs p None lt in
-        let one_bit : cond {A = ℕ} (is_some (entry_at xs p)) 1 0 ≡ 1 =
+    count = (let one_bit : cond {A = ℕ} (is_some (entry_at xs p)) 1 0 ≡ 1 =
         ap (λ (o : Option Entry). cond {A = ℕ} (is_some o) 1 0) is in
-        let c : length old.pairs ≡ count_by is_some xs = indexed.count in omega arith);
+        omega (arith, used_set xs p None lt, indexed.count));
     room = room ∙ indexed.room ∙ sym (length-set xs p None);
   }

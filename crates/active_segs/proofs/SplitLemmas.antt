@@ -143,10 +143,9 @@ module _ (lists : List Pairs) (room u : ℕ) (split : IsSplit lists room) (x : P
 
   pub list_has_room : length (pairs_in lists) < room → length x.pairs < x.room
   list_has_room less =
-      let few = list_few lists (u % 256) (here lists room u split x) in
       let same = ap (λ (l : Pairs). length l.pairs) is_list in
       let rooms = ap (λ (l : Pairs). l.room) is_list ∙ split.rooms (u % 256) (remainder u) in
-      omega (arith, few, same, rooms, less)
+      omega (arith, list_few lists (u % 256) (here lists room u split x), same, rooms, less)
 
   module _ (y : Pairs) where
     abbrev after : List Pairs

@@ -16,10 +16,9 @@ forget-requires c =
 
 pub remove-requires : goal.remove-requires
 remove-requires c =
-    let xs : List (Option Entry) = c.self.inside.entries.items in
-    let at = used_entry c.self.view_is c.requires.place c.index.ensures c.in-Some.is in
     record {
-      there = ap is_some ((c.self.invariant.indexed.places c.args.place c.in-Some.entry.uid).1 (ap uid_in at.is));
+      there = ap is_some ((c.self.invariant.indexed.places c.args.place c.in-Some.entry.uid).1
+          (ap uid_in (used_entry c.self.view_is c.requires.place c.index.ensures c.in-Some.is).is));
     }
 
 pub invariant_of-self-2 : goal.invariant_of-self-2

@@ -1,17 +1,18 @@
-use Rattle.active_segs.proofs.Prelude.{◌≡◌, ◌≤◌, ◌+◌, Some, length, sum, sym, ap, subst, arith, ActiveSegs, IsActiveAt, HasPools, first_of, size_of, IsInPool, first_off_chain, HasOneOffChain}
+use Rattle.active_segs.proofs.Prelude.{◌≡◌, Some, length, sym, ap, subst, arith, ActiveSegs, IsActiveAt, IsInPool, first_off_chain, HasOneOffChain}
 use Rattle.active_segs.proofs.PlaceLemmas.{pool_within}
 use Rattle.active_segs.proofs.AstLemmas.{segs_of, place_found, found_in_pool, found_active}
 use Rattle.active_segs.proofs.Ast.found.Goals as goal
 
 pub find_from_hand-requires-clause-within : goal.find_from_hand-requires-clause-within
 find_from_hand-requires-clause-within c =
-    let pools : HasPools c.self.inside.sizes c.self.inside.hands = c.self.invariant.pools in
-    let ends : first_of c.self.inside.sizes c.args.pool + size_of c.self.inside.sizes c.args.pool ≤ sum
-    c.self.inside.sizes = pool_within c.self.inside.sizes c.args.pool pools.four c.requires.pool in
-    let count : length c.self.inside.entries.items ≡ sum c.self.inside.sizes = c.self.invariant.entry_count in
     let same : length c.deref.result.now ≡ length c.self.inside.entries.items = ap length c.deref.ensures.value in
-    let first : c.first_of-first.result ≡ first_of c.self.inside.sizes c.args.pool =
-    c.first_of-first.ensures.first in omega arith
+    omega (
+      arith,
+      pool_within c.self.inside.sizes c.args.pool
+          c.self.invariant.pools.four c.requires.pool,
+      c.self.invariant.entry_count,
+      c.first_of-first.ensures.first,
+    )
 
 pub find_from_hand-requires-clause-some : goal.find_from_hand-requires-clause-some
 find_from_hand-requires-clause-some c =
@@ -20,8 +21,7 @@ find_from_hand-requires-clause-some c =
 
 pub returns-clause-in_pool : goal.returns-clause-in_pool
 returns-clause-in_pool c =
-    let s : ActiveSegs = segs_of c.self.inside.sizes c.self.inside.hands c.self.inside.entries.items
-    c.self.inside.tables.items in
+    let s = segs_of c.self.inside.sizes c.self.inside.hands c.self.inside.entries.items c.self.inside.tables.items in
     let some : HasOneOffChain s c.args.pool c.args.chain.now =
     subst (λ (v : ActiveSegs). HasOneOffChain v c.args.pool c.args.chain.now) (sym c.self.view_is) c.requires.some in
     let first : first_off_chain s c.args.pool c.args.chain.now ≡ Some c.find_from_hand.result =
@@ -31,8 +31,7 @@ returns-clause-in_pool c =
 
 pub returns-clause-active : goal.returns-clause-active
 returns-clause-active c =
-    let s : ActiveSegs = segs_of c.self.inside.sizes c.self.inside.hands c.self.inside.entries.items
-    c.self.inside.tables.items in
+    let s = segs_of c.self.inside.sizes c.self.inside.hands c.self.inside.entries.items c.self.inside.tables.items in
     let first : first_off_chain s c.args.pool c.args.chain.now ≡ Some c.find_from_hand.result =
     rw (c.deref.ensures.value, c.first_of-first.ensures.first) at c.find_from_hand.ensures in
     subst (λ (v : ActiveSegs). IsActiveAt v.entries c.find_from_hand.result) c.self.view_is

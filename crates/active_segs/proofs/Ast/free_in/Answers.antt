@@ -1,4 +1,4 @@
-use Rattle.active_segs.proofs.Prelude.{◌≡◌, ◌+◌, Bool, true, ap, subst, is_some, All, true≢false, IsFirstFree, ActiveSegs, HasShape, IsLeastFree, IsFull, map_of}
+use Rattle.active_segs.proofs.Prelude.{◌≡◌, ◌+◌, Bool, true, ap, subst, is_some, All, true≢false, ActiveSegs, HasShape, IsLeastFree, IsFull}
 use Rattle.active_segs.proofs.AstLemmas.{segs_of, marked_map, full_since_marked, least_since_marked, not_full, room_since_free, free_within}
 use Rattle.active_segs.proofs.Ast.free_in.Goals as goal
 
@@ -14,13 +14,10 @@ returns-in_err-offset-clause-full c =
 pub returns-clause-least : goal.returns-clause-least
 returns-clause-least c =
     let map = marked_map c.self.invariant.marked c.args.pool c.index.result.now c.requires c.index.ensures in
-    let first : IsFirstFree (map_of c.self.inside.used.items c.args.pool) c.in_ok-offset.offset =
-    rw map at c.in_ok-offset.ensures.some in
-    subst (λ (v : ActiveSegs). IsLeastFree v c.args.pool (c.first_of.result + c.in_ok-offset.offset)) c.self.view_is
-    (rw c.first_of.ensures.first (least_since_marked
-    (segs_of c.self.inside.sizes c.self.inside.hands c.self.inside.entries.items
-    c.self.inside.tables.items) c.self.inside.used.items c.args.pool c.in_ok-offset.offset c.requires
-    c.self.invariant.marked first))
+    subst (λ (v : ActiveSegs). IsLeastFree v c.args.pool (c.first_of.result + c.in_ok-offset.offset))
+    c.self.view_is (rw c.first_of.ensures.first (least_since_marked (segs_of c.self.inside.sizes
+    c.self.inside.hands c.self.inside.entries.items c.self.inside.tables.items) c.self.inside.used.items
+    c.args.pool c.in_ok-offset.offset c.requires c.self.invariant.marked (rw map at c.in_ok-offset.ensures.some)))
 
 pub returns-clause-shape : goal.returns-clause-shape
 returns-clause-shape c =

@@ -1,4 +1,4 @@
-use Rattle.active_segs.proofs.Prelude.{◌≡◌, sym, ap, ◌∙◌, ActiveSegs, leaf_below, StandsFor}
+use Rattle.active_segs.proofs.Prelude.{◌≡◌, sym, ap, ◌∙◌, ActiveSegs}
 use Rattle.active_segs.proofs.AstLemmas.{is_victim, is_victim_of}
 use Rattle.active_segs.proofs.DescentLemmas.{victim_once, victim_is_leaf, victim_off, victim_within}
 use Rattle.active_segs.proofs.Ast.way_down.Goals as goal
@@ -10,18 +10,15 @@ leaf_below-requires-clause-active c =
 
 pub returns-clause-is : goal.returns-clause-is
 returns-clause-is c =
-    let same : c.deref.result.now ≡ c.args.self.now.entries = c.deref.ensures.value
-    ∙ ap (λ (v : ActiveSegs). v.entries) c.self.view_is in
-    let leaf = rw same at c.leaf_below.ensures.is in
-    is_victim_of c.args.self.now c.args.pool c.args.chain.now _ _ c.found-found.ensures.first leaf
+    let same = c.deref.ensures.value ∙ ap (λ (v : ActiveSegs). v.entries) c.self.view_is in
+    is_victim_of c.args.self.now
+    c.args.pool c.args.chain.now _ _ c.found-found.ensures.first (rw same at c.leaf_below.ensures.is)
 
 pub returns-clause-victim : goal.returns-clause-victim
 returns-clause-victim c =
-    let same : c.deref.result.now ≡ c.args.self.now.entries = c.deref.ensures.value
-    ∙ ap (λ (v : ActiveSegs). v.entries) c.self.view_is in
-    let stands : StandsFor c.args.self.now.entries c.found-found.result c.leaf_below.result =
-    rw same at c.leaf_below.ensures.stands in
-    is_victim c.args.self.now c.args.pool c.args.chain.now c.found-found.ensures.first stands
+    let same = c.deref.ensures.value ∙ ap (λ (v : ActiveSegs). v.entries) c.self.view_is in
+    is_victim c.args.self.now
+    c.args.pool c.args.chain.now c.found-found.ensures.first (rw same at c.leaf_below.ensures.stands)
 
 pub returns-clause-only : goal.returns-clause-only
 returns-clause-only c place other = victim_once other (returns-clause-victim c)

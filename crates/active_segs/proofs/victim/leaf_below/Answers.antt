@@ -1,4 +1,4 @@
-use Rattle.active_segs.proofs.Prelude.{◌≡◌, ◌<◌, length, arith, IsLeastInferior}
+use Rattle.active_segs.proofs.Prelude.{◌≡◌, ◌<◌, length, arith}
 use Rattle.active_segs.proofs.EntryLemmas.{used_within}
 use Rattle.active_segs.proofs.InferiorLemmas.{noted_map, least_since_noted, leaf_read}
 use Rattle.active_segs.proofs.DescentLemmas.{stays, way_begins, way_goes_on, way_ends, way_comes_to}
@@ -27,14 +27,11 @@ returns-in-None-clause-stands c = c.loop-step.invariant.back _ (stays _ _
 
 pub loop-step-preserved : goal.loop-step-preserved
 loop-step-preserved c =
-    let within : c.loop-step.place < length c.args.entries.now =
-    used_within _ _ c.loop-step.invariant.uid c.loop-step.invariant.is in
+    let within = used_within _ _ c.loop-step.invariant.uid c.loop-step.invariant.is in
     let map = noted_map _ _ c.requires.noted c.loop-step.place c.index-inferiors-place.result within
     c.index-inferiors-place.is in
-    let least : IsLeastInferior c.args.entries.now c.loop-step.place c.in-Some.inferior =
-    least_since_noted _ _ c.requires.noted _ _ within (rw map at c.in-Some.ensures.some) in
+    let least = least_since_noted _ _ c.requires.noted _ _ within (rw map at c.in-Some.ensures.some) in
     way_goes_on _ _ _ _ _ c.loop-step.invariant least
 
 pub unreachable-requires : goal.unreachable-requires
-unreachable-requires c =
-    let less : c.loop-step._step < length c.args.entries.now = way_ends _ _ _ _ c.loop-step.invariant in omega arith
+unreachable-requires c = omega (arith, way_ends _ _ _ _ c.loop-step.invariant)

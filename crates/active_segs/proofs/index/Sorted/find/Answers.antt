@@ -1,4 +1,4 @@
-use Rattle.active_segs.proofs.Prelude.{◌≡◌, ℕ, ap, sym, ◌∙◌, Some, get_or_default, Pairs, place_of, IsFoundAt, BelongsAt}
+use Rattle.active_segs.proofs.Prelude.{ℕ, ap, sym, ◌∙◌, Some, get_or_default, Pairs, place_of, IsFoundAt}
 use Rattle.active_segs.proofs.PairLemmas.{place_found, place_in_gap}
 use Rattle.active_segs.proofs.index.Sorted.find.Goals as goal
 
@@ -6,13 +6,10 @@ pub returns-in-Ok : goal.returns-in-Ok
 returns-in-Ok c =
     let found : IsFoundAt c.self.inside.pairs.items c.args.uid c.in-Ok.at =
     rw c.deref.ensures.value at c.in-Ok.ensures.found in
-    let place : place_of c.self.inside.pairs.items c.args.uid ≡ Some _ = place_found _ c.self.invariant.0 _ _ found in
-    let read = get_or_default _ _ c.index.result.now (0, 0) found.within in
-    ap (λ (x : ℕ × ℕ). Some x.1) (c.index.ensures ∙ read) ∙ sym place
-    ∙ ap (λ (v : Pairs). place_of v.pairs c.args.uid) c.self.view_is
+    ap (λ (x : ℕ × ℕ). Some x.1) (c.index.ensures ∙ get_or_default _ _ c.index.result.now (0, 0) found.within)
+    ∙ sym (place_found _ c.self.invariant.0 _ _ found) ∙ ap (λ (v : Pairs). place_of v.pairs c.args.uid) c.self.view_is
 
 pub returns-in-Err : goal.returns-in-Err
 returns-in-Err c =
-    let gap : BelongsAt c.self.inside.pairs.items c.args.uid c.in-Err.field-0 =
-    rw c.deref.ensures.value at c.in-Err.ensures.absent in
-    sym (place_in_gap _ _ _ gap) ∙ ap (λ (v : Pairs). place_of v.pairs c.args.uid) c.self.view_is
+    sym (place_in_gap _ _ _ (rw c.deref.ensures.value at c.in-Err.ensures.absent))
+    ∙ ap (λ (v : Pairs). place_of v.pairs c.args.uid) c.self.view_is

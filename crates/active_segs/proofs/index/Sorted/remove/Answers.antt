@@ -1,15 +1,13 @@
-use Rattle.active_segs.proofs.Prelude.{◌≡◌, ℕ, List, ap, sym, subst, ◌∙◌, None, is_some, true, false, both_ways, Pairs, place_of, IsFoundAt, BelongsAt, SetsPlace}
+use Rattle.active_segs.proofs.Prelude.{◌≡◌, ℕ, List, ap, sym, subst, ◌∙◌, None, is_some, both_ways, Pairs, place_of, IsFoundAt, SetsPlace}
 use Rattle.active_segs.proofs.PairLemmas.{place_in_gap, place_removed}
 use Rattle.active_segs.proofs.index.Sorted.remove.Goals as goal
 
 pub unreachable-requires : goal.unreachable-requires
 unreachable-requires c =
-    let gap : BelongsAt c.self.inside.pairs.items c.args.uid c.in-Err.field-0 =
-    rw c.deref.ensures.value at c.in-Err.ensures.absent in
     let none : place_of c.args.self.now.pairs c.args.uid ≡ None =
-    sym (ap (λ (v : Pairs). place_of v.pairs c.args.uid) c.self.view_is) ∙ place_in_gap _ _ _ gap in
-    let there : is_some (place_of c.args.self.now.pairs c.args.uid) ≡ true = c.requires.there in
-    let yet : is_some (place_of c.args.self.now.pairs c.args.uid) ≡ false = ap is_some none in both_ways _ yet there
+    sym (ap (λ (v : Pairs). place_of v.pairs c.args.uid) c.self.view_is)
+    ∙ place_in_gap _ _ _ (rw c.deref.ensures.value at c.in-Err.ensures.absent) in
+    both_ways _ (ap is_some none) c.requires.there
 
 pub returns-clause-sets : goal.returns-clause-sets
 returns-clause-sets c =
