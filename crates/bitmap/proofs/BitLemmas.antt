@@ -46,8 +46,7 @@ on_other : (ws : List ℕ) (word r k : ℕ) → r / 64 < length ws → k ≢ r
     → bit_on (set ws (r / 64) word) k ≡ bit_on ws k
 unfolding bit_on
 on_other ws word r k lt ne same = elim (cases_eq (k / 64) (r / 64)) [
-  | inl e ↦ (let other : k % 64 ≢ r % 64 = omega arith in
-      rw (e, get_or-set_same ws (r / 64) word 0 lt, same other) refl)
+  | inl e ↦ rw (e, get_or-set_same ws (r / 64) word 0 lt, same (omega arith)) refl
   | inr n ↦ rw (get_or-set_other ws (r / 64) (k / 64) word 0 n) refl
 ]
 
@@ -92,9 +91,8 @@ pub flags_after_set : (ws vs : List ℕ) (n r : ℕ) {b : Bool} → r < n → bi
 flags_after_set ws vs n r {b} lt here others =
     ext_get_or false _ _ (length_flags vs n ∙ sym (length-set (flags_of ws n) r b ∙ length_flags ws n))
     (λ k h. let below : k < n = rw (← length_flags vs n) h in
-    let inside : r < length (flags_of ws n) = rw length_flags lt in
     flag_at vs n k false below ∙ elim (cases_eq k r) [
-      | inl e ↦ rw e (here ∙ sym (get_or-set_same (flags_of ws n) r b false inside))
+      | inl e ↦ rw e (here ∙ sym (get_or-set_same (flags_of ws n) r b false (rw length_flags lt)))
       | inr ne ↦ others k ne ∙ sym (get_or-set_other (flags_of ws n) r k b false ne ∙ flag_at ws n k false below)
     ])
 

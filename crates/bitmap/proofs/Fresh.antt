@@ -30,19 +30,17 @@ unfolding bit_on
 clear_part {ws} {n} {count} is long part =
     let words : length ws ≡ n = ap length is ∙ length-set (replicate {A = ℕ} n 0) (count / 64) _
     ∙ length-replicate {A = ℕ} n 0 in
-    let mask : ℕ = 18446744073709551615 * 2 ^ (count % 64) % 2 ^ 64 in
-    let mask_is : 18446744073709551615 * 2 ^ (count % 64) % 2 ^ 64 ≡ 2 ^ 64 - 2 ^ (count % 64) =
-    ones_shl 64 (count % 64) (omega arith) in
+    let mask = 18446744073709551615 * 2 ^ (count % 64) % 2 ^ 64 in
+    let mask_is = ones_shl 64 (count % 64) (omega arith) in
     let there : count / 64 < length (replicate {A = ℕ} n 0) = omega (arith, length-replicate {A = ℕ} n 0) in
     let last : slice_index ws (count / 64) ≡ 2 ^ 64 - 2 ^ (count % 64) =
     rw is (get_or-set_same (replicate {A = ℕ} n 0) (count / 64) mask 0 there ∙ mask_is) in
     record {
       long = cc;
       off = λ k lt. elim (cases_eq (k / 64) (count / 64)) [
-        | inl e ↦ (let low : k % 64 < count % 64 = omega arith in rw
-            (e, last, bit_at_mask_below (count % 64) 64 (k % 64) low) refl)
-        | inr ne ↦ (let inside : k / 64 < n = omega arith in
-            rw (is, get_or-set_other (replicate {A = ℕ} n 0) (count / 64) (k / 64) mask 0 ne) (off_in_zeros n k inside))
+        | inl e ↦ rw (e, last, bit_at_mask_below (count % 64) 64 (k % 64) (omega arith)) refl
+        | inr ne ↦ rw (is, get_or-set_other (replicate {A = ℕ} n 0) (count / 64) (k / 64) mask 0 ne)
+            (off_in_zeros n k (omega arith))
       ];
       padding = λ k above inside. let same : k / 64 ≡ count / 64 = omega arith in let high : count % 64 ≤ k % 64 =
           omega arith in
@@ -53,8 +51,7 @@ count_none : (n : ℕ) → count_by (λ flag. flag) (replicate n false) ≡ 0
 count_none zero = refl
 count_none (suc n) =
     let e = sum_by-cons (λ flag. cond {A = ℕ} flag 1 0) false (replicate n false) in
-    let ih = count_none n in
-    omega (arith, e, ih)
+    omega (arith, e, count_none n)
 
 -- a map that is all free
 pub flags_clear : {ws : List ℕ} {size : ℕ} → IsClear ws size → flags_of ws size ≡ replicate size false

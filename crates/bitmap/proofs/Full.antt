@@ -1,6 +1,6 @@
 -- A map of which all numbers are in use.
-use Rattle.std.proofs.Common.{◌≡◌, ℕ, suc, zero, ◌+◌, ◌/◌, ◌^◌, ◌<◌, true, cond, eqb, List}
-use Rattle.std.proofs.Common.{length, refl, sym, ap, ◌∙◌, arith, replicate, slice_index, count_by}
+use Rattle.std.proofs.Common.{◌≡◌, ℕ, suc, zero, ◌+◌, ◌/◌, ◌^◌, ◌<◌, true, cond, List}
+use Rattle.std.proofs.Common.{length, refl, sym, ap, ◌∙◌, arith, replicate, count_by}
 use Rattle.std.proofs.lemmas.List.{length-replicate, get_or-replicate, ext_get_or}
 use Rattle.std.proofs.lemmas.List.Sums.{sum_by-cons}
 use Rattle.bitmap.specs.Bits.{bit_on, flags_of, HasTwoLevels}
@@ -17,8 +17,7 @@ count_all : (n : ℕ) → count_by (λ flag. flag) (replicate n true) ≡ n
 count_all zero = refl
 count_all (suc n) =
     let e = sum_by-cons (λ flag. cond {A = ℕ} flag 1 0) true (replicate n true) in
-    let ih = count_all n in
-    omega (arith, e, ih)
+    omega (arith, e, count_all n)
 
 pub flags_full : {ws : List ℕ} (size : ℕ) → ws ≡ ones ((size + 63) / 64) → flags_of ws size ≡ replicate size true
 flags_full {ws} size is = ext_get_or true _ _ (length_flags ws size ∙ sym (length-replicate size true))

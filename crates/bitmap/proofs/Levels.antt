@@ -2,7 +2,6 @@ use Rattle.std.proofs.Common.{◌≡◌, ◌≢◌, ℕ, ◌+◌, ◌-◌, ◌*�
 use Rattle.std.proofs.Common.{List, length, Some, None, refl, sym, ap, ◌∙◌, arith, get_or, set, inl, inr}
 use Rattle.std.proofs.Common.{slice_index, count_by, All}
 use Rattle.std.specs.Int.{bit_at, w64, trailing_ones}
-use Rattle.std.specs.List.{prefix_len}
 use Rattle.std.proofs.lemmas.Bool.Decides.{eqb_tells}
 use Rattle.std.proofs.lemmas.Bool.{cases_eq, lt-ltb, le-ltb}
 use Rattle.std.proofs.lemmas.List.{length-set, get_or_read}
@@ -52,13 +51,11 @@ levels_after {ws} r h lt words_as_many full_as_many others full_others words her
       fits = h.fits;
       covers = rw words_as_many h.covers;
       short = rw words_as_many h.short;
-      padding = λ k past inside. let ne : k ≢ r = omega arith in
-          others k ne ∙ h.padding k past (rw (← words_as_many) inside);
+      padding = λ k past inside. others k (omega arith) ∙ h.padding k past (rw (← words_as_many) inside);
       full_covers = rw (words_as_many, full_as_many) h.full_covers;
       full_short = rw full_as_many h.full_short;
       full_padding = λ w over inside. let past : length ws ≤ w = rw (← words_as_many) over in
-          let ne : w ≢ r / 64 = omega arith in
-          full_others w ne ∙ h.full_padding w past (rw (← full_as_many) inside);
+          full_others w (omega arith) ∙ h.full_padding w past (rw (← full_as_many) inside);
       full_is = λ w inside. elim (cases_eq w (r / 64)) [
         | inl e ↦ rw e here
         | inr ne ↦ full_others w ne ∙ h.full_is w (rw (← words_as_many) inside)
@@ -73,16 +70,15 @@ pub levels_after_take : (ws full : List ℕ) (size used r : ℕ) → HasTwoLevel
 levels_after_take ws full size used r h lt off =
     let within : r / 64 < length ws = omega (arith, h.covers) in
     let upper : r / 64 / 64 < length full = omega (arith, h.full_covers) in
-    let now_full : Bool = eqb (slice_index (with_bit ws r) (r / 64)) 18446744073709551615 in
-    let was_off : bit_on full (r / 64) ≡ false = h.full_is (r / 64) within
-    ∙ off_test _ _ (off_word_has_room ws r off) in
+    let now_full = eqb (slice_index (with_bit ws r) (r / 64)) 18446744073709551615 in
     let flags_within : r < length (flags_of ws size) = rw length_flags lt in
-    let free : in_use (flags_of ws size) r ≡ false = flag_at ws size r false lt ∙ off in
-    levels_after r h lt
-    (length_with_bit ws r) (length_full now_full full (r / 64)) (λ k ne. on_with_other ws r k within ne)
-    (λ w ne. full_other now_full full (r / 64) w upper ne) (word_with_other ws r)
-    (full_same now_full full (r / 64) was_off upper)
-    (cc (flags_with_bit ws size r lt within, count_with (flags_of ws size) r flags_within free))
+    levels_after r h lt (length_with_bit ws r) (length_full now_full full (r / 64)) (λ k ne. on_with_other ws
+    r k within ne) (λ w ne. full_other now_full full (r / 64) w upper ne) (word_with_other ws r) (full_same now_full
+    full (r / 64) (h.full_is (r / 64) within ∙ off_test _ _ (off_word_has_room ws r off)) upper) (cc (
+      flags_with_bit ws
+          size r lt within,
+      count_with (flags_of ws size) r flags_within (flag_at ws size r false lt ∙ off),
+    ))
 
 -- the two levels after a number is given back
 pub levels_after_give : {ws full : List ℕ} {size used : ℕ} (r : ℕ) → HasTwoLevels ws full size used → r < size
@@ -90,16 +86,13 @@ pub levels_after_give : {ws full : List ℕ} {size used : ℕ} (r : ℕ) → Has
 levels_after_give {ws} {full} {size} {used} r h lt on =
     let within : r / 64 < length ws = omega (arith, h.covers) in
     let upper : r / 64 / 64 < length full = omega (arith, h.full_covers) in
-    let room = off_word_has_room (without_bit ws r) r (off_without_bit ws r within) in
-    let taken : in_use (flags_of ws size) r ≡ true = flag_at ws size r false lt ∙ on in
-    let one = count_without (flags_of ws size) r taken in
     let is = ap (count_by (λ flag. flag)) (flags_without_bit ws size r lt within) in
-    let fewer : count_by (λ flag. flag) (flags_of (without_bit ws r) size) + 1 ≡ used = ap (λ n. n + 1) is ∙ one
-    ∙ sym h.counted in
-    levels_after r h lt
-    (length_without_bit ws r) (length_without_bit full (r / 64)) (λ k ne. on_without_other ws r k within ne)
-    (λ w ne. on_without_other full (r / 64) w upper ne) (word_without_other ws r)
-    (off_without_bit full (r / 64) upper ∙ sym (off_test _ _ room)) (omega (arith, fewer))
+    let fewer : count_by (λ flag. flag) (flags_of (without_bit ws r) size) + 1 ≡ used = ap (λ n. n + 1) is
+    ∙ (count_without (flags_of ws size) r (flag_at ws size r false lt ∙ on)) ∙ sym h.counted in
+    levels_after r
+    h lt (length_without_bit ws r) (length_without_bit full (r / 64)) (λ k ne. on_without_other ws r k within ne)
+    (λ w ne. on_without_other full (r / 64) w upper ne) (word_without_other ws r) (off_without_bit full (r / 64) upper
+    ∙ sym (off_test _ _ (off_word_has_room (without_bit ws r) r (off_without_bit ws r within)))) (omega (arith, fewer))
 
 -- bit t of word w
 bit_in_word : (ws : List ℕ) {w t : ℕ} (r : ℕ) → r / 64 ≡ w → r % 64 ≡ t
@@ -140,8 +133,7 @@ least_by_levels ws full size used w h first fits =
     inside : w < length ws
     inside = elim (below_or_past w (length ws)) [
       | inl lt ↦ lt
-      | inr past ↦
-          (let on = h.full_padding w past first.within in let off = first.off in absurd (cc))
+      | inr past ↦ absurd (cc (h.full_padding w past first.within, first.off))
     ]
 
     room : slice_index ws w ≢ 18446744073709551615
@@ -153,8 +145,7 @@ least_by_levels ws full size used w h first fits =
     known : (r : ℕ) → IsFirstOff ws r → r < size
     known r is = elim (below_or_past r size) [
       | inl lt ↦ lt
-      | inr past ↦
-          (let on = h.padding r past is.within in let off = is.off in absurd (cc))
+      | inr past ↦ absurd (cc (h.padding r past is.within, is.off))
     ]
 
     in_flags : (r : ℕ) → IsFirstOff ws r → IsLeastFree (flags_of ws size) r
@@ -170,22 +161,19 @@ pub none_by_levels : {ws full : List ℕ} {size used : ℕ} → HasTwoLevels ws 
 none_by_levels {ws} {size} h on = All-from_get_or (λ flag. flag ≡ true) (flags_of ws size) false
     (λ r lt. let below : r < size = rw (← length_flags ws size) lt in
     let inside : r / 64 < length ws = omega (arith, h.covers) in
-    let word : slice_index ws (r / 64) ≡ 18446744073709551615 = on_test
-    (sym (h.full_is (r / 64) inside) ∙ on (r / 64) (omega (arith, h.full_covers))) in
+    let word = on_test (sym (h.full_is (r / 64) inside) ∙ on (r / 64) (omega (arith, h.full_covers))) in
     flag_at ws size r false below ∙ on_in_full_word ws r word)
 
 -- the relation and the function say the same
 pub least_is : {flags : List Bool} {r : ℕ} → IsLeastFree flags r → least_free flags ≡ Some r
 least_is {flags} {r} h =
-    let place : prefix_len (λ flag. not (not flag)) flags ≡ r =
-    prefix_len_is (λ flag. not (not flag)) flags r false (omega (arith, h.within))
-    (λ k lt. rw (h.before k lt) refl) (λ lt. rw h.free refl) in
+    let place = prefix_len_is (λ flag. not (not flag))
+    flags r false (omega (arith, h.within)) (λ k lt. rw (h.before k lt) refl) (λ lt. rw h.free refl) in
     rw (place, lt-ltb r (length flags) h.within) refl
 
 pub none_is : (flags : List Bool) → All (λ flag. flag ≡ true) flags → least_free flags ≡ None
 none_is flags h =
-    let place : prefix_len (λ flag. not (not flag)) flags ≡ length flags =
-    prefix_len_is (λ flag. not (not flag)) flags (length flags) false (omega arith)
+    let place = prefix_len_is (λ flag. not (not flag)) flags (length flags) false (omega arith)
     (λ k lt. rw (All-get_or (λ flag. flag ≡ true) flags k false lt h) refl) (λ lt. absurd (omega arith)) in
     rw (place, le-ltb (length flags) (length flags) (omega arith)) refl
 
@@ -210,11 +198,9 @@ placed {ws} {size} {r} h view lt =
 pub room_for_one : {ws full : List ℕ} {size used : ℕ} {flags : List Bool} (r : ℕ) → HasTwoLevels ws full size used
     → flags_of ws size ≡ flags → r < length flags → in_use flags r ≡ false → used + 1 ≤ size
 room_for_one {ws} {size} {used} {flags} r h view lt free =
-    let more = count_with flags r lt free in
     let most = count_by-le-length (λ flag. flag) (set flags r true) in
-    let long = length-set flags r true in
-    let same : used ≡ count_by (λ flag. flag) flags = h.counted ∙ ap (count_by (λ flag. flag)) view in
-    omega (arith, length_flags ws size, ap length view, more, most, long, same)
+    let same = h.counted ∙ ap (count_by (λ flag. flag)) view in
+    omega (arith, length_flags ws size, ap length view, count_with flags r lt free, most, length-set flags r true, same)
 
 -- the answer of a search by the two levels, in the terms in which its steps give it
 pub found_by_levels : (ws full fs : List ℕ) (size used w x t : ℕ) (flags : List Bool) → HasTwoLevels ws full size used
@@ -222,9 +208,8 @@ pub found_by_levels : (ws full fs : List ℕ) (size used w x t : ℕ) (flags : L
     → IsFirstOff fs w → fs ≡ full → w < length ws → x ≡ get_or ws w x → x < 2 ^ 64 → t ≡ trailing_ones w64 x
     → IsLeastFree flags (64 * w + t)
 found_by_levels ws full fs size used w x t flags h view first same inside read fits ones =
-    let word : x ≡ slice_index ws w = get_or_read ws w x inside read 0 in
-    let fits_there : slice_index ws w < 2 ^ 64 = rw (← word) fits in
-    rw (ones, word, ← view) (least_by_levels ws full size used w h (rw (← same) first) fits_there)
+    let word = get_or_read ws w x inside read 0 in
+    rw (ones, word, ← view) (least_by_levels ws full size used w h (rw (← same) first) (rw (← word) fits))
 
 pub none_found : {ws full fs : List ℕ} {size used : ℕ} {flags : List Bool} → HasTwoLevels ws full size used
     → flags_of ws size ≡ flags

@@ -1,4 +1,4 @@
-use Rattle.std.proofs.Common.{◌∙◌, ◌+◌, ◌*◌, length, ap, sym, arith}
+use Rattle.std.proofs.Common.{◌+◌, ◌*◌, length, ap, sym, arith}
 use Rattle.bitmap.specs.Bitmap.{IsLeastFree}
 use Rattle.bitmap.proofs.Levels.{found_by_levels, none_found, first_inside, least_is, none_is}
 use Rattle.bitmap.proofs.BitLemmas.{length_flags}
@@ -12,14 +12,13 @@ found c = found_by_levels _ _ _ _ _ c.in_ok-word.word c.index.result.now _ _ c.s
     (omega arith) c.trailing_ones-bit.ensures
 
 pub overflow_cast-result : goal.overflow_cast-result
-overflow_cast-result c =
-    let least = found c in omega (
-      arith,
-      least.within,
-      c.self.invariant.fits,
-      ap length c.self.view_is,
-      length_flags c.self.inside.words.items c.self.inside.size,
-    )
+overflow_cast-result c = omega (
+  arith,
+  (found c).within,
+  c.self.invariant.fits,
+  ap length c.self.view_is,
+  length_flags c.self.inside.words.items c.self.inside.size,
+)
 
 pub returns-clause-some : goal.returns-clause-some
 returns-clause-some c = found c

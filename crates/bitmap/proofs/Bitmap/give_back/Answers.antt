@@ -1,16 +1,14 @@
-use Rattle.std.proofs.Common.{◌∙◌, arith}
+use Rattle.std.proofs.Common.{arith}
 use Rattle.bitmap.proofs.BitLemmas.{flags_without_bit}
 use Rattle.bitmap.proofs.Levels.{placed, levels_after_give}
 use Rattle.bitmap.proofs.Bitmap.give_back.Goals as goal
 use Rattle.laws.proofs.Places.{count_without, flag_within}
 
 pub clear_bit-requires : goal.clear_bit-requires
-clear_bit-requires c =
-    let place = placed c.self.invariant c.self.view_is (flag_within _ _ c.requires) in omega (arith, place.word)
+clear_bit-requires c = omega (arith, (placed c.self.invariant c.self.view_is (flag_within _ _ c.requires)).word)
 
 pub clear_bit-requires-2 : goal.clear_bit-requires-2
-clear_bit-requires-2 c =
-    let place = placed c.self.invariant c.self.view_is (flag_within _ _ c.requires) in omega (arith, place.mark)
+clear_bit-requires-2 c = omega (arith, (placed c.self.invariant c.self.view_is (flag_within _ _ c.requires)).mark)
 
 pub invariant_of-self : goal.invariant_of-self
 invariant_of-self c =

@@ -1,4 +1,3 @@
-use Rattle.std.proofs.Common.{sym, ◌∙◌, ap, length}
 use Rattle.bitmap.proofs.BitLemmas.{length_flags}
 use Rattle.bitmap.proofs.Bitmap.size.Goals as goal
 

@@ -1,16 +1,14 @@
-use Rattle.std.proofs.Common.{◌∙◌, arith}
+use Rattle.std.proofs.Common.{arith}
 use Rattle.bitmap.proofs.BitLemmas.{flags_with_bit}
 use Rattle.bitmap.proofs.Levels.{placed, room_for_one, levels_after_take}
 use Rattle.bitmap.proofs.Bitmap.take.Goals as goal
 use Rattle.laws.proofs.Places.{count_with}
 
 pub turn_on-requires-clause-lower : goal.turn_on-requires-clause-lower
-turn_on-requires-clause-lower c =
-    let place = placed c.self.invariant c.self.view_is c.requires.within in omega (arith, place.word)
+turn_on-requires-clause-lower c = omega (arith, (placed c.self.invariant c.self.view_is c.requires.within).word)
 
 pub turn_on-requires-clause-upper : goal.turn_on-requires-clause-upper
-turn_on-requires-clause-upper c =
-    let place = placed c.self.invariant c.self.view_is c.requires.within in omega (arith, place.mark)
+turn_on-requires-clause-upper c = omega (arith, (placed c.self.invariant c.self.view_is c.requires.within).mark)
 
 pub overflow_add-self : goal.overflow_add-self
 overflow_add-self c =
