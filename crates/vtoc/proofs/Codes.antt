@@ -1,4 +1,4 @@
-use Rattle.vtoc.proofs.Prelude.{◌≡◌, ◌≢◌, ℕ, zero, suc, ◌<◌, List, ◌∷◌, length, Option, None, Some, refl, sym, ap, ◌∙◌, get_or, set, replicate, inl, inr, [], Bool, true, false, ◌&&◌, ◌==◌, ◌↔◌, IsTrue, map, list_all, eqb_tells, map-set, get_or-map, no_records, record_of, records_of}
+use Rattle.vtoc.proofs.Prelude.{◌≡◌, ◌≢◌, ℕ, zero, suc, ◌<◌, List, ◌∷◌, length, Option, None, Some, refl, sym, ◌∙◌, get_or, set, replicate, inl, inr, [], Bool, true, false, ◌&&◌, ◌==◌, ◌↔◌, IsTrue, map, list_all, eqb_tells, map-set, get_or-map, no_records, record_of, records_of}
 
 -- a place by its code
 pub read_code : (codes : List ℕ) (p : ℕ) {code : ℕ} → p < length codes → get_or codes p 0 ≡ code

@@ -13,10 +13,13 @@ new_slots size none =
 pub length_slots : {held : List Slot} {size room : ℕ} → AreRoomy held size room → length (slots_of held size) ≡ size
 unfolding slots_of
 length_slots {held} {size} h =
-    let both = length-append held (rest (size - length held)) in
-    let more = length-replicate {A = Slot} (size - length held) free_slot in
-    let within = h.within in
-    omega (arith, both, more, within)
+    omega (
+      arith,
+      length-append held
+          (rest (size - length held)),
+      length-replicate {A = Slot} (size - length held) free_slot,
+      h.within,
+    )
 
 pub size_slots : {held : List Slot} {size room : ℕ} {slots : List Slot} → AreRoomy held size room
     → slots_of held size ≡ slots → size ≡ length slots
@@ -29,8 +32,7 @@ slot_held held size e lt = get_or_append_left held (rest (size - length held)) f
 slot_rest : (count k : ℕ) → get_or (rest count) k free_slot ≡ free_slot
 slot_rest count k = elim (below_or_past k count) [
   | inl lt ↦ get_or-replicate count k free_slot free_slot lt
-  | inr past ↦ (let long = length-replicate {A = Slot} count free_slot in
-      get_or_past (rest count) k free_slot (omega (arith, long, past)))
+  | inr past ↦ get_or_past (rest count) k free_slot (omega (arith, length-replicate {A = Slot} count free_slot, past))
 ]
 
 pub slot_past : (held : List Slot) (size e : ℕ) → length held ≤ e → slot_at (slots_of held size) e ≡ free_slot
@@ -72,16 +74,14 @@ set_held held size e {y} view lt same =
 pub roomy_set : {held : List Slot} {size room : ℕ} (e : ℕ) (x : Slot) → AreRoomy held size room
     → AreRoomy (set held e x) size room
 roomy_set {held} e x h =
-    let long = length-set held e x in
     let within = h.within in
-    record { within = omega (arith, long, within); roomy = h.roomy }
+    record { within = omega (arith, length-set held e x, within); roomy = h.roomy }
 
 -- each slot before e has a uid, so e is at most the first that isn't held
 pub at_end : (held : List Slot) (size : ℕ) {e : ℕ} {slots : List Slot} → slots_of held size ≡ slots → length held ≤ e
     → ((k : ℕ) → k < e → is_some (slot_at slots k).uid ≡ true) → e ≡ length held
 at_end held size {e} {slots} view past before = elim (below_or_past (length held) e) [
-  | inl lt ↦ absurd (let no = used_held held size (length held) slots view (before (length held) lt) in
-      omega (arith, no))
+  | inl lt ↦ absurd (omega (arith, used_held held size (length held) slots view (before (length held) lt)))
   | inr le ↦ omega (arith, le, past)
 ]
 
@@ -120,5 +120,4 @@ push_held held size {e} {slots} x {uid} view end lt is named empty =
 pub roomy_push : {held next : List Slot} {size room room' e : ℕ} (x : Slot) → AreRoomy held size room
     → room' ≡ room → e ≡ length held → e < size → next ≡ held ++ x ∷ [] → AreRoomy next size room'
 roomy_push {held} x h same end lt is =
-    let long = length_push held x in
-    rw (is, same) (record { within = omega (arith, long, end, lt); roomy = h.roomy })
+    rw (is, same) (record { within = omega (arith, length_push held x, end, lt); roomy = h.roomy })

@@ -89,8 +89,7 @@ used_inside (entry ∷ table) (suc e) h = let lt = used_inside table e h in omeg
 
 pub used_slot : {flags : List Bool} {slots : List Slot} {table : List (Option Entry)} (e : ℕ) → IsMarked flags slots
     → table_of slots ≡ table → IsSome (entry_at table e) → e < length slots
-used_slot {slots} {table} e h view used =
-    let lt = used_inside table e used in omega (arith, lt, ap length view, length_table slots)
+used_slot {slots} {table} e h view used = omega (arith, used_inside table e used, ap length view, length_table slots)
 
 -- the slot of a used entry has a uid
 pub has_uid : {flags : List Bool} {slots : List Slot} {table : List (Option Entry)} (e : ℕ) → IsMarked flags slots
@@ -117,8 +116,7 @@ marked_with {slots} e slot h lt empty long = record {
     | inl same ↦ (let here : slot_at (set slots e slot) k ≡ slot =
         rw same (get_or-set_same slots e slot free_slot lt) in
         cc (empty (ap (λ (s : Slot). s.uid) (sym here) ∙ none)))
-    | inr ne ↦ (let there : slot_at (set slots e slot) k ≡ slot_at slots k =
-        get_or-set_other slots e k slot free_slot ne in
+    | inr ne ↦ (let there = get_or-set_other slots e k slot free_slot ne in
         cc (h.empty k (ap (λ (s : Slot). s.uid) (sym there) ∙ none)))
   ];
   places = λ k. elim (cases_eq k e) [
@@ -147,8 +145,7 @@ pub map_is_empty : {records : List (Option ℕ)} → length records ≡ 256 → 
 unfolding no_records
 map_is_empty {records} long none =
     ext_get_or None records (replicate 256 None) (long ∙ sym (length-replicate {A = Option ℕ} 256 None))
-    (λ p lt. let below : p < 256 = omega (arith, long) in none p
-    ∙ sym (get_or-replicate {A = Option ℕ} 256 p None None below))
+    (λ p lt. none p ∙ sym (get_or-replicate {A = Option ℕ} 256 p None None (omega (arith, long))))
 
 pub no_record : (p : ℕ) → get_or no_records p None ≡ None
 unfolding no_records
@@ -176,8 +173,7 @@ least_same {flags} {slots} {table} h view =
     let first : prefix_len (λ flag. not (not flag)) flags ≡ prefix_len (λ entry. not (is_none entry)) table =
     ap (prefix_len (λ flag. not (not flag))) h.marks ∙ first_same slots
     ∙ ap (prefix_len (λ (entry : Option Entry). not (is_none entry))) view in
-    let long : length flags ≡ length table = length_bits h ∙ sym (length-map slots entry_of) ∙ ap length view in
-    rw (first, long) refl
+    rw (first, (length_bits h ∙ sym (length-map slots entry_of) ∙ ap length view)) refl
 
 pub least_entry : {flags : List Bool} {slots : List Slot} {table : List (Option Entry)} {e : ℕ} → IsMarked flags slots
     → table_of slots ≡ table → IsLeastFree flags e → IsLeastFreeEntry table e
@@ -191,15 +187,9 @@ least_entry {flags} {slots} {table} {e} h view least = record {
 
 pub all_used : {flags : List Bool} {slots : List Slot} {table : List (Option Entry)} → IsMarked flags slots
     → table_of slots ≡ table → All (λ flag. flag ≡ true) flags → All (λ entry. IsSome entry) table
-all_used {flags} {slots} {table} h view all = All-from_get_or (λ entry. IsSome entry) table None
-    (λ k lt. let inside : k < length flags = omega (
-      arith,
-      length_bits h,
-      length_table slots,
-      ap length view,
-    ) in
-    rw (kept flags slots table k h view).entry (is_some_seen (slot_at slots k).uid (slot_at slots k).map
-    (sym (bit_is k h) ∙ All-get_or (λ flag. flag ≡ true) flags k false inside all)))
+all_used {flags} {slots} {table} h view all = All-from_get_or (λ entry. IsSome entry) table None (λ k lt. rw (kept flags
+    slots table k h view).entry (is_some_seen (slot_at slots k).uid (slot_at slots k).map (sym (bit_is k h) ∙ All-get_or
+    (λ flag. flag ≡ true) flags k false (omega (arith, length_bits h, length_table slots, ap length view)) all)))
 
 -- the counts are the same
 count_step : (uid : Option ℕ) (records : List (Option ℕ)) → cond {A = ℕ} (is_some uid) 1 0
@@ -215,9 +205,7 @@ count_slots (slot ∷ slots) =
     (map (λ (slot : Slot). is_some slot.uid) slots) in
     let b = sum_by-cons (λ (entry : Option Entry). cond {A = ℕ} (is_some entry) 1 0) (entry_of slot)
     (map entry_of slots) in
-    let one = count_step slot.uid slot.map in
-    let ih = count_slots slots in
-    omega (arith, a, b, one, ih)
+    omega (arith, a, b, count_step slot.uid slot.map, count_slots slots)
 
 pub count_same : {flags : List Bool} {slots : List Slot} {table : List (Option Entry)} → IsMarked flags slots
     → table_of slots ≡ table → count_by (λ flag. flag) flags ≡ count_by is_some table
@@ -242,8 +230,7 @@ pub count_freed : (table : List (Option Entry)) (e : ℕ) → IsSome (entry_at t
 count_freed table e used =
     let step = sum_by-set (λ (entry : Option Entry). cond {A = ℕ} (is_some entry) 1 0) table e None None
     (used_inside table e used) in
-    let one = weight_of_used (entry_at table e) used in
-    omega (arith, step, one)
+    omega (arith, step, weight_of_used (entry_at table e) used)
 
 -- a table that is all free
 table_free : (n : ℕ) → map entry_of (replicate n free_slot) ≡ replicate n None
@@ -298,12 +285,11 @@ pub put_table : {flags : List Bool} {slots : List Slot} {table : List (Option En
     ≡ set x.map p r
     → table_of (set slots e (record { uid = x.uid; map = m })) ≡ set table e (with_record (entry_at table e) p r)
 put_table {flags} {slots} {table} e p {x} {m} r h view used read is =
-    let lt = used_slot e h view used in
-    let slot = slot_read slots e lt read in
     table_with slots e _ ∙ ap (λ (t : List (Option Entry)). set t e (seen_as x.uid m)) view
     ∙ ap (λ (entry : Option Entry). set table e entry) (cc (
       with_record_seen x.uid x.map p r,
       (kept flags slots table e h view).entry,
+      slot_read slots e (used_slot e h view used) read,
     ))
 
 placed_in : (entry : Option Entry) (p : ℕ) (r : Option ℕ) → IsSome entry → p < length (records_in entry)
@@ -333,9 +319,8 @@ pub allocate_marked : {flags fs : List Bool} {slots : List Slot} {e : ℕ} (uid 
     → fs ≡ set flags e true → IsMarked fs (set slots e (record { uid = Some uid; map = x.map }))
 allocate_marked {flags} {slots} {e} uid {x} h least read is =
     let lt : e < length slots = omega (arith, least.within, length_bits {flags = flags} {slots = slots} h) in
-    let slot = slot_read slots e {x = x} lt read in
-    rw is (marked_with {flags = flags} {slots = slots} e _ h lt (λ none. used_uid (Some uid) x.map refl none)
-    (cc (h.places e)))
+    rw is (marked_with {flags = flags} {slots = slots}
+    e _ h lt (λ none. used_uid (Some uid) x.map refl none) (cc (h.places e, slot_read slots e {x = x} lt read)))
 
 pub allocate_table : {flags : List Bool} {slots : List Slot} {table : List (Option Entry)} {e : ℕ} (uid : ℕ) {x : Slot}
     → IsMarked flags slots → table_of slots ≡ table

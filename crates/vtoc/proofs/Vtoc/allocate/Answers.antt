@@ -10,15 +10,13 @@ give-requires-clause-before c = λ k lt. sym (bit_is k c.self.invariant) ∙ c.i
 
 pub invariant_of-self : goal.invariant_of-self
 invariant_of-self c =
-    let lt = least_slot c.self.invariant c.in_ok-e.ensures.some in
     rw c.give.ensures (allocate_marked c.args.uid c.self.invariant c.in_ok-e.ensures.some
-    (read_self _ c.in_ok-e.e lt) c.take.ensures.flags)
+    (read_self _ c.in_ok-e.e (least_slot c.self.invariant c.in_ok-e.ensures.some)) c.take.ensures.flags)
 
 pub returns-clause-taken : goal.returns-clause-taken
 returns-clause-taken c =
-    let lt = least_slot c.self.invariant c.in_ok-e.ensures.some in
-    ap table_of c.give.ensures ∙ allocate_table c.args.uid c.self.invariant c.self.view_is
-    c.in_ok-e.ensures.some (read_self _ c.in_ok-e.e lt)
+    ap table_of c.give.ensures ∙ allocate_table c.args.uid c.self.invariant
+    c.self.view_is c.in_ok-e.ensures.some (read_self _ c.in_ok-e.e (least_slot c.self.invariant c.in_ok-e.ensures.some))
 
 pub returns-clause-some : goal.returns-clause-some
 returns-clause-some c = least_entry c.self.invariant c.self.view_is c.in_ok-e.ensures.some
@@ -36,14 +34,12 @@ returns-in_err-e-clause-none c = rw c.from_residual.ensures
 
 pub returns-clause-empty : goal.returns-clause-empty
 returns-clause-empty c =
-    let lt = least_slot c.self.invariant c.in_ok-e.ensures.some in
     rw (ap table_of c.give.ensures ∙ allocate_table c.args.uid c.self.invariant c.self.view_is
-    c.in_ok-e.ensures.some (read_self _ c.in_ok-e.e lt))
+    c.in_ok-e.ensures.some (read_self _ c.in_ok-e.e (least_slot c.self.invariant c.in_ok-e.ensures.some)))
     (allocate_empty c.args.uid c.self.invariant c.self.view_is c.in_ok-e.ensures.some)
 
 pub returns-clause-count : goal.returns-clause-count
 returns-clause-count c =
-    let lt = least_slot c.self.invariant c.in_ok-e.ensures.some in
     rw (ap table_of c.give.ensures ∙ allocate_table c.args.uid c.self.invariant c.self.view_is
-    c.in_ok-e.ensures.some (read_self _ c.in_ok-e.e lt))
+    c.in_ok-e.ensures.some (read_self _ c.in_ok-e.e (least_slot c.self.invariant c.in_ok-e.ensures.some)))
     (count_taken c.args.uid (least_entry c.self.invariant c.self.view_is c.in_ok-e.ensures.some))

@@ -10,9 +10,8 @@ clear-requires c = has_uid c.args.e c.self.invariant c.self.view_is c.requires.u
 
 pub invariant_of-self : goal.invariant_of-self
 invariant_of-self c =
-    let lt = used_slot c.args.e c.self.invariant c.self.view_is c.requires.used in
-    rw c.clear.ensures (free_marked c.self.invariant c.self.view_is c.requires.used
-    c.requires.empty (read_self _ c.args.e lt) c.give_back.ensures.flags)
+    rw c.clear.ensures (free_marked c.self.invariant c.self.view_is c.requires.used c.requires.empty (read_self _
+    c.args.e (used_slot c.args.e c.self.invariant c.self.view_is c.requires.used)) c.give_back.ensures.flags)
 
 pub returns-clause-entries : goal.returns-clause-entries
 returns-clause-entries c = ap table_of c.clear.ensures

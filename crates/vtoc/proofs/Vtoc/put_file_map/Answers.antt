@@ -7,19 +7,16 @@ put-requires-clause-used c = has_uid c.args.e c.self.invariant c.self.view_is c.
 
 pub invariant_of-self : goal.invariant_of-self
 invariant_of-self c =
-    let lt = used_slot c.args.e c.self.invariant c.self.view_is c.requires.used in
-    rw c.put.ensures (put_marked _ _ _ c.args.e c.args.p _ _ c.args.r c.self.invariant c.self.view_is c.requires.used
-    (read_self _ c.args.e lt) refl)
+    rw c.put.ensures (put_marked _ _ _ c.args.e c.args.p _ _ c.args.r c.self.invariant c.self.view_is
+    c.requires.used (read_self _ c.args.e (used_slot c.args.e c.self.invariant c.self.view_is c.requires.used)) refl)
 
 pub returns-clause-map : goal.returns-clause-map
 returns-clause-map c =
-    let lt = used_slot c.args.e c.self.invariant c.self.view_is c.requires.used in
     ap table_of c.put.ensures ∙ put_table c.args.e c.args.p c.args.r c.self.invariant c.self.view_is
-    c.requires.used (read_self _ c.args.e lt) refl
+    c.requires.used (read_self _ c.args.e (used_slot c.args.e c.self.invariant c.self.view_is c.requires.used)) refl
 
 pub returns-clause-placed : goal.returns-clause-placed
 returns-clause-placed c =
-    let lt = used_slot c.args.e c.self.invariant c.self.view_is c.requires.used in
     rw (ap table_of c.put.ensures ∙ put_table c.args.e c.args.p c.args.r c.self.invariant c.self.view_is
-    c.requires.used (read_self _ c.args.e lt) refl)
+    c.requires.used (read_self _ c.args.e (used_slot c.args.e c.self.invariant c.self.view_is c.requires.used)) refl)
     (put_placed c.args.e c.args.p c.self.invariant c.self.view_is c.requires.used c.requires.page)

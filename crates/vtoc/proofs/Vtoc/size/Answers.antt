@@ -1,4 +1,4 @@
-use Rattle.vtoc.proofs.Prelude.{◌∙◌, ap, length, sym}
+use Rattle.vtoc.proofs.Prelude.{◌∙◌, ap, length}
 use Rattle.vtoc.proofs.Table.{length_table, kept}
 use Rattle.vtoc.proofs.Vtoc.size.Goals as goal
 

@@ -1,4 +1,3 @@
-use Rattle.vtoc.proofs.Prelude.{◌∙◌}
 use Rattle.vtoc.proofs.Table.{count_same}
 use Rattle.vtoc.proofs.Vtoc.used.Goals as goal
 

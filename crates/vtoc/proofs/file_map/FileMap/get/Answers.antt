@@ -1,4 +1,4 @@
-use Rattle.vtoc.proofs.Prelude.{◌∙◌, ◌<◌, ℕ, List, Option, None, ap, refl, sym, arith, get_or, length}
+use Rattle.vtoc.proofs.Prelude.{◌∙◌, ◌<◌, refl, sym, arith, length}
 use Rattle.vtoc.proofs.Codes.{read_none, read_some}
 use Rattle.vtoc.proofs.file_map.FileMap.get.Goals as goal
 

@@ -1,23 +1,17 @@
-use Rattle.vtoc.proofs.Prelude.{◌<◌, ◌≤◌, Some, ap, refl, length, arith, common_steps, Slot}
+use Rattle.vtoc.proofs.Prelude.{◌<◌, Some, ap, refl, length, arith, common_steps, Slot}
 use Rattle.vtoc.proofs.Held.{at_end, held_read, push_held, roomy_push, set_held, size_slots, slot_with}
 use Rattle.vtoc.proofs.slots.Slots.give.Goals as goal
 
 pub push_reserved-requires : goal.push_reserved-requires
 push_reserved-requires c =
-    let size = size_slots c.self.invariant c.self.view_is in
-    let past : length c.self.inside.held.items ≤ c.args.e = grind (arith, common_steps) in
-    let end = at_end _ _ c.self.view_is past c.requires.before in
-    let within = c.requires.within in
-    let roomy = c.self.invariant.roomy in
-    omega (arith, size, end, within, roomy)
+    let end = at_end _ _ c.self.view_is (grind (arith, common_steps)) c.requires.before in
+    omega (arith, size_slots c.self.invariant c.self.view_is, end, c.requires.within, c.self.invariant.roomy)
 
 pub invariant_of-self-else-e-len : goal.invariant_of-self-else-e-len
 invariant_of-self-else-e-len c =
-    let size = size_slots c.self.invariant c.self.view_is in
-    let past : length c.self.inside.held.items ≤ c.args.e = grind (arith, common_steps) in
-    let end = at_end _ _ c.self.view_is past c.requires.before in
-    let within = c.requires.within in
-    let lt : c.args.e < c.self.inside.size = omega (arith, size, within) in
+    let end = at_end _ _ c.self.view_is (grind (arith, common_steps)) c.requires.before in
+    let lt : c.args.e
+    < c.self.inside.size = omega (arith, size_slots c.self.invariant c.self.view_is, c.requires.within) in
     roomy_push _ c.self.invariant c.push_reserved.ensures.capacity end lt c.push_reserved.ensures.items
 
 pub returns-then-e-len : goal.returns-then-e-len
@@ -29,9 +23,7 @@ returns-then-e-len c =
 
 pub returns-else-e-len : goal.returns-else-e-len
 returns-else-e-len c =
-    let size = size_slots c.self.invariant c.self.view_is in
-    let past : length c.self.inside.held.items ≤ c.args.e = grind (arith, common_steps) in
-    let end = at_end _ _ c.self.view_is past c.requires.before in
-    let within = c.requires.within in
-    let lt : c.args.e < c.self.inside.size = omega (arith, size, within) in
+    let end = at_end _ _ c.self.view_is (grind (arith, common_steps)) c.requires.before in
+    let lt : c.args.e
+    < c.self.inside.size = omega (arith, size_slots c.self.invariant c.self.view_is, c.requires.within) in
     push_held _ _ _ c.self.view_is end lt c.push_reserved.ensures.items refl c.new.ensures

@@ -1,4 +1,4 @@
-use Rattle.vtoc.proofs.Prelude.{◌≡◌, ◌<◌, ◌≤◌, ap, length, get_or, arith, common_steps, Slot}
+use Rattle.vtoc.proofs.Prelude.{◌≡◌, ◌<◌, ap, length, get_or, arith, common_steps, Slot}
 use Rattle.vtoc.proofs.Held.{held_read, past_read}
 use Rattle.vtoc.proofs.slots.Slots.uid.Goals as goal
 
@@ -10,6 +10,4 @@ returns-in-Some c =
     ap (λ (s : Slot). s.uid) (held_read _ _ c.args.e c.self.view_is held read)
 
 pub returns-in-None : goal.returns-in-None
-returns-in-None c =
-    let past : length c.self.inside.held.items ≤ c.args.e = grind (arith, common_steps) in
-    past_read _ _ c.args.e c.self.view_is past
+returns-in-None c = past_read _ _ c.args.e c.self.view_is (grind (arith, common_steps))
