@@ -26,10 +26,12 @@ rest_full count = All-replicate (λ words. length words ≡ 1024) count zeros ze
 pub length_pages : {held : Pages} {size room : ℕ} → AreHeld held size room → length (pages_of held size) ≡ size
 unfolding pages_of
 length_pages {held} {size} h =
-    let both = length-append held (rest (size - length held)) in
-    let more = length-replicate {A = List ℕ} (size - length held) zeros in
-    let within = h.within in
-    omega (arith, both, more, within)
+    omega (
+      arith,
+      length-append held (rest (size - length held)),
+      length-replicate {A = List ℕ} (size - length held) zeros,
+      h.within,
+    )
 
 pub full_pages : {held : Pages} {size room : ℕ} → AreHeld held size room → HaveFullPages (pages_of held size)
 unfolding pages_of
@@ -38,9 +40,7 @@ full_pages {held} {size} h = All-append (λ words. length words ≡ 1024) held (
 
 pub new_pages : {held : Pages} (size : ℕ) → held ≡ [] → pages_of held size ≡ rest size
 unfolding pages_of
-new_pages size none =
-    let all : size - 0 ≡ size = omega arith in
-    rw (none, all) refl
+new_pages size none = let all : size - 0 ≡ size = omega arith in rw (none, all) refl
 
 pub read_held : (held : Pages) (size r : ℕ) → r < length held → get_or (pages_of held size) r [] ≡ get_or held r []
 unfolding pages_of
@@ -69,17 +69,14 @@ set_rest count k words lt =
 
 length_reached : (held : Pages) {r : ℕ} → length held ≤ r → length (held ++ rest (r - length held)) ≡ r
 length_reached held {r} past =
-    let both = length-append held (rest (r - length held)) in
-    let more = length-replicate {A = List ℕ} (r - length held) zeros in
-    omega (arith, both, more)
+    omega (arith, length-append held (rest (r - length held)), length-replicate {A = List ℕ} (r - length held) zeros)
 
 pub write_past : (held : Pages) (size r : ℕ) (words : List ℕ) → length held ≤ r → r < size
     → pages_of ((held ++ rest (r - length held)) ++ words ∷ []) size ≡ set (pages_of held size) r words
 unfolding pages_of
 write_past held size r words past lt =
-    let reach : length (held ++ rest (r - length held)) ≡ r = length_reached held past in
-    let long : length ((held ++ rest (r - length held)) ++ words ∷ []) ≡ r + 1 =
-    length_push (held ++ rest (r - length held)) words ∙ ap (λ n. n + 1) reach in
+    let reach = length_reached held past in
+    let long = length_push (held ++ rest (r - length held)) words ∙ ap (λ n. n + 1) reach in
     let left : size - length held - suc (r - length held) ≡ size - (r + 1) = omega arith in
     rw (
       long,
@@ -93,10 +90,9 @@ write_past held size r words past lt =
 pub written_held : {held : Pages} {size room : ℕ} (r : ℕ) (words : List ℕ) → AreHeld held size room
     → length words ≡ 1024 → AreHeld (set held r words) size room
 written_held {held} r words h full =
-    let long = length-set held r words in
     let within = h.within in
     record {
-      within = omega (arith, long, within);
+      within = omega (arith, length-set held r words, within);
       roomy = h.roomy;
       short = h.short;
       full = All-set (λ page. length page ≡ 1024) held r words full h.full;
@@ -106,10 +102,8 @@ pub written_past : {held : Pages} {size room : ℕ} (r : ℕ) (words : List ℕ)
     → length words ≡ 1024
     → length held ≤ r → r < size → AreHeld ((held ++ rest (r - length held)) ++ words ∷ []) size room
 written_past {held} r words h full past lt =
-    let reach : length (held ++ rest (r - length held)) ≡ r = length_reached held past in
-    let long = length_push (held ++ rest (r - length held)) words in
     record {
-      within = omega (arith, long, reach);
+      within = omega (arith, length_push (held ++ rest (r - length held)) words, length_reached held past);
       roomy = h.roomy;
       short = h.short;
       full = All-push (λ page. length page ≡ 1024) (held ++ rest (r - length held)) words
@@ -123,9 +117,8 @@ new_full {held} size none = rw (new_pages size none) (rest_full size)
 pub below_size : {held : Pages} {size room : ℕ} {pages : Pages} (r : ℕ) → AreHeld held size room
     → pages_of held size ≡ pages → r < length pages → r < size
 below_size {held} {size} {room} r h view lt =
-    let all = length_pages h in
     let same = ap length view in
-    omega (arith, all, same, lt)
+    omega (arith, length_pages h, same, lt)
 
 pub reach_more : (old : Pages) {now next : Pages} (counter : ℕ) {words : List ℕ}
     → now ≡ old ++ rest (counter - length old)

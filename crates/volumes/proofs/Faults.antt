@@ -34,9 +34,8 @@ named_split : (line : FailLine) (lines : List FailLine) (write : Bool) (n : ℕ)
 unfolding named_calls
 named_split line lines write zero = omega arith
 named_split line lines write (suc n) =
-    let ih = named_split line lines write n in
     let one = either (names write (suc n) line) (list_any (names write (suc n)) lines) in
-    omega (arith, ih, one)
+    omega (arith, named_split line lines write n, one)
 
 pub named_none : (write : Bool) (n : ℕ) → named_calls [] write n ≡ 0
 unfolding named_calls
@@ -97,8 +96,7 @@ named_other : (line : FailLine) (write : Bool) (n : ℕ) → beq line.write writ
     ≡ 0
 unfolding named_calls
 named_other line write zero kind = refl
-named_other line write (suc n) kind = let ih = named_other line write n kind in let one =
-    names_other line write (suc n) kind in omega (arith, ih, one)
+named_other line write (suc n) kind = omega (arith, named_other line write n kind, names_other line write (suc n) kind)
 
 one_line : (line : FailLine) (a b : ℕ) → line.onward ≡ false
     → named_calls (line ∷ []) false a + named_calls (line ∷ []) true b ≤ 1

@@ -41,15 +41,12 @@ pub parts_with_drive : {D : Type 0} (pages : D → List (List ℕ)) (drives : Li
     → HasParts (map pages drives) records vtocs → x ≡ get_or drives v x → length (pages y) ≡ length (pages x)
     → HasParts (map pages (set drives v y)) records vtocs
 parts_with_drive pages drives v {x} y h read long =
-    let count : length (map pages (set drives v y)) ≡ length (map pages drives) =
-    length-map (set drives v y) pages ∙ length-set drives v y ∙ sym (length-map drives pages) in
-    let old : set (map pages drives) v (pages x) ≡ map pages drives = sym (map-set pages drives v x)
-    ∙ ap (map pages) (set_same v read) in
+    let count = length-map (set drives v y) pages ∙ length-set drives v y ∙ sym (length-map drives pages) in
     record {
       few = rw count h.few;
       sizes = h.sizes ∙ sym (ap (map length) (map-set pages drives v y) ∙ map-set length (map pages drives) v (pages y)
           ∙ ap (set (map length (map pages drives)) v) long ∙ sym (map-set length (map pages drives) v (pages x))
-          ∙ ap (map length) old);
+          ∙ ap (map length) (sym (map-set pages drives v x) ∙ ap (map pages) (set_same v read)));
       tables = h.tables ∙ sym count;
     }
 
@@ -84,10 +81,9 @@ size_of_records pages drives {records} v {x} h lt read =
     let many : length records ≡ length drives = sym (length-map records length) ∙ ap length h.sizes
     ∙ length-map (map pages drives) length ∙ length-map drives pages in
     let there : v < length records = omega (arith, many) in
-    let disk : v < length (map pages drives) = omega (arith, length-map drives pages) in
     ap (λ (d : _). length (pages d)) read ∙ sym (ap length (get_or-map pages drives v x [] lt))
-    ∙ sym (get_or-map length (map pages drives) v [] 0 disk) ∙ ap (λ (ns : List ℕ). get_or ns v 0) (sym h.sizes)
-    ∙ get_or-map length records v [] 0 there
+    ∙ sym (get_or-map length (map pages drives) v [] 0 (omega (arith, length-map drives pages)))
+    ∙ ap (λ (ns : List ℕ). get_or ns v 0) (sym h.sizes) ∙ get_or-map length records v [] 0 there
 
 -- volumes that were just made
 sizes_made : {D : Type 0} (pages : D → List (List ℕ)) (parts : List (Part D))
@@ -102,8 +98,7 @@ pub parts_made : {D : Type 0} (pages : D → List (List ℕ)) (parts : List (Par
     → records ≡ map (λ (part : Part D). replicate (length (pages part.drive)) false) parts
     → vtocs ≡ map (λ (part : Part D). replicate part.entries None) parts → HasParts (map pages drives) records vtocs
 parts_made pages parts {drives} few ds rs vs =
-    let count : length (map pages drives) ≡ length parts = length-map drives pages ∙ ap length ds
-    ∙ length-map parts (λ (part : Part _). part.drive) in
+    let count = length-map drives pages ∙ ap length ds ∙ length-map parts (λ (part : Part _). part.drive) in
     record {
       few = rw count few;
       sizes = rw (ds, rs) (sizes_made pages parts);
@@ -119,18 +114,15 @@ same_with t drives v x y read same = map-set t drives v y ∙ ap (set (map t dri
 -- its count of faults is higher, and so the sum of all
 pub sum_grows : {D : Type 0} (t : D → ℕ) (drives : List D) (v : ℕ) (x y : D) → v < length drives → x
     ≡ get_or drives v x → t x ≤ t y → sum_by t drives ≤ sum_by t (set drives v y)
-sum_grows t drives v x y lt read more = let step = sum_by-set t drives v y x lt in let same =
-    ap t read in omega (arith, step, same, more)
+sum_grows t drives v x y lt read more = let same = ap t read in omega (arith, sum_by-set t drives v y x lt, same, more)
 
 pub sum_rose : {D : Type 0} (t : D → ℕ) (result : Result (Unit {0}) Failed) (drives : List D) (v : ℕ) (x y : D)
     → v < length drives → x ≡ get_or drives v x
     → OnErr result (Rose (t x) (t y)) → OnErr result (Rose (sum_by t drives) (sum_by t (set drives v y)))
 sum_rose t (Ok u) drives v x y lt read rose = tt
 sum_rose t (Err e) drives v x y lt read rose =
-    let step = sum_by-set t drives v y x lt in
     let same = ap t read in
-    let part = get_or-le-sum_by t drives v x lt in
-    omega (arith, step, same, part, rose)
+    omega (arith, sum_by-set t drives v y x lt, same, get_or-le-sum_by t drives v x lt, rose)
 
 -- what a failure says of the count of its drive, said of the counts of all drives
 failed_count : {D : Type 0} (R : ℕ → ℕ → Type 0) (t : D → ℕ) (result : Result (Unit {0}) Failed) (drives : List D)
@@ -138,10 +130,9 @@ failed_count : {D : Type 0} (R : ℕ → ℕ → Type 0) (t : D → ℕ) (result
     → OnErr result (R (t x) (t y)) → OnErr result (R (get_or (map t drives) v 0) (get_or (map t (set drives v y)) v 0))
 failed_count R t (Ok u) drives v y lt read says = tt
 failed_count R t (Err e) drives v {x} y lt read says =
-    let before : get_or (map t drives) v 0 ≡ t x = get_or-map t drives v x 0 lt ∙ sym (ap t read) in
-    let now : get_or (map t (set drives v y)) v 0 ≡ t y =
-    get_or-map t (set drives v y) v y 0 (rw (length-set drives v y) lt) ∙ ap t (get_or-set_same drives v y y lt) in
-    rw (before, now) says
+    let now = get_or-map t (set drives v y) v y 0 (rw (length-set drives v y) lt)
+    ∙ ap t (get_or-set_same drives v y y lt) in
+    rw ((get_or-map t drives v x 0 lt ∙ sym (ap t read)), now) says
 
 pub its_rose : {D : Type 0} (t : D → ℕ) (result : Result (Unit {0}) Failed) (drives : List D) (v : ℕ) (x y : D)
     → v < length drives → x ≡ get_or drives v x

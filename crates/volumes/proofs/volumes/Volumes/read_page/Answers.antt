@@ -18,7 +18,6 @@ invariant_of-self g c = (
 
 pub returns : goal.returns
 returns g c =
-    let within = drives_within _ _ _ _ c.self.view_is c.requires.volume in
     grind (
       arith,
       common_steps,

@@ -2,7 +2,7 @@ use Rattle.std.proofs.Common.{arith}
 use Rattle.std.proofs.lemmas.Grind.{common_steps}
 use Rattle.volumes.proofs.Drives.{one_drive}
 use Rattle.volumes.proofs.Parts.{parts_with_drive, length_after_write, same_with, few_with, sum_rose, sum_grows}
-use Rattle.volumes.proofs.Parts.{its_once, its_rose, drives_within, full_with, keeps_others, told_with}
+use Rattle.volumes.proofs.Parts.{its_once, its_rose, full_with, keeps_others, told_with}
 use Rattle.volumes.proofs.volumes.Volumes.write_page.Goals as goal
 
 pub invariant_of-self : goal.invariant_of-self
@@ -16,5 +16,4 @@ invariant_of-self g c = (
 
 pub returns : goal.returns
 returns g c =
-    let within = drives_within _ _ _ _ c.self.view_is c.requires.volume in
     grind (arith, common_steps, one_drive, sum_rose, its_rose, sum_grows, same_with, keeps_others, its_once, told_with)
