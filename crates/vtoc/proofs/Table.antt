@@ -1,4 +1,4 @@
-use Rattle.vtoc.proofs.Prelude.{◌≡◌, ℕ, zero, suc, ◌+◌, ◌<◌, ◌≤◌, ◌^◌, Bool, true, false, not, cond, List, [], ◌∷◌, length, Option, None, Some, refl, sym, ap, ◌∙◌, arith, get_or, set, replicate, map, inl, inr, IsSome, is_some, is_none, count_by, All, IsTrue, ◌↔◌, prefix_len, cases_eq, map-set, get_or-map, get_or_past, length-map, length-set, length-replicate, get_or-set_same, get_or-set_other, set-get_or, get_or_default, get_or_read, get_or-replicate, ext_get_or, All-get_or, All-from_get_or, sum_by-cons, sum_by-set, in_use, least_free, IsLeastFree, no_records, Entry, entry_at, uid_of, records_in, record_at, fresh_entry, with_record, least_free_entry, IsLeastFreeEntry, NamesNoRecord, Slot, seen_as, entry_of, table_of, free_slot, slot_at, IsMarked, below_or_past, none_there, blank}
+use Rattle.vtoc.proofs.Prelude.{◌≡◌, ℕ, zero, suc, ◌+◌, ◌<◌, ◌≤◌, ◌^◌, Bool, true, false, not, cond, List, [], ◌∷◌, length, Option, None, Some, refl, sym, ap, ◌∙◌, arith, get_or, set, replicate, map, inl, inr, IsSome, is_some, is_none, count_by, All, IsTrue, ◌↔◌, prefix_len, cases_eq, map-set, get_or-map, get_or_past, length-map, length-set, length-replicate, get_or-set_same, get_or-set_other, set-get_or, get_or-replicate, ext_get_or, All-get_or, All-from_get_or, sum_by-cons, sum_by-set, in_use, least_free, IsLeastFree, no_records, Entry, entry_at, uid_of, records_in, record_at, fresh_entry, with_record, least_free_entry, IsLeastFreeEntry, NamesNoRecord, Slot, seen_as, entry_of, table_of, free_slot, slot_at, IsMarked, below_or_past, none_there, blank}
 
 pub length_table : (slots : List Slot) → length (table_of slots) ≡ length slots
 unfolding table_of
@@ -65,21 +65,10 @@ pub length_bits : {flags : List Bool} {slots : List Slot} → IsMarked flags slo
 length_bits {slots} h = cc (length-map slots (λ (slot : Slot). is_some slot.uid))
 
 -- where entry e stands in the slots of a table that is seen as `table`
-pub record IsKept (flags : List Bool) (slots : List Slot) (table : List (Option Entry)) (e : ℕ) : Type 0 where
+pub record IsKept (slots : List Slot) (table : List (Option Entry)) (e : ℕ) : Type 0 where
   pub entry : entry_at table e ≡ entry_of (slot_at slots e)
   pub records : records_in (entry_at table e) ≡ (slot_at slots e).map
   pub uid : uid_of (entry_at table e) ≡ (slot_at slots e).uid
-
-pub kept : (flags : List Bool) (slots : List Slot) (table : List (Option Entry)) (e : ℕ) → IsMarked flags slots
-    → table_of slots ≡ table → IsKept flags slots table e
-kept flags slots table e h view =
-    let entry : entry_at table e ≡ entry_of (slot_at slots e) =
-    ap (λ (t : List (Option Entry)). entry_at t e) (sym view) ∙ entry_is slots e in
-    record {
-      entry = entry;
-      records = cc (records_seen (slot_at slots e).uid (h.empty e));
-      uid = cc (uid_seen (slot_at slots e).uid (slot_at slots e).map);
-    }
 
 -- a used entry is one that the table has
 pub used_inside : (table : List (Option Entry)) (e : ℕ) → IsSome (entry_at table e) → e < length table
@@ -87,23 +76,27 @@ used_inside [] e h = cc
 used_inside (entry ∷ table) zero h = omega arith
 used_inside (entry ∷ table) (suc e) h = let lt = used_inside table e h in omega (arith, lt)
 
-pub used_slot : {flags : List Bool} {slots : List Slot} {table : List (Option Entry)} (e : ℕ) → IsMarked flags slots
-    → table_of slots ≡ table → IsSome (entry_at table e) → e < length slots
-used_slot {slots} {table} e h view used = omega (arith, used_inside table e used, ap length view, length_table slots)
+module _ {flags : List Bool} {slots : List Slot} {table : List (Option Entry)} (h : IsMarked flags slots)
+    (view : table_of slots ≡ table) where
+  pub kept : (e : ℕ) → IsKept slots table e
+  kept e =
+      let entry : entry_at table e ≡ entry_of (slot_at slots e) =
+      ap (λ (t : List (Option Entry)). entry_at t e) (sym view) ∙ entry_is slots e in
+      record {
+        entry = entry;
+        records = cc (records_seen (slot_at slots e).uid (h.empty e));
+        uid = cc (uid_seen (slot_at slots e).uid (slot_at slots e).map);
+      }
 
--- the slot of a used entry has a uid
-pub has_uid : {flags : List Bool} {slots : List Slot} {table : List (Option Entry)} (e : ℕ) → IsMarked flags slots
-    → table_of slots ≡ table → IsSome (entry_at table e) → is_some (slot_at slots e).uid ≡ true
-has_uid {flags} {slots} {table} e h view used = some_seen (slot_at slots e).uid (slot_at slots e).map
-    (rw (← (kept flags slots table e h view).entry) used)
+  pub used_slot : (e : ℕ) → IsSome (entry_at table e) → e < length slots
+  used_slot e used = omega (arith, used_inside table e used, ap length view, length_table slots)
 
-pub used_bit : {flags : List Bool} {slots : List Slot} {table : List (Option Entry)} (e : ℕ) → IsMarked flags slots
-    → table_of slots ≡ table → IsSome (entry_at table e) → in_use flags e ≡ true
-used_bit {flags} {slots} {table} e h view used = bit_is e h ∙ has_uid e h view used
+  -- the slot of a used entry has a uid
+  pub has_uid : (e : ℕ) → IsSome (entry_at table e) → is_some (slot_at slots e).uid ≡ true
+  has_uid e used = some_seen (slot_at slots e).uid (slot_at slots e).map (rw (← (kept e).entry) used)
 
--- a slot is what a read of it gives
-pub read_self : (slots : List Slot) (e : ℕ) → e < length slots → slot_at slots e ≡ get_or slots e (slot_at slots e)
-read_self slots e lt = get_or_default slots e free_slot (slot_at slots e) lt
+  pub used_bit : (e : ℕ) → IsSome (entry_at table e) → in_use flags e ≡ true
+  used_bit e used = bit_is e h ∙ has_uid e used
 
 -- the bits and the slots after slot e is written, with a bit that says whether it has a uid now
 pub marked_with : {flags : List Bool} {slots : List Slot} (e : ℕ) (slot : Slot) → IsMarked flags slots
@@ -175,22 +168,6 @@ least_same {flags} {slots} {table} h view =
     ∙ ap (prefix_len (λ (entry : Option Entry). not (is_none entry))) view in
     rw (first, (length_bits h ∙ sym (length-map slots entry_of) ∙ ap length view)) refl
 
-pub least_entry : {flags : List Bool} {slots : List Slot} {table : List (Option Entry)} {e : ℕ} → IsMarked flags slots
-    → table_of slots ≡ table → IsLeastFree flags e → IsLeastFreeEntry table e
-least_entry {flags} {slots} {table} {e} h view least = record {
-  within = omega (arith, least.within, length_bits h, length_table slots, ap length view);
-  free = (kept flags slots table e h view).entry ∙ none_seen (slot_at slots e).uid (slot_at slots e).map
-      (cc (bit_is e h));
-  before = λ k lt. ap is_none (kept flags slots table k h view).entry
-      ∙ is_none_seen (slot_at slots k).uid (slot_at slots k).map (sym (bit_is k h) ∙ least.before k lt);
-}
-
-pub all_used : {flags : List Bool} {slots : List Slot} {table : List (Option Entry)} → IsMarked flags slots
-    → table_of slots ≡ table → All (λ flag. flag ≡ true) flags → All (λ entry. IsSome entry) table
-all_used {flags} {slots} {table} h view all = All-from_get_or (λ entry. IsSome entry) table None (λ k lt. rw (kept flags
-    slots table k h view).entry (is_some_seen (slot_at slots k).uid (slot_at slots k).map (sym (bit_is k h) ∙ All-get_or
-    (λ flag. flag ≡ true) flags k false (omega (arith, length_bits h, length_table slots, ap length view)) all)))
-
 -- the counts are the same
 count_step : (uid : Option ℕ) (records : List (Option ℕ)) → cond {A = ℕ} (is_some uid) 1 0
     ≡ cond {A = ℕ} (is_some (seen_as uid records)) 1 0
@@ -260,120 +237,94 @@ marked_new flags slots n fits bits is = record {
       ∙ length_no_records;
 }
 
--- the slot that a read gave
-pub slot_read : (slots : List Slot) (e : ℕ) {x : Slot} → e < length slots → x ≡ get_or slots e x → x ≡ slot_at slots e
-slot_read slots e {x} lt read = get_or_read slots e x lt read free_slot
-
 -- a place of a used entry's map is written
 used_uid : (uid : Option ℕ) (records : List (Option ℕ)) → is_some uid ≡ true → uid ≡ None → records ≡ no_records
 used_uid None records used none = cc
 used_uid (Some uid) records used none = cc
-
-pub put_marked : (flags : List Bool) (slots : List Slot) (table : List (Option Entry)) (e p : ℕ) (x : Slot)
-    (m : List (Option ℕ)) (r : Option ℕ)
-    → IsMarked flags slots → table_of slots ≡ table → IsSome (entry_at table e) → x ≡ get_or slots e x → m
-    ≡ set x.map p r → IsMarked flags (set slots e (record { uid = x.uid; map = m }))
-put_marked flags slots table e p x m r h view used read is =
-    let lt = used_slot e h view used in
-    let slot = slot_read slots e lt read in
-    let bit : is_some x.uid ≡ in_use flags e = ap (λ (s : Slot). is_some s.uid) slot ∙ sym (bit_is e h) in
-    marked_same e _ h lt (used_uid x.uid m (bit ∙ used_bit e h view used)) (cc (length-set x.map p r, h.places e)) bit
-
-pub put_table : {flags : List Bool} {slots : List Slot} {table : List (Option Entry)} (e p : ℕ) {x : Slot}
-    {m : List (Option ℕ)} (r : Option ℕ)
-    → IsMarked flags slots → table_of slots ≡ table → IsSome (entry_at table e) → x ≡ get_or slots e x → m
-    ≡ set x.map p r
-    → table_of (set slots e (record { uid = x.uid; map = m })) ≡ set table e (with_record (entry_at table e) p r)
-put_table {flags} {slots} {table} e p {x} {m} r h view used read is =
-    table_with slots e _ ∙ ap (λ (t : List (Option Entry)). set t e (seen_as x.uid m)) view
-    ∙ ap (λ (entry : Option Entry). set table e entry) (cc (
-      with_record_seen x.uid x.map p r,
-      (kept flags slots table e h view).entry,
-      slot_read slots e (used_slot e h view used) read,
-    ))
 
 placed_in : (entry : Option Entry) (p : ℕ) (r : Option ℕ) → IsSome entry → p < length (records_in entry)
     → get_or (records_in (with_record entry p r)) p None ≡ r
 placed_in None p r used lt = cc
 placed_in (Some entry) p r used lt = get_or-set_same entry.records p r None lt
 
-pub put_placed : {flags : List Bool} {slots : List Slot} {table : List (Option Entry)} (e p : ℕ) {r : Option ℕ}
-    → IsMarked flags slots → table_of slots ≡ table
-    → IsSome (entry_at table e) → p < 256 → record_at (set table e (with_record (entry_at table e) p r)) e p ≡ r
-put_placed {flags} {slots} {table} e p {r} h view used lt =
-    let inside = used_inside table e used in
-    let long : length (records_in (entry_at table e)) ≡ 256 = ap length (kept flags slots table e h view).records
-    ∙ h.places e in
-    cc (
-      get_or-set_same table e (with_record (entry_at table e) p r) None inside,
-      placed_in (entry_at table e) p r used (omega (arith, long)),
-    )
-
 pub least_slot : {flags : List Bool} {slots : List Slot} {e : ℕ} → IsMarked flags slots → IsLeastFree flags e
     → e < length slots
 least_slot {flags} {slots} h least = omega (arith, least.within, length_bits h)
 
--- the least free entry is allocated
-pub allocate_marked : {flags fs : List Bool} {slots : List Slot} {e : ℕ} (uid : ℕ) {x : Slot} → IsMarked flags slots
-    → IsLeastFree flags e → x ≡ get_or slots e x
-    → fs ≡ set flags e true → IsMarked fs (set slots e (record { uid = Some uid; map = x.map }))
-allocate_marked {flags} {slots} {e} uid {x} h least read is =
-    let lt : e < length slots = omega (arith, least.within, length_bits {flags = flags} {slots = slots} h) in
-    rw is (marked_with {flags = flags} {slots = slots}
-    e _ h lt (λ none. used_uid (Some uid) x.map refl none) (cc (h.places e, slot_read slots e {x = x} lt read)))
+module _ {flags : List Bool} {slots : List Slot} {table : List (Option Entry)} (h : IsMarked flags slots)
+    (view : table_of slots ≡ table) where
+  pub least_entry : {e : ℕ} → IsLeastFree flags e → IsLeastFreeEntry table e
+  least_entry {e} least = record {
+    within = omega (arith, least.within, length_bits h, length_table slots, ap length view);
+    free = (kept h view e).entry ∙ none_seen (slot_at slots e).uid (slot_at slots e).map (cc (bit_is e h));
+    before = λ k lt. ap is_none (kept h view k).entry
+        ∙ is_none_seen (slot_at slots k).uid (slot_at slots k).map (sym (bit_is k h) ∙ least.before k lt);
+  }
 
-pub allocate_table : {flags : List Bool} {slots : List Slot} {table : List (Option Entry)} {e : ℕ} (uid : ℕ) {x : Slot}
-    → IsMarked flags slots → table_of slots ≡ table
-    → IsLeastFree flags e → x ≡ get_or slots e x → table_of (set slots e (record { uid = Some uid; map = x.map }))
-    ≡ set table e (fresh_entry uid)
-allocate_table {flags} {slots} {table} {e} uid {x} h view least read =
-    let lt : e < length slots = omega (arith, least.within, length_bits h) in
-    let slot = slot_read slots e lt read in
-    let none = none_there (slot_at slots e).uid (cc (bit_is e h)) in
-    table_with slots e _ ∙ ap (λ (t : List (Option Entry)). set t e (seen_as (Some uid) x.map)) view
-    ∙ ap (λ (m : List (Option ℕ)). set table e (seen_as (Some uid) m)) (cc (h.empty e none))
+  pub all_used : All (λ flag. flag ≡ true) flags → All (λ entry. IsSome entry) table
+  all_used all = All-from_get_or (λ entry. IsSome entry) table None (λ k lt. rw (kept h view k).entry
+      (is_some_seen (slot_at slots k).uid (slot_at slots k).map (sym (bit_is k h) ∙ All-get_or
+      (λ flag. flag ≡ true) flags k false (omega (arith, length_bits h, length_table slots, ap length view)) all)))
 
--- a used entry whose map names no record is freed
-pub free_marked : {flags fs : List Bool} {slots : List Slot} {table : List (Option Entry)} {e : ℕ} {x : Slot}
-    → IsMarked flags slots → table_of slots ≡ table
-    → IsSome (entry_at table e) → NamesNoRecord table e → x ≡ get_or slots e x → fs ≡ set flags e false
-    → IsMarked fs (set slots e (record { uid = None; map = x.map }))
-free_marked {flags} {slots} {table} {e} {x} h view used none read is =
-    let lt = used_slot e h view used in
-    let slot = slot_read slots e lt read in
-    let records : records_in (entry_at table e) ≡ x.map = (kept flags slots table e h view).records
-    ∙ ap (λ (s : Slot). s.map) (sym slot) in
-    let long : length x.map ≡ 256 = ap (λ (s : Slot). length s.map) slot ∙ h.places e in
-    let empty : x.map ≡ no_records = map_is_empty long (λ p. cc (none.none p)) in
-    rw is (marked_with e _ h lt (λ _. empty) long)
+  pub put_marked : (e p : ℕ) (r : Option ℕ) → IsSome (entry_at table e)
+      → IsMarked flags (set slots e (record { uid = (slot_at slots e).uid; map = set (slot_at slots e).map p r }))
+  put_marked e p r used =
+      let bit = sym (bit_is e h) in
+      marked_same e _ h (used_slot h view e used) (used_uid (slot_at slots e).uid (set (slot_at slots e).map p r)
+      (bit ∙ used_bit h view e used)) (cc (length-set (slot_at slots e).map p r, h.places e)) bit
 
-pub free_table : (slots : List Slot) {table : List (Option Entry)} (e : ℕ) (x : Slot) → table_of slots ≡ table
-    → table_of (set slots e (record { uid = None; map = x.map })) ≡ set table e None
-free_table slots e x view = table_with slots e _ ∙ ap (λ (t : List (Option Entry)). set t e None) view
+  pub put_table : (e p : ℕ) (r : Option ℕ)
+      → table_of (set slots e (record { uid = (slot_at slots e).uid; map = set (slot_at slots e).map p r }))
+      ≡ set table e (with_record (entry_at table e) p r)
+  put_table e p r = table_with slots e _
+      ∙ ap (λ (t : List (Option Entry)). set t e (seen_as (slot_at slots e).uid (set (slot_at slots e).map p r))) view
+      ∙ ap (λ (entry : Option Entry). set table e entry)
+      (cc (with_record_seen (slot_at slots e).uid (slot_at slots e).map p r, (kept h view e).entry))
 
--- an entry that was just allocated names no record
-pub allocate_empty : {flags : List Bool} {slots : List Slot} {table : List (Option Entry)} {e : ℕ} (uid : ℕ)
-    → IsMarked flags slots → table_of slots ≡ table
-    → IsLeastFree flags e → NamesNoRecord (set table e (fresh_entry uid)) e
-allocate_empty {flags} {slots} {table} {e} uid h view least =
-    let lt : e < length table = omega (
-      arith,
-      least.within,
-      length_bits h,
-      length_table slots,
-      ap length view,
-    ) in
-    record {
-      none = λ p. cc (get_or-set_same table e (fresh_entry uid) None lt, no_record p);
-    }
+  pub put_placed : (e p : ℕ) {r : Option ℕ} → IsSome (entry_at table e) → p < 256
+      → record_at (set table e (with_record (entry_at table e) p r)) e p ≡ r
+  put_placed e p {r} used lt =
+      let long : length (records_in (entry_at table e)) ≡ 256 = ap length (kept h view e).records ∙ h.places e in
+      cc (
+        get_or-set_same table e (with_record (entry_at table e) p r) None (used_inside table e used),
+        placed_in (entry_at table e) p r used (omega (arith, long)),
+      )
 
--- an entry names no record where its slot's map doesn't
-pub names_none : (flags : List Bool) (slots : List Slot) (table : List (Option Entry)) (e : ℕ) (x : Slot) (none : Bool)
-    → IsMarked flags slots → table_of slots ≡ table → x ≡ slot_at slots e
-    → (IsTrue none ↔ ((p : ℕ) → get_or x.map p None ≡ None)) → (IsTrue none ↔ NamesNoRecord table e)
-names_none flags slots table e x none h view slot is =
-    let same : records_in (entry_at table e) ≡ x.map = (kept flags slots table e h view).records
-    ∙ ap (λ (s : Slot). s.map) (sym slot) in (
-      λ t. record { none = λ p. cc (is.0 t p) },
-      λ n. is.1 (λ p. cc (n.none p)),
-    )
+  -- the least free entry is allocated
+  pub allocate_marked : {fs : List Bool} {e : ℕ} (uid : ℕ) → IsLeastFree flags e → fs ≡ set flags e true
+      → IsMarked fs (set slots e (record { uid = Some uid; map = (slot_at slots e).map }))
+  allocate_marked {e = e} uid least is = rw is (marked_with {flags = flags} {slots = slots} e _ h (least_slot h least)
+      (λ none. used_uid (Some uid) (slot_at slots e).map refl none) (h.places e))
+
+  pub allocate_table : {e : ℕ} (uid : ℕ) → IsLeastFree flags e
+      → table_of (set slots e (record { uid = Some uid; map = (slot_at slots e).map })) ≡ set table e (fresh_entry uid)
+  allocate_table {e} uid least =
+      let none = none_there (slot_at slots e).uid (cc (bit_is e h)) in
+      table_with slots e _ ∙ ap (λ (t : List (Option Entry)). set t e (seen_as (Some uid) (slot_at slots e).map)) view
+      ∙ ap (λ (m : List (Option ℕ)). set table e (seen_as (Some uid) m)) (h.empty e none)
+
+  -- a used entry whose map names no record is freed
+  pub free_marked : {fs : List Bool} {e : ℕ} → IsSome (entry_at table e) → NamesNoRecord table e
+      → fs ≡ set flags e false → IsMarked fs (set slots e (record { uid = None; map = (slot_at slots e).map }))
+  free_marked {e = e} used none is =
+      let records : records_in (entry_at table e) ≡ (slot_at slots e).map = (kept h view e).records in
+      let empty : (slot_at slots e).map ≡ no_records = map_is_empty (h.places e) (λ p. cc (none.none p)) in
+      rw is (marked_with e _ h (used_slot h view e used) (λ _. empty) (h.places e))
+
+  pub free_table : (e : ℕ)
+      → table_of (set slots e (record { uid = None; map = (slot_at slots e).map })) ≡ set table e None
+  free_table e = table_with slots e _ ∙ ap (λ (t : List (Option Entry)). set t e None) view
+
+  -- an entry that was just allocated names no record
+  pub allocate_empty : {e : ℕ} (uid : ℕ) → IsLeastFree flags e → NamesNoRecord (set table e (fresh_entry uid)) e
+  allocate_empty {e} uid least =
+      let lt : e < length table = omega (arith, least.within, length_bits h, length_table slots, ap length view) in
+      record { none = λ p. cc (get_or-set_same table e (fresh_entry uid) None lt, no_record p) }
+
+  -- an entry names no record where its slot's map doesn't
+  pub names_none : (e : ℕ) (x : Slot) (none : Bool) → x ≡ slot_at slots e
+      → (IsTrue none ↔ ((p : ℕ) → get_or x.map p None ≡ None)) → (IsTrue none ↔ NamesNoRecord table e)
+  names_none e x none slot is =
+      let same : records_in (entry_at table e) ≡ x.map =
+      (kept h view e).records ∙ ap (λ (s : Slot). s.map) (sym slot) in
+      (λ t. record { none = λ p. cc (is.0 t p) }, λ n. is.1 (λ p. cc (n.none p)))

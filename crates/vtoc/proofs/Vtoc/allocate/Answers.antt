@@ -1,5 +1,5 @@
 use Rattle.vtoc.proofs.Prelude.{◌∙◌, ap, sym, table_of}
-use Rattle.vtoc.proofs.Table.{least_same, least_entry, all_used, allocate_marked, allocate_table, allocate_empty, bit_is, count_taken, least_slot, read_self}
+use Rattle.vtoc.proofs.Table.{least_same, least_entry, all_used, allocate_marked, allocate_table, allocate_empty, bit_is, count_taken, least_slot}
 use Rattle.vtoc.proofs.Vtoc.allocate.Goals as goal
 
 pub give-requires-clause-within : goal.give-requires-clause-within
@@ -10,13 +10,12 @@ give-requires-clause-before c = λ k lt. sym (bit_is k c.self.invariant) ∙ c.i
 
 pub invariant_of-self : goal.invariant_of-self
 invariant_of-self c =
-    rw c.give.ensures (allocate_marked c.args.uid c.self.invariant c.in_ok-e.ensures.some
-    (read_self _ c.in_ok-e.e (least_slot c.self.invariant c.in_ok-e.ensures.some)) c.take.ensures.flags)
+    rw c.give.ensures (allocate_marked c.self.invariant c.self.view_is c.args.uid c.in_ok-e.ensures.some
+    c.take.ensures.flags)
 
 pub returns-clause-taken : goal.returns-clause-taken
 returns-clause-taken c =
-    ap table_of c.give.ensures ∙ allocate_table c.args.uid c.self.invariant
-    c.self.view_is c.in_ok-e.ensures.some (read_self _ c.in_ok-e.e (least_slot c.self.invariant c.in_ok-e.ensures.some))
+    ap table_of c.give.ensures ∙ allocate_table c.self.invariant c.self.view_is c.args.uid c.in_ok-e.ensures.some
 
 pub returns-clause-some : goal.returns-clause-some
 returns-clause-some c = least_entry c.self.invariant c.self.view_is c.in_ok-e.ensures.some
@@ -34,12 +33,10 @@ returns-in_err-e-clause-none c = rw c.from_residual.ensures
 
 pub returns-clause-empty : goal.returns-clause-empty
 returns-clause-empty c =
-    rw (ap table_of c.give.ensures ∙ allocate_table c.args.uid c.self.invariant c.self.view_is
-    c.in_ok-e.ensures.some (read_self _ c.in_ok-e.e (least_slot c.self.invariant c.in_ok-e.ensures.some)))
-    (allocate_empty c.args.uid c.self.invariant c.self.view_is c.in_ok-e.ensures.some)
+    rw (ap table_of c.give.ensures ∙ allocate_table c.self.invariant c.self.view_is c.args.uid c.in_ok-e.ensures.some)
+    (allocate_empty c.self.invariant c.self.view_is c.args.uid c.in_ok-e.ensures.some)
 
 pub returns-clause-count : goal.returns-clause-count
 returns-clause-count c =
-    rw (ap table_of c.give.ensures ∙ allocate_table c.args.uid c.self.invariant c.self.view_is
-    c.in_ok-e.ensures.some (read_self _ c.in_ok-e.e (least_slot c.self.invariant c.in_ok-e.ensures.some)))
+    rw (ap table_of c.give.ensures ∙ allocate_table c.self.invariant c.self.view_is c.args.uid c.in_ok-e.ensures.some)
     (count_taken c.args.uid (least_entry c.self.invariant c.self.view_is c.in_ok-e.ensures.some))

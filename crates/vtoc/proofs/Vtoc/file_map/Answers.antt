@@ -3,9 +3,9 @@ use Rattle.vtoc.proofs.Table.{has_uid, kept}
 use Rattle.vtoc.proofs.Vtoc.file_map.Goals as goal
 
 pub used-requires : goal.used-requires
-used-requires c = has_uid c.args.e c.self.invariant c.self.view_is c.requires.used
+used-requires c = has_uid c.self.invariant c.self.view_is c.args.e c.requires.used
 
 pub returns : goal.returns
 returns c = c.get.ensures ∙ ap (λ (s : Slot). get_or s.map c.args.p None) c.used.ensures
     ∙ sym (ap (λ (m : List (Option ℕ)). get_or m c.args.p None)
-    (kept _ _ _ c.args.e c.self.invariant c.self.view_is).records)
+    (kept c.self.invariant c.self.view_is c.args.e).records)

@@ -7,5 +7,5 @@ returns-clause-entries c = cc (length_table c.self.inside.slots)
 
 pub returns-clause-places : goal.returns-clause-places
 returns-clause-places c = record {
-  places = λ e. ap length (kept _ _ _ e c.self.invariant c.self.view_is).records ∙ c.self.invariant.places e;
+  places = λ e. ap length (kept c.self.invariant c.self.view_is e).records ∙ c.self.invariant.places e;
 }

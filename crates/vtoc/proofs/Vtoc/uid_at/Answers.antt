@@ -6,4 +6,4 @@ pub uid-requires : goal.uid-requires
 uid-requires c = omega (arith, c.requires, ap length c.self.view_is, length_table c.self.inside.slots)
 
 pub returns : goal.returns
-returns c = c.uid.ensures ∙ sym (kept _ _ _ c.args.e c.self.invariant c.self.view_is).uid
+returns c = c.uid.ensures ∙ sym (kept c.self.invariant c.self.view_is c.args.e).uid
