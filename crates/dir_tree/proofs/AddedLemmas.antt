@@ -27,10 +27,8 @@ module _ {nodes : List Node} {es : List Entry} {free : List ℕ} {index : Places
 
   pub place_room : length es < 4097 → place < 4097
   place_room room = elim (placed nodes free place is_place) [
-    | Behind none at_end ↦ (let c : length nodes ≡ length es + length free = k.count in omega arith)
-    | Reused some last ↦
-        (let within = k.free_within (length free - 1) (omega arith) in
-        let few : length nodes ≤ 4097 = k.few in omega arith)
+    | Behind none at_end ↦ omega (arith, k.count)
+    | Reused some last ↦ omega (arith, k.free_within (length free - 1) (omega arith), k.few)
   ]
 
   pub no_place_yet : HasPlace index.places place → ⊥
@@ -199,12 +197,11 @@ module _ {nodes : List Node} {es : List Entry} {free : List ℕ} {index : Places
         (λ i lt. ap (λ (x : Node). x.superior) (old_node i lt) ∙ k.superiors i lt)
         (ap (λ (x : Node). x.superior) here ∙ n_superior);
     within = each_pushed es entry no_entry (λ e. e.place < length nodes')
-        (λ i lt. (let m = more in let w = k.within i lt in omega arith))
-        (new_within k place is_place nodes' others grown);
+        (λ i lt. (omega (arith, more, k.within i lt))) (new_within k place is_place nodes' others grown);
     rising = rising';
     below = each_pushed es entry no_entry (λ e. e.uid < next + 1) (λ i lt. omega (arith, k.below i lt)) (omega arith);
-    free_within = λ i lt. rw (old_free i lt)
-        (let s = size_free in let m = more in let w = k.free_within i (omega arith) in omega arith);
+    free_within =
+        λ i lt. rw (old_free i lt) (omega (arith, size_free, more, k.free_within i (omega (arith, size_free, more))));
     free_apart = free_apart';
     unused = unused';
     count = counts.0;
@@ -212,7 +209,7 @@ module _ {nodes : List Node} {es : List Entry} {free : List ℕ} {index : Places
     named = named';
     places = places';
     order = order;
-    branches = (let m = size in let p : length index.places + 1 ≡ length es = k.branches in omega arith);
+    branches = omega (arith, size, k.branches);
     room = room ∙ k.room;
     tree = rw view_added (subst (λ o. Joins (shapes (newest nodes es)) o (shape n)) (sym n_superior) branch, k.tree);
   }

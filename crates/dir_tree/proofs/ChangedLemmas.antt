@@ -1,5 +1,5 @@
 -- What a change of a node, which keeps its shape, leaves of the tables behind a tree.
-use Rattle.dir_tree.proofs.Prelude.{◌≡◌, ◌≢◌, ℕ, suc, ◌+◌, ◌<◌, true, false, [], ◌∷◌, arith, eqb, if◌then◌else◌, List, length, refl, sym, ap, ◌∙◌, get_or, set, inl, inr, cases_Bool, cases_eq, eq-eqb, ne_eqb, get_or-set_same, get_or-set_other, length-set, map-append, get_or_read, Term, Node, Entry, Places, Key, HasPlace, key_at, key_of, key_hash, node_at, no_node, Branches, added, is_in, node_of_new, with_acl, with_changed, node_of, acl_of, NewNode, Row, shape, entry_at, newest, IsKept, HasEntry, shapes}
+use Rattle.dir_tree.proofs.Prelude.{◌≡◌, ◌≢◌, ℕ, suc, ◌<◌, true, false, [], ◌∷◌, arith, eqb, if◌then◌else◌, List, length, refl, sym, ap, ◌∙◌, get_or, set, inl, inr, cases_Bool, cases_eq, eq-eqb, ne_eqb, get_or-set_same, get_or-set_other, length-set, map-append, get_or_read, Term, Node, Entry, Places, Key, HasPlace, key_at, key_of, key_hash, node_at, no_node, Branches, added, is_in, with_acl, with_changed, node_of, acl_of, NewNode, Row, shape, entry_at, newest, IsKept, HasEntry, shapes}
 use Rattle.dir_tree.proofs.NewestLemmas.{node_of_entry, newest_changed}
 use Rattle.dir_tree.proofs.KeptLemmas.{apart_places, not_of, node_read}
 
@@ -8,9 +8,8 @@ shapes_newest : (ms ns : List Node) (es : List Entry) →
     → shapes (newest ms es) ≡ shapes (newest ns es)
 shapes_newest ms ns [] same = refl
 shapes_newest ms ns (e ∷ es) same =
-    let first = same 0 (omega arith) in
     let more = shapes_newest ms ns es (λ j lt. same (suc j) (omega arith)) in
-    rw (map-append shape (newest ms es) (node_at ms e.place ∷ []), more, first)
+    rw (map-append shape (newest ms es) (node_at ms e.place ∷ []), more, same 0 (omega arith))
     (sym (map-append shape (newest ns es) (node_at ns e.place ∷ [])))
 
 abbrev shape_key : Term → Key

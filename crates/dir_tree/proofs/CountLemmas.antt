@@ -1,5 +1,5 @@
 -- How many nodes lie in each directory.
-use Rattle.dir_tree.proofs.Prelude.{◌≡◌, ◌≢◌, ℕ, suc, ◌+◌, ◌-◌, ◌<◌, ◌≤◌, Bool, true, false, eqb, if◌then◌else◌, List, [], ◌∷◌, ◌++◌, length, Option, Some, None, refl, sym, ap, ◌∙◌, arith, get_or, set, inl, inr, count_by, ◌^◌, ◌↔◌, remove, cases_Bool, cases_eq, eq-eqb, ne_eqb, false_from_ne_true, ext_get_or, get_or-map, get_or-set_same, get_or-set_other, get_or_append_left, length-map, length-set, length_push, sum_by-cons, sum_by_push, sum_by-remove, count_by-le-length, same_Some, Node, Entry, Places, node_at, is_directory, shapes, no_entry, entry_at, newest, lies_in, recount, recounted, HasEntry, IsAscending, IsCounted, IsKept, IsNamed, directory_in, directory_shape, superior_in, superior_up, superior_is, is_superior_of}
+use Rattle.dir_tree.proofs.Prelude.{◌≡◌, ◌≢◌, ℕ, suc, ◌+◌, ◌-◌, ◌<◌, ◌≤◌, Bool, true, false, eqb, if◌then◌else◌, List, [], ◌∷◌, ◌++◌, length, Option, Some, None, refl, sym, ap, ◌∙◌, arith, get_or, set, inl, inr, count_by, ◌^◌, ◌↔◌, remove, cases_Bool, cases_eq, eq-eqb, ne_eqb, false_from_ne_true, ext_get_or, get_or-map, get_or-set_same, get_or-set_other, get_or_append_left, length-map, length-set, length_push, sum_by-cons, sum_by_push, sum_by-remove, count_by-le-length, same_Some, Node, Entry, Places, node_at, is_directory, shapes, no_entry, entry_at, newest, lies_in, recount, recounted, HasEntry, IsAscending, IsCounted, IsKept, IsNamed, directory_in, directory_shape, superior_up, superior_is, is_superior_of}
 use Rattle.dir_tree.proofs.EditLemmas.{each_pushed, each_left, was, was_up, was_within, now, was_now, now_within, at_was}
 use Rattle.dir_tree.proofs.KeptLemmas.{entry_present, superior_read}
 
@@ -121,8 +121,7 @@ module _ (v : ℕ) (g : ℕ → ℕ) where
       at j lt = elim (cases_eq j i) [
         | inl here ↦ rw here (get_or-set_same es i e no_entry within ∙ e_is ∙ sym (entry_recounted es i within))
         | inr there ↦
-            (let isnt : eqb (entry_at es j).uid v ≡ false = ne_eqb _ _ (other j lt there) in
-            let kept : recount v g (entry_at es j) ≡ entry_at es j = rw isnt refl in
+            (let kept : recount v g (entry_at es j) ≡ entry_at es j = rw (ne_eqb _ _ (other j lt there)) refl in
             cc (get_or-set_other es i j e no_entry there, entry_recounted es j lt))
       ]
 
@@ -220,9 +219,8 @@ module _ {nodes : List Node} {es : List Entry} {free : List ℕ} {index : Places
   superior_older s i lt is =
       let entry : HasEntry es (entry_at es i).uid (entry_at es i) =
       record { i = i; within = lt; entry_is = refl; uid_is = refl } in
-      let up : superior_in (shapes (newest nodes es)) (entry_at es i).uid ≡ Some s =
-      superior_read k (entry_at es i).uid (entry_at es i) entry ∙ is in
-      let older = rw up at (superior_up (shapes (newest nodes es)) k.tree (entry_at es i).uid) in
+      let older = rw (superior_read k (entry_at es i).uid (entry_at es i) entry ∙ is)
+      at (superior_up (shapes (newest nodes es)) k.tree (entry_at es i).uid) in
       (older.0, cc (directory_shape (newest nodes es) s))
 
   -- a directory stays when one that lies in it comes out
@@ -244,8 +242,7 @@ module _ {nodes : List Node} {es : List Entry} {free : List ℕ} {index : Places
       → is_directory (newest nodes es) s ≡ true → (e : Entry) → (j : ℕ) × (j < length (es ++ e ∷ []))
       × ((entry_at (es ++ e ∷ []) j).uid ≡ s)
   superior_there s is e =
-      let there : (j : ℕ) × (j < length es) × ((entry_at es j).uid ≡ s) =
-      entry_present k s (directory_in (newest nodes es) s is) in
+      let there = entry_present k s (directory_in (newest nodes es) s is) in
       let n = length_push es e in (
         there.0,
         omega arith,
@@ -256,8 +253,7 @@ module _ {nodes : List Node} {es : List Entry} {free : List ℕ} {index : Places
       → (s : ℕ) → is_directory (newest nodes es) s ≡ true → (e : Entry) → e.uid ≡ next → e.superior ≡ Some s
       → e.inferiors ≡ 0 → IsCounted (recounted s (λ n. n + 1) (es ++ e ∷ []))
   counted_with counted s is e new up none =
-      let there : (j : ℕ) × (j < length es) × ((entry_at es j).uid ≡ s) =
-      entry_present k s (directory_in (newest nodes es) s is) in
+      let there = entry_present k s (directory_in (newest nodes es) s is) in
       counted_added es counted e s up none (omega (arith, k.below there.0 there.1))
       (λ i lt t lies. (omega (arith, superior_older t i lt lies, k.below i lt)))
 

@@ -4,10 +4,9 @@ use Rattle.dir_tree.proofs.Prelude.{◌≡◌, ◌≢◌, ℕ, ◌+◌, ◌-◌,
 pub each_pushed : {X : Type 0} (xs : List X) (y d : X) (P : X → Type 0) → ((i : ℕ) → i < length xs → P (get_or xs i d))
     → P y → (i : ℕ) → i < length (xs ++ y ∷ []) → P (get_or (xs ++ y ∷ []) i d)
 each_pushed xs y d P old new i lt =
-    let n : length (xs ++ y ∷ []) ≡ length xs + 1 = length_push xs y in
     elim (cases_lt i (length xs)) [
       | inl before ↦ rw (get_or_append_left xs (y ∷ []) d i before) (old i before)
-      | inr last ↦ rw (get_or_push xs y d i (omega arith)) new
+      | inr last ↦ rw (get_or_push xs y d i (omega (arith, length_push xs y))) new
     ]
 
 -- the place in the longer list of what stands k-th once the i-th is out

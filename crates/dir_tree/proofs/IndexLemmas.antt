@@ -16,9 +16,8 @@ not_itself x y same is = (let tied : key_cmp x x ≡ Equal = tied_itself key_tot
 
 -- nor after itself
 pub not_after : (x y : Key) → x ≡ y → key_cmp x y ≢ Greater
-not_after x y same is = (let tied : key_cmp x x ≡ Equal = tied_itself key_total x in
-    let more : key_cmp x x ≡ Greater = subst (λ (k : Key). key_cmp x k ≡ Greater) (sym same) is in
-    let clash : Equal ≡ Greater = sym tied ∙ more in cc)
+not_after x y same is = (let more : key_cmp x x ≡ Greater = subst (λ (k : Key). key_cmp x k ≡ Greater) (sym same) is in
+    let clash : Equal ≡ Greater = sym (tied_itself key_total x) ∙ more in cc)
 
 pub less_through : (x y z : Key) → key_cmp x y ≡ Less → key_cmp y z ≡ Less → key_cmp x z ≡ Less
 less_through = key_total.trans
@@ -32,8 +31,7 @@ superiors_tied (Some x) (Some y) e = (let same : x ≡ y =
     cc)
 
 names_tied : (a b : List ℕ) → slice_cmp nat_cmp a b ≡ Equal → a ≡ b
-names_tied a b e = (let same : bytes_eq a b ≡ true = sym (is_eq-slice_cmp a b)
-    ∙ ap is_eq e in (bytes_eq-Decides a b).0 same)
+names_tied a b e = (bytes_eq-Decides a b).0 (sym (is_eq-slice_cmp a b) ∙ ap is_eq e)
 
 then_tied : (o p : Ordering) → ordering_then o p ≡ Equal → (o ≡ Equal) × (p ≡ Equal)
 then_tied Less p e = cc
@@ -44,14 +42,10 @@ then_tied Greater p e = cc
 pub tied_same : (x y : Key) → key_cmp x y ≡ Equal → x ≡ y
 unfolding key_cmp
 tied_same x y e =
-    let both : (ordering_then (nat_cmp (key_hash x) (key_hash y)) (option_cmp nat_cmp x.0 y.0) ≡ Equal)
-    × (slice_cmp nat_cmp x.1 y.1 ≡ Equal) =
-    then_tied (ordering_then (nat_cmp (key_hash x) (key_hash y)) (option_cmp nat_cmp x.0 y.0))
+    let both = then_tied (ordering_then (nat_cmp (key_hash x) (key_hash y)) (option_cmp nat_cmp x.0 y.0))
     (slice_cmp nat_cmp x.1 y.1) e in
-    let front : (nat_cmp (key_hash x) (key_hash y) ≡ Equal) × (option_cmp nat_cmp x.0 y.0 ≡ Equal) =
-    then_tied (nat_cmp (key_hash x) (key_hash y)) (option_cmp nat_cmp x.0 y.0) both.0 in
-    let up : x.0 ≡ y.0 = superiors_tied x.0 y.0 front.1 in
-    let name : x.1 ≡ y.1 = names_tied x.1 y.1 both.1 in λ i. (up i, name i)
+    let front = then_tied (nat_cmp (key_hash x) (key_hash y)) (option_cmp nat_cmp x.0 y.0) both.0 in
+    λ i. ((superiors_tied x.0 y.0 front.1) i, (names_tied x.1 y.1 both.1) i)
 
 after_by : (x y : Key) (o p : Ordering) → key_cmp x y ≡ o → key_cmp y x ≡ p → o ≢ Less → x ≢ y → p ≡ Less
 after_by x y Less p eo ep isnt other = absurd (isnt refl)
@@ -98,12 +92,11 @@ module _ (ps : List ℕ) (i place : ℕ) (within : i ≤ length ps) where
 
   still_there : (p : ℕ) → HasPlace ps p → HasPlace longer p
   still_there p x =
-      let n : length longer ≡ length ps + 1 = size in
       elim (cases_lt x.at i) [
-        | inl before ↦ record { at = x.at; within = omega arith; is = at_before x.at before ∙ x.is }
+        | inl before ↦ record { at = x.at; within = omega (arith, size); is = at_before x.at before ∙ x.is }
         | inr after ↦ record {
           at = x.at + 1;
-          within = omega arith;
+          within = omega (arith, size);
           is = at_after (x.at + 1) x.at refl after ∙ x.is;
         }
       ]
@@ -129,8 +122,7 @@ module _ (ps : List ℕ) (i place : ℕ) (within : i ≤ length ps) where
           (let n = size in sorted a j (omega arith) (omega arith))
       sorted_at a b lt w (Here x) (Before y) = absurd (omega arith)
       sorted_at a b lt w (Here x) (Here y) = absurd (omega arith)
-      sorted_at a b lt w (Here x) (After j e g) = rw (x, at_here, at_after b j e g)
-          (let n = size in above j g (omega arith))
+      sorted_at a b lt w (Here x) (After j e g) = rw (x, at_here, at_after b j e g) (above j g (omega (arith, size)))
       sorted_at a b lt w (After i' d f) (Before y) = absurd (omega arith)
       sorted_at a b lt w (After i' d f) (Here y) = absurd (omega arith)
       sorted_at a b lt w (After i' d f) (After j e g) = rw (at_after a i' d f, at_after b j e g)
@@ -266,9 +258,7 @@ before_hash {nodes} {ps} order from key within below k lt =
 pub compared : (nodes : List Node) (ps : List ℕ) (m : ℕ) (key : Key) {n : Node} {o : Ordering}
     → get_or ps m 0 < length nodes → n ≡ get_or nodes (get_or ps m 0) n → o ≡ key_cmp (key_of n) key
     → key_cmp (key_at nodes ps m) key ≡ o
-compared nodes ps m key {n} there read is =
-    let node : n ≡ node_at nodes (get_or ps m 0) = get_or_read nodes (get_or ps m 0) n there read no_node in
-    cc
+compared nodes ps m key {n} there read is = cc (get_or_read nodes (get_or ps m 0) n there read no_node)
 
 -- what stands after one that isn't before a key isn't before it either
 pub halved_above : (nodes : List Node) (ps : List ℕ) (m : ℕ) (key : Key) → IsSorted nodes ps

@@ -1,5 +1,5 @@
 -- What a new branch, a branch less, and a change of a node leave of the tables behind a tree.
-use Rattle.dir_tree.proofs.Prelude.{◌≡◌, ◌≢◌, ℕ, suc, ◌<◌, Bool, true, false, eqb, leb, ◌&&◌, List, [], ◌∷◌, ◌++◌, length, Option, Some, None, refl, sym, ap, subst, ◌∙◌, arith, get_or, inl, inr, is_some, IfSome, find, list_any, option_map, option_and_then, cases_Bool, cases_lt, cases_order, both_ways, le-leb, eq-eqb, ne_eqb, eqb-true, leb-false, and_from, map-append, get_or_read, Term, above, branch_in, is_branch, is_inferior, Node, Entry, Places, HasPlace, AreWithin, node_at, no_node, Branches, node_of, is_in, is_segment, add_fault_of, shape, shapes, AreBelow, directory_shape, directory_in, segment_in, entry_at, newest, IsNamed, IsKept, HasEntry, IsMember, member_parts, member_map, member_found, branch_found, any_member, any_found, find_map, found_member, superior_in, lies, only_branch, is_below, not_below, IsUp, find_passes}
+use Rattle.dir_tree.proofs.Prelude.{◌≡◌, ◌≢◌, ℕ, suc, ◌<◌, Bool, true, false, eqb, leb, ◌&&◌, List, [], ◌∷◌, ◌++◌, length, Option, Some, None, refl, sym, ap, subst, ◌∙◌, arith, get_or, inl, inr, is_some, IfSome, list_any, option_map, cases_Bool, cases_lt, cases_order, both_ways, le-leb, eq-eqb, ne_eqb, eqb-true, leb-false, and_from, map-append, get_or_read, Term, above, branch_in, is_branch, is_inferior, Node, Entry, Places, HasPlace, AreWithin, node_at, no_node, Branches, node_of, is_in, is_segment, add_fault_of, shape, shapes, AreBelow, directory_shape, directory_in, segment_in, entry_at, newest, IsNamed, IsKept, HasEntry, IsMember, member_parts, member_map, member_found, branch_found, any_member, any_found, find_map, found_member, superior_in, lies, only_branch, is_below, not_below, IsUp, find_passes}
 use Rattle.dir_tree.specs.declared.node.AddFault.TheVariants as add_fault
 use Rattle.dir_tree.proofs.NewestLemmas.{node_of_entry, none_newest, find_newest, member_newest}
 
@@ -114,10 +114,8 @@ module _ {nodes : List Node} {es : List Entry} {free : List ℕ} {index : Places
       → is_in (newest nodes es) uid ≡ true → (i : ℕ) × (i < length es) × ((entry_at es i).uid ≡ uid)
   entry_present uid e =
       let n : (n : Node) × (node_of (newest nodes es) uid ≡ Some n) = some_of (node_of (newest nodes es) uid) e in
-      let m : (i : ℕ) × (i < length es) × (node_of_entry nodes es i ≡ n.0) =
-      member_entry nodes es n.0 (found_member (λ n. eqb n.uid uid) (newest nodes es) n.0 n.1) in
-      let is : eqb n.0.uid uid ≡ true = find_passes (λ n. eqb n.uid uid) (newest nodes es) n.0 n.1 in
-      (m.0, m.1, cc (k.uids m.0 m.1, eqb-true n.0.uid uid is))
+      let m = member_entry nodes es n.0 (found_member (λ n. eqb n.uid uid) (newest nodes es) n.0 n.1) in
+      (m.0, m.1, cc (k.uids m.0 m.1, eqb-true n.0.uid uid (find_passes (λ n. eqb n.uid uid) (newest nodes es) n.0 n.1)))
 
   pub segment_present : (uid : ℕ) {t : Branches} → record { nodes = newest nodes es; next = next } ≡ t
       → is_segment t.nodes uid ≡ true → (i : ℕ) × (i < length es) × ((entry_at es i).uid ≡ uid)
@@ -137,10 +135,8 @@ module _ {nodes : List Node} {es : List Entry} {free : List ℕ} {index : Places
   pub superior_read : (uid : ℕ) (e : Entry) → HasEntry es uid e
       → superior_in (shapes (newest nodes es)) uid ≡ e.superior
   superior_read uid e h =
-      let found : node_of (newest nodes es) uid ≡ Some (node_of_entry nodes es h.i) =
-      node_found uid h.i h.within (cc) in
-      let shaped : find (λ n. eqb n.uid uid) (shapes (newest nodes es)) ≡ Some (shape (node_of_entry nodes es h.i)) =
-      find_map (λ n. eqb n.uid uid) shape (newest nodes es) ∙ ap (option_map shape) found in
+      let shaped = find_map (λ n. eqb n.uid uid) shape (newest nodes es)
+      ∙ ap (option_map shape) (node_found uid h.i h.within (cc)) in
       cc (k.superiors h.i h.within)
 
   -- the branch of a name is the node that the index finds
@@ -175,9 +171,7 @@ module _ {nodes : List Node} {es : List Entry} {free : List ℕ} {index : Places
   pub no_place : (d : ℕ) (name : List ℕ) → branch_in (shapes (newest nodes es)) d name ≡ None
       → (place : ℕ) → HasPlace index.places place → is_branch d name (shape (node_at nodes place)) ≡ true → ⊥
   no_place d name none place there is =
-      let found : branch_in (shapes (newest nodes es)) d name ≡ Some (shape (node_at nodes place)) =
-      branch_read d name place there is in
-      let no : None ≡ Some (shape (node_at nodes place)) = sym none ∙ found in
+      let no : None ≡ Some (shape (node_at nodes place)) = sym none ∙ branch_read d name place there is in
       cc
 
   pub places_within : AreWithin nodes index.places
@@ -202,10 +196,9 @@ module _ {nodes : List Node} {es : List Entry} {free : List ℕ} {index : Places
   pub inferior_since : (u i : ℕ)
       → i < length es → (entry_at es i).superior ≡ Some u → list_any (is_inferior u) (shapes (newest nodes es)) ≡ true
   inferior_since u i lt is =
-      let up : (node_of_entry nodes es i).superior ≡ Some u = k.superiors i lt ∙ is in
-      any_member (is_inferior u) (shapes (newest nodes es)) (shape (node_of_entry nodes es i))
-      (member_map shape _ (newest nodes es) (member_newest nodes es i lt))
-      (is_below u (shape (node_of_entry nodes es i)) up)
+      any_member (is_inferior u) (shapes (newest nodes es))
+      (shape (node_of_entry nodes es i)) (member_map shape _ (newest nodes es) (member_newest nodes es i lt))
+      (is_below u (shape (node_of_entry nodes es i)) (k.superiors i lt ∙ is))
 
   pub no_inferior : (u : ℕ) → ((i : ℕ) → i < length es → (entry_at es i).superior ≢ Some u)
       → list_any (is_inferior u) (shapes (newest nodes es)) ≡ false

@@ -1,5 +1,5 @@
 -- The nodes of some entries, the newest first.
-use Rattle.dir_tree.proofs.Prelude.{◌≡◌, ◌≢◌, ℕ, suc, zero, ◌<◌, Bool, true, false, List, [], ◌∷◌, ◌++◌, length, map, Some, None, refl, sym, ap, ◌∙◌, arith, inl, find, filter, remove, length_push, map-append, append-nil, filter-append, Node, Entry, node_at, entry_at, newest, IsMember, found_front, past_front, member_left, member_right}
+use Rattle.dir_tree.proofs.Prelude.{◌≡◌, ◌≢◌, ℕ, suc, zero, ◌<◌, Bool, true, false, List, [], ◌∷◌, ◌++◌, length, map, Some, None, refl, sym, ◌∙◌, arith, inl, find, filter, remove, length_push, map-append, append-nil, filter-append, Node, Entry, node_at, entry_at, newest, IsMember, found_front, past_front, member_left, member_right}
 
 -- the node of the i-th entry
 abbrev pub node_of_entry : List Node → List Entry → ℕ → Node
@@ -9,9 +9,8 @@ pub none_newest : (p : Node → Bool) (ns : List Node) (es : List Entry)
     → ((j : ℕ) → j < length es → p (node_of_entry ns es j) ≡ false) → find p (newest ns es) ≡ None
 none_newest p ns [] all = refl
 none_newest p ns (e ∷ es) all =
-    let none : find p (newest ns es) ≡ None = none_newest p ns es (λ j lt. all (suc j) (omega arith)) in
-    let here : p (node_at ns e.place) ≡ false = all 0 (omega arith) in
-    past_front p (newest ns es) (node_at ns e.place ∷ []) none ∙ rw here refl
+    let none = none_newest p ns es (λ j lt. all (suc j) (omega arith)) in
+    past_front p (newest ns es) (node_at ns e.place ∷ []) none ∙ rw (all 0 (omega arith)) refl
 
 pub find_newest : (p : Node → Bool) (ns : List Node) (es : List Entry) (i : ℕ) → i < length es
     → p (node_of_entry ns es i) ≡ true
@@ -19,8 +18,7 @@ pub find_newest : (p : Node → Bool) (ns : List Node) (es : List Entry) (i : �
     ≡ Some (node_of_entry ns es i)
 find_newest p ns [] i lt is others = absurd (omega arith)
 find_newest p ns (e ∷ es) zero lt is others =
-    let none : find p (newest ns es) ≡ None = none_newest p ns es
-    (λ j lt_j. others (suc j) (omega arith) (λ q. omega arith)) in
+    let none = none_newest p ns es (λ j lt_j. others (suc j) (omega arith) (λ q. omega arith)) in
     past_front p (newest ns es) (node_at ns e.place ∷ []) none ∙ rw is refl
 find_newest p ns (e ∷ es) (suc i) lt is others = found_front p (newest ns es) (node_at ns e.place ∷ []) _
     (find_newest p ns es i (omega arith) is (λ j lt_j ne. others (suc j) (omega arith) (λ q. ne (omega arith))))
@@ -36,8 +34,7 @@ pub newest_same : (ms ns : List Node) (es : List Entry)
     → ((j : ℕ) → j < length es → node_of_entry ms es j ≡ node_of_entry ns es j) → newest ms es ≡ newest ns es
 newest_same ms ns [] same = refl
 newest_same ms ns (e ∷ es) same =
-    let here : node_at ms e.place ≡ node_at ns e.place = same 0 (omega arith) in
-    rw (newest_same ms ns es (λ j lt. same (suc j) (omega arith)), here) refl
+    rw (newest_same ms ns es (λ j lt. same (suc j) (omega arith)), same 0 (omega arith)) refl
 
 pub newest_push : (ns : List Node) (es : List Entry) (e : Entry) → newest ns (es ++ e ∷ []) ≡ node_at ns e.place
     ∷ newest ns es
@@ -53,19 +50,17 @@ pub newest_changed : (ms ns : List Node) (es : List Entry) (h : Node → Node)
     → newest ms es ≡ map h (newest ns es)
 newest_changed ms ns [] h same = refl
 newest_changed ms ns (e ∷ es) h same =
-    let here : node_at ms e.place ≡ h (node_at ns e.place) = same 0 (omega arith) in
-    rw (newest_changed ms ns es h (λ j lt. same (suc j) (omega arith)), here)
+    rw (newest_changed ms ns es h (λ j lt. same (suc j) (omega arith)), same 0 (omega arith))
     (sym (map-append h (newest ns es) (node_at ns e.place ∷ [])))
 
 all_kept : (p : Node → Bool) (ns : List Node) (es : List Entry)
     → ((j : ℕ) → j < length es → p (node_of_entry ns es j) ≡ true) → filter p (newest ns es) ≡ newest ns es
 all_kept p ns [] all = refl
 all_kept p ns (e ∷ es) all =
-    let here : p (node_at ns e.place) ≡ true = all 0 (omega arith) in
     rw (
       filter-append p (newest ns es) (node_at ns e.place ∷ []),
       all_kept p ns es (λ j lt. all (suc j) (omega arith)),
-      here,
+      all 0 (omega arith),
     ) refl
 
 -- without the one entry whose node fails the test, the other nodes are left
@@ -75,10 +70,8 @@ pub newest_remove : (p : Node → Bool) (ns : List Node) (es : List Entry) (i : 
     ≡ filter p (newest ns es)
 newest_remove p ns [] i lt isnt others = absurd (omega arith)
 newest_remove p ns (e ∷ es) zero lt isnt others =
-    let kept : filter p (newest ns es) ≡ newest ns es =
-    all_kept p ns es (λ j lt_j. others (suc j) (omega arith) (λ q. omega arith)) in
-    let gone : p (node_at ns e.place) ≡ false = isnt in
-    rw (filter-append p (newest ns es) (node_at ns e.place ∷ []), kept, gone) (sym (append-nil (newest ns es)))
+    let kept = all_kept p ns es (λ j lt_j. others (suc j) (omega arith) (λ q. omega arith)) in
+    rw (filter-append p (newest ns es) (node_at ns e.place ∷ []), kept, isnt) (sym (append-nil (newest ns es)))
 newest_remove p ns (e ∷ es) (suc i) lt isnt others =
     let here : p (node_at ns e.place) ≡ true = others 0 (omega arith) (λ q. omega arith) in
     let ih : newest ns (remove es i) ≡ filter p (newest ns es) =

@@ -1,6 +1,6 @@
 -- Where a path leads, what is above a node and what keeps a branch from being added don't depend on quotas, nor on
 -- anything but uids, superiors, names and kinds.
-use Rattle.dir_tree.proofs.Prelude.{◌≡◌, ℕ, ◌+◌, Bool, true, false, eqb, List, [], ◌∷◌, length, ◌||◌, Option, Some, None, Ok, refl, sym, ap, ◌∙◌, is_some, get_or, drop, ◌<◌, ◌≤◌, ◌&&◌, nat_le, cond, arith, inl, inr, find, option_map, option_and_then, cases_Bool, eq-eqb, length-map, at_drop_more, at_drop_all, Term, Walk, LeadsTo, node_in, branch_in, is_branch, is_inferior, onward, above, walk_from, walk_in, Node, above_any, as_term, node_of, with_quotas, add_fault_of, has_inferior, unless, shape, shapes, IsTree, Joins, superior_in, find_map, branch_found, none_mapped}
+use Rattle.dir_tree.proofs.Prelude.{◌≡◌, ℕ, ◌+◌, Bool, true, false, eqb, List, [], ◌∷◌, length, Option, Some, None, Ok, refl, ap, ◌∙◌, is_some, get_or, drop, ◌<◌, ◌≤◌, ◌&&◌, nat_le, cond, arith, inl, inr, find, option_map, cases_Bool, eq-eqb, length-map, at_drop_more, at_drop_all, Term, Walk, LeadsTo, node_in, branch_in, is_branch, onward, above, walk_from, walk_in, Node, above_any, as_term, node_of, with_quotas, add_fault_of, has_inferior, unless, shape, shapes, IsTree, Joins, superior_in, find_map, branch_found, none_mapped}
 use Rattle.dir_tree.specs.declared.node.AddFault.TheVariants as add_fault
 
 pub node_any : (q : ℕ → ℕ) (ns : List Node) (u : ℕ) → node_in (with_quotas q ns) u

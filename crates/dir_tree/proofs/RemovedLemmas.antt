@@ -1,5 +1,5 @@
 -- What a branch less leaves of the tables behind a tree.
-use Rattle.dir_tree.proofs.Prelude.{◌≡◌, ◌≢◌, ℕ, ◌+◌, ◌<◌, ◌≤◌, false, eqb, not, List, [], ◌∷◌, ◌++◌, length, Option, Some, None, refl, sym, ap, ◌∙◌, arith, get_or, inl, inr, ◌↔◌, find, remove, list_any, option_map, cases_lt, eq-eqb, not_from_true, not_from_false, length_push, get_or_append_left, get_or_push, is_inferior, Node, Entry, Places, HasPlace, IsOrdered, node_at, without, node_of, shape, shapes, no_entry, entry_at, newest, IsNamed, IsPlace, IsKept, filter_map_same, find_map, tree_left, root_found, before}
+use Rattle.dir_tree.proofs.Prelude.{◌≡◌, ◌≢◌, ℕ, ◌+◌, ◌<◌, ◌≤◌, false, eqb, not, List, [], ◌∷◌, ◌++◌, length, Option, Some, None, refl, sym, ap, ◌∙◌, arith, get_or, inl, inr, ◌↔◌, remove, list_any, option_map, cases_lt, eq-eqb, not_from_true, not_from_false, length_push, get_or_append_left, get_or_push, is_inferior, Node, Entry, Places, HasPlace, IsOrdered, node_at, without, shape, shapes, no_entry, entry_at, newest, IsNamed, IsPlace, IsKept, filter_map_same, find_map, tree_left, root_found, before}
 use Rattle.dir_tree.proofs.EditLemmas.{each_pushed, each_left, was, was_up, was_other, now, was_now, at_was, fewer, was_within, now_within}
 use Rattle.dir_tree.proofs.NewestLemmas.{node_of_entry, newest_remove}
 use Rattle.dir_tree.proofs.KeptLemmas.{apart_places, not_of, node_found}
@@ -121,9 +121,8 @@ module _ {nodes : List Node} {es : List Entry} {free : List ℕ} {index : Places
   pub not_root : (uid i : ℕ) (e : Entry)
       → i < length es → e ≡ entry_at es i → (entry_at es i).uid ≡ uid → e.superior ≡ None → uid ≡ 1
   not_root uid i e within same is_uid none =
-      let found : node_of (newest nodes es) uid ≡ Some (node_of_entry nodes es i) = node_found k uid i within is_uid in
-      let shaped : find (λ n. eqb n.uid uid) (shapes (newest nodes es)) ≡ Some (shape (node_of_entry nodes es i)) =
-      find_map (λ n. eqb n.uid uid) shape (newest nodes es) ∙ ap (option_map shape) found in
+      let shaped = find_map (λ n. eqb n.uid uid) shape (newest nodes es)
+      ∙ ap (option_map shape) (node_found k uid i within is_uid) in
       (root_found (shapes (newest nodes es)) k.tree uid (shape (node_of_entry nodes es i)) shaped
       (cc (k.superiors i within))).0
 

@@ -40,8 +40,7 @@ before_later [] m n lt = omega arith
 before_later (x ∷ xs) zero zero lt = absurd (omega arith)
 before_later (x ∷ xs) zero (suc n) lt = omega arith
 before_later (x ∷ xs) (suc m) zero lt = absurd (omega arith)
-before_later (x ∷ xs) (suc m) (suc n) lt =
-    let r : before xs m + length (shelf_at xs m) ≤ before xs n = before_later xs m n (omega arith) in omega arith
+before_later (x ∷ xs) (suc m) (suc n) lt = omega (arith, before_later xs m n (omega arith))
 
 pub shelf_of_all : (xs : List (List ℕ)) (m p : ℕ) → HasPlace (shelf_at xs m) p → HasPlace (concat xs) p
 shelf_of_all xs m p there =
@@ -52,8 +51,7 @@ shelf_of_all xs m p there =
 pub on_some : (xs : List (List ℕ)) (p : ℕ) → HasPlace (concat xs) p → (m : ℕ) × HasPlace (shelf_at xs m) p
 on_some xs p there =
     let l = located xs there.at there.within in
-    let r = on_shelf xs l.m l.j l.within in
-    (l.m, record { at = l.j; within = l.within; is = sym r.1 ∙ (rw (← l.is) there.is) })
+    (l.m, record { at = l.j; within = l.within; is = sym (on_shelf xs l.m l.j l.within).1 ∙ (rw (← l.is) there.is) })
 
 pub shelf_there : (xs : List (List ℕ)) (m at : ℕ) → at < length (shelf_at xs m) → m < length xs
 shelf_there [] m at lt = absurd (omega arith)
@@ -115,10 +113,9 @@ pub none_elsewhere : (nodes : List Node) (xs : List (List ℕ)) (hashes : List �
     → (p : ℕ) → HasPlace (concat xs) p → is_branch superior name (shape (node_at nodes p)) ≡ false
 none_elsewhere nodes xs hashes superior name order shelved none p there =
     false_from_ne_true (is_branch superior name (shape (node_at nodes p))) (λ is. (let at = on_some xs p there in
-    let hash : get_or hashes p 0 ≡ key_hash (Some superior, name) = order.hashed p there
-    ∙ ap key_hash (branch_key superior name (node_at nodes p) is) in
+    let hash = order.hashed p there ∙ ap key_hash (branch_key superior name (node_at nodes p) is) in
     let same = sym (shelved.shelved at.0 p at.1) ∙ ap shelf_of hash in
-    let isnt = none p (rw same at at.1) in cc))
+    cc (none p (rw same at at.1))))
 
 -- ---- a place more
 
@@ -169,9 +166,8 @@ module _ (nodes : List Node) (xs : List (List ℕ)) (hashes : List ℕ) (place h
   above_at k le lt l (inr later) = hash_less key (key_at nodes (shelf_at xs l.m) l.j)
       (omega (arith, hash_on l.j l.m l.within))
   above_at k le lt l (inl same) =
-      let here : at ≤ l.j = omega (arith, ap (before xs) same) in
-      after_other (key_at nodes (shelf_at xs l.m) l.j) key (rw same (from l.j here (rw same at l.within)))
-      (λ e. new k lt (key_all k l ∙ e))
+      after_other (key_at nodes (shelf_at xs l.m) l.j) key
+      (rw same (from l.j (omega (arith, ap (before xs) same)) (rw same at l.within))) (λ e. new k lt (key_all k l ∙ e))
 
   pub all_above : (k : ℕ) → before xs mine + at ≤ k → k < length (concat xs)
       → key_cmp key (key_at nodes (concat xs) k) ≡ Less

@@ -1,5 +1,5 @@
 -- Entries that stand in the slots of their places.
-use Rattle.dir_tree.proofs.Prelude.{◌≡◌, ◌≢◌, ℕ, ◌+◌, ◌<◌, List, [], ◌∷◌, ◌++◌, length, set, get_or, sym, ap, ◌∙◌, arith, inl, inr, remove, cases_eq, cases_lt, ext_get_or, get_or-map, get_or-set_same, get_or-set_other, get_or_append_left, get_or_push, length-map, length-set, length_push, map-append, Entry, no_entry, entry_at, listed, IsListed, refl}
+use Rattle.dir_tree.proofs.Prelude.{◌≡◌, ◌≢◌, ℕ, ◌+◌, ◌<◌, List, [], ◌∷◌, ◌++◌, length, set, get_or, sym, ◌∙◌, arith, inl, inr, remove, cases_eq, cases_lt, ext_get_or, get_or-map, get_or-set_same, get_or-set_other, get_or_append_left, get_or_push, length-map, length-set, length_push, map-append, Entry, no_entry, entry_at, listed, IsListed, refl}
 use Rattle.dir_tree.proofs.EditLemmas.{was, was_up, was_within, at_was, each_left, each_pushed, fewer}
 
 pub listed_at : (slots : List Entry) (order : List ℕ) (i : ℕ) → i < length order → entry_at (listed slots order) i

@@ -79,17 +79,18 @@ module _ {slots : List Entry} {table : List ℕ} (l : IsListed slots (taken tabl
   pub place_found : (u : ℕ) → u < length table → get_or table u 0 ≢ 65535 → (i : ℕ) × (i < length es)
       × ((entry_at es i).uid ≡ u) × ((entry_at es i).place ≡ get_or table u 0)
   place_found u lt some =
-      let x = taken_out table u lt some in
-      let n = length_listed slots (taken table) in
-      let at = listed_at slots (taken table) x.0 x.1 in
-      (x.0, omega arith, rw (at, x.2) (t.uids u lt some), place_listed l x.0 x.1 ∙ x.2)
+      let x = taken_out table u lt some in (
+        x.0,
+        omega (arith, length_listed slots (taken table)),
+        rw (listed_at slots (taken table) x.0 x.1, x.2) (t.uids u lt some),
+        place_listed l x.0 x.1 ∙ x.2,
+      )
 
   -- the place of an entry stands in the table
   stands : (i : ℕ) → i < length es → ((entry_at es i).uid < length table)
       × (get_or table (entry_at es i).uid 0 ≢ 65535) × (get_or table (entry_at es i).uid 0 ≡ (entry_at es i).place)
   stands i lt =
-      let n = length_listed slots (taken table) in
-      let within : i < length (taken table) = omega arith in
+      let within : i < length (taken table) = omega (arith, length_listed slots (taken table)) in
       let x = taken_from table i within in
       let own : (entry_at es i).uid ≡ x.0 = rw (listed_at slots (taken table) i within, ← x.3) (t.uids x.0 x.1 x.2) in
       rw own (x.1, x.2, x.3 ∙ sym (place_listed l i within))
@@ -129,9 +130,8 @@ module _ {slots : List Entry} {table : List ℕ} (l : IsListed slots (taken tabl
     uids = λ u lt some. elim (cases_eq u uid) [
       | inl here ↦ absurd (some (rw here (get_or-set_same table uid 65535 0 in_table)))
       | inr there ↦
-          (let m = length-set table uid 65535 in
-          let same : get_or (set table uid 65535) u 0 ≡ get_or table u 0 = get_or-set_other table uid u 65535 0 there in
-          rw same (t.uids u (omega arith) (λ z. some (same ∙ z))))
+          (let same = get_or-set_other table uid u 65535 0 there in
+          rw same (t.uids u (omega (arith, length-set table uid 65535)) (λ z. some (same ∙ z))))
     ];
   }
 
@@ -279,24 +279,6 @@ module _ {slots : List Entry} {table : List ℕ} (l : IsListed slots (taken tabl
       → (entry_at now i).uid ≢ uid
   place_absent uid none = rw (← view) (place_missing l t uid none)
 
-  pub pushed : (e : Entry) → e.place < 4097 → ((i : ℕ) → i < length now → (entry_at now i).place ≢ e.place)
-      → e.uid < length table → ((i : ℕ) → i < length now → (entry_at now i).uid < e.uid)
-      → IsListed (set slots e.place e) (taken (set table e.uid e.place))
-      × IsTabled (set slots e.place e) (set table e.uid e.place)
-      × (length (taken (set table e.uid e.place)) ≡ length (taken table) + 1)
-      × (listed (set slots e.place e) (taken (set table e.uid e.place)) ≡ now ++ e ∷ [])
-  pushed e room new in_table later =
-      let new' = rw (← view) at new in
-      let later' = rw (← view) at later in
-      let size : length slots ≡ 4097 = l.size in
-      let grown : taken (set table e.uid e.place) ≡ taken table ++ e.place ∷ [] =
-      taken_in table e.uid e.place in_table (λ z. omega arith) (none_later l t e.uid later') in (
-        rw grown (more_listed l e room new'),
-        tabled_more l t e (omega arith) new' in_table,
-        rw grown (length_push (taken table) e.place),
-        rw (grown, ← view) (push_listed l e room new'),
-      )
-
   module _ (uid place : ℕ) (at : IsThere now uid place) where
     here : (uid < length table) × (get_or table uid 0 ≢ 65535) × (get_or table uid 0 ≡ place)
     here = (let p = place_stands l t uid at.0 (rw (← view) at at.1) (rw (← view) at at.2) in
@@ -338,5 +320,13 @@ module _ {slots : List Entry} {table : List ℕ} (l : IsListed slots (taken tabl
   pushed_past e room new in_table later =
       let wide_listed : IsListed slots (taken wide) = rw same l in
       let wide_tabled : IsTabled slots wide = rw is (past_tabled slots table n t) in
-      let p = pushed wide_listed wide_tabled now (cc (same, view)) e room new in_table later in
-      (p.0, p.1, cc (p.2, same), p.3)
+      let wide_view : listed slots (taken wide) ≡ now = cc (same, view) in
+      let new' = rw (← wide_view) at new in
+      let later' = rw (← wide_view) at later in
+      let grown : taken (set wide e.uid e.place) ≡ taken wide ++ e.place ∷ [] =
+      taken_in wide e.uid e.place in_table (λ z. omega arith) (none_later wide_listed wide_tabled e.uid later') in (
+        rw grown (more_listed wide_listed e room new'),
+        tabled_more wide_listed wide_tabled e (omega (arith, room, l.size)) new' in_table,
+        rw (grown, same) (length_push (taken table) e.place),
+        rw (grown, ← wide_view) (push_listed wide_listed e room new'),
+      )

@@ -1,4 +1,4 @@
-use Rattle.dir_tree.proofs.Prelude.{List, refl, ap, Node, segment_in}
+use Rattle.dir_tree.proofs.Prelude.{refl, segment_in}
 use Rattle.dir_tree.proofs.KeptLemmas.{entry_present}
 use Rattle.dir_tree.proofs.ChangedLemmas.{set_kept, acl_read, shapes_changed, others_kept}
 use Rattle.dir_tree.proofs.Tree.acl_mut.Goals as goal

@@ -1,6 +1,6 @@
-use Rattle.dir_tree.proofs.Prelude.{◌≡◌, ℕ, [], ◌<◌, length, sym, ap, ◌∙◌, arith, Branches, added, with_acl, newest, has_chains, shape, shapes, length-map}
+use Rattle.dir_tree.proofs.Prelude.{◌≡◌, [], sym, ap, ◌∙◌, arith, Branches, newest, has_chains, shape, shapes, length-map}
 use Rattle.dir_tree.proofs.ChangedLemmas.{rows_added}
-use Rattle.dir_tree.proofs.KeptLemmas.{next_missing, MayAdd, no_fault}
+use Rattle.dir_tree.proofs.KeptLemmas.{next_missing, no_fault}
 use Rattle.dir_tree.proofs.QuotaLemmas.{fault_any, unless_none}
 use Rattle.dir_tree.proofs.Tree.add_branch.Goals as goal
 

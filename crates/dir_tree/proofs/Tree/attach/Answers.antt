@@ -1,4 +1,4 @@
-use Rattle.dir_tree.proofs.Prelude.{◌≡◌, ◌+◌, ◌<◌, ℕ, List, [], ◌∷◌, ◌++◌, Bool, length, true, None, Some, refl, sym, ap, subst, ◌∙◌, arith, length-map, Node, Entry, Branches, is_directory, add_fault_of, node_of_new, as_node, IsOrdered, AreWithin, shape, shapes, newest, recounted, IsCounted, IsKept, has_chains, Places}
+use Rattle.dir_tree.proofs.Prelude.{◌≡◌, ◌+◌, ◌<◌, ℕ, List, [], ◌∷◌, ◌++◌, Bool, length, None, Some, refl, ap, ◌∙◌, arith, length-map, Node, Entry, Branches, add_fault_of, node_of_new, as_node, IsOrdered, AreWithin, shape, shapes, newest, IsKept, has_chains, Places}
 use Rattle.dir_tree.proofs.AddedLemmas.{place_unused, place_room, asked, new_key, added}
 use Rattle.dir_tree.proofs.CountLemmas.{superior_there, pushed_few, counted_with, newest_recounted, kept_recounted}
 use Rattle.dir_tree.proofs.KeptLemmas.{next_missing, no_fault}
@@ -8,24 +8,16 @@ use Rattle.dir_tree.proofs.Tree.attach.Goals as goal
 abbrev new_entry : ℕ → ℕ → ℕ → Entry
 new_entry next superior place = record { uid = next; superior = Some superior; place = place; inferiors = 0 }
 
-directory_at : (u : ℕ) {s t : Branches} → s ≡ t → is_directory t.nodes u ≡ true → is_directory s.nodes u ≡ true
-directory_at u {s} {t} e h = subst (λ (x : Branches). is_directory x.nodes u ≡ true) (sym e) h
-
-may_at : (u : ℕ) (name : List ℕ) (dir : Bool) {s t : Branches} → s ≡ t → add_fault_of (shapes t.nodes) u name dir ≡ None
-    → add_fault_of (shapes s.nodes) u name dir ≡ None
-may_at u name dir {s} {t} e h = subst (λ (x : Branches). add_fault_of (shapes x.nodes) u name dir ≡ None) (sym e) h
-
-few : {nodes : List Node} {es : List Entry} {free : List ℕ} {index : Places} {next : ℕ}
-    → IsKept nodes es free index next → (s : ℕ) (name : List ℕ) (dir : Bool) {t : Branches}
-    → record { nodes = newest nodes es; next = next } ≡ t
+few : {nodes : List Node} {es : List Entry} {free : List ℕ} {index : Places} {next : ℕ} {t : Branches} (s : ℕ)
+    (name : List ℕ) (dir : Bool) → IsKept nodes es free index next → record { nodes = newest nodes es; next = next } ≡ t
     → add_fault_of (shapes t.nodes) s name dir ≡ None → length es < 4097
-few {nodes} {es} k s name dir seen e =
-    let m = no_fault (shapes (newest nodes es)) s name dir (may_at s name dir seen e) in
+few {nodes} {es} s name dir k seen e =
+    let m = no_fault (shapes (newest nodes es)) s name dir (rw (← seen) at e) in
     rw (length-map (newest nodes es) shape, length_newest nodes es) at m.room
 
 pub store-place-requires-clause-room : goal.store-place-requires-clause-room
 store-place-requires-clause-room c none =
-    let lt = few c.self.invariant.0 c.args.superior c.args.new.name c.args.new.dir c.self.view_is c.requires.may in
+    let lt = few _ _ _ c.self.invariant.0 c.self.view_is c.requires.may in
     omega (arith, c.self.invariant.0.count, c.self.invariant.1, c.self.inside.nodes.ok.0)
 
 pub store-place-requires-clause-count : goal.store-place-requires-clause-count
@@ -33,7 +25,7 @@ store-place-requires-clause-count c = omega (arith, c.self.invariant.0.few)
 
 pub insert-requires-clause-room : goal.insert-requires-clause-room
 insert-requires-clause-room c =
-    let lt = few c.self.invariant.0 c.args.superior c.args.new.name c.args.new.dir c.self.view_is c.requires.may in
+    let lt = few _ _ _ c.self.invariant.0 c.self.view_is c.requires.may in
     omega (arith, c.self.invariant.0.branches, c.self.invariant.0.room)
 
 -- what the index asks for holds once the new node stands in its place
@@ -55,24 +47,22 @@ insert-requires-clause-node c = rw c.deref.ensures.value (ready c).2
 
 pub insert-requires-clause-slot : goal.insert-requires-clause-slot
 insert-requires-clause-slot c = place_room c.self.invariant.0 c.store-place.result c.store-place.ensures.place
-    (few c.self.invariant.0 c.args.superior c.args.new.name c.args.new.dir c.self.view_is c.requires.may)
+    (few _ _ _ c.self.invariant.0 c.self.view_is c.requires.may)
 
 pub insert-requires-clause-new : goal.insert-requires-clause-new
 insert-requires-clause-new c =
     let may = no_fault (shapes (newest c.self.inside.nodes.items c.self.inside.entries)) c.args.superior
-    c.args.new.name c.args.new.dir
-    (may_at c.args.superior c.args.new.name c.args.new.dir c.self.view_is c.requires.may) in
+    c.args.new.name c.args.new.dir (rw (← c.self.view_is) at c.requires.may) in
     rw c.deref.ensures.value (new_key c.self.invariant.0 c.store-place.result c.store-place.ensures.place
     c.store-place.new.nodes.items c.store-place.ensures.others c.store-place.ensures.count c.args.superior
     (node_of_new c.self.inside.next c.args.superior (as_node c.args.new)) c.store-place.ensures.here refl may.new)
 
 pub push-requires-clause-few : goal.push-requires-clause-few
-push-requires-clause-few c = few c.self.invariant.0 c.args.superior c.args.new.name c.args.new.dir c.self.view_is
-    c.requires.may
+push-requires-clause-few c = few _ _ _ c.self.invariant.0 c.self.view_is c.requires.may
 
 pub push-requires-clause-place : goal.push-requires-clause-place
 push-requires-clause-place c = place_room c.self.invariant.0 c.store-place.result c.store-place.ensures.place
-    (few c.self.invariant.0 c.args.superior c.args.new.name c.args.new.dir c.self.view_is c.requires.may)
+    (few _ _ _ c.self.invariant.0 c.self.view_is c.requires.may)
 
 pub push-requires-clause-new : goal.push-requires-clause-new
 push-requires-clause-new c = place_unused c.self.invariant.0 c.store-place.result c.store-place.ensures.place
@@ -85,11 +75,11 @@ push-requires-clause-later c = c.self.invariant.0.below
 
 pub gain-requires-clause-there : goal.gain-requires-clause-there
 gain-requires-clause-there c = rw c.push.ensures (superior_there c.self.invariant.0 c.args.superior
-    (directory_at c.args.superior c.self.view_is c.requires.directory) _)
+    (rw (← c.self.view_is) at c.requires.directory) _)
 
 pub gain-requires-clause-room : goal.gain-requires-clause-room
 gain-requires-clause-room c =
-    let lt = few c.self.invariant.0 c.args.superior c.args.new.name c.args.new.dir c.self.view_is c.requires.may in
+    let lt = few _ _ _ c.self.invariant.0 c.self.view_is c.requires.may in
     rw c.push.ensures (pushed_few c.self.inside.entries _ c.self.invariant.3 (omega (arith, lt)) refl)
 
 -- the tables with the new branch are those of the tree with it
@@ -102,32 +92,26 @@ added_to : (c : goal.After-self-1) → IsKept c.store-place.new.nodes.items
 added_to c =
     added c.self.invariant.0 c.args.superior (node_of_new c.self.inside.next c.args.superior (as_node c.args.new))
     c.store-place.new.nodes.items c.store-place.new.free.items c.insert.new.self c.store-place.result refl refl
-    (directory_at c.args.superior c.self.view_is c.requires.directory)
-    (may_at c.args.superior c.args.new.name c.args.new.dir c.self.view_is c.requires.may) c.store-place.ensures.place
-    c.store-place.ensures.here c.store-place.ensures.others c.store-place.ensures.rest c.store-place.ensures.count
-    (rw c.deref.ensures.value at c.insert.ensures.order) c.insert.ensures.places c.insert.ensures.count
-    c.insert.ensures.room
+    (rw (← c.self.view_is) at c.requires.directory) (rw (← c.self.view_is) at c.requires.may)
+    c.store-place.ensures.place c.store-place.ensures.here c.store-place.ensures.others c.store-place.ensures.rest
+    c.store-place.ensures.count (rw c.deref.ensures.value at c.insert.ensures.order) c.insert.ensures.places
+    c.insert.ensures.count c.insert.ensures.room
 
 pub invariant_of-self : goal.invariant_of-self
 invariant_of-self c =
-    let more : List Entry = c.self.inside.entries ++ new_entry c.self.inside.next c.args.superior c.store-place.result
-    ∷ [] in
-    let gained : c.gain.new.self ≡ recounted c.args.superior (λ n. n + 1) more = rw c.push.ensures at c.gain.ensures in
-    let counted : IsCounted (recounted c.args.superior (λ n. n + 1) more) =
-    counted_with c.self.invariant.0 c.self.invariant.3 c.args.superior
-    (directory_at c.args.superior c.self.view_is c.requires.directory)
-    (new_entry c.self.inside.next c.args.superior c.store-place.result) refl refl refl in (
+    let gained = rw c.push.ensures at c.gain.ensures in (
       rw gained (kept_recounted c.args.superior (λ n. n + 1) (added_to c).0),
       omega (arith, c.self.invariant.1, c.store-place.ensures.nodes_room),
       omega (arith, c.self.invariant.2, c.store-place.ensures.free_room),
-      rw gained counted,
+      rw gained (counted_with c.self.invariant.0 c.self.invariant.3 c.args.superior
+          (rw (← c.self.view_is) at c.requires.directory)
+          (new_entry c.self.inside.next c.args.superior c.store-place.result) refl refl refl),
     )
 
 pub returns-clause-tree : goal.returns-clause-tree
 returns-clause-tree c =
-    let more : List Entry = c.self.inside.entries ++ new_entry c.self.inside.next c.args.superior c.store-place.result
-    ∷ [] in
-    let gained : c.gain.new.self ≡ recounted c.args.superior (λ n. n + 1) more = rw c.push.ensures at c.gain.ensures in
+    let more = c.self.inside.entries ++ new_entry c.self.inside.next c.args.superior c.store-place.result ∷ [] in
+    let gained = rw c.push.ensures at c.gain.ensures in
     rw (← c.self.view_is) (ap (λ (ns : List Node). record { nodes = ns; next = c.self.inside.next + 1 })
     (rw gained (newest_recounted c.args.superior (λ n. n + 1) c.store-place.new.nodes.items more ∙ (added_to c).1)))
 

@@ -1,4 +1,4 @@
-use Rattle.dir_tree.proofs.Prelude.{◌≡◌, Some, sym, ap, ◌∙◌, branch_in, Node, node_at, newest, is_in, shape, shapes}
+use Rattle.dir_tree.proofs.Prelude.{◌≡◌, Some, ap, ◌∙◌, branch_in, Node, node_at, newest, is_in, shape, shapes}
 use Rattle.dir_tree.proofs.KeptLemmas.{branch_read, branch_missing, places_within, place_read, place_there}
 use Rattle.dir_tree.proofs.Tree.branch.Goals as goal
 

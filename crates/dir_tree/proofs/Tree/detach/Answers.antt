@@ -1,4 +1,4 @@
-use Rattle.dir_tree.proofs.Prelude.{◌≡◌, ◌+◌, ◌-◌, ◌<◌, ◌≤◌, List, [], ◌∷◌, ◌++◌, length, sym, ap, ◌∙◌, arith, Node, Entry, newest, recounted, IsKept, remove, without, length-remove}
+use Rattle.dir_tree.proofs.Prelude.{◌≡◌, ◌+◌, ◌-◌, List, [], ◌∷◌, ◌++◌, length, sym, ap, ◌∙◌, arith, Node, Entry, newest, recounted, IsKept, remove, without, length-remove}
 use Rattle.dir_tree.proofs.KeptLemmas.{entry_present, places_within}
 use Rattle.dir_tree.proofs.CountLemmas.{removed_rising, superior_left, some_left, counted_removed, length_recounted, newest_recounted, kept_recounted}
 use Rattle.dir_tree.proofs.NewestLemmas.{length_newest}

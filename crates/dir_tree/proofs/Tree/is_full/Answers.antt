@@ -1,4 +1,4 @@
-use Rattle.dir_tree.proofs.Prelude.{◌≡◌, length, ap, nat_le, arith}
+use Rattle.dir_tree.proofs.Prelude.{◌≡◌, length, arith}
 use Rattle.dir_tree.proofs.NewestLemmas.{length_newest}
 use Rattle.dir_tree.proofs.Tree.is_full.Goals as goal
 

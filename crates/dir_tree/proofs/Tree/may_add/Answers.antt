@@ -1,4 +1,4 @@
-use Rattle.dir_tree.proofs.Prelude.{Option, refl, sym, ap, ◌∙◌, AddFault, unless}
+use Rattle.dir_tree.proofs.Prelude.{refl, sym, ◌∙◌}
 use Rattle.dir_tree.proofs.QuotaLemmas.{fault_by}
 use Rattle.dir_tree.proofs.Tree.may_add.Goals as goal
 

@@ -1,4 +1,4 @@
-use Rattle.dir_tree.proofs.Prelude.{◌≡◌, ◌≢◌, ℕ, ◌<◌, length, true, false, Some, refl, ◌∙◌, both_ways, has_inferior, shapes, newest, entry_at}
+use Rattle.dir_tree.proofs.Prelude.{◌≢◌, ℕ, ◌<◌, length, false, Some, refl, ◌∙◌, both_ways, newest, entry_at}
 use Rattle.dir_tree.proofs.KeptLemmas.{entry_present, inferior_since, no_inferior}
 use Rattle.dir_tree.proofs.QuotaLemmas.{inferior_any}
 use Rattle.dir_tree.proofs.Tree.may_remove.Goals as goal
@@ -9,11 +9,9 @@ has_inferior-requires-clause-there c =
 
 pub returns-then-has_inferior : goal.returns-then-has_inferior
 returns-then-has_inferior c quota =
-    let some = c.if-has_inferior.ensures.0 refl in
-    let is : has_inferior (shapes (newest c.self.inside.nodes.items c.self.inside.entries)) c.args.uid ≡ true =
-    inferior_since c.self.invariant.0 c.args.uid some.0 some.1 some.2 in (
+    let some = c.if-has_inferior.ensures.0 refl in (
       λ _. rw (← c.self.view_is) (inferior_any quota (newest c.self.inside.nodes.items c.self.inside.entries) c.args.uid
-          ∙ is),
+          ∙ inferior_since c.self.invariant.0 c.args.uid some.0 some.1 some.2),
       λ _. refl,
     )
 
@@ -21,10 +19,8 @@ pub returns : goal.returns
 returns c quota =
     let none : (i : ℕ) → i < length c.self.inside.entries
     → (entry_at c.self.inside.entries i).superior ≢ Some c.args.uid =
-    λ i lt e. both_ways false refl (c.if-has_inferior.ensures.1 (i, lt, e)) in
-    let isnt : has_inferior (shapes (newest c.self.inside.nodes.items c.self.inside.entries)) c.args.uid ≡ false =
-    no_inferior c.self.invariant.0 c.args.uid none in (
+    λ i lt e. both_ways false refl (c.if-has_inferior.ensures.1 (i, lt, e)) in (
       λ z. absurd (both_ways false refl z),
-      λ is. absurd (both_ways _ (rw (← c.self.view_is) (inferior_any quota
-          (newest c.self.inside.nodes.items c.self.inside.entries) c.args.uid ∙ isnt)) is),
+      λ is. absurd (both_ways _ (rw (← c.self.view_is) (inferior_any quota (newest c.self.inside.nodes.items
+          c.self.inside.entries) c.args.uid ∙ no_inferior c.self.invariant.0 c.args.uid none)) is),
     )

@@ -1,4 +1,4 @@
-use Rattle.dir_tree.proofs.Prelude.{ap, ◌∙◌, option_map, above, step_up, as_term, shapes, newest, has_chains, above_once}
+use Rattle.dir_tree.proofs.Prelude.{ap, ◌∙◌, option_map, as_term, shapes, newest, has_chains, above_once}
 use Rattle.dir_tree.proofs.KeptLemmas.{node_read, node_missing}
 use Rattle.dir_tree.proofs.QuotaLemmas.{node_any, superior_is}
 use Rattle.dir_tree.proofs.Tree.node.Goals as goal

@@ -1,4 +1,4 @@
-use Rattle.dir_tree.proofs.Prelude.{◌<◌, subst, sym, newest, shapes, has_chains}
+use Rattle.dir_tree.proofs.Prelude.{newest, shapes, has_chains}
 use Rattle.dir_tree.proofs.KeptLemmas.{below_newest}
 use Rattle.dir_tree.proofs.Tree.promise.Goals as goal
 

@@ -1,17 +1,14 @@
-use Rattle.dir_tree.proofs.Prelude.{◌≡◌, ◌++◌, ◌+◌, ◌≤◌, length, [], ◌∷◌, ℕ, List, sym, ap, ◌∙◌, arith, length-append, append-nil, above, shapes, has_chains, above_any, depth}
+use Rattle.dir_tree.proofs.Prelude.{◌≡◌, ◌++◌, ◌+◌, length, [], ℕ, List, sym, ap, ◌∙◌, arith, length-append, append-nil, above, shapes, has_chains, above_any, depth}
 use Rattle.dir_tree.proofs.Tree.superiors.Goals as goal
 
 pub push-requires : goal.push-requires
 push-requires c =
     let ns = shapes c.args.self.now.nodes in
-    let deep : length (above ns c.args.uid) ≤ 9 = depth ns c.in-Some.ensures.tree c.args.uid in
-    let sizes : length (c.loop-superior.up.items ++ above ns c.loop-superior.at)
-    ≡ length c.loop-superior.up.items + length (above ns c.loop-superior.at) =
-    length-append c.loop-superior.up.items (above ns c.loop-superior.at) in
+    let deep = depth ns c.in-Some.ensures.tree c.args.uid in
+    let sizes = length-append c.loop-superior.up.items (above ns c.loop-superior.at) in
     let whole : length (c.loop-superior.up.items ++ above ns c.loop-superior.at) ≡ length (above ns c.args.uid) =
     ap length c.loop-superior.invariant.so_far in
-    let rest : above ns c.loop-superior.at ≡ c.in-Some.superior ∷ above ns c.in-Some.superior =
-    c.in-Some.ensures.above in
+    let rest = c.in-Some.ensures.above in
     let more : length (above ns c.loop-superior.at) ≡ length (above ns c.in-Some.superior) + 1 = ap length rest
     ∙ omega arith in
     (omega arith, omega arith)
@@ -25,11 +22,10 @@ returns-clause-above c quota =
 pub returns-clause-most : goal.returns-clause-most
 returns-clause-most c =
     let ns = shapes c.args.self.now.nodes in
-    let deep : length (above ns c.args.uid) ≤ 9 = depth ns c.superior.ensures.tree c.args.uid in
-    let none : above ns c.loop-superior.at ≡ [] = rw c.in_default.is at c.superior.ensures.above in
     let is : c.loop-superior.up.items ≡ above ns c.args.uid = sym (append-nil c.loop-superior.up.items)
-    ∙ ap (λ (xs : List ℕ). c.loop-superior.up.items ++ xs) (sym none) ∙ c.loop-superior.invariant.so_far in
-    rw is deep
+    ∙ ap (λ (xs : List ℕ). c.loop-superior.up.items ++ xs) (sym (rw c.in_default.is at c.superior.ensures.above))
+    ∙ c.loop-superior.invariant.so_far in
+    rw is (depth ns c.superior.ensures.tree c.args.uid)
 
 pub returns-clause-chains : goal.returns-clause-chains
 returns-clause-chains c = has_chains (shapes c.args.self.now.nodes) c.superior.ensures.tree

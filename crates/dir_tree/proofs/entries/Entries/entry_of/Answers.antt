@@ -1,4 +1,4 @@
-use Rattle.dir_tree.proofs.Prelude.{◌≡◌, ◌<◌, length, sym, ap, ◌∙◌, arith, Entry, entry_at}
+use Rattle.dir_tree.proofs.Prelude.{◌≡◌, sym, arith, entry_at}
 use Rattle.dir_tree.proofs.UidLemmas.{slot_there, entry_there}
 use Rattle.dir_tree.proofs.entries.Entries.entry_of.Goals as goal
 

@@ -1,4 +1,4 @@
-use Rattle.dir_tree.proofs.Prelude.{◌<◌, ◌+◌, ◌^◌, length, ap, arith, Entry, entry_at}
+use Rattle.dir_tree.proofs.Prelude.{◌+◌, ap, arith, Entry}
 use Rattle.dir_tree.proofs.UidLemmas.{slot_there, entry_there, inferiors_changed}
 use Rattle.dir_tree.proofs.entries.Entries.gain.Goals as goal
 

@@ -1,4 +1,4 @@
-use Rattle.dir_tree.proofs.Prelude.{◌<◌, length, arith, lt-ltb, ltb-true}
+use Rattle.dir_tree.proofs.Prelude.{arith, lt-ltb, ltb-true}
 use Rattle.dir_tree.proofs.CountLemmas.{counts_some}
 use Rattle.dir_tree.proofs.UidLemmas.{slot_there, entry_there}
 use Rattle.dir_tree.proofs.entries.Entries.has_inferior.Goals as goal

@@ -1,4 +1,4 @@
-use Rattle.dir_tree.proofs.Prelude.{length, sym, ap, ◌∙◌, taken}
+use Rattle.dir_tree.proofs.Prelude.{taken}
 use Rattle.dir_tree.proofs.SlotLemmas.{length_listed}
 use Rattle.dir_tree.proofs.entries.Entries.len.Goals as goal
 

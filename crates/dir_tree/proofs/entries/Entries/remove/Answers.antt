@@ -1,4 +1,4 @@
-use Rattle.dir_tree.proofs.Prelude.{◌<◌, length, rules, arith, taken}
+use Rattle.dir_tree.proofs.Prelude.{rules, arith}
 use Rattle.dir_tree.proofs.UidLemmas.{in_table, left_listed, left_removed, left_tabled, left_taken, slot_there, some_taken}
 use Rattle.dir_tree.proofs.entries.Entries.remove.Goals as goal
 

@@ -1,4 +1,4 @@
-use Rattle.dir_tree.proofs.Prelude.{◌≡◌, ℕ, true, false, List, ap, subst, ◌∙◌, Some, IfSome, concat, HasPlace, IsOrdered, key_hash, node_at, shelf_at, shelf_of, is_branch, shape, Node}
+use Rattle.dir_tree.proofs.Prelude.{◌≡◌, ℕ, true, false, List, ap, subst, ◌∙◌, concat, HasPlace, IsOrdered, node_at, shelf_at, is_branch, shape}
 use Rattle.dir_tree.proofs.ShelfLemmas.{found_all, none_elsewhere, none_then, shelf_ordered, shelf_read, shelf_within}
 use Rattle.dir_tree.proofs.index.Index.find.Goals as goal
 
@@ -21,24 +21,20 @@ find-requires-clause-within c = rw (shelf c)
 
 pub returns-clause-some : goal.returns-clause-some
 returns-clause-some c =
-    let nodes : List Node = c.args.nodes.now in
-    let xs : List (List ℕ) = c.self.inside.shelves.items in
-    let own : c.places.result.now ≡ shelf_at xs c.shelf_of.result = c.places.ensures
-    ∙ shelf_read c.shelf_of.result c.self.invariant.0 c.shelf_of.ensures.within c.index-shelf.ensures in
-    rw (← c.self.view_is) (found_all xs c.shelf_of.result c.find.result
-    (λ place. is_branch c.args.superior c.args.name.now (shape (node_at nodes place)) ≡ true)
-    (rw (← own) c.find.ensures.some))
+    let xs = c.self.inside.shelves.items in
+    let own = c.places.ensures ∙ shelf_read c.shelf_of.result
+    c.self.invariant.0 c.shelf_of.ensures.within c.index-shelf.ensures in
+    rw (← c.self.view_is) (found_all xs c.shelf_of.result c.find.result (λ place. is_branch c.args.superior
+    c.args.name.now (shape (node_at c.args.nodes.now place)) ≡ true) (rw (← own) c.find.ensures.some))
 
 pub returns-clause-none : goal.returns-clause-none
 returns-clause-none c =
-    let nodes : List Node = c.args.nodes.now in
-    let xs : List (List ℕ) = c.self.inside.shelves.items in
+    let nodes = c.args.nodes.now in
+    let xs = c.self.inside.shelves.items in
     let none : List ℕ → Type 0 = λ l. (place : ℕ) → HasPlace l place
     → is_branch c.args.superior c.args.name.now (shape (node_at nodes place)) ≡ false in
-    let own : c.places.result.now ≡ shelf_at xs (shelf_of (key_hash (Some c.args.superior, c.args.name.now))) =
-    c.places.ensures ∙ shelf_read c.shelf_of.result c.self.invariant.0 c.shelf_of.ensures.within c.index-shelf.ensures
-    ∙ ap (shelf_at xs) (cc) in
-    let order : IsOrdered nodes (concat xs) c.self.inside.hashes.items = rw (← c.self.view_is) at c.requires.order in
+    let own = c.places.ensures ∙ shelf_read c.shelf_of.result
+    c.self.invariant.0 c.shelf_of.ensures.within c.index-shelf.ensures ∙ ap (shelf_at xs) (cc) in
     none_then c.find.result (none c.places.result.now) (none c.args.self.now.places) c.find.ensures.none
     (λ here. rw (← c.self.view_is) (none_elsewhere nodes xs c.self.inside.hashes.items c.args.superior
-    c.args.name.now order c.self.invariant.0 (subst none own here)))
+    c.args.name.now (rw (← c.self.view_is) at c.requires.order) c.self.invariant.0 (subst none own here)))

@@ -1,4 +1,4 @@
-use Rattle.dir_tree.proofs.Prelude.{◌≡◌, ◌≢◌, ◌<◌, ◌+◌, ℕ, List, length, set, ap, ◌∙◌, arith, concat, insert, get_or_read, Node, Places, IsOrdered, node_at, no_node, key_of, key_at, shelf_at}
+use Rattle.dir_tree.proofs.Prelude.{◌≡◌, ◌≢◌, ◌<◌, ◌+◌, ℕ, List, length, set, ap, ◌∙◌, arith, concat, get_or_read, Node, Places, IsOrdered, node_at, no_node, key_of, key_at, shelf_at}
 use Rattle.dir_tree.proofs.ShelfLemmas.{Inserted, all_within, inserted, shelf_ordered, shelf_read, shelf_within}
 use Rattle.dir_tree.proofs.index.Index.insert.Goals as goal
 
@@ -22,12 +22,11 @@ first_at-at-requires-clause-within c = rw (c.places.ensures, own c)
 
 pub insert-requires-clause-room : goal.insert-requires-clause-room
 insert-requires-clause-room c =
-    let xs : List (List ℕ) = c.self.inside.shelves.items in
+    let xs = c.self.inside.shelves.items in
     let all : length (concat xs) < 4096 = rw (← c.self.view_is) at c.requires.room in
-    let own : c.index_mut-shelf.result.now ≡ shelf_at xs c.shelf_of.result = shelf_read c.shelf_of.result
-    c.self.invariant.0 c.shelf_of.ensures.within c.index_mut-shelf.ensures.value in
-    rw own (let most = all_within xs c.shelf_of.result (length (shelf_at xs c.shelf_of.result)) (omega arith) in
-    omega arith)
+    let own =
+    shelf_read c.shelf_of.result c.self.invariant.0 c.shelf_of.ensures.within c.index_mut-shelf.ensures.value in
+    rw own (omega (arith, all_within xs c.shelf_of.result (length (shelf_at xs c.shelf_of.result)) (omega arith)))
 
 more : (c : goal.After-self-2-1) → Inserted c.args.nodes.now c.self.inside.shelves.items
     (set c.self.inside.shelves.items c.shelf_of.result c.insert.new.self) c.self.inside.hashes.items

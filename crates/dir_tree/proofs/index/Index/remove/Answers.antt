@@ -1,4 +1,4 @@
-use Rattle.dir_tree.proofs.Prelude.{◌≡◌, ℕ, List, get_or, length, set, ap, ◌∙◌, arith, concat, remove, get_or_read, Places, HasPlace, IsOrdered, shelf_at, shelf_of}
+use Rattle.dir_tree.proofs.Prelude.{◌≡◌, ℕ, List, length, set, ap, ◌∙◌, arith, concat, get_or_read, Places, HasPlace, IsOrdered, shelf_at}
 use Rattle.dir_tree.proofs.IndexLemmas.{are_rising}
 use Rattle.dir_tree.proofs.ShelfLemmas.{Removed, on_own, removed, shelf_ordered, shelf_read}
 use Rattle.dir_tree.proofs.index.Index.remove.Goals as goal
@@ -22,9 +22,8 @@ pub place_at-at-requires-clause-there : goal.place_at-at-requires-clause-there
 place_at-at-requires-clause-there c =
     let there : HasPlace (concat c.self.inside.shelves.items) c.args.place =
     rw (← c.self.view_is) at c.requires.there in
-    let hash : c.index.result.now ≡ get_or c.self.inside.hashes.items c.args.place 0 =
-    get_or_read c.self.inside.hashes.items c.args.place c.index.result.now
-    ((ordered c).slots c.args.place there) c.index.ensures 0 in
+    let hash = get_or_read c.self.inside.hashes.items
+    c.args.place c.index.result.now ((ordered c).slots c.args.place there) c.index.ensures 0 in
     rw (own c) (on_own c.self.invariant.0 there (cc))
 
 pub place_at-at-requires-clause-rising : goal.place_at-at-requires-clause-rising
