@@ -1,5 +1,5 @@
 -- A move that begins, page by page.
-use Rattle.seg_mover.proofs.Prelude.{◌≡◌, ◌≢◌, ℕ, ◌+◌, ◌<◌, Bool, true, cond, List, [], ◌∷◌, ◌++◌, length, Option, None, Some, IsSome, is_some, refl, sym, ap, ◌∙◌, arith, get_or, set, subst, take, drop, count_by, append_assoc, get_or-set_other, set-set, set-get_or, length-set, at_drop_more, drop_all, take_more, take_more_set, take_all, append-nil, sum_by-cons, least_free, IsLeastFree, no_records, Entry, records_in, with_record, fresh_entry, HasFullMaps, IsLeastFreeEntry, Vols, records_at, used_at, vtoc_at, with_record_used, entry_of, map_at, place_at, with_taken, flags_taken, map_taken, CanBegin, begun, entry_for, with_place, page_stored, entry_taken, IsPartBegun, some_number, put, put_here, put_put, list_within, count_with}
+use Rattle.seg_mover.proofs.Prelude.{◌≡◌, ◌≢◌, ℕ, ◌+◌, ◌<◌, Bool, true, cond, List, [], ◌∷◌, ◌++◌, length, Option, None, Some, IsSome, is_some, refl, sym, ap, ◌∙◌, arith, get_or, set, subst, take, drop, count_by, append_assoc, get_or-set_other, set-set, set-get_or, length-set, at_drop_more, drop_all, take_more, take_more_set, take_all, append-nil, sum_by-cons, least_free, no_records, Entry, records_in, with_record, fresh_entry, HasFullMaps, IsLeastFreeEntry, Vols, records_at, used_at, vtoc_at, with_record_used, entry_of, map_at, place_at, with_taken, flags_taken, map_taken, CanBegin, begun, entry_for, with_place, page_stored, entry_taken, IsPartBegun, some_number, put_here, put_put, list_within, count_with}
 use Rattle.seg_mover.proofs.Records.{least_there, least_is}
 use Rattle.vtoc.proofs.Table.{length_no_records, no_record}
 use Rattle.seg_mover.proofs.Places.{map_placed, records_within, flags_used, vols_same}
@@ -60,40 +60,6 @@ none_more m n lt is =
 
 -- ---- one page more
 
--- the entry of the new home
-pub entry_now : {D : Type 0} {old now : Vols D} {uid n : ℕ} {from to : ℕ × ℕ} → CanStore old from to
-    → IsPartBegun old now uid from to n → entry_of now to ≡ Some (record { uid = uid; records = map_at now to })
-entry_now {old = old} {now = now} {uid = uid} {to = to} store part =
-    cc (put_here old.vtocs to.0 to.1 (Some (record { uid = uid; records = map_at now to })) None store.vl store.el)
-
--- and the old one's is as it was
-pub entry_kept : {D : Type 0} {old now : Vols D} {uid n : ℕ} {from to : ℕ × ℕ} → CanStore old from to
-    → IsPartBegun old now uid from to n → entry_of now from ≡ entry_of old from
-entry_kept {old = old} {from = from} {to = to} store part =
-    rw (part.vtocs, get_or-set_other old.vtocs to.0 from.0 _ [] store.other)
-
-skipped : {D : Type 0} (old now : Vols D) (uid n : ℕ) (from to : ℕ × ℕ) → CanStore old from to
-    → IsPartBegun old now uid from to n → n < 256 → place_at old from n ≡ None → IsPartBegun old now uid from to (n + 1)
-skipped old now uid n from to store part lt none =
-    let flags : List Bool = records_at now to.0 in
-    let m : List (Option ℕ) = map_at old from in
-    let within : n < length m = omega arith in
-    let there : n < length (map_at now to) = omega arith in
-    record {
-      drives = part.drives;
-      records = part.records;
-      vtocs = part.vtocs;
-      flags = cc (at_place (flags_taken flags) m n None within none);
-      places = front_more (take n (map_at now to)) (take (n + 1) (map_at now to)) None
-          (map_taken flags (drop (n + 1) m)) (map_taken flags (drop n m))
-          (cc (take_more (map_at now to) n None there, part.blank n (omega arith)))
-          (at_place (map_taken flags) m n None within none) ∙ part.places;
-      blank = λ p late. part.blank p (omega arith);
-      room = omega (arith, none_more m n within none);
-      size = part.size;
-      long = part.long;
-    }
-
 -- the new entry after its file map names record r for page n
 renamed : (entry : Option Entry) (uid n r : ℕ) (places now : List (Option ℕ)) → entry ≡ Some (record {
   uid = uid;
@@ -101,89 +67,104 @@ renamed : (entry : Option Entry) (uid n r : ℕ) (places now : List (Option ℕ)
 }) → now ≡ set places n (Some r) → with_record entry n (Some r) ≡ Some (record { uid = uid; records = now })
 renamed entry uid n r places now is map = rw (is, map) refl
 
-stored : {D : Type 0} (old now : Vols D) (uid n q r : ℕ) (from to : ℕ × ℕ) → CanStore old from to
-    → IsPartBegun old now uid from to n → n < 256 → place_at old from n ≡ Some q
-    → least_free (records_at now to.0) ≡ Some r
-    → IsPartBegun old (with_place (with_record_used now to.0 r true) to n (Some r)) uid from to (n + 1)
-stored old now uid n q r from to store part lt some is =
-    let flags : List Bool = records_at now to.0 in
-    let m : List (Option ℕ) = map_at old from in
-    let places : List (Option ℕ) = map_at now to in
-    let mid : Vols _ = with_record_used now to.0 r true in
-    let new : Vols _ = with_place mid to n (Some r) in
-    let within : n < length m = omega arith in
-    let there : n < length places = omega (arith, lt, part.long) in
-    let least : IsLeastFree flags r = least_is flags r is in
-    let rl : to.0 < length now.records = records_within now to.0 r least.within in
-    let entry : entry_of now to ≡ Some (record { uid = uid; records = places }) = entry_now store part in
-    let used : IsSome (entry_of now to) = rw entry refl in
-    let flags_is : records_at new to.0 ≡ set flags r true = flags_used now to.0 r true rl in
-    let map_is : map_at new to ≡ set places n (Some r) = map_placed mid to n (Some r) used in
-    let more : count_by (λ (flag : Bool). flag) (set flags r true) ≡ count_by (λ (flag : Bool). flag) flags + 1 =
-    count_with flags r least.within least.free in
-    let used_is : used_at new to.0 ≡ count_by (λ (flag : Bool). flag) (set flags r true) =
-    ap (count_by (λ (flag : Bool). flag)) flags_is in
-    let size_is : length (records_at new to.0) ≡ length flags = ap length flags_is ∙ length-set flags r true in
-    let fewer = some_more flags m n q within some in
-    record {
-      drives = part.drives;
-      records = cc (set-set old.records to.0 flags (set flags r true));
-      vtocs = cc (
-        renamed (entry_of now to) uid n r places (map_at new to) entry map_is,
-        put_put old.vtocs to.0 to.1
-            (Some (record { uid = uid; records = places })) (Some (record { uid = uid; records = map_at new to }))
-            store.vl,
-      );
-      flags = cc (at_place (flags_taken flags) m n (Some q) within some);
-      places = cc (front_more (take n places) (take (n + 1) (map_at new to)) (Some r)
-          (map_taken (set flags r true) (drop (n + 1) m)) (map_taken flags (drop n m))
-          (ap (take (n + 1)) map_is ∙ take_more_set places n (Some r) there) (at_place (map_taken flags) m n (Some q)
-          within some ∙ ap (λ (place : Option ℕ). place ∷ map_taken (with_taken flags place) (drop (n + 1) m)) is));
-      blank = λ p late. cc (
-        get_or-set_other places n p (Some r) None (λ same. absurd (omega (arith, late, same))),
-        part.blank p (omega (arith, late)),
-      );
-      room = omega (arith, used_is, more, size_is, fewer, part.room);
-      size = cc;
-      long = cc (length-set places n (Some r));
-    }
+module _ {D : Type 0} {old now : Vols D} {uid n : ℕ} {from to : ℕ × ℕ} (store : CanStore old from to)
+    (part : IsPartBegun old now uid from to n) where
+  -- the entry of the new home
+  pub entry_now : entry_of now to ≡ Some (record { uid = uid; records = map_at now to })
+  entry_now =
+      cc (put_here old.vtocs to.0 to.1 (Some (record { uid = uid; records = map_at now to })) None store.vl store.el)
 
--- the page's place, where it is known
-place_kept : {D : Type 0} {old now : Vols D} {uid n : ℕ} {from to : ℕ × ℕ} (place : Option ℕ) → CanStore old from to
-    → IsPartBegun old now uid from to n → place_at now from n ≡ place → place_at old from n ≡ place
-place_kept {n = n} place store part is = cc (entry_kept store part)
+  -- and the old one's is as it was
+  pub entry_kept : entry_of now from ≡ entry_of old from
+  entry_kept = rw (part.vtocs, get_or-set_other old.vtocs to.0 from.0 _ [] store.other)
 
--- there is a record for a page that the old file map names
-room_left : {D : Type 0} (old now : Vols D) (uid n q : ℕ) (from to : ℕ × ℕ) → CanStore old from to
-    → IsPartBegun old now uid from to n → n < 256 → place_at old from n ≡ Some q
-    → used_at now to.0 < length (records_at now to.0)
-room_left old now uid n q from to store part lt is =
-    let fewer = some_more [] (map_at old from) n q (omega arith) is in
-    omega arith
+  skipped : n < 256 → place_at old from n ≡ None → IsPartBegun old now uid from to (n + 1)
+  skipped lt none =
+      let flags : List Bool = records_at now to.0 in
+      let m : List (Option ℕ) = map_at old from in
+      let within : n < length m = omega arith in
+      let there : n < length (map_at now to) = omega arith in
+      record {
+        drives = part.drives;
+        records = part.records;
+        vtocs = part.vtocs;
+        flags = cc (at_place (flags_taken flags) m n None within none);
+        places = front_more (take n (map_at now to)) (take (n + 1) (map_at now to)) None
+            (map_taken flags (drop (n + 1) m)) (map_taken flags (drop n m))
+            (cc (take_more (map_at now to) n None there, part.blank n (omega arith)))
+            (at_place (map_taken flags) m n None within none) ∙ part.places;
+        blank = λ p late. part.blank p (omega arith);
+        room = omega (arith, none_more m n within none);
+        size = part.size;
+        long = part.long;
+      }
 
-pub has_room : {D : Type 0} {old now : Vols D} {uid n : ℕ} {from to : ℕ × ℕ} → CanStore old from to
-    → IsPartBegun old now uid from to n → n < 256 → IsSome (place_at now from n)
-    → used_at now to.0 < length (records_at now to.0)
-has_room {old = old} {now = now} {uid = uid} {n = n} {from = from} {to = to} store part lt there =
-    let q = some_number (place_at now from n) there in
-    room_left old now uid n q.0 from to store part lt (place_kept (Some q.0) store part q.1)
+  stored : (q r : ℕ) → n < 256 → place_at old from n ≡ Some q → least_free (records_at now to.0) ≡ Some r
+      → IsPartBegun old (with_place (with_record_used now to.0 r true) to n (Some r)) uid from to (n + 1)
+  stored q r lt some is =
+      let flags = records_at now to.0 in
+      let m = map_at old from in
+      let places = map_at now to in
+      let mid = with_record_used now to.0 r true in
+      let new = with_place mid to n (Some r) in
+      let within : n < length m = omega arith in
+      let there : n < length places = omega (arith, lt, part.long) in
+      let least = least_is flags r is in
+      let rl = records_within now to.0 r least.within in
+      let entry = entry_now in
+      let used : IsSome (entry_of now to) = rw entry refl in
+      let flags_is = flags_used now to.0 r true rl in
+      let map_is = map_placed mid to n (Some r) used in
+      let more = count_with flags r least.within least.free in
+      let used_is : used_at new to.0 ≡ count_by (λ (flag : Bool). flag) (set flags r true) =
+      ap (count_by (λ (flag : Bool). flag)) flags_is in
+      let size_is : length (records_at new to.0) ≡ length flags = ap length flags_is ∙ length-set flags r true in
+      let fewer = some_more flags m n q within some in
+      record {
+        drives = part.drives;
+        records = cc (set-set old.records to.0 flags (set flags r true));
+        vtocs = cc (
+          renamed (entry_of now to) uid n r places (map_at new to) entry map_is,
+          put_put old.vtocs to.0 to.1
+              (Some (record { uid = uid; records = places })) (Some (record { uid = uid; records = map_at new to }))
+              store.vl,
+        );
+        flags = cc (at_place (flags_taken flags) m n (Some q) within some);
+        places = cc (front_more (take n places) (take (n + 1) (map_at new to)) (Some r)
+            (map_taken (set flags r true) (drop (n + 1) m)) (map_taken flags (drop n m))
+            (ap (take (n + 1)) map_is ∙ take_more_set places n (Some r) there) (at_place (map_taken flags) m n (Some q)
+            within some ∙ ap (λ (place : Option ℕ). place ∷ map_taken (with_taken flags place) (drop (n + 1) m)) is));
+        blank = λ p late. cc (
+          get_or-set_other places n p (Some r) None (λ same. absurd (omega (arith, late, same))),
+          part.blank p (omega (arith, late)),
+        );
+        room = omega (arith, used_is, more, size_is, fewer, part.room);
+        size = cc;
+        long = cc (length-set places n (Some r));
+      }
 
--- one page more, as the call of it says
-pub begun_more : {D : Type 0} {old now : Vols D} {uid n : ℕ} {from to : ℕ × ℕ} (new : Vols D) → CanStore old from to
-    → IsPartBegun old now uid from to n → n < 256 → (place_at now from n ≡ None → new ≡ now)
-    → (IsSome (place_at now from n) → new ≡ page_stored now to n (least_free (records_at now to.0)))
-    → IsPartBegun old new uid from to (n + 1)
-begun_more {old = old} {now = now} {uid = uid} {n = n} {from = from} {to = to} new store part lt none some =
-    go (place_at now from n) refl
-  where
-    go : (place : Option ℕ) → place_at now from n ≡ place → IsPartBegun old new uid from to (n + 1)
-    go None is = rw (none is) (skipped old now uid n from to store part lt (place_kept None store part is))
-    go (Some q) is =
-        let there : IsSome (place_at now from n) = rw is refl in
-        let same : place_at old from n ≡ Some q = place_kept (Some q) store part is in
-        let found = least_there (records_at now to.0) (has_room store part lt there) in
-        rw (some there ∙ ap (page_stored now to n) found.1) (stored old now uid n q found.0 from to store part lt same
-        found.1)
+  -- the page's place, where it is known
+  place_kept : (place : Option ℕ) → place_at now from n ≡ place → place_at old from n ≡ place
+  place_kept place is = cc (entry_kept)
+
+  -- there is a record for a page that the old file map names
+  pub has_room : n < 256 → IsSome (place_at now from n) → used_at now to.0 < length (records_at now to.0)
+  has_room lt there =
+      let q = some_number (place_at now from n) there in
+      omega (arith, some_more [] (map_at old from) n q.0 (omega arith) (place_kept (Some q.0) q.1))
+
+  -- one page more, as the call of it says
+  pub begun_more : (new : Vols D) → n < 256 → (place_at now from n ≡ None → new ≡ now)
+      → (IsSome (place_at now from n) → new ≡ page_stored now to n (least_free (records_at now to.0)))
+      → IsPartBegun old new uid from to (n + 1)
+  begun_more new lt none some = go (place_at now from n) refl
+    where
+      go : (place : Option ℕ) → place_at now from n ≡ place → IsPartBegun old new uid from to (n + 1)
+      go None is = rw (none is) (skipped lt (place_kept None is))
+      go (Some q) is =
+          let there : IsSome (place_at now from n) = rw is refl in
+          let found = least_there (records_at now to.0) (has_room lt there) in
+          rw (some there ∙ ap (page_stored now to n) found.1) (stored q found.0 lt (place_kept (Some q) is) found.1)
 
 -- ---- all pages
 

@@ -33,61 +33,6 @@ begins {old = old} {uid = uid} {v = v} {e = e} {from = from} now can least there
   }))) (sym number),
 )
 
-vtoc_there : {D : Type 0} {old now : Vols D} {uid : ℕ} {from to : ℕ × ℕ} → Begins old now uid from to
-    → to.0 < length old.vtocs
-vtoc_there {old = old} {to = to} h = list_within old.vtocs to.0 to.1 h.least.within
-
-entry_is : {D : Type 0} {old now : Vols D} {uid : ℕ} {from to : ℕ × ℕ} → Begins old now uid from to
-    → entry_of now to ≡ Some (record { uid = uid; records = map_taken (records_at old to.0) (map_at old from) })
-entry_is {old = old} {uid = uid} {from = from} {to = to} h = cc (put_here old.vtocs to.0 to.1 (Some (record {
-  uid = uid;
-  records = map_taken (records_at old to.0) (map_at old from);
-})) None (vtoc_there h) h.least.within)
-
-map_is : {D : Type 0} {old now : Vols D} {uid : ℕ} {from to : ℕ × ℕ} → Begins old now uid from to
-    → map_at now to ≡ map_taken (records_at old to.0) (map_at old from)
-map_is h = ap records_in (entry_is h)
-
-flags_are : {D : Type 0} {old now : Vols D} {uid : ℕ} {from to : ℕ × ℕ} → Begins old now uid from to
-    → records_at now to.0 ≡ flags_taken (records_at old to.0) (map_at old from)
-flags_are {old = old} {from = from} {to = to} h =
-    rw h.records (get_or-set_same old.records to.0 (flags_taken (records_at old to.0) (map_at old from)) [] h.there)
-
-taken : {D : Type 0} {old now : Vols D} {uid : ℕ} {from to : ℕ × ℕ} → Begins old now uid from to
-    → HasTaken (records_at old to.0) (map_at old from)
-taken {old = old} {from = from} {to = to} h = has_taken (records_at old to.0) (map_at old from) h.can.room
-
-pub begun_others : {D : Type 0} {old now : Vols D} {uid : ℕ} {from to : ℕ × ℕ} → Begins old now uid from to
-    → KeepsOthersThan old now to
-begun_others {old = old} {to = to} h = record {
-  drives = h.drives;
-  records = λ v other. ap (λ (rs : List (List Bool)). get_or rs v []) h.records
-      ∙ get_or-set_other old.records to.0 v _ [] other;
-  entries = λ v e other. ap (λ (vtocs : List (List (Option Entry))). get_or (get_or vtocs v []) e None) h.vtocs
-      ∙ put_other old.vtocs to.0 to.1 _ None v e (vtoc_there h) other;
-}
-
--- the old home is as it was
-from_kept : {D : Type 0} {old now : Vols D} {uid : ℕ} {from to : ℕ × ℕ} → Begins old now uid from to
-    → entry_of now from ≡ entry_of old from
-from_kept {from = from} h = (begun_others h).entries from.0 from.1 (λ same _. h.can.other same)
-
-pub begun_uid : {D : Type 0} {old now : Vols D} {uid : ℕ} {from to : ℕ × ℕ} → Begins old now uid from to
-    → uid_at now to ≡ Some uid
-begun_uid h = ap uid_of (entry_is h)
-
-pub begun_same : {D : Type 0} {old now : Vols D} {uid : ℕ} {from to : ℕ × ℕ} → Begins old now uid from to → (p : ℕ)
-    → is_some (place_at now to p) ≡ is_some (place_at now from p)
-begun_same h p = rw (map_is h) (cc ((taken h).same p, from_kept h))
-
-pub begun_adds : {D : Type 0} {old now : Vols D} {uid : ℕ} {from to : ℕ × ℕ} → Begins old now uid from to
-    → AddsRecords (records_at old to.0) (records_at now to.0) (map_at now to)
-begun_adds h = rw (flags_are h, map_is h) (taken h).adds
-
-pub begun_count : {D : Type 0} {old now : Vols D} {uid : ℕ} {from to : ℕ × ℕ} → Begins old now uid from to
-    → used_at now to.0 ≡ used_at old to.0 + count_by is_some (map_at old from)
-begun_count h = cc (flags_are h, (taken h).count)
-
 -- one entry more is used
 entry_more : (table : List (Option Entry)) (e : ℕ) (x : Entry) → IsLeastFreeEntry table e
     → count_by is_some (set table e (Some x)) ≡ count_by is_some table + 1
@@ -97,41 +42,83 @@ entry_more table e x least =
     let none : cond {A = ℕ} (is_some (get_or table e None)) 1 0 ≡ 0 = rw least.free refl in
     omega arith
 
-pub begun_entries : {D : Type 0} {old now : Vols D} {uid : ℕ} {from to : ℕ × ℕ} → Begins old now uid from to
-    → count_by is_some (vtoc_at now to.0) ≡ count_by is_some (vtoc_at old to.0) + 1
-begun_entries {old = old} {to = to} h =
-    rw h.vtocs (ap (count_by is_some) (get_or-set_same old.vtocs to.0 _ [] (vtoc_there h))
-    ∙ entry_more (vtoc_at old to.0) to.1 _ h.least)
+module _ {D : Type 0} {old now : Vols D} {uid : ℕ} {from to : ℕ × ℕ} (h : Begins old now uid from to) where
+  vtoc_there : to.0 < length old.vtocs
+  vtoc_there = list_within old.vtocs to.0 to.1 h.least.within
 
-pub begun_moving : {D : Type 0} {old now : Vols D} {uid : ℕ} {from to : ℕ × ℕ} → Begins old now uid from to
-    → AreKept (records_at old from.0) (map_at old from)
-    → IsMoving now (record { uid = uid; from = from; to = to; next = 0 })
-begun_moving {old = old} {now = now} {uid = uid} {from = from} {to = to} h kept = record {
-  source = rw h.drives h.can.source;
-  target = rw h.drives h.can.target;
-  other = h.can.other;
-  old_used = cc (from_kept h);
-  new_used = begun_uid h;
-  same = begun_same h;
-  old_kept = rw (ap records_in (from_kept h)) (rw ((begun_others h).records from.0 h.can.other) kept);
-  new_kept = (begun_adds h).kept;
-}
+  entry_is : entry_of now to ≡ Some (record { uid = uid; records = map_taken (records_at old to.0) (map_at old from) })
+  entry_is = cc (put_here old.vtocs to.0 to.1 (Some (record {
+    uid = uid;
+    records = map_taken (records_at old to.0) (map_at old from);
+  })) None vtoc_there h.least.within)
 
--- what was taken is given back
-pub begun_back : {D : Type 0} {old now : Vols D} {uid : ℕ} {from to : ℕ × ℕ} → Begins old now uid from to
-    → (then : Vols D) → KeepsTables now then → KeepsTables old (given_back then to)
-begun_back {old = old} {now = now} {uid = uid} {from = from} {to = to} h then kept = record {
-  records = rw (kept.vtocs, kept.records, flags_are h, map_is h) (cc (
-    (taken h).back,
-    set-set old.records to.0 (flags_taken (records_at old to.0) (map_at old from)) (records_at old to.0),
-    set-get_or old.records to.0 [],
-  ));
-  vtocs = cc (
-    put_put old.vtocs to.0 to.1 (Some (record {
-      uid = uid;
-      records = map_taken (records_at old to.0) (map_at old from);
-    })) None (vtoc_there h),
-    set-get_or (vtoc_at old to.0) to.1 None,
-    set-get_or old.vtocs to.0 [],
-  );
-}
+  map_is : map_at now to ≡ map_taken (records_at old to.0) (map_at old from)
+  map_is = ap records_in entry_is
+
+  flags_are : records_at now to.0 ≡ flags_taken (records_at old to.0) (map_at old from)
+  flags_are =
+      rw h.records (get_or-set_same old.records to.0 (flags_taken (records_at old to.0) (map_at old from)) [] h.there)
+
+  taken : HasTaken (records_at old to.0) (map_at old from)
+  taken = has_taken (records_at old to.0) (map_at old from) h.can.room
+
+  pub begun_others : KeepsOthersThan old now to
+  begun_others = record {
+    drives = h.drives;
+    records = λ v other. ap (λ (rs : List (List Bool)). get_or rs v []) h.records
+        ∙ get_or-set_other old.records to.0 v _ [] other;
+    entries = λ v e other. ap (λ (vtocs : List (List (Option Entry))). get_or (get_or vtocs v []) e None) h.vtocs
+        ∙ put_other old.vtocs to.0 to.1 _ None v e vtoc_there other;
+  }
+
+  -- the old home is as it was
+  from_kept : entry_of now from ≡ entry_of old from
+  from_kept = begun_others.entries from.0 from.1 (λ same _. h.can.other same)
+
+  pub begun_uid : uid_at now to ≡ Some uid
+  begun_uid = ap uid_of entry_is
+
+  pub begun_same : (p : ℕ) → is_some (place_at now to p) ≡ is_some (place_at now from p)
+  begun_same p = rw map_is (cc (taken.same p, from_kept))
+
+  pub begun_adds : AddsRecords (records_at old to.0) (records_at now to.0) (map_at now to)
+  begun_adds = rw (flags_are, map_is) taken.adds
+
+  pub begun_count : used_at now to.0 ≡ used_at old to.0 + count_by is_some (map_at old from)
+  begun_count = cc (flags_are, taken.count)
+
+  pub begun_entries : count_by is_some (vtoc_at now to.0) ≡ count_by is_some (vtoc_at old to.0) + 1
+  begun_entries =
+      rw h.vtocs (ap (count_by is_some) (get_or-set_same old.vtocs to.0 _ [] vtoc_there)
+      ∙ entry_more (vtoc_at old to.0) to.1 _ h.least)
+
+  pub begun_moving : AreKept (records_at old from.0) (map_at old from)
+      → IsMoving now (record { uid = uid; from = from; to = to; next = 0 })
+  begun_moving kept = record {
+    source = rw h.drives h.can.source;
+    target = rw h.drives h.can.target;
+    other = h.can.other;
+    old_used = cc (from_kept);
+    new_used = begun_uid;
+    same = begun_same;
+    old_kept = rw (ap records_in from_kept) (rw (begun_others.records from.0 h.can.other) kept);
+    new_kept = begun_adds.kept;
+  }
+
+  -- what was taken is given back
+  pub begun_back : (then : Vols D) → KeepsTables now then → KeepsTables old (given_back then to)
+  begun_back then kept = record {
+    records = rw (kept.vtocs, kept.records, flags_are, map_is) (cc (
+      taken.back,
+      set-set old.records to.0 (flags_taken (records_at old to.0) (map_at old from)) (records_at old to.0),
+      set-get_or old.records to.0 [],
+    ));
+    vtocs = cc (
+      put_put old.vtocs to.0 to.1 (Some (record {
+        uid = uid;
+        records = map_taken (records_at old to.0) (map_at old from);
+      })) None vtoc_there,
+      set-get_or (vtoc_at old to.0) to.1 None,
+      set-get_or old.vtocs to.0 [],
+    );
+  }

@@ -40,10 +40,7 @@ record IsFirst (places : List (Option ℕ)) (skip : List Bool) (count p q : ℕ)
 
 first_is : (places : List (Option ℕ)) (skip : List Bool) (count p q : ℕ) → first_to_copy places skip count p ≡ Some q
     → IsFirst places skip count p q
-first_is places skip zero p q is = absurd (none_is q (sym (first_zero places skip p) ∙ is))
-  where
-    none_is : (q : ℕ) → None ≡ Some q → ⊥
-    none_is q is = cc
+first_is places skip zero p q is = let none : None ≡ Some q = sym (first_zero places skip p) ∙ is in cc
 first_is places skip (suc count) p q is =
     go (first_is places skip count (p + 1) q) (is_to_copy places skip p) refl (sym (first_suc places skip count p) ∙ is)
   where
@@ -76,9 +73,6 @@ first_none places skip zero p is s late lt = absurd (omega arith)
 first_none places skip (suc count) p is s late lt =
     go (first_none places skip count (p + 1)) (is_to_copy places skip p) refl (sym (first_suc places skip count p) ∙ is)
   where
-    some_none : (p : ℕ) → Some p ≡ None → ⊥
-    some_none p is = cc
-
     go : (first_to_copy places skip count (p + 1) ≡ None → (t : ℕ) → p + 1 ≤ t → t < p + 1 + count
         → is_to_copy places skip t ≡ false) → (b : Bool) → is_to_copy places skip p ≡ b
         → cond b (Some p) (first_to_copy places skip count (p + 1)) ≡ None → is_to_copy places skip s ≡ false

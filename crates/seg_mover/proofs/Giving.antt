@@ -1,5 +1,5 @@
 -- A home that is given up, page by page.
-use Rattle.seg_mover.proofs.Prelude.{◌≡◌, ◌≢◌, ℕ, ◌+◌, ◌<◌, Bool, false, List, [], length, Option, None, Some, IsSome, refl, sym, ap, ◌∙◌, arith, get_or, set, subst, inl, inr, cases_eq, get_or_past, get_or-set_other, get_or-set_same, set_past, set-set, set-get_or, Entry, with_record, HasFullMaps, NamesNoRecord, Vols, records_at, vtoc_at, with_record_used, with_vtoc, entry_of, map_at, place_at, flags_given, given_back, with_place, page_given, IsPartGiven, below_or_past, put_put, flag_within}
+use Rattle.seg_mover.proofs.Prelude.{none_put, ◌≡◌, ◌≢◌, ℕ, ◌+◌, ◌<◌, Bool, false, List, [], length, Option, None, Some, IsSome, refl, sym, ap, ◌∙◌, arith, get_or, set, subst, inl, inr, cases_eq, get_or_past, get_or-set_other, set-set, set-get_or, Entry, with_record, HasFullMaps, NamesNoRecord, Vols, records_at, vtoc_at, with_record_used, with_vtoc, entry_of, map_at, place_at, flags_given, given_back, with_place, page_given, IsPartGiven, below_or_past, put_put, flag_within}
 use Rattle.seg_mover.proofs.Records.{given_less, given_none, kept_less}
 use Rattle.seg_mover.proofs.Places.{vtoc_within, still_used, entry_placed, map_placed, records_within, flags_used, vols_same}
 
@@ -26,12 +26,6 @@ more_gone old new n gone same here p lt = elim (cases_eq p n) [
   | inr other ↦ same p other ∙ gone p (omega arith)
 ]
 
-none_here : (places : List (Option ℕ)) (n : ℕ) → get_or (set places n None) n None ≡ None
-none_here places n = elim (below_or_past n (length places)) [
-  | inl lt ↦ get_or-set_same places n None None lt
-  | inr past ↦ rw (set_past places n None past) (get_or_past places n None past)
-]
-
 given_some_more : {D : Type 0} (old now new : Vols D) (home : ℕ × ℕ) (n r : ℕ) → IsPartGiven old now home n
     → place_at now home n ≡ Some r → new ≡ with_place (with_record_used now home.0 r false) home n None
     → IsPartGiven old new home (n + 1)
@@ -46,7 +40,7 @@ given_some_more old now new home n r part is now_is =
       kept = rw (flags_used now home.0 r false rl, map_is) (kept_less n r is part.kept);
       rest = given_one now home n r is part.used rl ∙ part.rest;
       gone = more_gone places (map_at (with_place mid home n None) home) n part.gone
-          (λ p other. cc (get_or-set_other places n p None None other)) (cc (none_here places n));
+          (λ p other. cc (get_or-set_other places n p None None other)) (cc (none_put places n));
     })
 
 by_place : {D : Type 0} (old now new : Vols D) (home : ℕ × ℕ) (n : ℕ) (place : Option ℕ) → IsPartGiven old now home n
@@ -78,10 +72,9 @@ pub given_end : {D : Type 0} {old now : Vols D} {home : ℕ × ℕ} (new : Vols 
     → HasFullMaps (vtoc_at now home.0)
     → new ≡ with_vtoc now home.0 (set (vtoc_at now home.0) home.1 None) → new ≡ given_back old home
 given_end {old = old} {now = now} {home = home} new part full is =
-    let flags : List Bool = records_at now home.0 in
     cc (vols_same (with_vtoc now home.0 (set (vtoc_at now home.0) home.1 None)) (given_back now home) refl
-    (sym (ap (set now.records home.0) (given_none flags (map_at now home) (names_none part full).none) ∙ set-get_or
-    now.records home.0 [])) refl)
+    (sym (ap (set now.records home.0) (given_none (records_at now home.0) (map_at now home) (names_none part full).none)
+    ∙ set-get_or now.records home.0 [])) refl)
 
 pub all_given : {D : Type 0} {old now : Vols D} {home : ℕ × ℕ} {n : ℕ} → IsPartGiven old now home n → n ≡ 256
     → IsPartGiven old now home 256

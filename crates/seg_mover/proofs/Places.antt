@@ -1,5 +1,5 @@
 -- One place of a list of lists, and one entry of the VTOCs.
-use Rattle.seg_mover.proofs.Prelude.{◌≡◌, ℕ, ◌<◌, Bool, [], length, Option, None, Some, IsSome, is_some, refl, ap, ◌∙◌, set, get_or-set_same, Entry, records_in, with_record, Vols, records_at, vtoc_at, with_record_used, entry_of, map_at, with_place, put_here, list_within, some_within}
+use Rattle.seg_mover.proofs.Prelude.{◌≡◌, ℕ, ◌<◌, Bool, [], length, Option, None, Some, IsSome, is_some, refl, ap, set, get_or-set_same, Entry, records_in, with_record, Vols, records_at, vtoc_at, with_record_used, entry_of, map_at, with_place, put_here, list_within, some_within}
 
 pub entry_within : {D : Type 0} (vols : Vols D) (home : ℕ × ℕ) → IsSome (entry_of vols home)
     → home.1 < length (vtoc_at vols home.0)

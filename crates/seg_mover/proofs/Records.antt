@@ -5,11 +5,9 @@ use Rattle.seg_mover.proofs.Prelude.{◌≡◌, ◌≢◌, ◌⊎◌, ℕ, zero,
 pub all_counted : {X : Type 0} (p : X → Bool) (xs : List X) → All (λ x. p x ≡ true) xs → count_by p xs ≡ length xs
 all_counted p [] all = refl
 all_counted p (x ∷ xs) all =
-    let ih : count_by p xs ≡ length xs = all_counted p xs (All-tail (λ y. p y ≡ true) x xs all) in
-    let passes : p x ≡ true = All-head (λ y. p y ≡ true) x xs all in
+    let passes = All-head (λ y. p y ≡ true) x xs all in
     let one : cond {A = ℕ} (p x) 1 0 ≡ 1 = rw passes refl in
-    let step = sum_by-cons (λ y. cond (p y) 1 0) x xs in
-    omega arith
+    omega (arith, all_counted p xs (All-tail (λ y. p y ≡ true) x xs all), sum_by-cons (λ y. cond (p y) 1 0) x xs)
 
 pub not_full : {X : Type 0} (those xs : List (Option X)) → those ≡ xs → count_by is_some xs < length xs
     → All (λ x. is_some x ≡ true) those → ⊥
@@ -19,8 +17,7 @@ not_full those xs same few all = omega (
 )
 
 pub not_all : (flags : List Bool) → count_by (λ flag. flag) flags < length flags → All (λ flag. flag ≡ true) flags → ⊥
-not_all flags few all = let full : count_by (λ (flag : Bool). flag) flags ≡ length flags =
-    all_counted (λ flag. flag) flags all in omega arith
+not_all flags few all = omega (arith, all_counted (λ flag. flag) flags all)
 
 -- ---- the least free record
 
@@ -28,9 +25,8 @@ pub least_there : (flags : List Bool) → count_by (λ flag. flag) flags < lengt
     → (r : ℕ) × (least_free flags ≡ Some r)
 least_there flags few = elim (below_or_past (position_or_len not flags) (length flags)) [
   | inl lt ↦ (position_or_len not flags, rw (lt-ltb (position_or_len not flags) (length flags) lt) refl)
-  | inr past ↦ absurd (let full : count_by (λ (flag : Bool). flag) flags ≡ length flags =
-      all_counted (λ flag. flag) flags (λ k d lt. by_not (get_or flags k d)
-      (fails_before_first not flags k d (omega arith))) in
+  | inr past ↦ absurd (let full = all_counted (λ flag. flag)
+      flags (λ k d lt. by_not (get_or flags k d) (fails_before_first not flags k d (omega arith))) in
       omega arith)
 ]
 
@@ -310,10 +306,9 @@ has_taken flags (None ∷ places) room =
 has_taken flags (Some q ∷ places) room =
     let step = sum_by-cons (λ (place : Option ℕ). cond {A = ℕ} (is_some place) 1 0) (Some q) places in
     let found = least_there flags (omega arith) in
-    let least : IsLeastFree flags found.0 = least_is flags found.0 found.1 in
-    let more = count_with flags found.0 least.within least.free in
-    with_some flags places q found.0 found.1
-    (has_taken (set flags found.0 true) places (omega (arith, length-set flags found.0 true)))
+    let least = least_is flags found.0 found.1 in
+    with_some flags places q found.0 found.1 (has_taken (set flags found.0 true)
+    places (omega (arith, length-set flags found.0 true, count_with flags found.0 least.within least.free)))
 
 -- ---- how many are given back
 
@@ -334,9 +329,9 @@ count_given flags (None ∷ places) kept =
     let step = sum_by-cons (λ (place : Option ℕ). cond {A = ℕ} (is_some place) 1 0) None places in
     omega (arith, count_given flags places (kept_tail None places kept))
 count_given flags (Some r ∷ places) kept =
-    let step = sum_by-cons (λ (place : Option ℕ). cond {A = ℕ} (is_some place) 1 0) (Some r) places in
     omega (
       arith,
       count_without flags r (kept.used 0 r refl),
       count_given (set flags r false) places (kept_tail None places (kept_less 0 r refl kept)),
+      sum_by-cons (λ (place : Option ℕ). cond {A = ℕ} (is_some place) 1 0) (Some r) places,
     )

@@ -88,33 +88,47 @@ kept : {D : Type 0} (pages : D → List (List ℕ)) (old new : Vols D) (home : �
     → words_of pages new home q ≡ words_of pages old home q
 kept pages old new home q tables same = cc (place_kept home q tables)
 
-pub words_others : {D E : Type 0} {pages : D → List (List ℕ)} {old new : Vols D} {m n : Mover} {skip : List Bool}
-    {result : Result Bool E} → Copies pages old new m n skip result → (q : ℕ) → page_to_copy old m skip ≢ Some q
-    → words_of pages new m.to q ≡ words_of pages old m.to q
-words_others {pages} {old} {new} {m} {skip} {result} h q other = kept pages old new m.to q h.tables
-    (elim (after_cases (map pages old.drives) (map pages new.drives) old m (page_to_copy old m skip) result
-    h.step.pages) [
-      | inl same ↦ rw same
-      | inr one ↦ (let copy = copy_of pages old m skip one.0 h.moving h.parts one.1 in
-          elsewhere pages old new m one.0 copy.0 q h.moving copy.1 one.2 (λ same. other (cc))
-          (place_at old m.to q) refl)
-    ])
+-- the page that is copied next isn't before it
+not_before : {D : Type 0} (old : Vols D) (m : Mover) (skip : List Bool) (q : ℕ) → q < m.next
+    → page_to_copy old m skip ≢ Some q
+not_before old m skip q lt is = omega (arith, (least_to_copy old m skip q is).late)
 
-pub pages_source : {D E : Type 0} {pages : D → List (List ℕ)} {old new : Vols D} {m n : Mover} {skip : List Bool}
-    {result : Result Bool E}
-    → Copies pages old new m n skip result → pages_at pages new m.from.0 ≡ pages_at pages old m.from.0
-pages_source {pages} {old} {new} {m} {skip} {result} h =
-    elim (after_cases (map pages old.drives) (map pages new.drives) old m (page_to_copy old m skip) result
-    h.step.pages) [
-      | inl same ↦ ap (λ (disks : List (List (List ℕ))). get_or disks m.from.0 []) same
-      | inr one ↦ rw one.2 (get_or-set_other (map pages old.drives) m.to.0 m.from.0 _ [] h.moving.other)
-    ]
+module _ {D E : Type 0} {pages : D → List (List ℕ)} {old new : Vols D} {m n : Mover} {skip : List Bool}
+    {result : Result Bool E} (h : Copies pages old new m n skip result) where
+  pub words_others : (q : ℕ) → page_to_copy old m skip ≢ Some q
+      → words_of pages new m.to q ≡ words_of pages old m.to q
+  words_others q other = kept pages old new m.to q h.tables
+      (elim (after_cases (map pages old.drives) (map pages new.drives) old m (page_to_copy old m skip) result
+      h.step.pages) [
+        | inl same ↦ rw same
+        | inr one ↦ (let copy = copy_of pages old m skip one.0 h.moving h.parts one.1 in
+            elsewhere pages old new m one.0 copy.0 q h.moving copy.1 one.2 (λ same. other (cc))
+            (place_at old m.to q) refl)
+      ])
 
-words_source : {D E : Type 0} {pages : D → List (List ℕ)} {old new : Vols D} {m n : Mover} {skip : List Bool}
-    {result : Result Bool E}
-    → Copies pages old new m n skip result → (q : ℕ) → words_of pages new m.from q ≡ words_of pages old m.from q
-words_source {pages} {old} {new} {m} {n} {skip} {result} h q =
-    kept pages old new m.from q h.tables (cc (pages_source h))
+  pub pages_source : pages_at pages new m.from.0 ≡ pages_at pages old m.from.0
+  pages_source =
+      elim (after_cases (map pages old.drives) (map pages new.drives) old m (page_to_copy old m skip) result
+      h.step.pages) [
+        | inl same ↦ ap (λ (disks : List (List (List ℕ))). get_or disks m.from.0 []) same
+        | inr one ↦ rw one.2 (get_or-set_other (map pages old.drives) m.to.0 m.from.0 _ [] h.moving.other)
+      ]
+
+  words_source : (q : ℕ) → words_of pages new m.from q ≡ words_of pages old m.from q
+  words_source q =
+      kept pages old new m.from q h.tables (cc (pages_source))
+
+  -- a page of before stays as it is
+  stays : AreCopied pages old m skip → (q : ℕ) → q < m.next
+      → page_to_copy old m skip ≢ Some q → is_to_copy (map_at new m.from) skip q ≡ true
+      → words_of pages new m.to q ≡ words_of pages new m.from q
+  stays done q lt other wanted =
+      words_others q other ∙ done.words q lt (cc (map_kept m.from h.tables)) ∙ sym (words_source q)
+
+  same_mover : AreCopied pages old m skip → AreCopied pages new m skip
+  same_mover done = record {
+    words = λ q lt wanted. stays done q lt (not_before old m skip q lt) wanted;
+  }
 
 pub words_page : {D E : Type 0} {pages : D → List (List ℕ)} {old new : Vols D} {m n : Mover} {skip : List Bool}
     {result : Result Bool E} → Copies pages old new m n skip result → (p : ℕ) → page_to_copy old m skip ≡ Some p
@@ -125,26 +139,6 @@ words_page {E} {pages} {old} {new} {m} {skip} {result = Ok x} h p is =
     here pages old new m p copy.0 copy.1 h.tables (cc)
 
 -- ---- the pages that were copied
-
--- a page of before stays as it is
-stays : {D E : Type 0} {pages : D → List (List ℕ)} {old new : Vols D} {m n : Mover} {skip : List Bool}
-    {result : Result Bool E} → Copies pages old new m n skip result → AreCopied pages old m skip → (q : ℕ) → q < m.next
-    → page_to_copy old m skip ≢ Some q → is_to_copy (map_at new m.from) skip q ≡ true
-    → words_of pages new m.to q ≡ words_of pages new m.from q
-stays {pages} {old} {new} {m} {n} {skip} {result} h done q lt other wanted =
-    words_others h q other ∙ done.words q lt (cc (map_kept m.from h.tables)) ∙ sym (words_source h q)
-
--- the page that is copied next isn't before it
-not_before : {D : Type 0} (old : Vols D) (m : Mover) (skip : List Bool) (q : ℕ) → q < m.next
-    → page_to_copy old m skip ≢ Some q
-not_before old m skip q lt is = omega (arith, (least_to_copy old m skip q is).late)
-
-same_mover : {D E : Type 0} {pages : D → List (List ℕ)} {old new : Vols D} {m n : Mover} {skip : List Bool}
-    {result : Result Bool E}
-    → Copies pages old new m n skip result → AreCopied pages old m skip → AreCopied pages new m skip
-same_mover {old} {m} {skip} h done = record {
-  words = λ q lt wanted. stays h done q lt (not_before old m skip q lt) wanted;
-}
 
 one_more : {D E : Type 0} {pages : D → List (List ℕ)} {old new : Vols D} {m n : Mover} {skip : List Bool} {x : Bool}
     (p : ℕ) → Copies {E = E} pages old new m n skip (Ok x) → AreCopied pages old m skip

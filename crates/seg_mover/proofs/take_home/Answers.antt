@@ -20,8 +20,8 @@ take_record-requires-clause-room g c =
 
 pub loop-p-preserved : goal.loop-p-preserved
 loop-p-preserved g c =
-    begun_more c.take_record.new.v (can_store c.requires c.take_entry.ensures.least c.size.ensures.places
-    (search rules)) c.loop-p.invariant (search rules) c.take_record.ensures.none c.take_record.ensures.some
+    begun_more (can_store c.requires c.take_entry.ensures.least c.size.ensures.places (search rules)) c.loop-p.invariant
+    c.take_record.new.v (search rules) c.take_record.ensures.none c.take_record.ensures.some
 
 pub returns-clause-begun : goal.returns-clause-begun
 returns-clause-begun g c =

@@ -12,5 +12,4 @@ copy_page-requires-clause-named g c = named_from (place_at c.args.v.now c.args.s
 
 pub overflow_add-self : goal.overflow_add-self
 overflow_add-self g c =
-    let least = least_to_copy c.args.v.now c.args.self.now c.args.skip.now c.in-Some.p (search rules) in
-    omega arith
+    omega (arith, least_to_copy c.args.v.now c.args.self.now c.args.skip.now c.in-Some.p (search rules))
