@@ -16,37 +16,23 @@ adds_reverse frames [] ok = tt
 adds_reverse frames (e ∷ es) ok = subst (AreAdds frames) (sym (reverse-append (e ∷ []) es))
     (adds_append frames (reverse es) (e ∷ []) (adds_reverse frames es ok.0) (tt, ok.1, ok.2))
 
-tail_of : List (ℕ × Touch) → List (ℕ × Touch)
-tail_of [] = []
-tail_of (t ∷ ts) = ts
-
--- the first of two equal lists, and the rest
-cons_parts : (t u : ℕ × Touch) (ts us : List (ℕ × Touch)) → t ∷ ts ≡ u ∷ us → (t ≡ u) × (ts ≡ us)
-unfolding tail_of
-cons_parts t u ts us e = (ap (λ l. get_or l 0 t) e, ap tail_of e)
-
 pub done_count : (frames x n : ℕ) (es : List Made) → map deed es ≡ done frames x n → length es ≡ n
 done_count frames x zero [] is = refl
-done_count frames x zero (e ∷ es) is = let c : length (map deed (e ∷ es)) ≡ 0 =
-    ap (λ (l : List (ℕ × Touch)). length l) is in absurd (omega arith)
-done_count frames x (suc n) [] is = let c : 0 ≡ length (done frames x (suc n)) =
-    ap (λ (l : List (ℕ × Touch)). length l) is in absurd (omega arith)
-done_count frames x (suc n) (e ∷ es) is = ap suc (done_count frames x n es
-    (cons_parts (deed e) (add_at frames x n) (map deed es) (done frames x n) is).1)
+done_count frames x zero (e ∷ es) is = cc
+done_count frames x (suc n) [] is = cc
+done_count frames x (suc n) (e ∷ es) is = ap suc (done_count frames x n es (cc))
 
 pub done_adds : (frames x n : ℕ) (es : List Made) → 0 < frames → map deed es ≡ done frames x n → AreAdds frames es
 unfolding drawn
 done_adds frames x n [] some is = tt
-done_adds frames x zero (e ∷ es) some is = let c : length (map deed (e ∷ es)) ≡ 0 =
-    ap (λ (l : List (ℕ × Touch)). length l) is in absurd (omega arith)
+done_adds frames x zero (e ∷ es) some is = cc
 done_adds frames x (suc n) (e ∷ es) some is =
-    let parts = cons_parts (deed e) (add_at frames x n) (map deed es) (done frames x n) is in
-    let frame : e.frame ≡ drawn frames (next_state (state_after n x)) = ap (λ t. t.0) parts.0 in
-    let below : drawn frames (next_state (state_after n x)) < frames =
-    mod-lt (next_state (state_after n x) / 2 ^ 33) some in
-    let touch : e.touch ≡ Add 0 (word_at n) = ap (λ t. t.1) parts.0 in
+    let first : deed e ≡ add_at frames x n = cc in
+    let frame : e.frame ≡ drawn frames (next_state (state_after n x)) = ap (λ t. t.0) first in
+    let below = mod-lt (next_state (state_after n x) / 2 ^ 33) some in
+    let touch : e.touch ≡ Add 0 (word_at n) = ap (λ t. t.1) first in
     let word : added e.touch ≡ word_at n = ap added touch in
-    (done_adds frames x n es some parts.1, omega (arith, frame, below), touch ∙ ap (λ w. Add 0 w) (sym word))
+    (done_adds frames x n es some (cc), omega (arith, frame, below), touch ∙ ap (λ w. Add 0 w) (sym word))
 
 -- the words that these touches add, added up
 abbrev pub weigh : List Made → ℕ
@@ -61,9 +47,7 @@ pub weigh_reverse : (es : List Made) → weigh (reverse es) ≡ weigh es
 weigh_reverse [] = refl
 weigh_reverse (e ∷ es) =
     let more : weigh (reverse (e ∷ es)) ≡ weigh (reverse es ++ e ∷ []) = ap weigh (reverse-append (e ∷ []) es) in
-    let both = weigh_append (reverse es) (e ∷ []) in
-    let rest = weigh_reverse es in
-    omega (arith, more, both, rest)
+    omega (arith, more, weigh_append (reverse es) (e ∷ []), weigh_reverse es)
 
 weigh_deeds : (es : List Made) → sum_of (map deed es) ≡ weigh es
 weigh_deeds [] = refl
@@ -83,13 +67,10 @@ weigh_of (e ∷ es) f b = weigh_of es f b + weight e f b
 
 adds_word : (t : Touch) (w : ℕ) (page : List ℕ) → t ≡ Add 0 w → length page ≡ 1024
     → (get_or (touched t page) 0 0 ≡ (get_or page 0 0 + w) % 2 ^ 36) × (length (touched t page) ≡ 1024)
-adds_word t w page is size =
-    let P : Touch → Type 0 = λ u. (get_or (touched u page) 0 0 ≡ (get_or page 0 0 + w) % 2 ^ 36)
-    × (length (touched u page) ≡ 1024) in
-    subst P (sym is) (
-      get_or-set_same page 0 ((get_or page 0 0 + w) % 2 ^ 36) 0 (omega arith),
-      length-set page 0 ((get_or page 0 0 + w) % 2 ^ 36) ∙ size,
-    )
+adds_word t w page is size = rw is (
+  get_or-set_same page 0 ((get_or page 0 0 + w) % 2 ^ 36) 0 (omega arith),
+  length-set page 0 ((get_or page 0 0 + w) % 2 ^ 36) ∙ size,
+)
 
 adds_if : (b : Bool) (t : Touch) (w : ℕ) (page : List ℕ) → t ≡ Add 0 w → length page ≡ 1024 → get_or page 0 0 < 2 ^ 36
     → (get_or (touched_if b t page) 0 0 ≡ (get_or page 0 0 + cond b w 0) % 2 ^ 36)
@@ -104,9 +85,8 @@ pub first_word : (frames : ℕ) (es : List Made) (pages : Given) (f b : ℕ) →
 first_word frames [] pages f b ok size small = omega arith
 first_word frames (e ∷ es) pages f b ok size small =
     let one = adds_if (is_of f b e) e.touch (added e.touch) (pages f b) ok.2 size small in
-    let rest = first_word frames es (touching e pages) f b ok.0 one.1 (let w = one.0 in omega arith) in
     let w = one.0 in
-    omega (arith, rest, w)
+    omega (arith, first_word frames es (touching e pages) f b ok.0 one.1 (omega (arith, one.0)), w)
 
 adds_of_if : (t : Bool) (frames : ℕ) (e : Made) (es : List Made) → AreAdds frames (mine_if t e es) → AreAdds frames es
 adds_of_if true frames e es ok = ok.0

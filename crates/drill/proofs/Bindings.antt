@@ -59,19 +59,15 @@ one_binding e bs c n turn count frame binding =
     let ended = ended_point e bs turn in
     let last = last_point e c n frame in
     let at = count e.frame in
-    dite (ℕ_discrete e.binding (c e.frame))
-    (λ (here : e.binding ≡ c e.frame). let v = at_here (added e.touch) e.binding (c e.frame) here in let z =
-    ended.1 (omega arith) in omega (arith, last, v, z))
-    (λ (other : e.binding ≢ c e.frame). let v = at_else (added e.touch) e.binding (c e.frame) other in let z =
-    ended.0 (omega arith) in
-    omega (arith, last, v, z))
+    dite (ℕ_discrete e.binding (c e.frame)) (λ (here : e.binding ≡ c e.frame). let v = at_here (added e.touch) e.binding
+    (c e.frame) here in omega (arith, last, v, ended.1 (omega arith))) (λ (other : e.binding ≢ c e.frame). let v =
+    at_else (added e.touch) e.binding (c e.frame) other in omega (arith, last, v, ended.0 (omega arith)))
 
 -- all that was added to all bindings is all that was added
 pub bindings_sum : (cpus frames : ℕ) (plan : Watch) (es : List Made) (bs : List Bound) → AreInTurn bs
     → ((f : ℕ) → current plan f ≡ ended_of f bs) → AreOfBindings cpus plan es → AreAdds frames es
     → ended_sum (weigh_of es) bs + last_sum (λ f. weigh_of es f (current plan f)) frames ≡ weigh es
-bindings_sum cpus frames plan [] bs turn count ok adds = let e = ended_zero bs in let l =
-    last_zero frames in omega (arith, e, l)
+bindings_sum cpus frames plan [] bs turn count ok adds = omega (arith, ended_zero bs, last_zero frames)
 bindings_sum cpus frames plan (e ∷ es) bs turn count ok adds =
     let rest = bindings_sum cpus frames plan es bs turn count ok.0 adds.0 in
     let one = one_binding e bs (current plan) frames turn count adds.1 ok.2 in

@@ -1,6 +1,6 @@
 -- What is known once the pages are closed: each processor's touches are the first ones of its work, and the total is
 -- right.
-use Rattle.drill.proofs.Prelude.{◌≡◌, ◌≢◌, ℕ, zero, suc, ◌+◌, ◌%◌, ◌^◌, ◌<◌, ◌≤◌, Bool, true, false, cond, eqb, ◌&&◌, List, [], ◌∷◌, ◌++◌, map, reverse, take, replicate, length, get_or, All, sum, sym, ap, subst, refl, ◌∙◌, arith, length-reverse, reverse-append, length-append, get_or_append_left, get_or-append-add, take-append-le, take_all, length-replicate, get_or-replicate, Touch, Made, Bound, Holder, page_given, mine, current, PagesModel, PassModel, KeeperModel, IsKeeperOf, taking_all_in, in_order, made_by, pages_after, Binding, ended_bindings, last_bindings, all_bindings, IsLeftAfterAll, IsOfOneThread, add_at, work_of, added, deed, AreFirstOf, sums_of, done, words_to, words_left, TookZeros, AreDone, missing, made_count, first_words}
+use Rattle.drill.proofs.Prelude.{◌≡◌, ◌≢◌, ℕ, zero, suc, ◌+◌, ◌%◌, ◌^◌, ◌<◌, ◌≤◌, Bool, true, false, cond, eqb, ◌&&◌, List, [], ◌∷◌, ◌++◌, map, reverse, take, replicate, length, get_or, All, sum, sym, ap, subst, refl, ◌∙◌, arith, length-reverse, map-append, reverse-append, length-append, get_or_append_left, get_or-append-add, take-append-le, take_all, length-replicate, get_or-replicate, Touch, Made, Bound, Holder, page_given, mine, current, PagesModel, PassModel, KeeperModel, IsKeeperOf, taking_all_in, in_order, made_by, pages_after, Binding, ended_bindings, last_bindings, all_bindings, IsLeftAfterAll, IsOfOneThread, add_at, work_of, added, deed, AreFirstOf, sums_of, done, words_to, words_left, TookZeros, AreDone, missing, made_count, first_words}
 use mathlib.Core.Logic.{dite}
 use native.Mathlib.Decide.{ℕ_discrete}
 use Rattle.drill.proofs.Words.{words_few}
@@ -10,29 +10,21 @@ use Rattle.drill.proofs.Bindings.{bindings_sum, cpus_sum}
 use Rattle.drill.proofs.Parts.{same_ended, touches_at, IsWorkTo, parts_work, made_by_all, parts_sum, count_all, made_missing}
 use Rattle.live_doors.specs.declared.rule.TheConstants.{MOST_CPUS}
 
-map_append : (xs ys : List Made) → map deed (xs ++ ys) ≡ map deed xs ++ map deed ys
-map_append [] ys = refl
-map_append (x ∷ xs) ys = ap (λ l. deed x ∷ l) (map_append xs ys)
-
-reverse_more : {A : Type 0} (x : A) (xs : List A) → reverse (x ∷ xs) ≡ reverse xs ++ x ∷ []
-reverse_more x xs = reverse-append (x ∷ []) xs
-
 reverse_deeds : (es : List Made) → map deed (reverse es) ≡ reverse (map deed es)
 reverse_deeds [] = refl
-reverse_deeds (e ∷ es) = ap (λ (l : List Made). map deed l) (reverse_more e es) ∙ map_append (reverse es) (e ∷ [])
-    ∙ ap (λ (l : List (ℕ × Touch)). l ++ deed e ∷ []) (reverse_deeds es) ∙ sym (reverse_more (deed e) (map deed es))
+reverse_deeds (e ∷ es) = ap (λ (l : List Made). map deed l) (reverse-append (e ∷ []) es)
+    ∙ map-append deed (reverse es) (e ∷ []) ∙ ap (λ (l : List (ℕ × Touch)). l ++ deed e ∷ []) (reverse_deeds es)
+    ∙ sym (reverse-append (deed e ∷ []) (map deed es))
 
 reverse_done : (frames x n : ℕ) → reverse (done frames x n) ≡ work_of frames x n
 reverse_done frames x zero = refl
-reverse_done frames x (suc n) = reverse_more (add_at frames x n) (done frames x n)
+reverse_done frames x (suc n) = reverse-append (add_at frames x n ∷ []) (done frames x n)
     ∙ ap (λ (l : List (ℕ × Touch)). l ++ add_at frames x n ∷ []) (reverse_done frames x n)
 
 work_count : (frames x n : ℕ) → length (work_of frames x n) ≡ n
 work_count frames x zero = refl
 work_count frames x (suc n) =
-    let l = length-append (work_of frames x n) (add_at frames x n ∷ []) in
-    let rest = work_count frames x n in
-    omega (arith, l, rest)
+    omega (arith, length-append (work_of frames x n) (add_at frames x n ∷ []), work_count frames x n)
 
 work_take : (frames x k n : ℕ) → k ≤ n → take k (work_of frames x n) ≡ work_of frames x k
 work_take frames x k zero le = let e : k ≡ 0 = omega arith in ap (λ m. take m (work_of frames x 0)) e
@@ -49,11 +41,10 @@ work_take frames x k (suc n) le =
 first_of_work : (pages : PagesModel) (seed adds cpu : ℕ) (made : List Made) → IsWorkTo pages seed adds cpu made
     → AreFirstOf (work_of pages.frames (seed + cpu) adds) (reverse made)
 first_of_work pages seed adds cpu made ok =
-    let x : ℕ = seed + cpu in
-    let count : length (reverse made) ≡ length made = length-reverse made in
-    reverse_deeds made ∙ ap (λ (l : List (ℕ × Touch)). reverse l) ok.deeds ∙ reverse_done pages.frames x (length made)
-    ∙ sym (work_take pages.frames x (length made) adds ok.few)
-    ∙ ap (λ n. take n (work_of pages.frames x adds)) (sym count)
+    let x = seed + cpu in
+    reverse_deeds made ∙ ap (λ (l : List (ℕ × Touch)). reverse l) ok.deeds
+    ∙ reverse_done pages.frames x (length made) ∙ sym (work_take pages.frames x (length made) adds ok.few)
+    ∙ ap (λ n. take n (work_of pages.frames x adds)) (sym (length-reverse made))
 
 zeros_if : (t : Bool) (x y : List ℕ) → x ≡ replicate 1024 0 → y ≡ replicate 1024 0 → cond t x y ≡ replicate 1024 0
 zeros_if true x y p q = p
@@ -66,8 +57,7 @@ given_zeros (x ∷ xs) f b ok = zeros_if (eqb f x.frame && eqb b (x.binding + 1)
     (given_zeros xs f b ok.0)
 
 all_front : {X : Type 0} (P : X → Type 0) (xs ys : List X) → All P (xs ++ ys) → All P xs
-all_front P xs ys all i d lt = subst P (get_or_append_left xs ys d i lt)
-    (all i d (let l = length-append xs ys in omega (arith, l)))
+all_front P xs ys all i d lt = subst P (get_or_append_left xs ys d i lt) (all i d (omega (arith, length-append xs ys)))
 
 all_back : {X : Type 0} (P : X → Type 0) (xs ys : List X) → All P (xs ++ ys) → All P ys
 all_back P xs ys all i d lt = subst P (get_or-append-add xs ys i d)
@@ -181,10 +171,9 @@ module _ (pages : PagesModel) (seed adds : ℕ) (ps : List PassModel) (keeper : 
       let at : 0 + pages.cpus ≡ pages.cpus = omega arith in
       let from = ap (last_sum (λ c. measure (touches_at ps keeper.holder c))) at in
       let count = ap (range_sum (λ c. measure (touches_at ps keeper.holder c)) 0) end.all in
-      let all = end.all in
-      let parts = end.kept.parts in
-      let made = parts_sum measure pages seed adds ps 0 keeper.holder end.done (omega arith) in
-      omega (arith, touched, each, range, from, count, made)
+      let made =
+      parts_sum measure pages seed adds ps 0 keeper.holder end.done (omega (arith, end.all, end.kept.parts)) in
+      omega (arith, touched, each, range, from, count, made, end.all, end.kept.parts)
 
   pub touches : made_count ps ≡ length (in_order shown)
   touches = sym (made_all (λ (es : List Made). length es) (λ e. 1) refl (λ e es. omega arith)

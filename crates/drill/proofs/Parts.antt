@@ -18,9 +18,8 @@ touches_at ps k c = touches_in (get_or (taking_all_in ps k).parts c Out)
 part_here : (p : PassModel) (ps : List PassModel) (k : Holder) (c : ℕ) → p.walker.walk.cpu ≡ c → c < length k.parts
     → touches_at (p ∷ ps) k c ≡ p.walker.made
 part_here p ps k c is below =
-    let room : c < length (taking_all_in ps k).parts = (let s = parts_stay ps k in omega arith) in
-    ap (λ i. touches_in (get_or (set (taking_all_in ps k).parts i (In p.walker.made)) c Out)) is
-    ∙ ap touches_in (get_or-set_same (taking_all_in ps k).parts c (In p.walker.made) Out room)
+    ap (λ i. touches_in (get_or (set (taking_all_in ps k).parts i (In p.walker.made)) c Out)) is ∙ ap touches_in
+    (get_or-set_same (taking_all_in ps k).parts c (In p.walker.made) Out (omega (arith, parts_stay ps k)))
 
 part_else : (p : PassModel) (ps : List PassModel) (k : Holder) (c : ℕ) → c ≢ p.walker.walk.cpu
     → touches_at (p ∷ ps) k c ≡ touches_at ps k c

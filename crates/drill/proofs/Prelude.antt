@@ -2,7 +2,7 @@
 pub use Rattle.std.proofs.Common.{All, Bool, List, Option, Some, [], add-one, ap, arith, cond, drop, eqb, false, get_or, get_or-set_other, get_or-set_same, length, length-set, map, mod-lt, option_to_list, refl, replicate, reverse, rules, set, slice_index, string_bytes, subst, suc, sum, sym, take, true, vec_capacity, vec_len, zero, ℕ, ◌%◌, ◌&&◌, ◌*◌, ◌++◌, ◌+◌, ◌-◌, ◌/◌, ◌<◌, ◌^◌, ◌∙◌, ◌∷◌, ◌≡◌, ◌≢◌, ◌≤◌}
 pub use Rattle.std.proofs.Math.Seq.{get_or-append_seam}
 pub use Rattle.std.proofs.lemmas.Bool.{eq-eqb, ne_eqb}
-pub use Rattle.std.proofs.lemmas.List.{get_or-append-add, get_or-replicate, get_or_append_left, length-append, length-replicate, length-reverse, reverse-append, reverse-reverse, take-append-le, take_all}
+pub use Rattle.std.proofs.lemmas.List.{get_or-append-add, get_or-replicate, get_or_append_left, length-append, length-replicate, length-reverse, map-append, reverse-append, reverse-reverse, take-append-le, take_all}
 pub use Rattle.std.proofs.lemmas.List.Elements.{All-pop, All-push}
 pub use Rattle.std.proofs.lemmas.List.Sums.{sum_by-append}
 unfoldable pub use Rattle.draws.specs.Draws.{drawn, next_state}

@@ -4,18 +4,10 @@ use mathlib.Core.Logic.{dite}
 use native.Mathlib.Decide.{ℕ_discrete}
 use Rattle.drill.proofs.Adds.{done_count}
 
-tail_of : {X : Type 0} → List X → List X
-tail_of [] = []
-tail_of (x ∷ xs) = xs
-
 snoc_parts : {X : Type 0} (xs ys : List X) (x y : X) → xs ++ x ∷ [] ≡ ys ++ y ∷ [] → (xs ≡ ys) × (x ≡ y)
-unfolding tail_of
 snoc_parts xs ys x y e =
     let turned : x ∷ reverse xs ≡ y ∷ reverse ys = sym (reverse-append xs (x ∷ [])) ∙ ap (λ l. reverse l) e
-    ∙ reverse-append ys (y ∷ []) in (
-      sym (reverse-reverse xs) ∙ ap (λ l. reverse (tail_of l)) turned ∙ reverse-reverse ys,
-      ap (λ l. get_or l 0 x) turned,
-    )
+    ∙ reverse-append ys (y ∷ []) in (cc (reverse-reverse xs, reverse-reverse ys), cc)
 
 -- the row before its last one was taken
 popped_is : {X : Type 0} (xs ys : List X) (r : Option X) (x : X) → xs ≡ ys ++ option_to_list r → r ≡ Some x → xs ≡ ys
@@ -23,9 +15,8 @@ popped_is : {X : Type 0} (xs ys : List X) (r : Option X) (x : X) → xs ≡ ys +
 popped_is xs ys r x popped some = popped ∙ ap (λ o. ys ++ option_to_list o) some
 
 each_rest : (ok : ℕ → Role → Type 0) (xs : List Role) (x : Role) → EachRole ok (xs ++ x ∷ []) → EachRole ok xs
-each_rest ok xs x each place d lt = subst (ok place) (get_or_append_left xs (x ∷ []) d place lt)
-    (each place d (let l = length-append xs (x ∷ []) in
-    omega (arith, l)))
+each_rest ok xs x each place d lt = rw (get_or_append_left xs (x ∷ []) d place lt)
+    at (each place d (omega (arith, length-append xs (x ∷ []))))
 
 each_last : (ok : ℕ → Role → Type 0) (xs : List Role) (x : Role) → EachRole ok (xs ++ x ∷ []) → ok (length xs) x
 each_last ok xs x each = subst (ok (length xs)) (get_or-append_seam xs x [] x)
@@ -34,11 +25,10 @@ each_last ok xs x each = subst (ok (length xs)) (get_or-append_seam xs x [] x)
 each_push : (ok : ℕ → Role → Type 0) (xs : List Role) (x : Role) → EachRole ok xs → ok (length xs) x
     → EachRole ok (xs ++ x ∷ [])
 each_push ok xs x each last place d lt =
-    let l = length-append xs (x ∷ []) in
     dite (ℕ_discrete place (length xs))
     (λ (here : place ≡ length xs). subst (λ p. ok p (get_or (xs ++ x ∷ []) p d)) (sym here)
     (subst (ok (length xs)) (sym (get_or-append_seam xs x [] d)) last)) (λ (other : place ≢ length xs).
-    let below : place < length xs = omega (arith, l) in
+    let below : place < length xs = omega (arith, length-append xs (x ∷ [])) in
     subst (ok place) (sym (get_or_append_left xs (x ∷ []) d place below)) (each place d below))
 
 last_of_all : {X : Type 0} (P : X → Type 0) (xs : List X) (x : X) → All P (xs ++ x ∷ []) → P x
@@ -106,10 +96,8 @@ done_push pages seed adds cpus roles rest r role w row now popped some works eac
     subst (EachRole (RoleDone pages seed adds cpus)) is each in
     let last = each_last (RoleDone pages seed adds cpus) rest (Works w) whole in
     let own = last.0 in
-    let place = last.1 in
     let number = done_count pages.frames (seed + w.cpu) w.done w.pass.walker.made own.made in
     let few = own.few in
-    let cpu = own.cpu in
     let has : HasDone pages seed (length w.pass.walker.made) w.pass =
     record {
       pass = own.pass;
@@ -118,8 +106,8 @@ done_push pages seed adds cpus roles rest r role w row now popped some works eac
     } in (
       each_rest (RoleDone pages seed adds cpus) rest (Works w) whole,
       subst (All (IsPassOf pages)) (sym put) (All-push (IsPassOf pages) row w.pass all own.pass),
-      subst (AreDone pages seed adds 0) (sym put) (done_more pages seed adds 0 row w.pass are (omega arith) has
-          (omega arith)),
+      subst (AreDone pages seed adds 0) (sym put) (done_more pages
+          seed adds 0 row w.pass are (omega (arith, last.1, own.cpu)) has (omega (arith, last.1, own.cpu))),
       ap (missing adds) put ∙ missing_more adds row w.pass
           ∙ ap (λ k. missing adds row + (words_to adds - words_to k)) number,
       ap made_count put ∙ count_more row w.pass ∙ ap (λ k. made_count row + k) number,

@@ -41,17 +41,14 @@ last_range h zero first = let e : first + 0 ≡ first = omega arith in let s : l
 last_range h (suc n) first =
     let e : first + suc n ≡ first + 1 + n = omega arith in
     let s : last_sum h (first + suc n) ≡ last_sum h (first + 1 + n) = ap (last_sum h) e in
-    let rest = last_range h n (first + 1) in
-    let more = last_more h first in
-    omega (arith, s, rest, more)
+    omega (arith, s, last_range h n (first + 1), last_more h first)
 
 pub range_same : (h g : ℕ → ℕ) (n first : ℕ) → ((i : ℕ) → first ≤ i → h i ≡ g i) → range_sum h first n
     ≡ range_sum g first n
 range_same h g zero first same = refl
 range_same h g (suc n) first same =
     let e = range_same h g n (first + 1) (λ i le. same i (omega arith)) in
-    let s = same first (omega arith) in
-    omega (arith, e, s)
+    omega (arith, e, same first (omega arith))
 
 pub ended_add : (h g : ℕ → ℕ → ℕ) (bs : List Bound) → ended_sum (λ f b. h f b + g f b) bs
     ≡ ended_sum h bs + ended_sum g bs
@@ -91,6 +88,4 @@ pub all_sums : (frames adds seed n : ℕ) → sum (sums_of frames adds seed n) �
 all_sums frames adds seed zero = refl
 all_sums frames adds seed (suc n) =
     let e = sum_by-append (λ (y : ℕ). y) (sums_of frames adds seed n) (sum_of (work_of frames (seed + n) adds) ∷ []) in
-    let w = work_sum frames (seed + n) adds in
-    let s = all_sums frames adds seed n in
-    omega (arith, e, w, s)
+    omega (arith, e, work_sum frames (seed + n) adds, all_sums frames adds seed n)

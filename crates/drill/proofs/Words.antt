@@ -22,9 +22,8 @@ words_few (suc n) = let e = words_few n in omega (arith, e)
 
 pub words_mono : (m n : ℕ) → m ≤ n → words_to m ≤ words_to n
 words_mono m zero le = let e : m ≡ 0 = omega arith in let w : words_to m ≡ 0 = ap words_to e in omega (arith, w)
-words_mono m (suc n) le = dite (ℕ_discrete m (suc n))
-    (λ (here : m ≡ suc n). let w : words_to m ≡ words_to n + word_at n = ap words_to here in omega (arith, w))
-    (λ (other : m ≢ suc n). let w = words_mono m n (omega arith) in omega (arith, w))
+words_mono m (suc n) le = dite (ℕ_discrete m (suc n)) (λ (here : m ≡ suc n). let w : words_to m ≡ words_to n + word_at
+    n = ap words_to here in omega (arith, w)) (λ (other : m ≢ suc n). omega (arith, words_mono m n (omega arith)))
 
 pub sums_more : (frames adds seed n : ℕ) → sums_of frames adds seed (n + 1) ≡ sums_of frames adds seed n
     ++ words_to adds ∷ []

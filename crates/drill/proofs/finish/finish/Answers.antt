@@ -1,4 +1,4 @@
-use Rattle.drill.proofs.Prelude.{rules, ◌≡◌, ℕ, ◌+◌, ◌%◌, ◌^◌, length, sum, sym, ap, subst, ◌∙◌, arith, made_by, work_of, AreFirstOf, sums_of, first_words}
+use Rattle.drill.proofs.Prelude.{rules, ◌+◌, ◌%◌, ◌^◌, length, sum, sym, ap, subst, ◌∙◌, arith, made_by, work_of, AreFirstOf, sums_of, first_words}
 use Rattle.drill.proofs.Rows.{done_all}
 use Rattle.drill.proofs.Closing.{AtClose, front, ended_is, touches, total}
 use Rattle.drill.proofs.finish.finish.Goals as goal
@@ -24,11 +24,10 @@ returns-clause-end c =
       one_thread = c.close-ended.ensures.one_thread;
       after = c.close-ended.ensures.left;
     } in
-    let s : ℕ = c.args.kept.sum in
-    let u : ℕ = c.args.unmade in
+    let s = c.args.kept.sum in
+    let u = c.args.unmade in
     let cpus = c.requires.size.0 in
-    let at : c.with_pages-total.result ≡ ((s + u) % 2 ^ 36 + first_words (length ended.pages.items) ended.pages.items)
-    % 2 ^ 36 =
+    let at =
     c.with_pages-total.ensures ∙ ap (λ x. (x + first_words (length c.deref.result.now) c.deref.result.now) % 2 ^ 36)
     c.plus.ensures ∙ ap (λ l. ((s + u) % 2 ^ 36 + first_words (length l) l) % 2 ^ 36) c.deref.ensures.value in record {
       front = λ cpu below. subst (λ f. AreFirstOf (work_of f (size.seed + cpu) size.adds) (made_by cpu ended.shown))

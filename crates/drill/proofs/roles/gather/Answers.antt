@@ -9,8 +9,7 @@ loop-role-preserved c =
     let size = c.args.size in
     let less : vec_len rest + 1 ≡ vec_len c.loop-role.roles = search rules in
     let count : length rest.items + 1 + length row.items ≡ size.cpus =
-    (let k = rest.ok.0 in let l = row.ok.0 in let e = c.loop-role.invariant.1 in
-    omega (arith, k, l, e, less)) in
+    omega (arith, rest.ok.0, row.ok.0, c.loop-role.invariant.1, less) in
     let step = done_push c.args.pages.now size.seed size.adds size.cpus c.loop-role.roles.items rest.items c.pop.result
     c.in-Some.role c.in-Works.worker row.items c.push_reserved.new.self.items
     c.pop.ensures.items c.in-Some.is c.in-Works.is c.loop-role.invariant.0 c.loop-role.invariant.3

@@ -1,4 +1,4 @@
-use Rattle.drill.proofs.Prelude.{rules, ℕ, ◌+◌, ◌≡◌, length, vec_len, sym, ap, ◌∙◌, arith, first_passes}
+use Rattle.drill.proofs.Prelude.{rules, ◌+◌, ◌≡◌, length, vec_len, sym, ap, ◌∙◌, arith, first_passes}
 use Rattle.drill.proofs.Rows.{fresh_push}
 use Rattle.live_pages.proofs.Calls.{first_count}
 use Rattle.drill.proofs.roles.seat.Goals as goal
@@ -6,8 +6,7 @@ use Rattle.drill.proofs.roles.seat.Goals as goal
 pub loop-pass-init : goal.loop-pass-init
 loop-pass-init c =
     let pages = c.args.pages.now in
-    let count : vec_len c.args.passes ≡ pages.cpus = c.args.passes.ok.0 ∙ ap (λ l. length l) c.requires.passes
-    ∙ first_count pages pages.cpus in
+    let count = c.args.passes.ok.0 ∙ ap (λ l. length l) c.requires.passes ∙ first_count pages pages.cpus in
     let none = c.in_ok-roles.ensures.len in
     let room = c.in_ok-roles.ensures.capacity in
     let len = c.len.ensures in (
@@ -22,9 +21,8 @@ pub loop-pass-preserved : goal.loop-pass-preserved
 loop-pass-preserved c =
     let before = c.loop-pass.passes in
     let roles = c.loop-pass.roles in
-    let n : ℕ = vec_len before in
-    let count : n + length roles.items ≡ c.args.pages.now.cpus =
-    (let l = roles.ok.0 in let e = c.loop-pass.invariant.1 in omega (arith, l, e)) in
+    let n = vec_len before in
+    let count : n + length roles.items ≡ c.args.pages.now.cpus = omega (arith, roles.ok.0, c.loop-pass.invariant.1) in
     let less : n ≡ vec_len c.pop.new.self + 1 = search rules in
     let step = fresh_push c.args.pages.now roles.items c.push_reserved.new.self.items before.items c.pop.new.self.items
     c.pop.result c.in-Some.pass n (vec_len c.pop.new.self) (vec_len c.pop.new.self)

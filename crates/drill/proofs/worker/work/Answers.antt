@@ -7,6 +7,4 @@ try_add-requires-clause-few g c =
     let w = c.loop-i.worker in
     let count = done_count c.args.size.frames (c.args.size.seed + w.cpu) c.loop-i.i w.pass.walker.made
     c.loop-i.invariant.4 in
-    let few = c.requires.adds in
-    let at = c.loop-i.invariant.6 in
-    omega (arith, count, few, at)
+    omega (arith, count, c.requires.adds, c.loop-i.invariant.6)
