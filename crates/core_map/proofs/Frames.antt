@@ -1,20 +1,5 @@
-use Rattle.std.proofs.Common.{◌≡◌, ℕ, zero, suc, ◌+◌, ◌<◌, ◌≤◌, ◌^◌, Bool, true, false, not, cond, List, [], ◌∷◌}
-use Rattle.std.proofs.Common.{length, Option, None, Some, refl, sym, ap}
-use Rattle.std.proofs.Common.{◌∙◌, arith, get_or, set, replicate, map, inl, inr, All, IfSome, IfNone}
-use Rattle.std.specs.List.{prefix_len, list_any}
-use Rattle.std.proofs.lemmas.List.{map-set, get_or-map, get_or_past, length-map, length-set, length-replicate}
-use Rattle.std.proofs.lemmas.List.{get_or-set_same, get_or-set_other, set-get_or}
-use Rattle.std.proofs.lemmas.List.{get_or_read, set_past}
-use Rattle.std.proofs.lemmas.List.Elements.{All-get_or, All-from_get_or}
-use Rattle.bitmap.specs.Bitmap.{in_use, least_free, IsLeastFree}
-use Rattle.core_map.specs.declared.Frame.{Frame}
-use Rattle.core_map.specs.declared.Frame.TheVariants.{Free, Started, Bound}
-use Rattle.core_map.specs.CoreMap.{Core, is_free, is_taken, is_bound, started_page, after_reference, with_modified}
-use Rattle.core_map.specs.CoreMap.{least_free_frame, IsLeastFreeFrame}
-use Rattle.core_map.specs.Clock.{frame_in, unmarked}
-use Rattle.core_map.specs.Taken.{IsTied}
-use Rattle.laws.proofs.Numbers.{below_or_past}
-use Rattle.laws.proofs.Places.{map_kept}
+use Rattle.core_map.proofs.Prelude.{◌≡◌, ℕ, zero, suc, ◌+◌, ◌<◌, ◌≤◌, ◌^◌, Bool, true, false, not, cond, List, [], ◌∷◌, length, Option, None, Some, refl, sym, ap, ◌∙◌, arith, get_or, set, replicate, map, inl, inr, All, IfSome, IfNone, prefix_len, list_any, map-set, get_or-map, get_or_past, length-map, length-set, length-replicate, get_or_read, set_past, All-get_or, All-from_get_or, in_use, least_free, IsLeastFree, Frame, Core, is_free, is_taken, is_bound, started_page, after_reference, with_modified, least_free_frame, IsLeastFreeFrame, frame_in, unmarked, IsTied, below_or_past, map_kept}
+use Rattle.core_map.specs.declared.Frame.TheVariants.{Free, Bound}
 
 -- What a change of marks leaves as it is: whether the frame is taken, and which page is being read in.
 pub record IsSeenAs (x y : Frame) : Type 0 where
@@ -23,33 +8,27 @@ pub record IsSeenAs (x y : Frame) : Type 0 where
 
 pub seen_unmarked : (x : Frame) → IsSeenAs (unmarked x) x
 seen_unmarked Free = assumption
-seen_unmarked (Started uid page) = assumption
-seen_unmarked (Bound uid page used modified) = assumption
+seen_unmarked _ = assumption
 
 pub seen_referred : (x : Frame) (wrote : Bool) → IsSeenAs (after_reference x wrote) x
 seen_referred Free wrote = assumption
-seen_referred (Started uid page) wrote = assumption
-seen_referred (Bound uid page used modified) wrote = assumption
+seen_referred _ wrote = assumption
 
 pub seen_modified : (x : Frame) (now : Bool) → IsSeenAs (with_modified x now) x
 seen_modified Free now = assumption
-seen_modified (Started uid page) now = assumption
-seen_modified (Bound uid page used modified) now = assumption
+seen_modified _ now = assumption
 
 pub started_of_bound : (x : Frame) → is_bound x ≡ true → None ≡ started_page x
-started_of_bound Free h = cc
-started_of_bound (Started uid page) h = cc
 started_of_bound (Bound uid page used modified) h = refl
+started_of_bound _ h = cc
 
 free_from_taken : (x : Frame) → is_taken x ≡ false → x ≡ Free
 free_from_taken Free h = refl
-free_from_taken (Started uid page) h = cc
-free_from_taken (Bound uid page used modified) h = cc
+free_from_taken _ h = cc
 
 not_free_from_taken : (x : Frame) → is_taken x ≡ true → is_free x ≡ false
 not_free_from_taken Free h = cc
-not_free_from_taken (Started uid page) h = refl
-not_free_from_taken (Bound uid page used modified) h = refl
+not_free_from_taken _ h = refl
 
 -- what a test of the frames says of one of them
 pub map_at : {X : Type 0} (t : Frame → X) (frames : List Frame) (f : ℕ) → get_or (map t frames) f (t Free)
@@ -100,8 +79,7 @@ none_bound (x ∷ frames) h = let first : is_bound x ≡ false =
 -- the least free frame by the bits
 first_step : (x : Frame) {a b : ℕ} → a ≡ b → cond (not (not (is_taken x))) (1 + a) 0 ≡ cond (not (is_free x)) (1 + b) 0
 first_step Free e = refl
-first_step (Started uid page) e = cc
-first_step (Bound uid page used modified) e = cc
+first_step _ e = cc
 
 first_same : (frames : List Frame) → prefix_len (λ flag. not (not flag)) (map is_taken frames)
     ≡ prefix_len (λ x. not (is_free x)) frames
@@ -126,10 +104,9 @@ least_frame taken frames hand f core h view least = rw (← view) (record {
 pub none_free : {taken : List Bool} {frames : List Frame} {hand : ℕ} {core : Core} → IsTied taken frames hand
     → record { frames = frames; hand = hand } ≡ core
     → All (λ flag. flag ≡ true) taken → All (λ x. is_free x ≡ false) core.frames
-none_free {taken} {frames} {hand} h view all = rw (← view) (All-from_get_or (λ x. is_free x ≡ false) frames Free
-    (λ k lt. let inside : k < length taken = omega (arith, ap length h.bits, length-map frames is_taken) in
-    not_free_from_taken (frame_in frames k) (sym (bit_is k h)
-    ∙ All-get_or (λ flag. flag ≡ true) taken k false inside all)))
+none_free {taken} {frames} {hand} h view all = rw (← view) (All-from_get_or (λ x. is_free x ≡ false)
+    frames Free (λ k lt. not_free_from_taken (frame_in frames k) (sym (bit_is k h) ∙ All-get_or (λ flag. flag ≡ true)
+    taken k false (omega (arith, ap length h.bits, length-map frames is_taken)) all)))
 
 -- all frames are free at first
 free_bits : (n : ℕ) → replicate n false ≡ map is_taken (replicate n Free)

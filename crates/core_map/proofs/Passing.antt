@@ -1,15 +1,7 @@
 -- The clock as a function: what it finds and leaves, by what the code does with ranges of frames.
-use Rattle.std.proofs.Common.{◌≡◌, ◌≢◌, ℕ, zero, suc, ◌+◌, ◌-◌, ◌<◌, ◌≤◌, Bool, true, false, List, ◌∷◌, ◌++◌, length}
-use Rattle.std.proofs.Common.{Some, refl, sym, ap, ◌∙◌, arith, set}
-use Rattle.std.proofs.Common.{inl, inr, append_assoc}
-use Rattle.std.specs.List.{range_with_len, find}
-use Rattle.std.proofs.lemmas.Bool.{cases_eq}
-use Rattle.std.proofs.lemmas.List.{length-set, get_or-set_same, get_or-set_other, ext_get_or}
-use Rattle.core_map.specs.declared.Frame.{Frame}
+use Rattle.core_map.proofs.Prelude.{◌≡◌, ◌≢◌, ℕ, zero, suc, ◌+◌, ◌-◌, ◌<◌, ◌≤◌, Bool, true, false, List, ◌∷◌, ◌++◌, length, Some, refl, sym, ap, ◌∙◌, arith, set, inl, inr, append_assoc, range_with_len, find, cases_eq, length-set, get_or-set_same, get_or-set_other, ext_get_or, Frame, frame_in, is_idle, unmarked, IsFirst, HasNone, IsUnmarked, PassesTo, PassesAll, below_or_past}
 use Rattle.core_map.specs.declared.Frame.TheVariants.{Free}
-use Rattle.core_map.specs.Clock.{frame_in, is_idle, unmarked, passed_over}
-use Rattle.core_map.specs.Turns.{IsFirst, HasNone, IsUnmarked, PassesTo, PassesAll}
-use Rattle.laws.proofs.Numbers.{below_or_past}
+use Rattle.core_map.specs.Clock.{passed_over}
 
 -- a range is split at a number in it
 split_range : (a b low n at : ℕ) → n ≡ a + suc b → at ≡ low + a → range_with_len low n ≡ range_with_len low a ++ at

@@ -1,20 +1,9 @@
 -- What a turn of the clock comes to, by how it ends.
-use Rattle.std.proofs.Common.{◌≡◌, ℕ, ◌+◌, ◌-◌, ◌<◌, ◌≤◌, Bool, true, List, [], ◌∷◌, ◌++◌, length, Option, None, Some}
-use Rattle.std.proofs.Common.{refl, sym, ap, ◌∙◌, arith, map, inl}
-use Rattle.std.proofs.Common.{inr, ◌||◌, cond, ◌==◌}
-use Rattle.std.specs.List.{range_with_len, find, list_any}
-use Rattle.std.proofs.lemmas.List.{append-nil, ext_get_or, get_or-map, length-map}
-use Rattle.core_map.specs.declared.Frame.{Frame}
-use Rattle.core_map.specs.declared.Frame.TheVariants.{Free, Started, Bound}
-use Rattle.core_map.specs.CoreMap.{Core, is_bound}
-use Rattle.core_map.specs.Clock.{frame_in, is_idle, unmarked}
-use Rattle.core_map.specs.Clock.{round_frames, or_else, clock_choice}
-use Rattle.core_map.specs.Clock.{passed_over, after_choice}
-use Rattle.core_map.specs.Turns.{IsFirst, HasNone, IsUnmarked, PassesAll, IsFirstBound}
-use Rattle.core_map.specs.Turns.{GoesAround, IsTurned}
+use Rattle.core_map.proofs.Prelude.{◌≡◌, ℕ, ◌+◌, ◌-◌, ◌<◌, ◌≤◌, Bool, true, List, [], ◌∷◌, ◌++◌, length, Option, None, Some, refl, sym, ap, ◌∙◌, arith, map, inl, inr, cond, ◌==◌, range_with_len, find, list_any, append-nil, ext_get_or, get_or-map, length-map, Frame, Core, is_bound, frame_in, is_idle, unmarked, round_frames, or_else, clock_choice, after_choice, IsFirst, HasNone, IsUnmarked, PassesAll, IsFirstBound, GoesAround, IsTurned, below_or_past}
+use Rattle.core_map.specs.declared.Frame.TheVariants.{Free}
+use Rattle.core_map.specs.Clock.{passed_over}
 use Rattle.core_map.proofs.Frames.{none_bound}
 use Rattle.core_map.proofs.Passing.{found_none, found_first, passed_all, passed_to}
-use Rattle.laws.proofs.Numbers.{below_or_past}
 
 abbrev core_of : List Frame → ℕ → Core
 core_of frames hand = record { frames = frames; hand = hand }
@@ -66,8 +55,7 @@ none_alike alike h = record { none = λ i over under. sym (alike i under) ∙ h.
 
 bound_unmarked : (x : Frame) → is_bound (unmarked x) ≡ is_bound x
 bound_unmarked Free = refl
-bound_unmarked (Started uid page) = refl
-bound_unmarked (Bound uid page used modified) = refl
+bound_unmarked _ = refl
 
 -- what stands before the hand is as it was while the hand goes on
 idle_before : {old middle : List Frame} {hand : ℕ} → IsUnmarked old middle hand (length old) → (k : ℕ) → k < hand
@@ -164,6 +152,5 @@ some_is_bound {frames} {hand} long some ahead behind =
 pub turned_core : (old new : List Frame) (hand f n next : ℕ) → hand ≤ length old → IsTurned old new hand f → n
     ≡ length new → next ≡ cond (f + 1 == n) 0 (f + 1) → core_of new next ≡ after_choice (core_of old hand) f
 turned_core old new hand f n next fits h long is =
-    let count : n ≡ length old = long ∙ turned_count h in
     ap (λ (frames : List Frame). core_of frames next) (sym (turned_frames old new hand f fits h))
-    ∙ ap (core_of (passed_over old (round_frames (core_of old hand)))) (cc)
+    ∙ ap (core_of (passed_over old (round_frames (core_of old hand)))) (cc (long ∙ turned_count h))

@@ -1,5 +1,4 @@
-use Rattle.std.proofs.Common.{◌∙◌, sym, arith}
-use Rattle.core_map.specs.CoreMap.{is_taken, started_page}
+use Rattle.core_map.proofs.Prelude.{arith, is_taken, started_page}
 use Rattle.core_map.proofs.Frames.{seen_unmarked}
 use Rattle.core_map.proofs.Turning.{turned_same, turned_choice, turned_core, turned_count}
 use Rattle.core_map.proofs.CoreMap.choose.Goals as goal

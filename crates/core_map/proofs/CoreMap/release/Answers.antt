@@ -1,8 +1,6 @@
-use Rattle.std.proofs.Common.{◌∙◌, ap}
-use Rattle.core_map.specs.CoreMap.{Core, frame_at, is_bound, started_page}
+use Rattle.core_map.proofs.Prelude.{started_page, map_kept}
 use Rattle.core_map.proofs.Frames.{tied_with, started_of_bound}
 use Rattle.core_map.proofs.CoreMap.release.Goals as goal
-use Rattle.laws.proofs.Places.{map_kept}
 use Rattle.core_map.specs.declared.Frame.TheVariants.{Free}
 
 pub invariant_of-self : goal.invariant_of-self

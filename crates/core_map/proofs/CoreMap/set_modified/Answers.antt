@@ -1,5 +1,4 @@
-use Rattle.std.proofs.Common.{◌∙◌, ap}
-use Rattle.core_map.specs.CoreMap.{is_taken, started_page}
+use Rattle.core_map.proofs.Prelude.{◌∙◌, ap, is_taken, started_page}
 use Rattle.core_map.proofs.Frames.{tied_same, kept_by, seen_modified}
 use Rattle.core_map.proofs.CoreMap.set_modified.Goals as goal
 

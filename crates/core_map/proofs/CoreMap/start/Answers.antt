@@ -1,5 +1,4 @@
-use Rattle.std.proofs.lemmas.List.{map-set}
-use Rattle.core_map.specs.CoreMap.{started_page}
+use Rattle.core_map.proofs.Prelude.{map-set, started_page}
 use Rattle.core_map.proofs.Frames.{tied_with}
 use Rattle.core_map.proofs.CoreMap.start.Goals as goal
 

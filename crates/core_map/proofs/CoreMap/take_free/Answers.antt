@@ -1,4 +1,3 @@
-use Rattle.std.proofs.Common.{◌∙◌}
 use Rattle.core_map.proofs.Frames.{least_same, least_if, none_if}
 use Rattle.core_map.proofs.CoreMap.take_free.Goals as goal
 
