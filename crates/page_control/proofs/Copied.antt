@@ -1,5 +1,5 @@
 -- A page that is copied to its record at another home, for the proofs of the crates above.
-use Rattle.page_control.proofs.Prelude.{◌≡◌, ◌≢◌, ℕ, ◌+◌, ◌<◌, ◌≤◌, arith, List, [], length, Some, sym, ap, ◌∙◌, get_or, set, inl, inr, cases_eq, leb_tells, get_or-set_same, get_or-set_other, Ptw, Out, ptw_at, record_at, Home, Plain, disk_of, filed, vtoc_in, words_filed, words_out, IsCopied, IsWrittenAt, written}
+use Rattle.page_control.proofs.Prelude.{◌≡◌, ◌≢◌, ℕ, ◌+◌, ◌<◌, ◌≤◌, arith, List, [], length, Some, sym, ap, ◌∙◌, set, inl, inr, cases_eq, leb_tells, get_or-set_same, get_or-set_other, Ptw, Out, ptw_at, record_at, Home, Plain, disk_of, filed, vtoc_in, words_filed, words_out, IsCopied, IsWrittenAt, written}
 use Rattle.page_control.proofs.Pictures.{filed_same}
 
 -- the pages of the volume whose record is written

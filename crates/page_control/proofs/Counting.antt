@@ -109,9 +109,8 @@ taken_more records v r rl free =
 pub fewer_at : (records : List (List Bool)) (v r : ℕ) → in_use (flags_in records v) r ≡ true
     → taken (put records v r false) v + 1 ≡ taken records v
 fewer_at records v r is =
-    let rl : r < length (flags_in records v) = flag_within (flags_in records v) r is in
-    let vl : v < length records = list_within records v r rl in
-    rw (get_or-set_same records v (set (flags_in records v) r false) [] vl) (count_without (flags_in records v) r is)
+    rw (get_or-set_same records v (set (flags_in records v) r false)
+    [] (list_within records v r (flag_within (flags_in records v) r is))) (count_without (flags_in records v) r is)
 
 pub taken_less : (records : List (List Bool)) (v r : ℕ) → in_use (flags_in records v) r ≡ true
     → taken (put records v r false) ≡ one_less (taken records) v

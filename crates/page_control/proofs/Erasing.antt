@@ -1,5 +1,5 @@
 -- A segment that is erased.
-use Rattle.page_control.proofs.Prelude.{◌≡◌, ◌≢◌, ℕ, suc, ◌+◌, ◌<◌, Bool, true, false, List, [], ◌∷◌, length, Option, None, Some, refl, sym, ap, ◌∙◌, arith, get_or, set, drop, is_some, count_by, replicate, inl, inr, subst, cases_eq, leb_tells, get_or-set_same, get_or-set_other, get_or_past, set-set, set-get_or, at_drop_all, at_drop_more, drop-set-lt, get_or-drop, Entry, entry_at, records_in, uid_of, with_record, HasFullMaps, NamesNoRecord, in_use, Ptw, Home, Plain, bindings, flags_of, file_map_of, filed, record_of, disk_of, freed, erased, unstored, IsPartErased, vtoc_in, flags_in, uid_at, map_at, HasNoFrame, AreFiled, words_at, words_filed, is_filed_at, is_stored, IsTied, taken, named_on, none_put, within_from, not_none, off_and_on, put, put_other, put_here, put_put}
+use Rattle.page_control.proofs.Prelude.{◌≡◌, ◌≢◌, ℕ, suc, ◌+◌, ◌<◌, Bool, true, false, List, [], ◌∷◌, length, Option, None, Some, refl, sym, ap, ◌∙◌, arith, get_or, set, drop, is_some, count_by, replicate, inl, inr, subst, cases_eq, leb_tells, get_or-set_same, get_or-set_other, get_or_past, set-set, set-get_or, at_drop_all, at_drop_more, drop-set-lt, get_or-drop, Entry, entry_at, records_in, uid_of, with_record, HasFullMaps, NamesNoRecord, in_use, Ptw, Home, Plain, bindings, flags_of, file_map_of, filed, record_of, freed, erased, unstored, IsPartErased, vtoc_in, flags_in, uid_at, map_at, HasNoFrame, AreFiled, words_at, is_filed_at, is_stored, IsTied, taken, named_on, none_put, within_from, not_none, off_and_on, put, put_other, put_here, put_put}
 use Rattle.page_control.proofs.Pictures.{shown_out, words_by}
 use Rattle.page_control.proofs.Places.{volume_within, home_within, refile, map_refiled, uids_refiled, other_home}
 use Rattle.page_control.proofs.Naming.{filed_unstored, filed_freed, maps_freed}
@@ -51,15 +51,13 @@ count_some : (old s : Plain) (uid : ℕ) (home : Home) (n r : ℕ) → uid_at s.
     → taken old.records home.volume + count_by is_some (map_at (refile s.vtocs home n None) home)
     ≡ taken (put s.records home.volume r false) home.volume + count_by is_some (map_at old.vtocs home)
 count_some old s uid home n r h there on before =
-    let places : List (Option ℕ) = file_map_of s home in
-    let lt : n < length places = within_from places n None (λ none. not_none (get_or places n None) r none there) in
-    let less : taken (put s.records home.volume r false) home.volume + 1 ≡ taken s.records home.volume =
-    fewer_at s.records home.volume r on in
+    let places = file_map_of s home in
+    let lt = within_from places n None (λ none. not_none (get_or places n None) r none there) in
     let fewer : count_by is_some (map_at (refile s.vtocs home n None) home) + 1
     ≡ count_by is_some (map_at s.vtocs home) =
     ap (λ (map : List (Option ℕ)). count_by is_some map + 1) (map_refiled s.vtocs uid n None home h)
     ∙ named_less places n lt (ap is_some there) in
-    omega arith
+    omega (arith, fewer_at s.records home.volume r on)
 
 pub part_some : {old s : Plain} (now : Plain) {uid : ℕ} {home : Home} {n : ℕ} → now ≡ unstored s home n
     → filed s home n ≡ Some (record_of s home n) → IsPartErased old s uid home n → IsPartErased old now uid home (n + 1)
@@ -140,9 +138,8 @@ module _ {old s : Plain} {uid : ℕ} {home : Home} (end : Ended old s uid home) 
   pub count_end : {records : List (List Bool)} → records ≡ s.records
       → taken records home.volume + named_on old.vtocs home home.volume ≡ taken old.records home.volume
   count_end same =
-      let none : count_by is_some (map_at s.vtocs home) ≡ 0 = none_named (map_at s.vtocs home) names_none.none in
-      let all = end.part.count in
-      rw (same, named_here old.vtocs home) (omega arith)
+      rw (same, named_here old.vtocs home)
+      (omega (arith, none_named (map_at s.vtocs home) names_none.none, end.part.count))
 
 -- what is left where a home is given up
 pub record HasErased (s now : Plain) (home : Home) : Type 0 where

@@ -24,9 +24,7 @@ filed_in_use s home p r h is = h.used home.volume home.entry p r is
 
 -- where all records are in use, none is free
 pub none_free : (flags : List Bool) (r : ℕ) → All (λ flag. flag ≡ true) flags → IsLeastFree flags r → ⊥
-none_free flags r all least =
-    (let on : get_or flags r false ≡ true = All-get_or (λ (flag : Bool). flag ≡ true) flags r false least.within all in
-    (let off : get_or flags r false ≡ false = least.free in cc))
+none_free flags r all least = cc (All-get_or (λ (flag : Bool). flag ≡ true) flags r false least.within all, least.free)
 
 -- a page that is cleared from its start
 pub all_cleared : (words : List ℕ) → take 0 words ++ replicate 1024 0 ≡ replicate 1024 0
@@ -39,15 +37,21 @@ binding_is core f = get_or-map bound_page core.frames f Free
 
 -- a frame that is bound to a page is bound
 pub bound_from_page : (frame : Frame) (uid p : ℕ) → bound_page frame ≡ Some (uid, p) → is_bound frame ≡ true
-bound_from_page Free uid p h = cc
-bound_from_page (Started u q) uid p h = cc
 bound_from_page (Bound u q used modified) uid p h = refl
+bound_from_page _ uid p h = cc
 
 -- and so is the frame that a word names
 pub leaving_bound : (core : Core) (uid : ℕ) (table : List Ptw) (p f : ℕ) → IsTableOf (bindings core) uid table
     → ptw_at table p ≡ Leaving f → is_bound (frame_at core f) ≡ true
 leaving_bound core uid table p f h word =
     bound_from_page (frame_at core f) uid p (sym (binding_is core f) ∙ h.back f p (ap frame_of word))
+
+-- a bound frame is within the core
+pub bound_inside : (core : Core) (f : ℕ) → is_bound (frame_at core f) ≡ true → f < length core.frames
+bound_inside core f bound = within_from core.frames f Free (λ free. bound_not_free (frame_at core f) free bound)
+  where
+    bound_not_free : (frame : Frame) → frame ≡ Free → is_bound frame ≡ true → ⊥
+    bound_not_free frame free bound = let off : is_bound frame ≡ false = ap is_bound free in cc
 
 -- what a change of one frame does to the bindings
 pub bindings_with : (core : Core) (f : ℕ) (frame : Frame) → bindings (with_frame core f frame)
@@ -78,9 +82,8 @@ bindings_lost core f uid p started = seen_same bound_page core f Free (cc)
 
 -- the page that a bound frame has
 pub bound_to : (frame : Frame) → is_bound frame ≡ true → bound_page frame ≡ Some (uid_in frame, number_in frame)
-bound_to Free h = cc
-bound_to (Started u q) h = cc
 bound_to (Bound u q used modified) h = refl
+bound_to _ h = cc
 
 -- a frame that is bound and then written through
 pub bound_and_marked : (core : Core) (f uid p : ℕ) → f < length core.frames
@@ -99,9 +102,8 @@ starts_with core f frame = map-set started_page core.frames f frame
 
 -- a bound frame is started for none
 pub bound_idle : (frame : Frame) (uid p : ℕ) → bound_page frame ≡ Some (uid, p) → started_page frame ≡ None
-bound_idle Free uid p h = refl
 bound_idle (Started u q) uid p h = cc
-bound_idle (Bound u q used modified) uid p h = refl
+bound_idle _ uid p h = refl
 
 -- the record that a file map names
 pub record_is : (s : Plain) (home : Home) (p r : ℕ) → filed s home p ≡ Some r → record_of s home p ≡ r

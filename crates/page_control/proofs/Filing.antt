@@ -1,5 +1,5 @@
 -- The records that file maps name stay in use and named once, whatever a call does to them.
-use Rattle.page_control.proofs.Prelude.{◌≡◌, ◌⊎◌, ℕ, ◌<◌, Bool, true, false, List, [], length, Option, None, Some, sym, ap, ◌∙◌, get_or, inl, inr, cases_eq, in_use, Entry, entry_at, record_at, records_in, with_record, Home, vtoc_in, flags_in, uid_at, map_at, AreFiled, none_put, within_from, not_none, off_and_on, put, put_here, put_other}
+use Rattle.page_control.proofs.Prelude.{◌≡◌, ◌⊎◌, ℕ, ◌<◌, Bool, true, false, List, [], length, Option, None, Some, ap, ◌∙◌, get_or, inl, inr, cases_eq, in_use, Entry, entry_at, record_at, records_in, with_record, Home, vtoc_in, flags_in, uid_at, map_at, AreFiled, none_put, within_from, not_none, off_and_on, put, put_here, put_other}
 use Rattle.page_control.proofs.Places.{some_put, refile, map_refiled, volume_within, home_within, same_record}
 
 -- the records that file maps name are in use, and each is named once

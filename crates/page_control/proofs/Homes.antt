@@ -1,5 +1,5 @@
 -- A segment that gets a home.
-use Rattle.page_control.proofs.Prelude.{◌≡◌, ◌≢◌, ℕ, ◌<◌, replicate, List, [], length, Option, None, Some, refl, sym, ap, ◌∙◌, get_or, set, is_some, inl, inr, IfSome, IfNone, set-get_or, no_records, Entry, records_in, uid_of, fresh_entry, Ptw, Null, Out, ptw_at, Home, used, one_more, after_asked, HasAsked, Plain, bindings, disk_of, vtoc_in, frame_of, has_record, uid_at, map_at, IsTableOf, IsMapOf, AreFiled, HasNoFrame, IsBlank, words_at, words_filed, is_filed_at, is_stored, IsTied, KeepsTies, not_none, off_and_on, list_within, put_here, put_other, IsLeastFreeEntry, allocated}
+use Rattle.page_control.proofs.Prelude.{◌≡◌, ◌≢◌, ℕ, ◌<◌, replicate, List, [], length, Option, None, Some, refl, ap, ◌∙◌, get_or, set, is_some, inl, inr, IfSome, IfNone, set-get_or, no_records, Entry, records_in, uid_of, fresh_entry, Ptw, Null, Out, ptw_at, Home, used, one_more, after_asked, HasAsked, Plain, bindings, disk_of, vtoc_in, frame_of, uid_at, map_at, IsTableOf, IsMapOf, AreFiled, HasNoFrame, IsBlank, words_at, words_filed, is_filed_at, is_stored, IsTied, KeepsTies, not_none, off_and_on, list_within, put_here, put_other, IsLeastFreeEntry, allocated}
 use Rattle.page_control.proofs.Places.{at_or_other, other_home}
 use Rattle.page_control.proofs.Pictures.{shown_out, words_by}
 use Rattle.page_control.proofs.Marks.{tie_mapped}
@@ -46,9 +46,9 @@ asked_some : (s : Plain) (v uid e : ℕ) → IsLeastFreeEntry (vtoc_in s.vtocs v
     → IsAsked s (allocated s v e uid) v uid (Some e)
 unfolding is_filed_at
 asked_some s v uid e least vd =
-    let now : Plain = allocated s v e uid in
+    let now = allocated s v e uid in
     let it : Home = record { volume = v; entry = e } in
-    let vl : v < length s.vtocs = list_within s.vtocs v e least.within in
+    let vl = list_within s.vtocs v e least.within in
     let here = put_here s.vtocs v e (fresh_entry uid) None vl least.within in
     let maps : (home : Home) → map_at now.vtocs home ≡ map_at s.vtocs home = λ home. elim (at_or_other v e home) [
       | inl at ↦ rw (at.0, at.1) (cc)
@@ -59,9 +59,8 @@ asked_some s v uid e least vd =
       | inl at ↦ absurd (not_none (uid_at s.vtocs h) u (rw (at.0, at.1) (ap uid_of least.free)) used)
       | inr n ↦ ap uid_of (put_other s.vtocs v e (fresh_entry uid) None h.volume h.entry vl n) ∙ used
     ] in
-    let filed : AreFiled s.records s.vtocs → AreFiled s.records now.vtocs = filed_mapped s.records s.vtocs now.vtocs
-    maps in
-    let map : map_at now.vtocs it ≡ no_records = maps it ∙ ap records_in least.free in
+    let filed = filed_mapped s.records s.vtocs now.vtocs maps in
+    let map = maps it ∙ ap records_in least.free in
     let none_filed : (p : ℕ) → get_or (map_at now.vtocs it) p None ≡ None = λ p. rw map (no_record p) in
     record {
       maps = maps;

@@ -1,9 +1,8 @@
 -- Calls that change marks and words in frames alone, and calls that change VTOCs alone.
-use Rattle.page_control.proofs.Prelude.{◌≡◌, ◌≢◌, ℕ, ◌<◌, Bool, true, false, cond, List, [], length, Option, None, Some, refl, sym, ap, ◌∙◌, arith, get_or, set, inl, inr, subst, position, cases_eq, get_or-set_same, get_or-set_other, length-set, position-Some, Frame, Free, Bound, with_frame, is_bound, is_modified, bound_page, after_reference, IsClockChoice, unmarked, AreZero, Ptw, Here, Leaving, ptw_at, Entry, record_at, Home, Plain, bindings, binding_at, frame_in, words_in, number_in, worded, referred, vtoc_in, uid_at, uid_in, map_at, IsTableOf, IsMapOf, AreFiled, IsBoundOnce, is_binding, words_held, words_of_page, words_at, is_filed_at, is_stored, changed_at, changed_page, IsTied, KeepsTies, not_none, off_and_on, within_from, KeepsHome, words_filed, disk_of, filed, ◌≤◌}
-use Rattle.page_control.proofs.Facts.{binding_is, bound_to, bindings_referred, here_within, leaving_within}
+use Rattle.page_control.proofs.Prelude.{◌≡◌, ◌≢◌, ℕ, ◌<◌, Bool, true, false, List, [], length, Option, None, Some, refl, sym, ap, ◌∙◌, arith, get_or, set, inl, inr, subst, position, cases_eq, get_or-set_same, get_or-set_other, length-set, position-Some, Frame, Free, Bound, with_frame, is_bound, is_modified, bound_page, after_reference, AreZero, Ptw, Here, Leaving, ptw_at, Entry, record_at, Home, Plain, bindings, binding_at, frame_in, words_in, number_in, worded, referred, vtoc_in, uid_at, uid_in, map_at, IsTableOf, IsMapOf, AreFiled, IsBoundOnce, is_binding, words_held, words_of_page, words_at, is_filed_at, is_stored, changed_at, changed_page, IsTied, KeepsTies, not_none, off_and_on, within_from, KeepsHome, words_filed, disk_of, filed, ◌≤◌}
+use Rattle.page_control.proofs.Facts.{binding_is, bound_inside, bound_to, bindings_referred, here_within, leaving_within}
 use Rattle.page_control.proofs.Ties.{number_of, table_taken, table_back, map_taken, map_back}
 use Rattle.page_control.proofs.Pictures.{page, uid_part, binding_tells, found_at, in_frame_or_out, words_by, out_by}
-use Rattle.page_control.proofs.Turns.{bindings_chosen, kept_chosen, inside_from, bound_inside}
 
 stored_by : (s now : Plain) (h : Home) (q : ℕ) → map_at now.vtocs h ≡ map_at s.vtocs h → is_stored now h q
     ≡ is_stored s h q
@@ -59,7 +58,7 @@ pub record Marks (s now : Plain) : Type 0 where
   pub clean : (g : ℕ) (y : ℕ × ℕ) → binding_at (bindings s.core) g ≡ Some y → is_modified (frame_in now g) ≡ false
       → (is_modified (frame_in s g) ≡ false) × (words_in now g ≡ words_in s g)
 
-marks_kept : (s now : Plain) → bindings now.core ≡ bindings s.core → now.disks ≡ s.disks → now.records ≡ s.records
+pub marks_kept : (s now : Plain) → bindings now.core ≡ bindings s.core → now.disks ≡ s.disks → now.records ≡ s.records
     → now.vtocs ≡ s.vtocs
     → ((g : ℕ) (y : ℕ × ℕ) → binding_at (bindings s.core) g ≡ Some y → is_modified (frame_in now g) ≡ false
     → (is_modified (frame_in s g) ≡ false) × (words_in now g ≡ words_in s g)) → Marks s now
@@ -151,19 +150,6 @@ marks_moved s now f frame core bound none frames disks records vtocs =
         cc,
       )
     ])
-
--- the clock turns off used marks alone
-modified_unmarked : (frame : Frame) → is_modified (unmarked frame) ≡ is_modified frame
-modified_unmarked Free = refl
-modified_unmarked _ = refl
-
-pub marks_chosen : (s now : Plain) (f : ℕ) → IsClockChoice s.core now.core f → now.frames ≡ s.frames → now.disks
-    ≡ s.disks → now.records ≡ s.records → now.vtocs ≡ s.vtocs → Marks s now
-marks_chosen s now f choice frames disks records vtocs =
-    marks_kept s now (bindings_chosen s.core now.core f choice) disks records vtocs (λ g y at off. (
-      sym (kept_chosen is_modified g modified_unmarked choice (inside_from s.core g y at)) ∙ off,
-      cc,
-    ))
 
 -- the words in the frame that a page is in are others
 is_page : (uid p u q : ℕ) → is_binding u q (page uid p) ≡ true → (u ≡ uid) × (q ≡ p)

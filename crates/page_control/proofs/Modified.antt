@@ -1,9 +1,8 @@
 -- The modified marks of a segment's frames are turned on, page by page.
-use Rattle.page_control.proofs.Prelude.{◌≡◌, ◌⊎◌, ℕ, suc, ◌+◌, ◌<◌, ◌≤◌, ◌||◌, ◌&&◌, eqb, ltb, Bool, true, false, List, [], ◌∷◌, length, map, Option, None, Some, refl, sym, ap, ◌∙◌, arith, get_or, set, inl, inr, eq-eqb, cases_eq, eqb_tells, leb_tells, ext_get_or, get_or-set_same, get_or-set_other, length-map, length-set, Frame, Free, Started, Bound, Core, frame_at, with_frame, with_modified, is_bound, is_modified, bound_page, started_page, reads_of, Ptw, Null, Out, Here, Leaving, ptw_at, Plain, bindings, binding_at, frame_in, frame_of, IsTableOf, modified_of, modified_before, all_modified, part_modified, below, not_none, within_from, page_is}
+use Rattle.page_control.proofs.Prelude.{◌≡◌, ◌⊎◌, ℕ, suc, ◌+◌, ◌<◌, ◌≤◌, ◌||◌, ◌&&◌, eqb, ltb, Bool, true, false, List, [], ◌∷◌, length, map, None, Some, refl, sym, ap, ◌∙◌, arith, get_or, set, inl, inr, eq-eqb, cases_eq, eqb_tells, leb_tells, ext_get_or, get_or-set_same, get_or-set_other, length-map, length-set, Frame, Free, Started, Bound, Core, frame_at, with_frame, with_modified, is_bound, is_modified, bound_page, started_page, reads_of, Ptw, Null, Out, Here, Leaving, ptw_at, Plain, bindings, binding_at, frame_in, frame_of, IsTableOf, modified_of, modified_before, all_modified, part_modified, below, not_none, within_from, page_is}
 use Rattle.std.proofs.lemmas.List.{get_or-map}
-use Rattle.page_control.proofs.Facts.{binding_is, bound_from_page}
+use Rattle.page_control.proofs.Facts.{binding_is, bound_inside, bound_from_page}
 use Rattle.page_control.proofs.Ties.{frame_same}
-use Rattle.page_control.proofs.Turns.{bound_inside}
 use Rattle.page_control.proofs.Marks.{Marks}
 
 -- ---- one frame
@@ -21,9 +20,8 @@ past a b h = elim (leb_tells (suc a) b) [ inl i ↦ absurd (h i.1) | inr i ↦ i
 
 -- before page 0 there is none
 none_yet : (uid : ℕ) (frame : Frame) → modified_before uid 0 frame ≡ frame
-none_yet uid Free = refl
-none_yet uid (Started u p) = refl
 none_yet uid (Bound u p used modified) = rw (past p 0 (λ lt. omega arith)) (cc (or_off modified (eqb u uid)))
+none_yet uid _ = refl
 
 -- a frame that has page n is marked now
 marked_now : (frame : Frame) (uid n : ℕ) → bound_page frame ≡ Some (uid, n)
@@ -46,9 +44,8 @@ same_below uid n u p other = elim (eqb_tells u uid) [
 
 as_it_was : (frame : Frame) (uid n : ℕ) → (bound_page frame ≡ Some (uid, n) → ⊥) → modified_before uid n frame
     ≡ modified_before uid (n + 1) frame
-as_it_was Free uid n other = refl
-as_it_was (Started u p) uid n other = refl
 as_it_was (Bound u p used modified) uid n other = rw (same_below uid n u p (λ i j. other (λ k. Some (i k, j k))))
+as_it_was _ uid n other = refl
 
 -- once n is past its pages, all of its frames are marked
 and_on : (b c : Bool) → (b ≡ true → c ≡ true) → b && c ≡ b
@@ -102,17 +99,16 @@ pub part_marked : (core : Core) {uid : ℕ} (n f : ℕ) {t : List Ptw} → IsTab
     → frame_of (ptw_at t n) ≡ Some f → with_frame (part_modified core uid n) f
     (with_modified (frame_at (part_modified core uid n) f) true) ≡ part_modified core uid (n + 1)
 part_marked core {uid} n f {t} h named =
-    let old : List Frame = map (modified_before uid n) core.frames in
-    let new : List Frame = map (modified_before uid (n + 1)) core.frames in
-    let marked : Frame = with_modified (get_or old f Free) true in
+    let old = map (modified_before uid n) core.frames in
+    let new = map (modified_before uid (n + 1)) core.frames in
+    let marked = with_modified (get_or old f Free) true in
     let page : bound_page (frame_at core f) ≡ Some (uid, n) = sym (binding_is core f) ∙ h.back f n named in
-    let inside : f < length core.frames = bound_inside core f (bound_from_page (frame_at core f) uid n page) in
-    let before : length old ≡ length core.frames = length-map core.frames (modified_before uid n) in
-    let after : length new ≡ length core.frames = length-map core.frames (modified_before uid (n + 1)) in
-    let count : length (set old f marked) ≡ length new = length-set old f marked ∙ before ∙ sym after in
+    let inside = bound_inside core f (bound_from_page (frame_at core f) uid n page) in
+    let before = length-map core.frames (modified_before uid n) in
+    let after = length-map core.frames (modified_before uid (n + 1)) in
+    let count = length-set old f marked ∙ before ∙ sym after in
     cc (ext_get_or Free (set old f marked) new count (λ i lt.
-    (let within : i < length core.frames = (let long = length-set old f marked in omega (arith, lt, long, before))
-    in elim (cases_eq i f) [
+    (let within : i < length core.frames = omega (arith, lt, length-set old f marked, before) in elim (cases_eq i f) [
       | inl same ↦ rw (
         same,
         get_or-set_same old f marked Free (omega (arith, inside, before)),
@@ -132,9 +128,7 @@ part_all core {uid} n {t} h past_end = cc (alike (modified_before uid n) (modifi
   where
     named_within : (p f : ℕ) → frame_of (ptw_at t p) ≡ Some f → p < n
     named_within p f named =
-        let within : p < length t =
-        within_from t p Null (λ null. not_none (frame_of (ptw_at t p)) f (ap frame_of null) named) in
-        omega arith
+        omega (arith, within_from t p Null (λ null. not_none (frame_of (ptw_at t p)) f (ap frame_of null) named))
 
 -- no frame is bound to another page, and none is started for one
 page_before : (uid n : ℕ) (frame : Frame) → bound_page (modified_before uid n frame) ≡ bound_page frame
@@ -186,9 +180,8 @@ off_before uid _ off = refl
 
 -- and one of the segment has it on
 on_of : (uid p : ℕ) (frame : Frame) → bound_page frame ≡ Some (uid, p) → is_modified (modified_of uid frame) ≡ true
-on_of uid p Free is = cc
-on_of uid p (Started u q) is = cc
 on_of uid p (Bound u q used modified) is = rw (eq-eqb u uid (page_is u q uid p is).0) (sym (or_on modified))
+on_of uid p _ is = cc
 
 frame_now : (core : Core) (uid f : ℕ) → f < length core.frames → frame_at (all_modified core uid) f
     ≡ modified_of uid (frame_at core f)

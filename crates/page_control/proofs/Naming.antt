@@ -24,9 +24,8 @@ named_unstored : (records : List (List Bool)) (vtocs : List (List (Option Entry)
     → uid_at vtocs home ≡ Some uid → record_at (vtoc_in vtocs home.volume) home.entry p ≡ Some r
     → AreNamed (put records home.volume r false) (refile vtocs home p None)
 named_unstored records vtocs uid p r home filed h there =
-    let rl : r < length (flags_in records home.volume) =
-    flag_within _ r (filed.used home.volume home.entry p r there) in
-    let vl : home.volume < length records = list_within records home.volume r rl in
+    let rl = flag_within _ r (filed.used home.volume home.entry p r there) in
+    let vl = list_within records home.volume r rl in
     λ w k on. elim (same_place home.volume w r k) [
       | inl at ↦ absurd (off_and_on (in_use (flags_in (put records home.volume r false) w) k)
           (rw (at.0, at.1) (put_here records home.volume r false false vl rl)) on)

@@ -1,5 +1,5 @@
 -- What the words of a page are, where it is in a frame and where it is in none.
-use Rattle.page_control.proofs.Prelude.{◌≡◌, ◌≢◌, ◌⊎◌, ℕ, Bool, true, false, List, [], length, Option, None, Some, refl, ap, ◌∙◌, get_or, set, eq-eqb, inl, inr, position, eqb_tells, leb_tells, cases_eq, get_or-set_same, get_or-set_other, get_or_past, set_past, position-Some, Entry, Home, Plain, bindings, binding_at, words_in, disk_of, filed, IsInFrame, map_at, is_binding, words_filed, words_out, words_held, words_of_page, words_at, not_none, position_nowhere, off_and_on}
+use Rattle.page_control.proofs.Prelude.{◌≡◌, ◌≢◌, ◌⊎◌, ℕ, Bool, true, false, List, [], length, Option, None, Some, refl, get_or, set, eq-eqb, inl, inr, position, eqb_tells, leb_tells, cases_eq, get_or-set_same, get_or-set_other, get_or_past, set_past, position-Some, Entry, Home, Plain, bindings, binding_at, words_in, IsInFrame, map_at, is_binding, words_filed, words_out, words_of_page, words_at, not_none, position_nowhere, off_and_on}
 use Rattle.page_control.proofs.Ties.{bound_within}
 use Rattle.page_control.proofs.Firsts.{position_at_one}
 

@@ -17,19 +17,18 @@ pub table_in : {old : List (Option (ℕ × ℕ))} (new : List (Option (ℕ × �
     (p f : ℕ) → IsTableOf old uid t → new ≡ set old f (Some (uid, p)) → u ≡ set t p (Here f)
     → frame_of (ptw_at t p) ≡ None → binding_at old f ≡ None → p < length t → f < length old → IsTableOf new uid u
 table_in {old} new {uid} {t} u p f h bs ws word free pl fl =
-    let at : ptw_at (set t p (Here f)) p ≡ Here f = get_or-set_same t p (Here f) Null pl in
-    let here : binding_at (set old f (Some (uid, p))) f ≡ Some (uid, p) =
-    get_or-set_same old f (Some (uid, p)) None fl in
+    let at = get_or-set_same t p (Here f) Null pl in
+    let here = get_or-set_same old f (Some (uid, p)) None fl in
     rw (bs, ws) (record {
       named = λ g q is. elim (cases_eq g f) [
-        | inl e ↦ (let same : p ≡ q = page_same _ uid p q here (rw e at is) in rw (← same, at, e))
+        | inl e ↦ rw (← (page_same _ uid p q here (rw e at is)), at, e)
         | inr n ↦
             (let named = h.named g q (rw (get_or-set_other old f g (Some (uid, p)) None n) at is) in
             let other : q ≢ p = λ e. not_none (frame_of (ptw_at t q)) g (rw e word) named in
             rw (get_or-set_other t p q (Here f) Null other) named)
       ];
       back = λ g q is. elim (cases_eq q p) [
-        | inl e ↦ (let same : f ≡ g = frame_same _ f g (ap frame_of at) (rw e at is) in rw (← same, here, e))
+        | inl e ↦ rw (← (frame_same _ f g (ap frame_of at) (rw e at is)), here, e)
         | inr n ↦
             (let bound = h.back g q (rw (get_or-set_other t p q (Here f) Null n) at is) in
             let other : g ≢ f = λ e. not_none (binding_at old g) (uid, q) (rw e free) bound in
@@ -42,12 +41,11 @@ pub table_out : {old : List (Option (ℕ × ℕ))} (new : List (Option (ℕ × �
     (p f : ℕ) (w : Ptw) → IsTableOf old uid t → new ≡ set old f None → u ≡ set t p w → frame_of (ptw_at t p) ≡ Some f
     → frame_of w ≡ None → p < length t → f < length old → IsTableOf new uid u
 table_out {old} new {uid} {t} u p f w h bs ws word none pl fl =
-    let at : ptw_at (set t p w) p ≡ w = get_or-set_same t p w Null pl in
-    let free : binding_at (set old f None) f ≡ None = get_or-set_same old f None None fl in
-    let bound : binding_at old f ≡ Some (uid, p) = h.back f p word in
+    let at = get_or-set_same t p w Null pl in
     rw (bs, ws) (record {
       named = λ g q is. elim (cases_eq g f) [
-        | inl e ↦ absurd (not_none (binding_at (set old f None) g) (uid, q) (rw e free) is)
+        | inl e ↦ absurd (not_none (binding_at (set old f None) g)
+            (uid, q) (rw e (get_or-set_same old f None None fl)) is)
         | inr n ↦
             (let named = h.named g q (rw (get_or-set_other old f g None None n) at is) in
             let other : q ≢ p = λ e. n (frame_same (frame_of (ptw_at t q)) g f named (rw e word)) in
@@ -57,7 +55,7 @@ table_out {old} new {uid} {t} u p f w h bs ws word none pl fl =
         | inl e ↦ absurd (not_none (frame_of (ptw_at (set t p w) q)) g (rw (e, at) none) is)
         | inr n ↦
             (let was = h.back g q (rw (get_or-set_other t p q w Null n) at is) in
-            let other : g ≢ f = λ e. n (page_same (binding_at old g) uid q p was (rw e bound)) in
+            let other : g ≢ f = λ e. n (page_same (binding_at old g) uid q p was (rw e (h.back f p word))) in
             rw (get_or-set_other old f g None None other) was)
       ];
     })
@@ -66,9 +64,8 @@ table_out {old} new {uid} {t} u p f w h bs ws word none pl fl =
 pub table_word : {old : List (Option (ℕ × ℕ))} {uid : ℕ} {t : List Ptw} (u : List Ptw) (p : ℕ) (w : Ptw)
     → IsTableOf old uid t → u ≡ set t p w → frame_of w ≡ frame_of (ptw_at t p) → p < length t → IsTableOf old uid u
 table_word {t} u p w h ws same pl =
-    let at : ptw_at (set t p w) p ≡ w = get_or-set_same t p w Null pl in
     let frames : (q : ℕ) → frame_of (ptw_at (set t p w) q) ≡ frame_of (ptw_at t q) = λ q. elim (cases_eq q p) [
-      | inl e ↦ rw (e, at) same
+      | inl e ↦ rw (e, get_or-set_same t p w Null pl) same
       | inr n ↦ ap frame_of (get_or-set_other t p q w Null n)
     ] in
     rw ws (record {

@@ -1,5 +1,5 @@
 -- A call that concerns one page of a segment at its home, and what it leaves to all other pages.
-use Rattle.page_control.proofs.Prelude.{◌≡◌, ◌≢◌, ℕ, true, false, List, [], length, Option, None, Some, refl, sym, ap, ◌∙◌, arith, get_or, set, is_some, inl, inr, subst, position, get_or-set_other, position-Some, cases_eq, Frame, Free, with_frame, is_modified, bound_page, AreZero, Ptw, Entry, record_at, Home, Plain, bindings, binding_at, frame_in, words_in, disk_of, filed, vtoc_in, uid_at, map_at, IsTableOf, IsMapOf, AreFiled, IsInFrame, is_binding, words_filed, words_held, words_of_page, words_at, words_out, is_filed_at, is_stored, KeepsWords, IsTied, KeepsOthers, not_none, off_and_on}
+use Rattle.page_control.proofs.Prelude.{◌≡◌, ◌≢◌, ℕ, true, false, List, [], length, Option, None, Some, refl, sym, ap, ◌∙◌, arith, get_or, set, is_some, inl, inr, subst, position, get_or-set_other, position-Some, cases_eq, Frame, Free, with_frame, is_modified, bound_page, AreZero, Ptw, Home, Plain, bindings, binding_at, frame_in, words_in, disk_of, filed, uid_at, map_at, IsTableOf, IsMapOf, AreFiled, IsInFrame, is_binding, words_held, words_of_page, words_at, words_out, is_filed_at, is_stored, KeepsWords, IsTied, KeepsOthers, not_none, off_and_on}
 use Rattle.page_control.proofs.Facts.{bindings_with}
 use Rattle.page_control.proofs.Ties.{number_of}
 use Rattle.page_control.proofs.Firsts.{position_kept}
@@ -126,10 +126,9 @@ module _ {s now : Plain} {uid : ℕ} {home : Home} {p f : ℕ} {frame : Frame} (
       → uid_at s.vtocs h ≡ Some u → IsOther uid p u q → words_out now h q ≡ words_out s h q
   out_other u h q used other = cc (
     filed_other h q (away u h q used other),
-    filed_same (disk_of s h.volume) (disk_of now h.volume) (filed s h q)
-        (λ k is. t.disks h.volume k (λ v its. let there : record_at (vtoc_in s.vtocs home.volume) h.entry q ≡ Some
-        k = rw (← v) is in let one : (h.entry ≡ home.entry) × (q ≡ p) = t.old.once home.volume h.entry q home.entry
-        p k there its in away u h q used other (one_home home h (v, one.0)) one.1)),
+    filed_same (disk_of s h.volume)
+        (disk_of now h.volume) (filed s h q) (λ k is. t.disks h.volume k (λ v its. let one = t.old.once home.volume
+        h.entry q home.entry p k (rw (← v) is) its in away u h q used other (one_home home h (v, one.0)) one.1)),
   )
 
   pub stored_other : (h : Home) (q : ℕ) → (h ≡ home → q ≡ p → ⊥) → is_stored now h q ≡ is_stored s h q
@@ -202,12 +201,11 @@ module _ {s now : Plain} {uid : ℕ} {home : Home} {p f : ℕ} {frame : Frame} (
       → IsInFrame (bindings now.core) uid p) → IsTied now uid home those
   tie_own table those tie long its map clean zeros =
       let volume = tie.volume in
-      let count = t.count in
       let pages = tie.pages in
       record {
         volume = rw t.count tie.volume;
         used = t.uids home ∙ tie.used;
-        pages = omega arith;
+        pages = omega (arith, t.count);
         table = its;
         map = map;
         records = t.filed;

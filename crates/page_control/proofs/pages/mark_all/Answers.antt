@@ -1,4 +1,4 @@
-use Rattle.page_control.proofs.Prelude.{◌∙◌, arith, true, sym, ap, Core, frame_at, with_frame, with_modified, frame_of}
+use Rattle.page_control.proofs.Prelude.{◌∙◌, arith, true, sym, ap, Core, frame_at, with_frame, with_modified}
 use Rattle.page_control.proofs.Modified.{part_none, part_other, part_marked, part_all, part_bound, named_by, none_by}
 use Rattle.page_control.proofs.pages.mark_all.Goals as goal
 use Rattle.page_control.proofs.pages.mark_all.Goals.{in-Null, in-Here2}
@@ -22,5 +22,4 @@ loop-p-preserved c = elim c.match-get.branch [
 
 pub returns : goal.returns
 returns c =
-    cc (part_all c.args.core.now c.loop-p.p c.requires (let size = c.size-p-end.ensures in let end = c.loop-p-test.false
-    in omega (arith, size, end)))
+    cc (part_all c.args.core.now c.loop-p.p c.requires (omega (arith, c.size-p-end.ensures, c.loop-p-test.false)))

@@ -1,5 +1,4 @@
 use Rattle.page_control.proofs.Prelude.{arith, common_steps}
-use Rattle.page_control.proofs.Facts.{bindings_referred}
 use Rattle.page_control.proofs.pages.Pages.cut_at.Goals as goal
 
 pub index_mut-requires : goal.index_mut-requires

@@ -1,5 +1,4 @@
 use Rattle.page_control.proofs.Prelude.{arith, common_steps, refl, rules}
-use Rattle.page_control.proofs.Facts.{home_used}
 use Rattle.page_control.proofs.Erasing.{ended, names_same, names_none, all_erased, filed_erased, count_end}
 use Rattle.page_control.proofs.pages.Pages.erase_all.Goals as goal
 

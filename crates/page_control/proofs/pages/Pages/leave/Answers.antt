@@ -1,13 +1,12 @@
 use Rattle.page_control.proofs.Prelude.{common_steps, rules, arith, ap, refl, inl, inr, has_record}
-use Rattle.page_control.proofs.Facts.{page_leaves, tied_volume, tied_filed, leaving_within}
+use Rattle.page_control.proofs.Facts.{tied_volume, tied_filed, leaving_within}
 use Rattle.page_control.proofs.Calls.{not_zero}
 use Rattle.page_control.proofs.pages.Pages.leave.Goals as goal
 
 pub record_in-r-requires-clause-page : goal.record_in-r-requires-clause-page
 record_in-r-requires-clause-page g c =
-    let pages = c.requires.tie.pages in
-    let inside = leaving_within c.args.t.now _ c.args.f c.requires.leaving in
-    rw c.page_in-p.ensures (omega arith)
+    rw c.page_in-p.ensures
+    (omega (arith, c.requires.tie.pages, leaving_within c.args.t.now _ c.args.f c.requires.leaving))
 
 pub record_in-r-requires-clause-volume : goal.record_in-r-requires-clause-volume
 record_in-r-requires-clause-volume g c = tied_volume g.D.Drive.pages c.args.self.now _ _ _ c.requires.tie
@@ -18,9 +17,8 @@ record_in-r-requires-clause-filed g c =
 
 pub unstore-requires-clause-page : goal.unstore-requires-clause-page
 unstore-requires-clause-page g c =
-    let pages = c.requires.tie.pages in
-    let inside = leaving_within c.args.t.now _ c.args.f c.requires.leaving in
-    rw c.page_in-p.ensures (omega arith)
+    rw c.page_in-p.ensures
+    (omega (arith, c.requires.tie.pages, leaving_within c.args.t.now _ c.args.f c.requires.leaving))
 
 pub unstore-requires-clause-volume : goal.unstore-requires-clause-volume
 unstore-requires-clause-volume g c = tied_volume g.D.Drive.pages c.args.self.now _ _ _ c.requires.tie

@@ -1,4 +1,4 @@
-use Rattle.page_control.proofs.Prelude.{◌≡◌, ◌<◌, rules, arith, refl, length, common_steps, plain, record_of, flags_of, flag_within}
+use Rattle.page_control.proofs.Prelude.{◌≡◌, ◌<◌, rules, arith, refl, length, common_steps, plain, flags_of, flag_within}
 use Rattle.page_control.proofs.Facts.{tied_volume}
 use Rattle.page_control.proofs.Calls.{out_record}
 use Rattle.page_control.proofs.pages.Pages.read_at.Goals as goal
@@ -21,8 +21,7 @@ read_page-requires-clause-volume g c =
 
 pub returns-in-Ok-clause-read : goal.returns-in-Ok-clause-read
 returns-in-Ok-clause-read g c =
-    let r : record_of (plain g.D.Drive.pages c.args.self.now) c.args.home c.args.p ≡ c.record_out-r.result =
-    out_record _ _ _ _ _ _ c.requires.tie c.record_out-r.ensures in
+    let r = out_record _ _ _ _ _ _ c.requires.tie c.record_out-r.ensures in
     record {
       effect = rw r (grind (arith, common_steps));
       word = search rules;
