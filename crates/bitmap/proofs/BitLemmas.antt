@@ -1,11 +1,4 @@
-use Rattle.std.proofs.Common.{◌≡◌, ◌≢◌, ℕ, suc, zero, ◌/◌, ◌%◌, ◌<◌, Bool, true, false, List}
-use Rattle.std.proofs.Common.{length, refl, sym, ◌∙◌, arith, get_or, set, add-one, inl, inr, slice_index}
-use Rattle.std.specs.Int.{bit_at, w64}
-use Rattle.std.proofs.lemmas.Bool.{cases_eq}
-use Rattle.std.proofs.lemmas.List.{get_or-set_same, get_or-set_other, length-set, ext_get_or, length_push}
-use Rattle.std.proofs.lemmas.List.{get_or_append_left, get_or_push}
-use Rattle.std.proofs.lemmas.Nat.Bits.{bit_at_ones, bit_at_set_same, bit_at_set_other, bit_at_clear_same}
-use Rattle.std.proofs.lemmas.Nat.Bits.{bit_at_clear_other}
+use Rattle.bitmap.proofs.Prelude.{◌≡◌, ◌≢◌, ℕ, suc, zero, ◌/◌, ◌%◌, ◌<◌, Bool, true, false, List, length, refl, sym, ◌∙◌, arith, get_or, set, add-one, inl, inr, slice_index, bit_at, w64, cases_eq, get_or-set_same, get_or-set_other, length-set, ext_get_or, length_push, get_or_append_left, get_or_push, bit_at_ones, bit_at_set_same, bit_at_set_other, bit_at_clear_same, bit_at_clear_other}
 use Rattle.bitmap.specs.Bits.{bit_on, with_bit, without_bit, flags_of}
 
 -- a word other than that of r is as before

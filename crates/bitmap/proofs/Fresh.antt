@@ -1,11 +1,5 @@
-use Rattle.std.proofs.Common.{◌≡◌, ◌≢◌, ℕ, suc, zero, ◌+◌, ◌-◌, ◌*◌, ◌/◌, ◌%◌, ◌^◌, ◌<◌, ◌≤◌, false, cond, List}
-use Rattle.std.proofs.Common.{length, refl, sym, ap, ◌∙◌, arith, set, replicate, inl, inr, slice_index, count_by}
-use Rattle.std.proofs.lemmas.Bool.{cases_eq}
-use Rattle.std.proofs.lemmas.List.{length-replicate, get_or-replicate, ext_get_or, length-set, get_or-set_same}
-use Rattle.std.proofs.lemmas.List.{get_or-set_other}
-use Rattle.std.proofs.lemmas.List.Sums.{sum_by-cons}
-use Rattle.std.proofs.lemmas.Nat.Bits.{bit_at-zero, bit_at_mask_inside, bit_at_mask_below, ones_shl}
-use Rattle.bitmap.specs.Bits.{bit_on, flags_of, IsClear, HasTwoLevels}
+use Rattle.bitmap.proofs.Prelude.{◌≡◌, ◌≢◌, ℕ, suc, zero, ◌+◌, ◌-◌, ◌*◌, ◌/◌, ◌%◌, ◌^◌, ◌<◌, ◌≤◌, false, cond, List, length, refl, sym, ap, ◌∙◌, arith, set, replicate, inl, inr, slice_index, count_by, cases_eq, length-replicate, get_or-replicate, ext_get_or, length-set, get_or-set_same, get_or-set_other, sum_by-cons, bit_at-zero, bit_at_mask_inside, bit_at_mask_below, ones_shl, flags_of, IsClear, HasTwoLevels}
+use Rattle.bitmap.specs.Bits.{bit_on}
 use Rattle.bitmap.proofs.BitLemmas.{off_word_has_room, length_flags, flag_at}
 use Rattle.bitmap.proofs.Levels.{off_test}
 

@@ -1,9 +1,5 @@
 -- A map of which all numbers are in use.
-use Rattle.std.proofs.Common.{◌≡◌, ℕ, suc, zero, ◌+◌, ◌/◌, ◌^◌, ◌<◌, true, cond, List}
-use Rattle.std.proofs.Common.{length, refl, sym, ap, ◌∙◌, arith, replicate, count_by}
-use Rattle.std.proofs.lemmas.List.{length-replicate, get_or-replicate, ext_get_or}
-use Rattle.std.proofs.lemmas.List.Sums.{sum_by-cons}
-use Rattle.bitmap.specs.Bits.{bit_on, flags_of, HasTwoLevels}
+use Rattle.bitmap.proofs.Prelude.{◌≡◌, ℕ, suc, zero, ◌+◌, ◌/◌, ◌^◌, ◌<◌, true, cond, List, length, refl, sym, ap, ◌∙◌, arith, replicate, count_by, length-replicate, get_or-replicate, ext_get_or, sum_by-cons, bit_on, flags_of, HasTwoLevels}
 use Rattle.bitmap.proofs.BitLemmas.{on_in_full_word, length_flags, flag_at}
 
 -- words with every bit on

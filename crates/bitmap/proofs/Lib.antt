@@ -1,3 +1,4 @@
+mod Prelude
 pub mod BitLemmas
 pub mod Levels
 pub mod Fresh

@@ -1,5 +1,4 @@
-use Rattle.std.proofs.Common.{◌+◌, ◌*◌, length, ap, sym, arith}
-use Rattle.bitmap.specs.Bitmap.{IsLeastFree}
+use Rattle.bitmap.proofs.Prelude.{◌+◌, ◌*◌, length, ap, sym, arith, IsLeastFree}
 use Rattle.bitmap.proofs.Levels.{found_by_levels, none_found, first_inside, least_is, none_is}
 use Rattle.bitmap.proofs.BitLemmas.{length_flags}
 use Rattle.bitmap.proofs.Bitmap.first_free.Goals as goal

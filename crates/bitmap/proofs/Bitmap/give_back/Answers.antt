@@ -1,8 +1,7 @@
-use Rattle.std.proofs.Common.{arith}
+use Rattle.bitmap.proofs.Prelude.{arith, count_without, flag_within}
 use Rattle.bitmap.proofs.BitLemmas.{flags_without_bit}
 use Rattle.bitmap.proofs.Levels.{placed, levels_after_give}
 use Rattle.bitmap.proofs.Bitmap.give_back.Goals as goal
-use Rattle.laws.proofs.Places.{count_without, flag_within}
 
 pub clear_bit-requires : goal.clear_bit-requires
 clear_bit-requires c = omega (arith, (placed c.self.invariant c.self.view_is (flag_within _ _ c.requires)).word)

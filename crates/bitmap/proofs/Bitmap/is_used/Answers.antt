@@ -1,6 +1,4 @@
-use Rattle.std.proofs.Common.{◌/◌, arith}
-use Rattle.std.proofs.lemmas.Nat.Bits.{shr_and_one}
-use Rattle.std.proofs.lemmas.List.{get_or_read}
+use Rattle.bitmap.proofs.Prelude.{◌/◌, arith, shr_and_one, get_or_read}
 use Rattle.bitmap.specs.Bits.{bit_on}
 use Rattle.bitmap.proofs.Levels.{placed}
 use Rattle.bitmap.proofs.Bitmap.is_used.Goals as goal

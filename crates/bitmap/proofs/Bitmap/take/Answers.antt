@@ -1,8 +1,7 @@
-use Rattle.std.proofs.Common.{arith}
+use Rattle.bitmap.proofs.Prelude.{arith, count_with}
 use Rattle.bitmap.proofs.BitLemmas.{flags_with_bit}
 use Rattle.bitmap.proofs.Levels.{placed, room_for_one, levels_after_take}
 use Rattle.bitmap.proofs.Bitmap.take.Goals as goal
-use Rattle.laws.proofs.Places.{count_with}
 
 pub turn_on-requires-clause-lower : goal.turn_on-requires-clause-lower
 turn_on-requires-clause-lower c = omega (arith, (placed c.self.invariant c.self.view_is c.requires.within).word)
