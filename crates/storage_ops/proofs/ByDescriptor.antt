@@ -1,14 +1,7 @@
 -- What the descriptor of a number refuses is what the access control list of its segment, and its length, refuse.
 use Rattle.storage_ops.proofs.Prelude.{◌≡◌, ℕ, true, List, Option, Some, None, is_some, refl, sym, ap, ◌∙◌, Mode, Reference, Reply, access_of, Node, node_in, Present, sdw_at, Plain, leads, sdws_at, AreLinked, outside_by, refusal_by, refusal_in, target, unless, IsStore, Storage, who_at}
+use Rattle.storage_ops.proofs.NodeLaws.{found_there}
 use Rattle.storage_ops.proofs.Refusals.{target_found}
-
--- what is there, where something is
-found_in : (ns : List Node) (u : ℕ) → is_some (node_in ns u) ≡ true → (n : Node) × (node_in ns u ≡ Some n)
-found_in ns u there = by (node_in ns u) refl there
-  where
-    by : (o : Option Node) → node_in ns u ≡ o → is_some o ≡ true → (n : Node) × (node_in ns u ≡ Some n)
-    by None e none = cc
-    by (Some n) e some = (n, e)
 
 outside_of : (o : Option Reply) (n : Node) → outside_by (unless o n) ≡ o
 outside_of None n = refl
@@ -21,7 +14,7 @@ module _ {D : Type 0} {now : Plain} (t : Storage D) (store : IsStore now t.segs.
       → refusal_by mode pages r ≡ outside_by (target t k r)
   held_refuses place pages mode word =
       let known = linked.known k r.number place (ap leads word) in
-      let node = found_in t.accounts.nodes known.uid (store.active.there place known.uid known.active) in
+      let node = found_there t.accounts.nodes known.uid (store.active.there place known.uid known.active) in
       let rights : mode ≡ (access_of (who_at t.whos k) node.0.rows) =
       store.rights.modes k r.number place pages known.uid mode node.0 word known.active node.1 in
       let long = store.rights.lengths k r.number place pages known.uid mode node.0 word known.active node.1 in

@@ -12,9 +12,6 @@ module _ {f : Node → Node} (keeps : Keeps f) {a b : AccountMaps} (changes : Ch
       here None = refl
       here (Some n) = same n
 
-  pool_map : ((n : Node) → (f n).pages ≡ n.pages) → (n : Node) → pool_of (f n) ≡ pool_of n
-  pool_map same n = rw (keeps.kind n, same n)
-
   -- where lengths stay, and the rows of what is connected
   pub store_changed : {now : Plain} {ast : ActiveSegs} {links : Links} {whos : List Who}
       → ((n : Node) → (f n).pages ≡ n.pages) → ((process number place pages u : ℕ) (mode : Mode) (m : Node)
@@ -25,7 +22,7 @@ module _ {f : Node → Node} (keeps : Keeps f) {a b : AccountMaps} (changes : Ch
     housed = housed_alike a b alike h.housed;
     counted = counted_alike a b alike h.counted (pages_map pages);
     taken = taken_alike a b alike h.taken;
-    active = active_alike f keeps.uid a b changes.nodes keeps.superior h.active (λ place u m e found. pool_map pages m);
+    active = active_alike f keeps.uid a b changes.nodes keeps.superior h.active (λ place u m e found. rw (keeps.kind m, pages m));
     rights = rights_alike f keeps.uid a b changes.nodes h.rights
         (λ process number place n u mode m d e found. (rows process number place n u mode m d e found, pages m));
     known = rw changes.next h.known;

@@ -1,21 +1,15 @@
 -- What pages that are cut off leave, exactly.
 use Rattle.storage_ops.proofs.Prelude.{◌≡◌, ◌≢◌, ◌<◌, ◌≤◌, ◌+◌, ◌-◌, ◌/◌, ◌%◌, ℕ, suc, zero, Bool, true, false, eqb, List, [], ◌∷◌, ◌++◌, Option, length, get_or, refl, sym, ap, ◌∙◌, arith, inl, inr, ◌↔◌, IsTrue, Result, Ok, Err, list_all, range_with_len, ne_eqb, eqb_tells, AreZero, Reply, Node, AccountMaps, Recounts, count_of, Ptw, Here, Leaving, Null, Out, Entry, IsActive, deactivated, Home, cut, dropped, erased, Plain, plain, words_in, is_away, place_of, word_of, worded, IsInactive, CountsOthers, Paged, cut_by, is_cleared, page_cleared, page_cut, paged, pages_cut, Erases, cut_at, pages_from, put_out, Storage, home_of, pages_in, and_parts, zero_word, eq-eqb}
+use Rattle.storage_ops.proofs.Dropped.{recount_here}
 
 -- ---- one page
 
 cut_away : (x : Paged) (home : Home) (uid p : ℕ) (w : Ptw) → is_away w ≡ true
     → record { pages = dropped x.pages home p w; ast = worded x.ast uid p Null; stored = x.stored - 1 }
     ≡ page_cut x home uid p w
-cut_away x home uid p Null away = cc
 cut_away x home uid p (Out r) away = refl
-cut_away x home uid p (Here f) away = cc
 cut_away x home uid p (Leaving f) away = refl
-
-own_count : {a b : AccountMaps} {uid n : ℕ} → Recounts a b uid n → count_of b uid ≡ n
-own_count {uid} re = re.counts uid ∙ rw (eq-eqb uid uid refl)
-
-pub other_counts : {a b : AccountMaps} {uid n : ℕ} → Recounts a b uid n → CountsOthers a b uid
-other_counts {uid} re s apart = re.counts s ∙ rw (ne_eqb uid s (λ is. apart (sym is)))
+cut_away x home uid p _ away = cc
 
 -- a page on its way out, or on its record, is dropped
 pub dropped_exactly : {D : Type 0} (drive : D → List (List ℕ)) (t n : Storage D) {uid : ℕ} (p : ℕ) {home : Home}
@@ -24,7 +18,7 @@ pub dropped_exactly : {D : Type 0} (drive : D → List (List ℕ)) (t n : Storag
     → n.segs.ast ≡ worded t.segs.ast uid p Null → Recounts t.accounts n.accounts uid (count_of t.accounts uid - 1)
     → paged drive n uid ≡ page_cut (paged drive t uid) (home_of t.accounts uid) uid p (word_of t.segs.ast uid p)
 dropped_exactly drive t n {uid} p is away effect word re =
-    let stored = own_count re in
+    let stored = recount_here re in
     (λ i. assumption ((rw is at effect) i, word i, stored i))
     ∙ cut_away (paged drive t uid) (home_of t.accounts uid) uid p (word_of t.segs.ast uid p) away
 
@@ -112,9 +106,6 @@ pub cut_oddly : (x : Paged) {y z : Paged} (home : Home) (uid size offset : ℕ) 
 cut_oddly x home uid size offset odd past done = cc (ne_eqb (offset % 1024) 0 odd)
 
 -- ---- the node that a path leads to
-
-pub not_both_found : {r : Reply} {n : Node} → ◌≡◌ {A = Result Node Reply} (Err r) (Ok n) → ⊥
-not_both_found e = cc
 
 pub same_uid : (m n : Node) → ◌≡◌ {A = Result Node Reply} (Ok m) (Ok n) → m.uid ≡ n.uid
 same_uid m n e = (let same : m ≡ n = cc in cc)

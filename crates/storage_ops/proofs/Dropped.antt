@@ -50,9 +50,7 @@ pub record HasDropped (old now : Plain) (a b : AccountMaps) (u q : ℕ) : Type 0
 pub dropped_vtocs : (old : Plain) (home : Home) (q : ℕ) (w : Ptw)
     → (dropped old home q w).vtocs ≡ (unstored old home q).vtocs
 dropped_vtocs old home q Null = refl
-dropped_vtocs old home q (Out r) = refl
-dropped_vtocs old home q (Here f) = refl
-dropped_vtocs old home q (Leaving f) = refl
+dropped_vtocs old home q _ = refl
 
 kept_lengths : {X : Type 0} (f : List X → ℕ) (old new : List (List X)) (v : ℕ) → map f new ≡ map f old
     → f (get_or new v []) ≡ f (get_or old v [])

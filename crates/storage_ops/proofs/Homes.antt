@@ -71,126 +71,6 @@ none_counted (x ∷ xs) u q none = by (eqb x.0 u) refl
     by true is e rest = absurd (omega arith)
     by false is e rest = rw is (rest (omega arith))
 
--- ---- a node is added
-
-module _ (a b : AccountMaps) (n : Node) (entry : ℕ) (gains : Gains a b n entry) where
-  there_new : (u : ℕ) → u ≢ n.uid → is_there b.nodes u ≡ is_there a.nodes u
-  there_new u ne = ap (λ (ns : List Node). is_there ns u) gains.nodes ∙ rw (ne_eqb n.uid u (λ e. ne (sym e))) refl
-
-  own : eqb n.uid n.uid ≡ true
-  own = eq-eqb n.uid n.uid refl
-
-  there_own : is_there b.nodes n.uid ≡ true
-  there_own = ap (λ (ns : List Node). is_there ns n.uid) gains.nodes ∙ rw own refl
-
-  node_new : (u : ℕ) → u ≢ n.uid → node_in b.nodes u ≡ node_in a.nodes u
-  node_new u ne = ap (λ (ns : List Node). node_in ns u) gains.nodes ∙ rw (ne_eqb n.uid u (λ e. ne (sym e))) refl
-
-  home_new : (u : ℕ) → u ≢ n.uid → home_of b u ≡ home_of a u
-  home_new u ne = rw (gains.nodes, gains.entries, ne_eqb n.uid u (λ e. ne (sym e))) refl
-
-  home_own : home_of b n.uid ≡ record { volume = n.volume; entry = entry }
-  home_own = rw (gains.nodes, gains.entries, own) refl
-
-  -- the new home was free, and is used for the node now
-  module _ (old new : List (List (Option VtocEntry))) (fresh : node_in a.nodes n.uid ≡ None)
-      (taken_home : uid_at new (record { volume = n.volume; entry = entry }) ≡ Some n.uid)
-      (free : uid_at old (record { volume = n.volume; entry = entry }) ≡ None)
-      (blank : map_at old (record { volume = n.volume; entry = entry }) ≡ no_records)
-      (uids : (other : Home) → other ≢ record { volume = n.volume; entry = entry }
-      → uid_at new other ≡ uid_at old other) (maps : (other : Home) → map_at new other ≡ map_at old other) where
-    apart : (u : ℕ) → AreHoused a old → is_there a.nodes u ≡ true
-        → home_of a u ≢ record { volume = n.volume; entry = entry }
-    apart u h t same = cc (free, ap (uid_at old) same, h.homes u t)
-
-    not_own : (u : ℕ) → is_there a.nodes u ≡ true → u ≢ n.uid
-    not_own u t is = cc fresh
-
-    pub housed_new : AreHoused a old → AreHoused b new
-    housed_new h = record {
-      homes = λ u t. elim (cases_eq u n.uid) [
-        | inl is ↦ ap (uid_at new) (cc (is, home_own)) ∙ taken_home ∙ ap (λ (x : ℕ). Some x) (sym is)
-        | inr ne ↦ (let was = sym (there_new u ne) ∙ t in
-            cc (home_new u ne, uids (home_of a u) (apart u h was), h.homes u was))
-      ];
-      there = λ home u e. elim (home_cases home (record { volume = n.volume; entry = entry })) [
-        | inl is ↦ (let same : n.uid ≡ u = cc (ap (uid_at new) is) in cc (same, there_own))
-        | inr ne ↦ (let was = h.there home u (sym (uids home ne) ∙ e) in there_new u (not_own u was) ∙ was)
-      ];
-      only = λ home u e. elim (home_cases home (record { volume = n.volume; entry = entry })) [
-        | inl is ↦ (is ∙ sym home_own ∙ ap (home_of b) (cc (ap (uid_at new) is)))
-        | inr ne ↦ (let was = sym (uids home ne) ∙ e in h.only home u was
-            ∙ sym (home_new u (not_own u (h.there home u was))))
-      ];
-    }
-
-    filed_same : (home : Home) (q : ℕ) → is_filed_at new home q ≡ is_filed_at old home q
-    filed_same home q = cc (filed_map new home q, maps home, filed_map old home q)
-
-    filed_own : (q : ℕ) → is_filed_at new (home_of b n.uid) q ≡ false
-    filed_own q = rw home_own (cc (
-      filed_same (record { volume = n.volume; entry = entry }) q,
-      filed_map old (record { volume = n.volume; entry = entry }) q,
-      blank,
-      none_filed q,
-    ))
-
-    pages_own : pages_in b.nodes n.uid ≡ n.pages
-    pages_own = rw (gains.nodes, own) refl
-
-    pages_new : (u : ℕ) → u ≢ n.uid → pages_in b.nodes u ≡ pages_in a.nodes u
-    pages_new u ne = ap pages_of (node_new u ne)
-
-    kind_new : (u : ℕ) → u ≢ n.uid → has_directory b.nodes u ≡ has_directory a.nodes u
-    kind_new u ne = ap (λ (ns : List Node). has_directory ns u) gains.nodes ∙ rw (ne_eqb n.uid u (λ e. ne (sym e))) refl
-
-    kind_own : has_directory b.nodes n.uid ≡ n.directory
-    kind_own = rw (gains.nodes, own) refl
-
-    pub counted_new : n.pages ≤ 256 → (n.directory ≡ true → n.pages ≡ 0) → AreCounted a old → AreCounted b new
-    counted_new most flat h = record {
-      counts = λ u t. elim (cases_eq u n.uid) [
-        | inl is ↦ ap (named_at new) (cc (is, home_own))
-            ∙ ap (count_by is_some) (maps (record { volume = n.volume; entry = entry }) ∙ blank)
-            ∙ none_named ∙ sym (cc (gains.counts u, h.absent n.uid (ap is_some fresh)))
-        | inr ne ↦ ap (named_at new) (home_new u ne) ∙ ap (count_by is_some) (maps (home_of a u))
-            ∙ h.counts u (sym (there_new u ne) ∙ t) ∙ sym (gains.counts u)
-      ];
-      inside = λ u q t on. elim (cases_eq u n.uid) [
-        | inl is ↦ cc (filed_own q, ap (λ (x : ℕ). is_filed_at new (home_of b x) q) is)
-        | inr ne ↦ rw (pages_new u ne)
-            (h.inside u q (sym (there_new u ne) ∙ t) (cc (home_new u ne, filed_same (home_of a u) q)))
-      ];
-      absent = λ u off. elim (cases_eq u n.uid) [
-        | inl is ↦ cc there_own
-        | inr ne ↦ gains.counts u ∙ h.absent u (sym (there_new u ne) ∙ off)
-      ];
-      most = λ u. elim (cases_eq u n.uid) [
-        | inl is ↦ rw (is, pages_own) most
-        | inr ne ↦ rw (pages_new u ne) (h.most u)
-      ];
-      flat = λ u d. elim (cases_eq u n.uid) [
-        | inl is ↦ ap (pages_in b.nodes) is ∙ pages_own ∙ flat (sym kind_own ∙ ap (has_directory b.nodes) (sym is) ∙ d)
-        | inr ne ↦ pages_new u ne ∙ h.flat u (sym (kind_new u ne) ∙ d)
-      ];
-    }
-
-    pub filed_new : (u q : ℕ) → is_filed b new u q ≡ is_filed a old u q
-    unfolding is_filed
-    filed_new u q = elim (cases_eq u n.uid) [
-      | inl is ↦ rw (is, filed_own q, and_false (is_there b.nodes n.uid), ap is_some fresh) refl
-      | inr ne ↦ cc (there_new u ne, home_new u ne, filed_same (home_of a u) q)
-    ]
-
-    pub picture_new : (image : ℕ → Home → ℕ → List ℕ) → ((q : ℕ)
-        → image n.uid (record { volume = n.volume; entry = entry }) q ≡ replicate 1024 0)
-        → (u q : ℕ) → picture b image u q ≡ picture a image u q
-    unfolding picture
-    picture_new image zeros u q = elim (cases_eq u n.uid) [
-      | inl is ↦ rw (is, there_own, home_own, zeros q, ap is_some fresh) refl
-      | inr ne ↦ cc (there_new u ne, home_new u ne)
-    ]
-
 -- one more of the nodes on its volume
 pub entries_more : (n : Node) (ns : List Node) (count : ℕ → ℕ) (v : ℕ) → count v ≡ entries_on ns v
     → one_more count n.volume v ≡ entries_on (n ∷ ns) v
@@ -202,7 +82,7 @@ entries_more n ns count v is = rw (eqb_turned v n.volume) (by (eqb n.volume v) i
     by true same = omega arith
     by false same = omega arith
 
--- ---- the whole
+-- ---- a node is added
 
 -- A node more, which wasn't there before, has the least free entry of its volume for its home. All other homes are as
 -- they were, and so are the file maps and the records in use.
@@ -217,19 +97,123 @@ pub record HasNewHome (a b : AccountMaps) (n : Node) (entry : ℕ) (old now : Pl
   pub flags : now.records ≡ old.records
   pub count : used now.vtocs ≡ one_more (used old.vtocs) n.volume
 
-module _ {a b : AccountMaps} {n : Node} {entry : ℕ} {old now : Plain} (made : HasNewHome a b n entry old now)
-    (ast : ActiveSegs) (links : Links) where
-  free_home : (uid_at old.vtocs (record { volume = n.volume; entry = entry }) ≡ None)
-      × (map_at old.vtocs (record { volume = n.volume; entry = entry }) ≡ no_records)
+module _ {a b : AccountMaps} {n : Node} {entry : ℕ} {old now : Plain} (made : HasNewHome a b n entry old now) where
+  abbrev new_home : Home
+  new_home = record { volume = n.volume; entry = entry }
+
+  -- the new home was free, and is used for the node now
+  free_home : (uid_at old.vtocs new_home ≡ None) × (map_at old.vtocs new_home ≡ no_records)
   free_home = was_free old.vtocs n.volume made.least
 
-  pub store_new : {whos : List Who} → n.pages ≤ 256 → (n.directory ≡ true → n.pages ≡ 0)
+  there_new : (u : ℕ) → u ≢ n.uid → is_there b.nodes u ≡ is_there a.nodes u
+  there_new u ne = ap (λ (ns : List Node). is_there ns u) made.gains.nodes ∙ rw (ne_eqb n.uid u (λ e. ne (sym e))) refl
+
+  own : eqb n.uid n.uid ≡ true
+  own = eq-eqb n.uid n.uid refl
+
+  there_own : is_there b.nodes n.uid ≡ true
+  there_own = ap (λ (ns : List Node). is_there ns n.uid) made.gains.nodes ∙ rw own refl
+
+  node_new : (u : ℕ) → u ≢ n.uid → node_in b.nodes u ≡ node_in a.nodes u
+  node_new u ne = ap (λ (ns : List Node). node_in ns u) made.gains.nodes ∙ rw (ne_eqb n.uid u (λ e. ne (sym e))) refl
+
+  home_new : (u : ℕ) → u ≢ n.uid → home_of b u ≡ home_of a u
+  home_new u ne = rw (made.gains.nodes, made.gains.entries, ne_eqb n.uid u (λ e. ne (sym e))) refl
+
+  home_own : home_of b n.uid ≡ new_home
+  home_own = rw (made.gains.nodes, made.gains.entries, own) refl
+
+  apart : (u : ℕ) → AreHoused a old.vtocs → is_there a.nodes u ≡ true → home_of a u ≢ new_home
+  apart u h t same = cc (free_home.0, ap (uid_at old.vtocs) same, h.homes u t)
+
+  not_own : (u : ℕ) → is_there a.nodes u ≡ true → u ≢ n.uid
+  not_own u t is = cc made.fresh
+
+  pub housed_new : AreHoused a old.vtocs → AreHoused b now.vtocs
+  housed_new h = record {
+    homes = λ u t. elim (cases_eq u n.uid) [
+      | inl is ↦ ap (uid_at now.vtocs) (cc (is, home_own)) ∙ made.home ∙ ap (λ (x : ℕ). Some x) (sym is)
+      | inr ne ↦ (let was = sym (there_new u ne) ∙ t in
+          cc (home_new u ne, made.uids (home_of a u) (apart u h was), h.homes u was))
+    ];
+    there = λ home u e. elim (home_cases home new_home) [
+      | inl is ↦ (let same : n.uid ≡ u = cc (ap (uid_at now.vtocs) is) in cc (same, there_own))
+      | inr ne ↦ (let was = h.there home u (sym (made.uids home ne) ∙ e) in there_new u (not_own u was) ∙ was)
+    ];
+    only = λ home u e. elim (home_cases home new_home) [
+      | inl is ↦ (is ∙ sym home_own ∙ ap (home_of b) (cc (ap (uid_at now.vtocs) is)))
+      | inr ne ↦ (let was = sym (made.uids home ne) ∙ e in h.only home u was
+          ∙ sym (home_new u (not_own u (h.there home u was))))
+    ];
+  }
+
+  filed_same : (home : Home) (q : ℕ) → is_filed_at now.vtocs home q ≡ is_filed_at old.vtocs home q
+  filed_same home q = cc (filed_map now.vtocs home q, made.maps home, filed_map old.vtocs home q)
+
+  filed_own : (q : ℕ) → is_filed_at now.vtocs (home_of b n.uid) q ≡ false
+  filed_own q = rw home_own (cc (filed_same new_home q, filed_map old.vtocs new_home q, free_home.1, none_filed q))
+
+  pages_own : pages_in b.nodes n.uid ≡ n.pages
+  pages_own = rw (made.gains.nodes, own) refl
+
+  pages_new : (u : ℕ) → u ≢ n.uid → pages_in b.nodes u ≡ pages_in a.nodes u
+  pages_new u ne = ap pages_of (node_new u ne)
+
+  kind_new : (u : ℕ) → u ≢ n.uid → has_directory b.nodes u ≡ has_directory a.nodes u
+  kind_new u ne = ap (λ (ns : List Node). has_directory ns u) made.gains.nodes ∙ rw (ne_eqb n.uid u (λ e. ne (sym e))) refl
+
+  kind_own : has_directory b.nodes n.uid ≡ n.directory
+  kind_own = rw (made.gains.nodes, own) refl
+
+  pub counted_new : n.pages ≤ 256 → (n.directory ≡ true → n.pages ≡ 0) → AreCounted a old.vtocs → AreCounted b now.vtocs
+  counted_new most flat h = record {
+    counts = λ u t. elim (cases_eq u n.uid) [
+      | inl is ↦ ap (named_at now.vtocs) (cc (is, home_own)) ∙ ap (count_by is_some) (made.maps new_home ∙ free_home.1)
+          ∙ none_named ∙ sym (cc (made.gains.counts u, h.absent n.uid (ap is_some made.fresh)))
+      | inr ne ↦ ap (named_at now.vtocs) (home_new u ne) ∙ ap (count_by is_some) (made.maps (home_of a u))
+          ∙ h.counts u (sym (there_new u ne) ∙ t) ∙ sym (made.gains.counts u)
+    ];
+    inside = λ u q t on. elim (cases_eq u n.uid) [
+      | inl is ↦ cc (filed_own q, ap (λ (x : ℕ). is_filed_at now.vtocs (home_of b x) q) is)
+      | inr ne ↦ rw (pages_new u ne)
+          (h.inside u q (sym (there_new u ne) ∙ t) (cc (home_new u ne, filed_same (home_of a u) q)))
+    ];
+    absent = λ u off. elim (cases_eq u n.uid) [
+      | inl is ↦ cc there_own
+      | inr ne ↦ made.gains.counts u ∙ h.absent u (sym (there_new u ne) ∙ off)
+    ];
+    most = λ u. elim (cases_eq u n.uid) [
+      | inl is ↦ rw (is, pages_own) most
+      | inr ne ↦ rw (pages_new u ne) (h.most u)
+    ];
+    flat = λ u d. elim (cases_eq u n.uid) [
+      | inl is ↦ ap (pages_in b.nodes) is ∙ pages_own ∙ flat (sym kind_own ∙ ap (has_directory b.nodes) (sym is) ∙ d)
+      | inr ne ↦ pages_new u ne ∙ h.flat u (sym (kind_new u ne) ∙ d)
+    ];
+  }
+
+  pub filed_new : (u q : ℕ) → is_filed b now.vtocs u q ≡ is_filed a old.vtocs u q
+  unfolding is_filed
+  filed_new u q = elim (cases_eq u n.uid) [
+    | inl is ↦ rw (is, filed_own q, and_false (is_there b.nodes n.uid), ap is_some made.fresh) refl
+    | inr ne ↦ cc (there_new u ne, home_new u ne, filed_same (home_of a u) q)
+  ]
+
+  pub picture_new : (image : ℕ → Home → ℕ → List ℕ) → ((q : ℕ) → image n.uid new_home q ≡ replicate 1024 0)
+      → (u q : ℕ) → picture b image u q ≡ picture a image u q
+  unfolding picture
+  picture_new image zeros u q = elim (cases_eq u n.uid) [
+    | inl is ↦ rw (is, there_own, home_own, zeros q, ap is_some made.fresh) refl
+    | inr ne ↦ cc (there_new u ne, home_new u ne)
+  ]
+
+  -- ---- the whole
+
+  pub store_new : {ast : ActiveSegs} {links : Links} {whos : List Who} → n.pages ≤ 256 → (n.directory ≡ true → n.pages ≡ 0)
       → IsStore old ast links a whos → IsStore now ast links b whos
-  store_new most flat h = record {
-    housed = housed_new a b n entry made.gains old.vtocs now.vtocs made.fresh made.home free_home.0 free_home.1
-        made.uids made.maps h.housed;
-    counted = counted_new a b n entry made.gains old.vtocs now.vtocs made.fresh made.home free_home.0 free_home.1
-        made.uids made.maps most flat h.counted;
+  store_new {ast} {links} most flat h = record {
+    housed = housed_new h.housed;
+    counted = counted_new most flat h.counted;
     taken = record {
       records = λ stored v counts. cc (
         h.taken.records stored v (λ u. sym (made.gains.counts u) ∙ counts u),
@@ -241,72 +225,59 @@ module _ {a b : AccountMaps} {n : Node} {entry : ℕ} {old now : Plain} (made : 
       short = rw made.flags h.taken.short;
     };
     active = record {
-      there = λ place u e. (let was = h.active.there place u e in
-          there_new a b n entry made.gains u (other u was) ∙ was);
+      there = λ place u e. (let was = h.active.there place u e in there_new u (not_own u was) ∙ was);
       superiors = λ place u m e found. h.active.superiors place u m e
-          (sym (node_new a b n entry made.gains u (other u (h.active.there place u e))) ∙ found);
+          (sym (node_new u (not_own u (h.active.there place u e))) ∙ found);
       pools = λ place u m e found. h.active.pools place u m e
-          (sym (node_new a b n entry made.gains u (other u (h.active.there place u e))) ∙ found);
+          (sym (node_new u (not_own u (h.active.there place u e))) ∙ found);
     };
     rights = record {
       modes = λ process number place pages u mode m d e found. h.rights.modes process number place pages u mode m d e
-          (sym (node_new a b n entry made.gains u (other u (h.active.there place u e))) ∙ found);
+          (sym (node_new u (not_own u (h.active.there place u e))) ∙ found);
       lengths = λ process number place pages u mode m d e found. h.rights.lengths process number place pages u mode m
-          d e (sym (node_new a b n entry made.gains u (other u (h.active.there place u e))) ∙ found);
+          d e (sym (node_new u (not_own u (h.active.there place u e))) ∙ found);
     };
     known = record {
       older = λ process number u e. (omega (arith, h.known.older process number u e));
       processes = h.known.processes;
     };
   }
-    where
-      other : (u : ℕ) → is_there a.nodes u ≡ true → u ≢ n.uid
-      other u t is = cc (ap is_some made.fresh)
 
-  -- the flat store has the node too
-  pub shown_new : {D : Type 0} {drive : D → List (List ℕ)} {p : Plan} {s : Store} {t u : Storage D}
-      → t.accounts ≡ a → u.accounts ≡ b
-      → plain drive t.segs.pages ≡ old → plain drive u.segs.pages ≡ now → u.segs.links ≡ t.segs.links
-      → t.segs.ast ≡ ast → t.segs.links ≡ links → u.whos ≡ t.whos → words_at now ≡ words_at old → ((v : ℕ)
-      → length (vtoc_in now.vtocs v) ≡ length (vtoc_in old.vtocs v))
-      → IsKept old ast links → ((place : ℕ) → uid_in_place ast.entries place ≢ Some n.uid)
-      → Shows drive p s t → Shows drive p (record s { nodes = n ∷ s.nodes; next = s.next + 1 }) u
-  shown_new is_a is_b is_old is_now links_same ast_is links_is whos words sizes kept inactive h = record {
-    tree = record {
-      nodes = cc (h.tree.nodes, made.gains.nodes);
-      next = cc (h.tree.next, made.gains.next);
-      counts = rw is_b (λ v. made.gains.counts v ∙ (rw is_a at h.tree.counts) v);
-    };
-    known = rw links_same h.known;
-    pages = record {
-      stored = λ v q. cc (
-        h.pages.stored v q,
-        ap (λ (x : Plain). x.vtocs) is_old,
-        ap (λ (x : Plain). x.vtocs) is_now,
-        filed_new a b n entry made.gains old.vtocs now.vtocs made.fresh made.home free_home.0 free_home.1 made.uids
-            made.maps v q,
-      );
-      once = h.pages.once;
-      words = λ v o. cc (
-        h.pages.words v o,
-        words,
-        picture_new a b n entry made.gains old.vtocs now.vtocs made.fresh
-            made.home free_home.0 free_home.1 made.uids made.maps (words_at now) zeros v (o / 1024),
-      );
-    };
-    script = record {
-      records = λ v. cc (
-        h.script.records v,
-        ap (λ (x : Plain). size x.records v) is_old,
-        made.flags,
-        ap (λ (x : Plain). size x.records v) is_now,
-      );
-      entries = λ v. cc (h.script.entries v, sizes v);
-      whos = cc;
-    };
-  }
-    where
-      zeros : (q : ℕ) → words_at now n.uid (record { volume = n.volume; entry = entry }) q ≡ replicate 1024 0
-      zeros q = rw words (words_none old n.uid q (record { volume = n.volume; entry = entry })
-          (unbound_inactive q kept inactive)
-          (cc (filed_map old.vtocs (record { volume = n.volume; entry = entry }) q, free_home.1, none_filed q)))
+-- the flat store has the node too
+pub shown_new : {D : Type 0} {drive : D → List (List ℕ)} {p : Plan} {s : Store} {t u : Storage D} {n : Node} {entry : ℕ}
+    → HasNewHome t.accounts u.accounts n entry (plain drive t.segs.pages) (plain drive u.segs.pages)
+    → u.segs.links ≡ t.segs.links → u.whos ≡ t.whos
+    → words_at (plain drive u.segs.pages) ≡ words_at (plain drive t.segs.pages) → ((v : ℕ)
+    → length (vtoc_in u.segs.pages.volumes.vtocs v) ≡ length (vtoc_in t.segs.pages.volumes.vtocs v))
+    → IsKept (plain drive t.segs.pages) t.segs.ast t.segs.links
+    → ((place : ℕ) → uid_in_place t.segs.ast.entries place ≢ Some n.uid)
+    → Shows drive p s t → Shows drive p (record s { nodes = n ∷ s.nodes; next = s.next + 1 }) u
+shown_new {drive} {t} {u} {n} made links whos words sizes kept inactive h = record {
+  tree = record {
+    nodes = cc (h.tree.nodes, made.gains.nodes);
+    next = cc (h.tree.next, made.gains.next);
+    counts = λ v. made.gains.counts v ∙ h.tree.counts v;
+  };
+  known = rw links h.known;
+  pages = record {
+    stored = λ v q. h.pages.stored v q ∙ sym (filed_new made v q);
+    once = h.pages.once;
+    words = λ v o. cc (
+      h.pages.words v o,
+      words,
+      picture_new made (words_at (plain drive u.segs.pages)) zeros v (o / 1024),
+    );
+  };
+  script = record {
+    records = λ v. cc (h.script.records v, made.flags);
+    entries = λ v. cc (h.script.entries v, sizes v);
+    whos = cc;
+  };
+}
+  where
+    old : Plain
+    old = plain drive t.segs.pages
+
+    zeros : (q : ℕ) → words_at (plain drive u.segs.pages) n.uid (new_home made) q ≡ replicate 1024 0
+    zeros q = rw words (words_none old n.uid q (new_home made) (unbound_inactive q kept inactive)
+        (cc (filed_map old.vtocs (new_home made) q, (free_home made).1, none_filed q)))

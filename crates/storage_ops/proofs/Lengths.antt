@@ -41,7 +41,7 @@ module _ (a : AccountMaps) (vtocs : List (List (Option Entry))) (u : ℕ) {home 
             shown u q ∙ sym (record_told q) ∙ none refl q (grind (arith, nat_tests)) lt)
       ]
 
-module _ (a : AccountMaps) (vtocs : List (List (Option Entry))) (u : ℕ) (home : Home) (table : List (Option Entry))
+module _ (a : AccountMaps) (vtocs : List (List (Option Entry))) (u : ℕ) {home : Home} {table : List (Option Entry)}
     (there : is_there a.nodes u ≡ true) (home_is : home ≡ home_of a u)
     (table_is : table ≡ vtoc_in vtocs home.volume) where
   pub within_told : (from : ℕ) (b : Bool) → AreCounted a vtocs

@@ -8,16 +8,12 @@ use Rattle.seg_mover.proofs.Records.{length_given}
 
 -- ---- a move may begin
 
--- a free record for each stored page
-room_enough : (pages all in_use : ℕ) → nat_lt pages (all - in_use) ≡ true → in_use + pages ≤ all
-room_enough pages all in_use e = (let lt : pages < all - in_use = grind (arith, nat_tests) in omega arith)
-
 module _ {D : Type 0} (drive : D → List (List ℕ)) (t : Storage D) (u : ℕ)
     (kept : IsKept (plain drive t.segs.pages) t.segs.ast t.segs.links)
     (store : IsStore (plain drive t.segs.pages) t.segs.ast t.segs.links t.accounts t.whos)
     (active : IsActive t.segs.ast.entries u) where
   there : is_there t.accounts.nodes u ≡ true
-  there = active_there (plain drive t.segs.pages) t.segs.ast t.segs.links t.accounts t.whos kept store u active
+  there = active_there kept store active
 
   pub may_begin : HasParts (map drive t.segs.pages.volumes.drives) t.segs.pages.volumes.records
       t.segs.pages.volumes.vtocs → {to : ℕ} → to < length t.segs.pages.volumes.drives
@@ -29,8 +25,8 @@ module _ {D : Type 0} (drive : D → List (List ℕ)) (t : Storage D) (u : ℕ)
       let on = homed_volume t.segs.pages.volumes.vtocs (home_of t.accounts u) used in
       let all = all_drives drive t.segs.pages.volumes parts in
       let named = store.counted.counts u there in
-      let enough = room_enough (count_of t.accounts u) (length (records_at t.segs.pages.volumes to))
-      (used_at t.segs.pages.volumes to) has.1 in
+      let enough = lt_of (count_of t.accounts u) (length (records_at t.segs.pages.volumes to)
+      - used_at t.segs.pages.volumes to) has.1 in
       record {
         source = omega arith;
         target = within;

@@ -77,17 +77,17 @@ room_of n most flat = by n.directory refl
 
 -- ---- an active segment
 
-module _ (now : Plain) (ast : ActiveSegs) (links : Links) (a : AccountMaps) (whos : List Who)
-    (kept : IsKept now ast links) (h : IsStore now ast links a whos) (uid : ℕ) (active : IsActive ast.entries uid) where
+module _ {now : Plain} {ast : ActiveSegs} {links : Links} {a : AccountMaps} {whos : List Who}
+    (kept : IsKept now ast links) (h : IsStore now ast links a whos) {uid : ℕ} (active : IsActive ast.entries uid) where
   table_is : table_of ast uid ≡ table_at ast.tables active.0
   table_is = cc (place_told ast.entries uid active.0 kept.tree active.1)
 
   there : is_there a.nodes uid ≡ true
-  there = active_there now ast links a whos kept h uid active
+  there = active_there kept h active
 
   -- a page has a record exactly where its word says so
   pub filed_word : (p : ℕ) → is_filed_at now.vtocs (home_of a uid) p ≡ has_record (word_of ast uid p)
-  filed_word p = sym (filed_there a now.vtocs uid p there) ∙ word_filed now ast links a whos kept h uid active p
+  filed_word p = sym (filed_there a now.vtocs uid p there) ∙ word_filed kept h active p
 
   -- a segment with a stored page is no directory, and has it counted
   module _ (p : ℕ) (on : has_record (word_of ast uid p) ≡ true) where

@@ -62,18 +62,15 @@ counts_less {a} {b} {uid} p stored change once on counts v =
 
 -- ---- the whole
 
-module _ (old now : Plain) (ast next : ActiveSegs) (links : Links) (a b : AccountMaps) (whos : List Who) (uid : ℕ)
-    (home : Home) (p f : ℕ) (kept : IsKept old ast links) (h : IsStore old ast links a whos)
+module _ {old now : Plain} {ast : ActiveSegs} (next : ActiveSegs) {links : Links} {a : AccountMaps} (b : AccountMaps)
+    {whos : List Who} {uid : ℕ} {home : Home} (p f : ℕ) (kept : IsKept old ast links) (h : IsStore old ast links a whos)
     (active : IsActive ast.entries uid) (own : home ≡ home_of a uid)
     (on : has_record (word_of ast uid p) ≡ true) (keeps : KeepsCounts old now) where
-  was_filed : is_filed_at old.vtocs home p ≡ true
-  was_filed = rw own (filed_word old ast links a whos kept h uid active p ∙ on)
-
   was_used : uid_at old.vtocs home ≡ Some uid
-  was_used = cc ((active_home old ast links a whos kept h uid active).used)
+  was_used = cc ((active_home kept h active).used)
 
   less : 1 ≤ count_of a uid
-  less = page_counted old ast links a whos kept h uid active p on
+  less = page_counted kept h active p on
 
   pub store_left : {E : Type 0} (r : Result Left E) (record_was : ℕ) → now ≡ after_evict old home p f r
       → next ≡ table_left ast uid p record_was r → IfOk r (λ left. ChangesStored old now home p (is_kept left))
@@ -83,27 +80,24 @@ module _ (old now : Plain) (ast next : ActiveSegs) (links : Links) (a b : Accoun
   store_left (Ok Kept) record_was effect word stored count settled = rw settled (store_still (cc) (cc) (cc) (cc) h)
   store_left (Ok Released) record_was effect word stored count settled =
       let vtocs = ap (λ (x : Plain). x.vtocs) effect in
-      let there = active_there old ast links a whos kept h uid active in
+      let there = active_there kept h active in
       let named : named_at now.vtocs home + 1 ≡ named_at old.vtocs home
-      = rw vtocs (named_less old.vtocs home {u = uid} p was_used was_filed) in
+      = rw vtocs (named_less old.vtocs home {u = uid} p was_used (rw own (filed_word kept h active p ∙ on))) in
       let counted = ap (named_at old.vtocs) own ∙ h.counted.counts uid there in
       let sum : named_at now.vtocs home ≡ count_of a uid - 1 = omega arith in
-      store_recounted old now a b uid (count_of a uid - 1) settled there
-      (λ other. rw vtocs (put_uid old.vtocs home {u = uid} p None was_used other))
+      store_recounted old now settled there (λ other. rw vtocs (put_uid old.vtocs home {u = uid} p None was_used other))
       (λ other ne. rw vtocs (put_other old.vtocs home {u = uid} p None was_used other (λ e. ne (e ∙ own))))
       h.housed {ast = ast} {next = next} {links = links} {whos = whos} (cc) (cc) keeps (cc)
-      (λ q filed. still_within q (cc)) (records_less a b uid old.records now.records settled less
-      (cc) h.taken.records) h
+      (λ q filed. still_within q (cc)) (records_less old.records now.records settled less (cc) h.taken.records) h
     where
       still_within : (q : ℕ) → is_filed_at now.vtocs home q ≡ true → q < pages_in a.nodes uid
       still_within q filed = elim (cases_eq q p) [
         | inl same ↦ cc stored.here
-        | inr ne ↦ h.counted.inside uid q (active_there old ast links a whos kept h uid active)
-            (cc (stored.others home q (λ s e. ne e)))
+        | inr ne ↦ h.counted.inside uid q (active_there kept h active) (cc (stored.others home q (λ s e. ne e)))
       ]
 
 -- one page less is shown
-shown_less : {D : Type 0} (drive : D → List (List ℕ)) (plan : Plan) (s : Store) (t u : Storage D) (uid p : ℕ)
+shown_less : {D : Type 0} {drive : D → List (List ℕ)} {plan : Plan} {s : Store} {t u : Storage D} {uid p : ℕ}
     → Recounts t.accounts u.accounts uid (count_of t.accounts uid - 1) → is_there t.accounts.nodes uid ≡ true
     → is_filed t.accounts t.segs.pages.volumes.vtocs uid p ≡ true
     → u.whos ≡ t.whos → u.segs.links ≡ t.segs.links → AreHoused t.accounts t.segs.pages.volumes.vtocs
@@ -111,7 +105,7 @@ shown_less : {D : Type 0} (drive : D → List (List ℕ)) (plan : Plan) (s : Sto
     → KeepsWords (plain drive t.segs.pages) (plain drive u.segs.pages) uid (home_of t.accounts uid)
     → KeepsCounts (plain drive t.segs.pages) (plain drive u.segs.pages) → Shows drive plan s t
     → Shows drive plan (record s { stored = without_stored s.stored uid (λ q. eqb q p) }) u
-shown_less drive plan s t u uid p change there on whos links housed stored words keeps h = record {
+shown_less {drive} {s} {t} {u} {uid} {p} change there on whos links housed stored words keeps h = record {
   tree = assumption (
     h.tree.nodes ∙ sym change.nodes,
     h.tree.next ∙ sym change.next,
@@ -145,8 +139,8 @@ shown_less drive plan s t u uid p change there on whos links housed stored words
     not_or true y = refl
     not_or false y = refl
 
-pub shown_left : {D E : Type 0} (drive : D → List (List ℕ)) (plan : Plan) (s : Store) (t u : Storage D) (uid : ℕ)
-    (home : Home) (p f : ℕ) (r : Result Left E) → IsKept (plain drive t.segs.pages) t.segs.ast t.segs.links
+pub shown_left : {D E : Type 0} {drive : D → List (List ℕ)} {plan : Plan} {s : Store} {t u : Storage D} {uid : ℕ}
+    {home : Home} (p f : ℕ) (r : Result Left E) → IsKept (plain drive t.segs.pages) t.segs.ast t.segs.links
     → IsStore (plain drive t.segs.pages) t.segs.ast t.segs.links t.accounts t.whos
     → IsActive t.segs.ast.entries uid → home ≡ home_of t.accounts uid → has_record (word_of t.segs.ast uid p) ≡ true
     → u.whos ≡ t.whos → u.segs.links ≡ t.segs.links
@@ -155,19 +149,15 @@ pub shown_left : {D E : Type 0} (drive : D → List (List ℕ)) (plan : Plan) (s
     → KeepsWords (plain drive t.segs.pages) (plain drive u.segs.pages) uid home
     → KeepsCounts (plain drive t.segs.pages) (plain drive u.segs.pages) → IsSettled t.accounts u.accounts uid r
     → Shows drive plan s t → Shows drive plan (page_left s uid p r) u
-shown_left drive plan s t u uid home p f (Err e) kept store active own on whos links effect stored words keeps settled
-    h = shown_kept settled whos links
+shown_left p f (Err e) kept store active own on whos links effect stored words keeps settled h = shown_kept settled whos links
     (assumption (ap (λ (x : Plain). x.records) effect, ap (λ (x : Plain). x.vtocs) effect)) store.housed own words h
-shown_left drive plan s t u uid home p f (Ok Kept) kept store active own on whos links effect stored words keeps settled
-    h = shown_kept settled whos links
+shown_left p f (Ok Kept) kept store active own on whos links effect stored words keeps settled h = shown_kept settled whos links
     (assumption (ap (λ (x : Plain). x.records) effect, ap (λ (x : Plain). x.vtocs) effect)) store.housed own words h
-shown_left drive plan s t u uid home p f (Ok Released) kept store active own on whos links effect stored words keeps
-    settled h =
-    let there = active_there (plain drive t.segs.pages) t.segs.ast t.segs.links t.accounts t.whos kept store uid active
+shown_left {t} {uid} p f (Ok Released) kept store active own on whos links effect stored words keeps settled h =
+    let there = active_there kept store active
     in
-    shown_less drive plan s t u uid p settled there (filed_there t.accounts t.segs.pages.volumes.vtocs uid p there
-    ∙ filed_word (plain drive t.segs.pages) t.segs.ast t.segs.links t.accounts t.whos kept store uid active p ∙ on)
-    whos links store.housed (rw own at stored) (rw own at words) keeps h
+    shown_less settled there (filed_there t.accounts t.segs.pages.volumes.vtocs uid p there
+    ∙ filed_word kept store active p ∙ on) whos links store.housed (rw own at stored) (rw own at words) keeps h
 
 -- ---- a page that is given up
 
@@ -178,19 +168,17 @@ zero_at words zero i = elim (cases_lt i (length words)) [
 ]
 
 -- a page with a record whose words are all 0 may be given up
-pub may_release : {D : Type 0} (drive : D → List (List ℕ)) (plan : Plan) (s : Store) (t : Storage D) (uid p : ℕ)
-    (words : List ℕ) → IsKept (plain drive t.segs.pages) t.segs.ast t.segs.links
+pub may_release : {D : Type 0} {drive : D → List (List ℕ)} {plan : Plan} {s : Store} {t : Storage D} {uid : ℕ} (p : ℕ)
+    {words : List ℕ} → IsKept (plain drive t.segs.pages) t.segs.ast t.segs.links
     → IsStore (plain drive t.segs.pages) t.segs.ast t.segs.links t.accounts t.whos
     → IsActive t.segs.ast.entries uid → has_record (word_of t.segs.ast uid p) ≡ true
     → words_at (plain drive t.segs.pages) uid (home_of t.accounts uid) p ≡ words → AreZero words
     → Shows drive plan s t → MayRelease s uid p
-may_release drive plan s t uid p words kept store active on held zero h =
-    let there = active_there (plain drive t.segs.pages) t.segs.ast t.segs.links t.accounts t.whos kept store uid active
+may_release {drive} {plan} {s} {t} {uid} p {words} kept store active on held zero h =
+    let there = active_there kept store active
     in
     record {
       there = h.pages.stored uid p ∙ filed_there t.accounts t.segs.pages.volumes.vtocs uid p there
-          ∙ filed_word (plain drive t.segs.pages) t.segs.ast t.segs.links t.accounts t.whos kept store uid active p
-          ∙ on;
-      zeros = words_zero s.words uid p (λ i lt. word_at drive plan s t uid p i words there held lt h
-          ∙ zero_at words zero i);
+          ∙ filed_word kept store active p ∙ on;
+      zeros = words_zero s.words uid p (λ i lt. word_at p i there held lt h ∙ zero_at words zero i);
     }

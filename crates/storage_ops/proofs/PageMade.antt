@@ -28,38 +28,34 @@ counts_more a b uid p stored change off counts v =
 
 -- ---- the whole
 
-module _ (old now : Plain) (ast next : ActiveSegs) (links : Links) (a b : AccountMaps) (whos : List Who) (uid : ℕ)
-    (home : Home) (p f at w : ℕ) (kept : IsKept old ast links) (h : IsStore old ast links a whos)
+module _ {old now : Plain} {ast next : ActiveSegs} {links : Links} {a b : AccountMaps} {whos : List Who} {uid : ℕ}
+    {home : Home} {p : ℕ} (f at w : ℕ) (kept : IsKept old ast links) (h : IsStore old ast links a whos)
     (active : IsActive ast.entries uid) (own : home ≡ home_of a uid)
     (off : word_of ast uid p ≡ Null) (keeps : KeepsCounts old now) (lt : p < pages_in a.nodes uid)
     (effect : now ≡ created old uid p home (next_record old home) f at w) (word : next ≡ worded ast uid p (Here f))
     (stored : ChangesStored old now home p true) (count : taken now.records ≡ one_more (taken old.records) home.volume)
     (change : Recounts a b uid (count_of a uid + 1)) where
-  not_filed : is_filed_at old.vtocs home p ≡ false
-  not_filed = rw own (cc (filed_word old ast links a whos kept h uid active p))
-
   was_used : uid_at old.vtocs home ≡ Some uid
-  was_used = cc ((active_home old ast links a whos kept h uid active).used)
+  was_used = cc ((active_home kept h active).used)
 
   pub store_made : IsStore now next links b whos
   store_made =
       let vtocs = ap (λ (x : Plain). x.vtocs) effect in
-      let there = active_there old ast links a whos kept h uid active in
+      let there = active_there kept h active in
       let named : named_at now.vtocs home ≡ named_at old.vtocs home + 1 = rw vtocs
-      (named_more old.vtocs home p (next_record old home) was_used not_filed (rw vtocs at stored.here)) in
+      (named_more old.vtocs home p (next_record old home) was_used (rw own (cc (filed_word kept h active p)))
+      (rw vtocs at stored.here)) in
       let counted = ap (named_at old.vtocs) own ∙ h.counted.counts uid there in
       let sum : named_at now.vtocs home ≡ count_of a uid + 1 = omega arith in
-      store_recounted old now a b uid (count_of a uid + 1) change there
+      store_recounted old now change there
       (λ other. rw vtocs (put_uid old.vtocs home p (Some (next_record old home)) was_used other)) (λ other ne. rw vtocs
       (put_other old.vtocs home p (Some (next_record old home)) was_used other (λ e. ne (e ∙ own)))) h.housed (cc) (cc)
-      keeps (cc) (λ q filed. still_within q (cc)) (records_more a b uid old.records now.records change
-      (cc) h.taken.records) h
+      keeps (cc) (λ q filed. still_within q (cc)) (records_more old.records now.records change (cc) h.taken.records) h
     where
       still_within : (q : ℕ) → is_filed_at now.vtocs home q ≡ true → q < pages_in a.nodes uid
       still_within q filed = elim (cases_eq q p) [
         | inl same ↦ rw same lt
-        | inr ne ↦ h.counted.inside uid q (active_there old ast links a whos kept h uid active)
-            (cc (stored.others home q (λ s e. ne e)))
+        | inr ne ↦ h.counted.inside uid q (active_there kept h active) (cc (stored.others home q (λ s e. ne e)))
       ]
 
 -- ---- the words
@@ -69,8 +65,8 @@ pub zeros_null : {old : Plain} {ast : ActiveSegs} {links : Links} {a : AccountMa
     → IsKept old ast links → IsStore old ast links a whos → IsActive ast.entries uid → word_of ast uid p ≡ Null
     → words_at old uid (home_of a uid) p ≡ replicate 1024 0
 zeros_null {old} {ast} {links} {a} {whos} {uid} p kept h active off =
-    sym (picture_there a (words_at old) uid p (active_there old ast links a whos kept h uid active))
-    ∙ picture_none kept h uid p (cc (word_filed old ast links a whos kept h uid active p))
+    sym (picture_there a (words_at old) uid p (active_there kept h active))
+    ∙ picture_none kept h uid p (cc (word_filed kept h active p))
 
 other_words : {old now : Plain} {a : AccountMaps} {uid p : ℕ} {new : List ℕ} → AreHoused a old.vtocs
     → ChangesWords old now uid (home_of a uid) p new → (u : ℕ) {q : ℕ} → (u ≡ uid → q ≡ p → ⊥)
@@ -94,8 +90,8 @@ changed_words {old} {now} {a} {uid} {p} {new} housed there held change = record 
 }
 
 -- one page more is shown
-pub shown_made : {D : Type 0} (drive : D → List (List ℕ)) (plan : Plan) (s : Store) (t u : Storage D)
-    (uid p at w : ℕ) → IsKept (plain drive t.segs.pages) t.segs.ast t.segs.links
+pub shown_made : {D : Type 0} {drive : D → List (List ℕ)} {plan : Plan} {s : Store} {t u : Storage D}
+    {uid p at : ℕ} (w : ℕ) → IsKept (plain drive t.segs.pages) t.segs.ast t.segs.links
     → IsStore (plain drive t.segs.pages) t.segs.ast t.segs.links t.accounts t.whos
     → IsActive t.segs.ast.entries uid → word_of t.segs.ast uid p ≡ Null → at < 1024
     → Recounts t.accounts u.accounts uid (count_of t.accounts uid + 1) → u.whos ≡ t.whos → u.segs.links ≡ t.segs.links
@@ -103,17 +99,16 @@ pub shown_made : {D : Type 0} (drive : D → List (List ℕ)) (plan : Plan) (s :
     → ChangesWords (plain drive t.segs.pages) (plain drive u.segs.pages) uid (home_of t.accounts uid) p
     (set (replicate 1024 0) at w) → KeepsCounts (plain drive t.segs.pages) (plain drive u.segs.pages)
     → Shows drive plan s t → Shows drive plan (page_made s uid p at w) u
-shown_made drive plan s t u uid p at w kept store active off within change whos links stored words keeps h = (
+shown_made {drive} {s} {t} {u} {uid} {p} {at} w kept store active off within change whos links stored words keeps h = (
     let old = plain drive t.segs.pages in
-    let there = active_there old t.segs.ast t.segs.links t.accounts t.whos kept store uid active in
+    let there = active_there kept store active in
     let zeros = zeros_null p kept store active off in
     record {
       tree = assumption (
         h.tree.nodes ∙ sym change.nodes,
         h.tree.next ∙ sym change.next,
         counts_more t.accounts u.accounts uid p s.stored change (h.pages.stored uid p
-            ∙ (filed_there t.accounts t.segs.pages.volumes.vtocs uid p there ∙ filed_word old t.segs.ast t.segs.links
-            t.accounts t.whos kept store uid active p ∙ ap has_record off)) h.tree.counts,
+            ∙ (filed_there t.accounts t.segs.pages.volumes.vtocs uid p there ∙ filed_word kept store active p ∙ ap has_record off)) h.tree.counts,
       );
       known = rw links h.known;
       pages = record {

@@ -100,7 +100,7 @@ less_taken count volume v {n} = by (eqb v volume)
     by true e = omega arith
     by false e = omega arith
 
-module _ (a b : AccountMaps) (uid : ℕ) (old now : List (List Bool)) where
+module _ {a b : AccountMaps} {uid : ℕ} (old now : List (List Bool)) where
   -- a page more
   pub records_more : Recounts a b uid (count_of a uid + 1) → taken now ≡ one_more (taken old) (volume_in a.nodes uid)
       → ((stored : List (ℕ × ℕ)) (v : ℕ) → Counts a stored → taken old v ≡ taken_on a.nodes stored v)
@@ -147,7 +147,7 @@ module _ (a b : AccountMaps) (uid : ℕ) (old now : List (List Bool)) where
 -- ---- the whole
 
 -- the file map of one segment has changed, and its count with it
-module _ (old now : Plain) (a b : AccountMaps) (uid count : ℕ) (change : Recounts a b uid count)
+module _ (old now : Plain) {a b : AccountMaps} {uid count : ℕ} (change : Recounts a b uid count)
     (there : is_there a.nodes uid ≡ true) (uids : (other : Home) → uid_at now.vtocs other ≡ uid_at old.vtocs other)
     (maps : (other : Home) → other ≢ home_of a uid → map_at now.vtocs other ≡ map_at old.vtocs other)
     (housed : AreHoused a old.vtocs) where

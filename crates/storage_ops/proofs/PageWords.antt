@@ -1,5 +1,5 @@
 -- One word of a page in a frame is written.
-use Rattle.storage_ops.proofs.Prelude.{◌≡◌, ◌≢◌, ℕ, ◌+◌, ◌*◌, ◌<◌, ◌/◌, ◌%◌, Bool, true, false, cond, eqb, ◌&&◌, List, length, get_or, set, replicate, Some, refl, sym, ap, ◌∙◌, arith, inl, inr, cases_eq, ne_eqb, eq-eqb, get_or-set_other, get_or-set_same, same_Some, get_or-map, Plan, AccountMaps, is_stored, with_word, written, Store, with_old, Free, bound_page, frame_at, is_bound, Who, ptw_at, ActiveSegs, IsActive, table_at, Home, Plain, binding_at, bindings, number_in, plain, words_in, changed_at, changed_page, words_at, IsTableOf, frame_of, Links, word_of, IsKept, IsStore, Shows, Storage, home_of, is_filed, is_there, picture, and_false}
+use Rattle.storage_ops.proofs.Prelude.{◌≡◌, ◌≢◌, ℕ, ◌+◌, ◌*◌, ◌<◌, ◌/◌, ◌%◌, Bool, true, false, cond, eqb, ◌&&◌, List, length, get_or, set, replicate, Some, refl, sym, ap, ◌∙◌, arith, inl, inr, cases_eq, ne_eqb, eq-eqb, get_or-set_other, get_or-set_same, same_Some, get_or-map, Plan, AccountMaps, is_stored, with_word, written, Store, with_old, Free, bound_page, frame_at, is_bound, Who, ptw_at, ActiveSegs, IsActive, table_at, Home, Plain, binding_at, bindings, number_in, plain, words_in, changed_at, changed_page, words_at, IsTableOf, frame_of, Links, Control, word_of, IsKept, IsStore, Shows, Storage, home_of, is_filed, is_there, picture, and_false}
 use Rattle.page_control.specs.Tied.{uid_in}
 use Rattle.storage_ops.proofs.Paged.{active_tie, picture_there, word_filed, framed_recorded}
 use Rattle.storage_ops.proofs.PagesLess.{words_bound}
@@ -17,14 +17,12 @@ module _ {now : Plain} {ast : ActiveSegs} {links : Links} (kept : IsKept now ast
   pub bound_table : IsTableOf (bindings now.core) (uid_in (frame_at now.core f)) (table_at ast.tables bound_active.0)
   bound_table = kept.paged.tables bound_active.0 (uid_in (frame_at now.core f)) bound_active.1
 
-  pub bound_named : frame_of (ptw_at (table_at ast.tables bound_active.0) (number_in (frame_at now.core f))) ≡ Some f
-  bound_named = bound_table.named f (number_in (frame_at now.core f)) binding
-
   -- and the words of that page, wherever it is at home
   pub bound_words : (home : Home) → words_at now (uid_in (frame_at now.core f)) home (number_in (frame_at now.core f))
       ≡ words_in now f
   bound_words home = words_bound now (uid_in (frame_at now.core f)) (number_in (frame_at now.core f)) f home binding
-      (λ g e. same_Some g f (sym (bound_table.named g (number_in (frame_at now.core f)) e) ∙ bound_named))
+      (λ g e. same_Some g f (sym (bound_table.named g (number_in (frame_at now.core f)) e)
+      ∙ bound_table.named f (number_in (frame_at now.core f)) binding))
 
 -- and the page is stored
 pub bound_filed : {now : Plain} {ast : ActiveSegs} {links : Links} {a : AccountMaps} {whos : List Who}
@@ -34,8 +32,8 @@ bound_filed {now} {ast} {links} {a} {whos} kept h f bound =
     let uid = uid_in (frame_at now.core f) in
     let number = number_in (frame_at now.core f) in
     let active = bound_active kept f bound in
-    word_filed now ast links a whos kept h uid active number ∙ framed_recorded (word_of ast uid number)
-    ((active_tie now ast links a whos kept h uid active).table.named f number (binding kept f bound))
+    word_filed kept h active number ∙ framed_recorded (word_of ast uid number)
+    ((active_tie kept h active).table.named f number (binding kept f bound))
 
 pub same_page : (a : AccountMaps) (image next : ℕ → Home → ℕ → List ℕ) (u q : ℕ)
     → next u (home_of a u) q ≡ image u (home_of a u) q → picture a next u q ≡ picture a image u q
@@ -111,11 +109,11 @@ module _ (a : AccountMaps) (image next : ℕ → Home → ℕ → List ℕ) (uid
       ]
 
 -- a word of the flat store that is shown
-pub word_at : {D : Type 0} (drive : D → List (List ℕ)) (plan : Plan) (s : Store) (t : Storage D) (uid p at : ℕ)
-    (words : List ℕ) → is_there t.accounts.nodes uid ≡ true
+pub word_at : {D : Type 0} {drive : D → List (List ℕ)} {plan : Plan} {s : Store} {t : Storage D} {uid : ℕ} (p at : ℕ)
+    {words : List ℕ} → is_there t.accounts.nodes uid ≡ true
     → words_at (plain drive t.segs.pages) uid (home_of t.accounts uid) p ≡ words → at < 1024
     → Shows drive plan s t → s.words uid (1024 * p + at) ≡ get_or words at 0
-word_at drive plan s t uid p at words there held within h =
+word_at {drive} {s} {t} {uid} p at {words} there held within h =
     let page : (1024 * p + at) / 1024 ≡ p = omega arith in
     let place : (1024 * p + at) % 1024 ≡ at = omega arith in
     cc (
@@ -142,25 +140,24 @@ written_there s uid p at w within on =
     either false = refl
 
 -- a store that shows a flat store shows it with the word
-pub shown_put : {D : Type 0} (drive : D → List (List ℕ)) (plan : Plan) (s : Store) (t u : Storage D)
-    (uid p at w : ℕ) (words : List ℕ) → u.accounts ≡ t.accounts → u.whos ≡ t.whos → u.segs.links ≡ t.segs.links
-    → u.segs.pages.volumes ≡ t.segs.pages.volumes → is_there t.accounts.nodes uid ≡ true
-    → words_at (plain drive u.segs.pages) ≡ changed_page (words_at (plain drive t.segs.pages)) uid p (set words at w)
+pub shown_put : {D : Type 0} {drive : D → List (List ℕ)} {plan : Plan} {s : Store} {t : Storage D} {segs : Control D}
+    (uid p : ℕ) {at : ℕ} (w : ℕ) {words : List ℕ} → segs.links ≡ t.segs.links → segs.pages.volumes ≡ t.segs.pages.volumes
+    → is_there t.accounts.nodes uid ≡ true
+    → words_at (plain drive segs.pages) ≡ changed_page (words_at (plain drive t.segs.pages)) uid p (set words at w)
     → words_at (plain drive t.segs.pages) uid (home_of t.accounts uid) p ≡ words → length words ≡ 1024 → at < 1024
-    → Shows drive plan s t → Shows drive plan (word_written s uid p at w) u
-shown_put {D} drive plan s t u uid p at w words accounts whos links volumes there change held long within h = record {
-  tree = rw accounts (assumption h.tree);
+    → Shows drive plan s t → Shows drive plan (word_written s uid p at w) (record t { segs = segs })
+shown_put {drive} {s} {t} {segs} uid p {at} w {words} links volumes there change held long within h = record {
+  tree = assumption h.tree;
   known = rw links h.known;
   pages = record {
-    stored = λ v q. rw (volumes, accounts) (h.pages.stored v q);
+    stored = λ v q. rw volumes (h.pages.stored v q);
     once = h.pages.once;
-    words = λ v o. rw accounts (words_told t.accounts (words_at (plain drive t.segs.pages))
-        (words_at (plain drive u.segs.pages)) uid p at w words (page_changed there
-        change held) long within s.words h.pages.words v o);
+    words = λ v o. words_told t.accounts (words_at (plain drive t.segs.pages)) (words_at (plain drive segs.pages)) uid p
+        at w words (page_changed there change held) long within s.words h.pages.words v o;
   };
   script = record {
     records = λ v. rw volumes (h.script.records v);
     entries = λ v. rw volumes (h.script.entries v);
-    whos = cc;
+    whos = h.script.whos;
   };
 }

@@ -32,8 +32,8 @@ pub active_place : (entries : List (Option Entry)) (u : ℕ) → IsActive entrie
 unfolding place_of
 active_place entries u active = found_at entries u active.0 active.1
 
-module _ (now : Plain) (ast : ActiveSegs) (links : Links) (a : AccountMaps) (whos : List Who) (k : IsKept now ast links)
-    (h : IsStore now ast links a whos) (u : ℕ) (active : IsActive ast.entries u) where
+module _ {now : Plain} {ast : ActiveSegs} {links : Links} {a : AccountMaps} {whos : List Who} (k : IsKept now ast links)
+    (h : IsStore now ast links a whos) {u : ℕ} (active : IsActive ast.entries u) where
   pub active_there : is_there a.nodes u ≡ true
   active_there = h.active.there active.0 u active.1
 
@@ -49,10 +49,9 @@ module _ (now : Plain) (ast : ActiveSegs) (links : Links) (a : AccountMaps) (who
       ∙ active_tie.map.stored q
 
 pub framed_recorded : (w : Ptw) {f : ℕ} → frame_of w ≡ Some f → has_record w ≡ true
-framed_recorded Null e = cc
-framed_recorded (Out r) e = cc
 framed_recorded (Here g) e = refl
 framed_recorded (Leaving g) e = refl
+framed_recorded _ e = cc
 
 -- a page that isn't stored is in no frame
 pub unfiled_unframed : {now : Plain} {ast : ActiveSegs} {links : Links} {a : AccountMaps} {whos : List Who}
@@ -61,8 +60,8 @@ pub unfiled_unframed : {now : Plain} {ast : ActiveSegs} {links : Links} {a : Acc
 unfiled_unframed {now} {ast} {links} {a} {whos} k h u q off f e =
     let active = k.paged.bound f u q e in
     cc (
-      framed_recorded (word_of ast u q) ((active_tie now ast links a whos k h u active).table.named f q e),
-      word_filed now ast links a whos k h u active q,
+      framed_recorded (word_of ast u q) ((active_tie k h active).table.named f q e),
+      word_filed k h active q,
     )
 
 -- a page that isn't stored is all zeros
@@ -113,7 +112,7 @@ past_unfiled {now} {ast} {links} {a} {whos} k h {u} active page past q le =
     elim (cases_Bool (is_filed a now.vtocs u q)) [
       | inr off ↦ off
       | inl on ↦
-          (let there = active_there now ast links a whos k h u active in
+          (let there = active_there k h active in
           let lt = h.counted.inside u q there (sym (filed_there a now.vtocs u q there) ∙ on) in absurd (omega arith))
     ]
 

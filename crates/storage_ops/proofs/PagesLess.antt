@@ -1,5 +1,5 @@
 -- What is shown once a page is stored no more, and once one is cut.
-use Rattle.storage_ops.proofs.Prelude.{◌≡◌, ℕ, zero, suc, ◌+◌, ◌-◌, ◌*◌, ◌/◌, ◌%◌, ◌<◌, ◌≤◌, Bool, true, false, cond, eqb, not, ◌&&◌, ◌++◌, ◌↔◌, IsTrue, List, [], ◌∷◌, get_or, length, take, Option, Some, None, is_some, All, replicate, set, refl, sym, ap, subst, ◌∙◌, arith, inl, inr, count_by, nat_le, position, position_or_len, cases_Bool, cases_lt, eq-eqb, eqb-true, common_steps, get_or-replicate, get_or_past, length-append, length-replicate, length-take, fails_before_first, same_Some, get_or-map, AreZero, Plan, Who, AccountMaps, Recounts, count_of, has_directory, has_segment, cleared, has_cleared, without_pages, is_stored, is_zero_page, Store, counted_less, get_cut, zero_words_told, is_stored-without, once_without, Core, bound_page, frame_at, is_bound, reads_of, Frame, Bound, Free, Started, VtocEntry, record_at, Home, ActiveSegs, IsActive, table_at, KeepsCounts, entries, one_less, size, taken, cut, dropped, Vols, ChangesStored, ChangesWords, changed_at, changed_page, is_binding, is_filed_at, words_at, words_held, words_of_page, Plain, binding_at, bindings, number_in, plain, words_in, IsTableOf, frame_of, has_record, is_away, is_out, map_at, vtoc_in, Ptw, Here, Leaving, Null, Out, Links, table_of, word_of, worded, IsHomeOf, IsKept, Unstores, is_here, leaves, AreHoused, IsStore, ShowsPages, ShowsTree, Shows, Storage, home_of, is_filed, is_there, named_at, pages_in, picture, all_same, page_is}
+use Rattle.storage_ops.proofs.Prelude.{◌≡◌, ℕ, zero, suc, ◌+◌, ◌-◌, ◌*◌, ◌/◌, ◌%◌, ◌<◌, ◌≤◌, Bool, true, false, cond, eqb, not, ◌&&◌, ◌++◌, ◌↔◌, IsTrue, List, [], ◌∷◌, get_or, length, take, Option, Some, None, is_some, All, replicate, set, refl, sym, ap, subst, ◌∙◌, arith, inl, inr, count_by, nat_le, position, position_or_len, cases_Bool, cases_lt, eq-eqb, eqb-true, common_steps, get_or-replicate, get_or_past, length-append, length-replicate, length-take, fails_before_first, same_Some, get_or-map, AreZero, Plan, Who, AccountMaps, Recounts, count_of, has_directory, has_segment, cleared, has_cleared, without_pages, is_stored, is_zero_page, Store, counted_less, get_cut, zero_words_told, is_stored-without, once_without, Core, bound_page, frame_at, is_bound, reads_of, Frame, Bound, Free, Started, VtocEntry, record_at, Home, ActiveSegs, IsActive, table_at, KeepsCounts, entries, one_less, size, taken, cut, dropped, Vols, ChangesStored, ChangesWords, changed_at, changed_page, is_binding, is_filed_at, words_at, words_held, words_of_page, Plain, binding_at, bindings, number_in, plain, words_in, IsTableOf, frame_of, has_record, is_away, is_out, map_at, vtoc_in, Ptw, Here, Leaving, Null, Out, Links, Control, table_of, word_of, worded, IsHomeOf, IsKept, Unstores, is_here, leaves, AreHoused, IsStore, ShowsPages, ShowsTree, Shows, Storage, home_of, is_filed, is_there, named_at, pages_in, picture, all_same, page_is}
 use Rattle.page_control.specs.Tied.{uid_in}
 use Rattle.storage_ops.proofs.Entries.{one_named}
 use Rattle.storage_ops.proofs.Dropped.{HasDropped, dropped_vtocs, recount_homes, recount_there, same_entries, same_sizes}
@@ -13,7 +13,7 @@ use Rattle.page_control.proofs.Calls.{stored_away}
 
 -- ---- a page is stored no more
 
-module _ (old now : Plain) (a b : AccountMaps) (u q : ℕ) (d : HasDropped old now a b u q)
+module _ {old now : Plain} {a b : AccountMaps} {u q : ℕ} (d : HasDropped old now a b u q)
     (housed : AreHoused a old.vtocs) where
   no_other : {v : ℕ} → is_there a.nodes v ≡ true → home_of a v ≡ home_of a u → v ≡ u
   no_other {v} t homes = cc (housed.homes v t, housed.homes u d.there)
@@ -82,7 +82,7 @@ shown_dropped {drive} {s} {t} {n} {u} {q} d housed known whos h =
             (h.pages.stored u q ∙ d.filed) d.accounts.counts,
       );
       known = cc;
-      pages = pages_dropped old now t.accounts n.accounts u q d housed h.pages;
+      pages = pages_dropped d housed h.pages;
       script = record {
         records = λ v. h.script.records v ∙ sym (same_sizes v d.counts);
         entries = λ v. h.script.entries v ∙ sym (same_entries old now v d.counts);
@@ -93,9 +93,8 @@ shown_dropped {drive} {s} {t} {n} {u} {q} d housed known whos h =
 -- ---- the words of a page in a frame
 
 bound_frame : (frame : Frame) (u q : ℕ) → bound_page frame ≡ Some (u, q) → (uid_in frame ≡ u) × (number_in frame ≡ q)
-bound_frame Free u q e = cc
-bound_frame (Started v r) u q e = cc
 bound_frame (Bound v r used modified) u q e = page_is v r u q e
+bound_frame _ u q e = cc
 
 pub frame_bound : (core : Core) (u q f : ℕ) → binding_at (bindings core) f ≡ Some (u, q)
     → (uid_in (frame_at core f) ≡ u) × (number_in (frame_at core f) ≡ q)
@@ -103,11 +102,6 @@ frame_bound core u q f e = bound_frame (frame_at core f) u q (sym (get_or-map bo
 
 is_its_binding : (u q : ℕ) → is_binding u q (Some (u, q)) ≡ true
 is_its_binding u q = rw (eq-eqb u u refl, eq-eqb q q refl) refl
-
--- where no element passes, each place is before the first that does
-none_passes : {X : Type 0} (p : X → Bool) (xs : List X) (f : ℕ) → position p xs ≡ None → f < length xs
-    → f < position_or_len p xs
-none_passes p xs f none lt = grind (arith, common_steps)
 
 -- a page that one frame is bound to has the words there
 pub words_bound : (now : Plain) (u q f : ℕ) (home : Home) → binding_at (bindings now.core) f ≡ Some (u, q)
@@ -130,8 +124,7 @@ words_bound now u q f home e only = by (position (is_binding u q) (bindings now.
     by (Some g) is = cc (only g (bound_of (bindings now.core) u q is))
     by None is = cc (
       passes,
-      fails_before_first (is_binding u q) (bindings now.core) f None
-          (none_passes (is_binding u q) (bindings now.core) f is short),
+      fails_before_first (is_binding u q) (bindings now.core) f None (grind (arith, common_steps, short)),
     )
 
 -- ---- a page is cut
@@ -220,10 +213,9 @@ pub record MayDrop (now : Plain) (ast : ActiveSegs) (a : AccountMaps) (u q : ℕ
   pub table : IsTableOf (bindings now.core) u (table_of ast u)
 
 pub away_isnt_here : (w : Ptw) → is_away w ≡ true → is_here w ≡ false
-away_isnt_here Null e = cc
 away_isnt_here (Out r) e = refl
-away_isnt_here (Here f) e = cc
 away_isnt_here (Leaving f) e = refl
+away_isnt_here _ e = cc
 
 pub may_drop : {now : Plain} {ast : ActiveSegs} {links : Links} {a : AccountMaps} {whos : List Who} {u q : ℕ}
     → IsKept now ast links → IsStore now ast links a whos → IsActive ast.entries u
@@ -242,18 +234,18 @@ may_drop {now} {ast} {links} {a} {whos} {u} {q} k h active away = record {
     one_named (map_at now.vtocs (home_of a u)) q (sym (filed_map now.vtocs (home_of a u) q) ∙ filed_at),
     h.counted.counts u there,
   ));
-  home = active_home now ast links a whos k h u active;
-  table = (active_tie now ast links a whos k h u active).table;
+  home = active_home k h active;
+  table = (active_tie k h active).table;
 }
   where
     record_there : has_record (word_of ast u q) ≡ true
     record_there = stored_away (word_of ast u q) away
 
     there : is_there a.nodes u ≡ true
-    there = active_there now ast links a whos k h u active
+    there = active_there k h active
 
     filed : is_filed a now.vtocs u q ≡ true
-    filed = word_filed now ast links a whos k h u active q ∙ record_there
+    filed = word_filed k h active q ∙ record_there
 
     filed_at : is_filed_at now.vtocs (home_of a u) q ≡ true
     filed_at = sym (filed_there a now.vtocs u q there) ∙ filed
@@ -310,32 +302,27 @@ unstores_null drive {t} {u} q table null = unstores_still (λ r on. cc (eqb-true
 
 pub null_of : (w : Ptw) → is_here w ≡ false → is_away w ≡ false → w ≡ Null
 null_of Null e f = refl
-null_of (Out r) e f = cc
-null_of (Here g) e f = cc
-null_of (Leaving g) e f = cc
+null_of _ e f = cc
 
 -- ---- a page is cut through its frame
 
-pub shown_cut : {D : Type 0} (drive : D → List (List ℕ)) (p : Plan) (s : Store) (t n : Storage D) (u q f at : ℕ)
-    → n.accounts ≡ t.accounts → n.whos ≡ t.whos → n.segs.links ≡ t.segs.links
-    → n.segs.pages.volumes ≡ t.segs.pages.volumes → is_there t.accounts.nodes u ≡ true
+pub shown_cut : {D : Type 0} {drive : D → List (List ℕ)} {p : Plan} {s : Store} {t : Storage D} {segs : Control D}
+    (u q f at : ℕ) → segs.links ≡ t.segs.links → segs.pages.volumes ≡ t.segs.pages.volumes
+    → is_there t.accounts.nodes u ≡ true
     → picture t.accounts (words_at (plain drive t.segs.pages)) u q ≡ words_in (plain drive t.segs.pages) f
-    → words_at (plain drive n.segs.pages) ≡ changed_page (words_at (plain drive t.segs.pages)) u q
+    → words_at (plain drive segs.pages) ≡ changed_page (words_at (plain drive t.segs.pages)) u q
     (take at (words_in (plain drive t.segs.pages) f) ++ replicate (1024 - at) 0)
-    → Shows drive p s t → Shows drive p (cleared s u q at) n
-shown_cut drive p s t n u q f at accounts whos links volumes there has words h = record {
-  tree = rw accounts (assumption);
+    → Shows drive p s t → Shows drive p (cleared s u q at) (record t { segs = segs })
+shown_cut {drive} {s} {t} {segs} u q f at links volumes there has words h = record {
+  tree = assumption h.tree;
   known = cc;
-  pages = subst (λ (a : AccountMaps). ShowsPages (cleared s u q at) a n.segs.pages.volumes.vtocs
-      (words_at (plain drive n.segs.pages))) (sym accounts)
-      (subst (λ (v : List (List (Option VtocEntry))). ShowsPages (cleared s u q at) t.accounts v
-      (words_at (plain drive n.segs.pages))) (cc)
-      (pages_cut t.accounts t.segs.pages.volumes.vtocs (words_at (plain drive t.segs.pages))
-      (words_at (plain drive n.segs.pages)) u q at (words_in (plain drive t.segs.pages) f) there has words s h.pages));
+  pages = subst (λ (v : List (List (Option VtocEntry))). ShowsPages (cleared s u q at) t.accounts v
+      (words_at (plain drive segs.pages))) (cc) (pages_cut t.accounts t.segs.pages.volumes.vtocs (words_at (plain drive t.segs.pages))
+      (words_at (plain drive segs.pages)) u q at _ there has words s h.pages);
   script = record {
     records = λ v. cc (h.script.records v);
     entries = λ v. cc (h.script.entries v);
-    whos = cc;
+    whos = h.script.whos;
   };
 }
 
@@ -347,20 +334,19 @@ leaving_words {now} {ast} {links} {a} {whos} k h {u} q {f} active word =
     words_bound now u q f (home_of a u) (tie.back f q (ap frame_of word)) (λ g e. same_Some g f (cc (tie.named g q e)))
   where
     tie : IsTableOf (bindings now.core) u (table_of ast u)
-    tie = (active_tie now ast links a whos k h u active).table
+    tie = (active_tie k h active).table
 
 pub picture_bound : {now : Plain} {ast : ActiveSegs} {links : Links} {a : AccountMaps} {whos : List Who}
     → IsKept now ast links → IsStore now ast links a whos → {u : ℕ} (q : ℕ) {f : ℕ} → IsActive ast.entries u
     → word_of ast u q ≡ Leaving f → picture a (words_at now) u q ≡ words_in now f
 picture_bound {now} {ast} {links} {a} {whos} k h {u} q {f} active word =
-    picture_there a (words_at now) u q (active_there now ast links a whos k h u active)
-    ∙ leaving_words k h q active word
+    picture_there a (words_at now) u q (active_there k h active) ∙ leaving_words k h q active word
 
 pub leaving_bound : {now : Plain} {ast : ActiveSegs} {links : Links} {a : AccountMaps} {whos : List Who}
     → IsKept now ast links → IsStore now ast links a whos → {u : ℕ} (q : ℕ) {f : ℕ} → IsActive ast.entries u
     → word_of ast u q ≡ Leaving f → binding_at (bindings now.core) f ≡ Some (u, q)
 leaving_bound {now} {ast} {links} {a} {whos} k h {u} q {f} active word =
-    (active_tie now ast links a whos k h u active).table.back f q (ap frame_of word)
+    (active_tie k h active).table.back f q (ap frame_of word)
 
 pub frame_is_bound : (core : Core) (u q f : ℕ) → binding_at (bindings core) f ≡ Some (u, q)
     → is_bound (frame_at core f) ≡ true
@@ -377,15 +363,11 @@ frame_told now f at r next is told =
 -- a word that isn't that of a page on its way out
 pub not_leaving : (w : Ptw) → is_here w ≡ false → is_out w ≡ false → leaves w ≡ None → w ≡ Null
 not_leaving Null e f none = refl
-not_leaving (Out r) e f none = cc
-not_leaving (Here g) e f none = cc
-not_leaving (Leaving g) e f none = cc
+not_leaving _ e f none = cc
 
 pub leaving_is : (w : Ptw) (f : ℕ) → leaves w ≡ Some f → w ≡ Leaving f
-leaving_is Null f e = cc
-leaving_is (Out r) f e = cc
-leaving_is (Here g) f e = cc
 leaving_is (Leaving g) f e = ap Leaving (same_Some g f e)
+leaving_is _ f e = cc
 
 -- nothing but the words and the marks of a frame is changed
 pub unstores_cut : {D : Type 0} {t n : Storage D} {u : ℕ} → n.accounts ≡ t.accounts → n.segs.ast ≡ t.segs.ast
@@ -409,7 +391,3 @@ unstores_cut {t} {u} accounts ast bound reads links moving whos volumes = record
   whos = whos;
   drives = cc;
 }
-
-pub page_words : (image next : ℕ → Home → ℕ → List ℕ) (v r u q : ℕ) (ws : List ℕ) → v ≡ u → r ≡ q
-    → next ≡ changed_page image v r ws → next ≡ changed_page image u q ws
-page_words image next v r u q ws same at is = cc (is, same, at)

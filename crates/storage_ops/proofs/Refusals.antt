@@ -24,8 +24,7 @@ outside_only _ is = cc
 word_none : (old : ℕ) (how : RefKind) → (only is_outside (word_reply old how) ≡ None)
     × (only is_of_room (word_reply old how) ≡ None) × (refusal (word_reply old how) ≡ None)
 word_none old kind.Read = (refl, refl, refl)
-word_none old (kind.Write w) = (refl, refl, refl)
-word_none old (kind.Add w) = (refl, refl, refl)
+word_none old _ = (refl, refl, refl)
 
 -- the reply where neither access nor the length refuses a reference
 abbrev reply_on : Bool → Bool → Bool → Reply → Reply
@@ -181,10 +180,6 @@ module _ {D : Type 0} (drive : D → List (List ℕ)) (p : Plan) (s : Store) (t 
     (store : IsStore (plain drive t.segs.pages) t.segs.ast t.segs.links t.accounts t.whos) (h : Shows drive p s t)
     (parts : HasParts (map drive t.segs.pages.volumes.drives) t.segs.pages.volumes.records t.segs.pages.volumes.vtocs)
     (k : ℕ) (r : Reference) where
-  -- there is no room in the tables exactly where there is none in the flat store
-  no_room_shown : (n : Node) → has_no_room t n ≡ is_out_of_room p s n
-  no_room_shown n = rw (full_told drive p s t n.volume store h, room_is_shown drive p s t h store n.uid parts) refl
-
   room_shown : (n : Node) → room_in t s.stored r n
       ≡ room_on (stores_page s n.uid r.offset r.kind) (is_used_up s n.uid) (is_out_of_room p s n)
   room_shown n =
@@ -193,7 +188,12 @@ module _ {D : Type 0} (drive : D → List (List ℕ)) (p : Plan) (s : Store) (t 
         h.pages.stored n.uid (r.offset / 1024),
         stores_told s n.uid r.offset r.kind (blank_shown kept store h n.uid r.offset),
       ) in
-      rw (stores, no_room_shown n, ← h.tree.nodes) refl
+      rw (
+        stores,
+        full_told drive p s t n.volume store h,
+        room_is_shown drive p s t h store n.uid parts,
+        ← h.tree.nodes,
+      ) refl
 
   told : (found : Result Node Reply) → is_outside_of found ≡ true
       → (only is_of_room (reply_for p s r found) ≡ room_by t s.stored r found)

@@ -31,7 +31,7 @@ pub record HasRehomed (old now : Plain) (a b : AccountMaps) (u : ℕ) (from home
   pub sizes : (v : ℕ) → size now.records v ≡ size old.records v
   pub places : (v : ℕ) → entries now.vtocs v ≡ entries old.vtocs v
 
-module _ (old now : Plain) (a b : AccountMaps) (u : ℕ) (home : Home) (d : HasRehomed old now a b u (home_of a u) home)
+module _ {old now : Plain} {a b : AccountMaps} {u : ℕ} {home : Home} (d : HasRehomed old now a b u (home_of a u) home)
     (housed : AreHoused a old.vtocs) where
   -- ---- the nodes
 
@@ -83,9 +83,6 @@ module _ (old now : Plain) (a b : AccountMaps) (u : ℕ) (home : Home) (d : HasR
   uid_else : (at : Home) (v : ℕ) → uid_at now.vtocs at ≡ Some v → at ≢ home → uid_at old.vtocs at ≡ Some v
   uid_else at v e ne = sym (d.uids at (not_old at v e) ne) ∙ e
 
-  not_moved : (at : Home) (v : ℕ) → uid_at now.vtocs at ≡ Some v → at ≢ home → v ≢ u
-  not_moved at v e ne same = not_old at v e (housed.only at v (uid_else at v e ne) ∙ ap (home_of a) same)
-
   pub rehomed_housed : AreHoused b now.vtocs
   rehomed_housed = record {
     homes = λ v t. elim (cases_eq v u) [
@@ -99,7 +96,8 @@ module _ (old now : Plain) (a b : AccountMaps) (u : ℕ) (home : Home) (d : HasR
     ];
     only = λ at v e. elim (home_cases at home) [
       | inl is ↦ is ∙ sym home_here ∙ ap (home_of b) (sym (uid_here at v e is))
-      | inr ne ↦ housed.only at v (uid_else at v e ne) ∙ sym (home_else v (not_moved at v e ne))
+      | inr ne ↦ housed.only at v (uid_else at v e ne) ∙ sym (home_else v (λ same. not_old at v e
+          (housed.only at v (uid_else at v e ne) ∙ ap (home_of a) same)))
     ];
   }
 
@@ -224,9 +222,9 @@ shown_rehomed {drive} {t} {n} {u} {home} d housed links whos h = (
       };
       known = rw links h.known;
       pages = record {
-        stored = λ v q. h.pages.stored v q ∙ sym (filed_same old now a b u home d housed v q);
+        stored = λ v q. h.pages.stored v q ∙ sym (filed_same d housed v q);
         once = h.pages.once;
-        words = λ v o. cc (h.pages.words v o, picture_same old now a b u home d housed v (o / 1024));
+        words = λ v o. cc (h.pages.words v o, picture_same d housed v (o / 1024));
       };
       script = record {
         records = λ v. h.script.records v ∙ sym (d.sizes v);

@@ -23,7 +23,7 @@ pub record HasRemoved (old now : Plain) (a mid b : AccountMaps) (u : ℕ) : Type
   pub sizes : (v : ℕ) → size now.records v ≡ size old.records v
   pub places : (v : ℕ) → entries now.vtocs v ≡ entries old.vtocs v
 
-module _ (old now : Plain) (a mid b : AccountMaps) (u : ℕ) (d : HasRemoved old now a mid b u)
+module _ {old now : Plain} {a mid b : AccountMaps} {u : ℕ} (d : HasRemoved old now a mid b u)
     (housed : AreHoused a old.vtocs) where
   nodes_left : b.nodes ≡ without_node a.nodes u
   nodes_left = cc
@@ -193,11 +193,11 @@ pub shown_removed : {D : Type 0} (drive : D → List (List ℕ)) (p : Plan) (s :
     → Shows drive p s t → Shows drive p (without_branch s (Some u)) n
 shown_removed {D} drive p s t n mid u d housed links whos h = record {
   tree = record {
-    nodes = cc (nodes_left old now a mid b u d housed);
+    nodes = cc (nodes_left d housed);
     next = cc;
     counts = λ v. elim (cases_eq v u) [
-      | inl same ↦ rw same (counts_gone old now a mid b u d housed ∙ sym (count_gone s.stored u))
-      | inr ne ↦ counts_left old now a mid b u d housed v ne ∙ h.tree.counts v ∙ sym (count_left s.stored u v ne)
+      | inl same ↦ rw same (counts_gone d housed ∙ sym (count_gone s.stored u))
+      | inr ne ↦ counts_left d housed v ne ∙ h.tree.counts v ∙ sym (count_left s.stored u v ne)
     ];
   };
   known = rw links h.known;
@@ -228,31 +228,30 @@ shown_removed {D} drive p s t n mid u d housed links whos h = record {
     filed_else : (v r : ℕ) → v ≢ u → is_filed b now.vtocs v r ≡ is_filed a old.vtocs v r
     filed_else v r ne = elim (cases_Bool (is_there a.nodes v)) [
       | inl on ↦ cc (
-        filed_there b now.vtocs v r (there_left old now a mid b u d housed v ne ∙ on),
-        home_left old now a mid b u d housed v ne,
+        filed_there b now.vtocs v r (there_left d housed v ne ∙ on),
+        home_left d housed v ne,
         filed_map now.vtocs (home_of a v) r,
-        d.maps (home_of a v) (apart old now a mid b u d housed v ne on),
+        d.maps (home_of a v) (apart d housed v ne on),
         filed_map old.vtocs (home_of a v) r,
         filed_there a old.vtocs v r on,
       )
-      | inr off ↦ filed_absent b now.vtocs v r (there_left old now a mid b u d housed v ne ∙ off)
-          ∙ sym (filed_absent a old.vtocs v r off)
+      | inr off ↦ filed_absent b now.vtocs v r (there_left d housed v ne ∙ off) ∙ sym (filed_absent a old.vtocs v r off)
     ]
 
     words_else : (v r : ℕ) → v ≢ u → picture b (words_at now) v r ≡ picture a (words_at old) v r
     words_else v r ne = elim (cases_Bool (is_there a.nodes v)) [
       | inl on ↦ cc (
-        picture_there b (words_at now) v r (there_left old now a mid b u d housed v ne ∙ on),
-        home_left old now a mid b u d housed v ne,
-        d.words v (home_of a v) r (apart old now a mid b u d housed v ne on),
+        picture_there b (words_at now) v r (there_left d housed v ne ∙ on),
+        home_left d housed v ne,
+        d.words v (home_of a v) r (apart d housed v ne on),
         picture_there a (words_at old) v r on,
       )
-      | inr off ↦ picture_absent b (words_at now) v r (there_left old now a mid b u d housed v ne ∙ off)
+      | inr off ↦ picture_absent b (words_at now) v r (there_left d housed v ne ∙ off)
           ∙ sym (picture_absent a (words_at old) v r off)
     ]
 
     stored : (v r : ℕ) (z : Bool) → eqb v u ≡ z → (not (z && true) && is_stored s.stored v r) ≡ is_filed b now.vtocs v r
-    stored v r true e = rw (eqb-true v u e) (sym (filed_absent b now.vtocs u r (there_gone old now a mid b u d housed)))
+    stored v r true e = rw (eqb-true v u e) (sym (filed_absent b now.vtocs u r (there_gone d housed)))
     stored v r false e = h.pages.stored v r ∙ sym (filed_else v r (λ same. cc (eq-eqb v u same)))
 
     words : (v o : ℕ) (z : Bool) → eqb v u ≡ z
@@ -260,15 +259,12 @@ shown_removed {D} drive p s t n mid u d housed links whos h = record {
     words v o true e = cc (
       from_first o,
       eqb-true v u e,
-      picture_absent b (words_at now) u (o / 1024) (there_gone old now a mid b u d housed),
+      picture_absent b (words_at now) u (o / 1024) (there_gone d housed),
       all_same {X = ℕ} 1024 (o % 1024) 0,
     )
     words v o false e = cc (h.pages.words v o, words_else v (o / 1024) (λ same. cc (eq-eqb v u same)))
 
 -- ---- a node without inferior becomes inactive
-
-inferior_is : {u : ℕ} (n : Node) → n.superior ≡ Some u → is_inferior u n ≡ true
-inferior_is {u} n e = rw e (eq-eqb u u refl)
 
 inferior_any : (ns : List Node) {u : ℕ} (v : ℕ) {n : Node} → node_in ns v ≡ Some n → n.superior ≡ Some u
     → list_any (is_inferior u) ns ≡ true
@@ -276,7 +272,7 @@ inferior_any [] v found e = cc
 inferior_any (m ∷ ns) {u} v {n} found e = elim (cases_Bool (eqb m.uid v)) [
   | inl is ↦
       (let z : Some m ≡ Some n = rw is at found in let same : m ≡ n = cc in
-      rw (ap (is_inferior u) same ∙ inferior_is n e) refl)
+      rw (same, e, eq-eqb u u refl) refl)
   | inr isnt ↦ rw (inferior_any ns v (rw isnt at found) e) (or_true (is_inferior u m))
 ]
 
@@ -365,15 +361,6 @@ freed_length flags [] = refl
 freed_length flags (None ∷ places) = freed_length flags places
 freed_length flags (Some r ∷ places) = freed_length (set flags r false) places ∙ length-set flags r false
 
-pub erased_sizes : (old : Plain) {now : Plain} (home : Home) (v : ℕ) → now ≡ erased old home
-    → size now.records v ≡ size old.records v
-erased_sizes old home v is =
-    rw is (size_set old.records home.volume _ (freed_length (flags_of old home.volume) (file_map_of old home)) v)
-
-pub erased_entries : (old : Plain) {now : Plain} (home : Home) (v : ℕ) → now ≡ erased old home
-    → entries now.vtocs v ≡ entries old.vtocs v
-erased_entries old {now} home v is = length_inside old.vtocs home.volume home.entry v None (cc)
-
 pub removed_done : {old now : Plain} {a mid b : AccountMaps} {u : ℕ} {home : Home} → home ≡ home_of a u
     → is_there a.nodes u ≡ true → Recounts a mid u 0 → Loses mid b u → now ≡ erased old home
     → uid_at now.vtocs home ≡ None → ((other : Home) → other ≢ home → uid_at now.vtocs other ≡ uid_at old.vtocs other)
@@ -391,6 +378,7 @@ removed_done {old} {now} {home} is there counted loses effect free uids maps wor
   words = λ v other q ne. words v other q (λ same. ne (same ∙ is));
   used_less = cc;
   taken_less = λ v. cc (taken_less v);
-  sizes = λ v. erased_sizes old home v effect;
-  places = λ v. erased_entries old home v effect;
+  sizes = λ v. rw effect
+      (size_set old.records home.volume _ (freed_length (flags_of old home.volume) (file_map_of old home)) v);
+  places = λ v. length_inside old.vtocs home.volume home.entry v None (cc effect);
 }

@@ -135,9 +135,6 @@ cuts_odd {old} {mid} {new} {u} {words} lost odd x y = record {
 
 -- ---- what is taken out
 
-was_of : (u : ℕ) (o : Option (ℕ × ℕ)) → unbound u (λ q. nat_le 0 q) o ≡ unbound u (λ q. true) o
-was_of u o = ap (λ (t : ℕ → Bool). unbound u t o) (λ i. λ q. from_first q i)
-
 pub out_active : {D : Type 0} (old mid new : Storage D) (place u : ℕ) → IsOneToOne old.segs.ast.entries
     → uid_in_place old.segs.ast.entries place ≡ Some u → Unstores old mid u (λ q. nat_le 0 q)
     → new ≡ record mid { segs = record mid.segs { ast = deactivated mid.segs.ast place } } → TakesOut old new u
@@ -145,7 +142,8 @@ out_active {D} old mid new place u once at x is = rw is (record {
   inactive = rw x.places (inactive_now old.segs.ast.entries place u once at);
   entries = λ p apart. cc (get_or-set_other mid.segs.ast.entries place p None None (other p apart), x.places);
   tables = λ p apart. get_or-set_other mid.segs.ast.tables place p _ [] (other p apart) ∙ x.tables p apart;
-  bound = λ f. x.bound f ∙ was_of u (binding_at (bindings old.segs.pages.core) f);
+  bound = λ f. x.bound f
+      ∙ ap (λ (t : ℕ → Bool). unbound u t (binding_at (bindings old.segs.pages.core) f)) (λ i. λ q. from_first q i);
 })
   where
     other : (p : ℕ) → uid_in_place old.segs.ast.entries p ≢ Some u → p ≢ place

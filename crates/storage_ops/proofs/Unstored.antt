@@ -56,9 +56,6 @@ binding_stays u q (Some x) apart = by (eqb x.0 u) (eqb x.1 q) refl refl
     by true false e f = refl
     by false z e f = refl
 
-pub binding_goes : (u q : ℕ) → unbound u (λ r. eqb r q) (Some (u, q)) ≡ None
-binding_goes u q = rw (eq-eqb u u refl, eq-eqb q q refl) refl
-
 module _ (core : Core) (u q : ℕ) (table : List Ptw) (t : IsTableOf (bindings core) u table) where
   -- no frame is bound to a page whose word names none
   pub bound_none : frame_of (ptw_at table q) ≡ None → (g : ℕ)
@@ -69,7 +66,7 @@ module _ (core : Core) (u q : ℕ) (table : List Ptw) (t : IsTableOf (bindings c
   pub bound_free : (f : ℕ) → frame_of (ptw_at table q) ≡ Some f → (g : ℕ)
       → binding_at (bindings (with_frame core f Free)) g ≡ unbound u (λ r. eqb r q) (binding_at (bindings core) g)
   bound_free f at g = freed_at core f g ∙ elim (cases_eq g f) [
-    | inl same ↦ rw (same, eq-eqb f f refl, t.back f q at) (sym (binding_goes u q))
+    | inl same ↦ rw (same, eq-eqb f f refl, t.back f q at, eq-eqb u u refl, eq-eqb q q refl) refl
     | inr apart ↦ rw (ne_eqb g f apart)
         (sym (binding_stays u q (binding_at (bindings core) g) (λ is. apart (cc (t.named g q is)))))
   ]
@@ -193,18 +190,7 @@ active_still x active = (active.0, cc)
 
 pub unrecorded : (w : Ptw) → has_record w ≡ false → w ≡ Null
 unrecorded Null e = refl
-unrecorded (Out r) e = cc
-unrecorded (Here f) e = cc
-unrecorded (Leaving f) e = cc
-
-pub between_none : (from q : ℕ) → false ≡ between from from q
-between_none from q = grind (arith, nat_tests)
-
-pub between_more : (from page q : ℕ) → from ≤ page → (between from page q || eqb q page) ≡ between from (page + 1) q
-between_more from page q le = grind (arith, nat_tests)
-
-pub between_past : (from page : ℕ) → between from page page ≡ false
-between_past from page = grind (arith, nat_tests)
+unrecorded _ e = cc
 
 -- ---- what is being read
 

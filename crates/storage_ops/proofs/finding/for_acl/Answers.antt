@@ -3,13 +3,12 @@ use Rattle.storage_ops.proofs.FoundLaws.{leads_segment}
 use Rattle.storage_ops.proofs.PathRefusals.{refusal_told, segment_refuses}
 use Rattle.storage_ops.proofs.finding.for_acl.Goals as goal
 
-pub returns-then-takes-clause-leads : goal.returns-then-takes-clause-leads
-returns-then-takes-clause-leads c = leads_segment c.in-Ok.ensures.ok
-
-pub returns-then-takes-clause-refusal : goal.returns-then-takes-clause-refusal
-returns-then-takes-clause-refusal c = λ s h. ap refusal
-    (acl_told s c.args.accounts.now.nodes c.args.path.now h.nodes c.args.row.now
-    (as_term (quota_in c.args.accounts.now.nodes) c.in-Ok.node.now) true c.in-Ok.ensures.ok (cc))
+pub returns-then-takes : goal.returns-then-takes
+returns-then-takes c = record {
+  leads = leads_segment c.in-Ok.ensures.ok;
+  refusal = λ s h. ap refusal (acl_told s c.args.accounts.now.nodes c.args.path.now h.nodes c.args.row.now
+      (as_term (quota_in c.args.accounts.now.nodes) c.in-Ok.node.now) true c.in-Ok.ensures.ok (cc));
+}
 
 pub returns-else-takes-clause-refusal : goal.returns-else-takes-clause-refusal
 returns-else-takes-clause-refusal c = λ s h. ap refusal

@@ -15,15 +15,15 @@ returns-then-is_err-clause-refusal c = λ s h. ap refusal
     (eqb (quota_in c.args.accounts.now.nodes c.in-Ok.node.now.uid) 0) c.in-Ok.ensures.ok
     (c.may_remove.ensures.0 (cc)) refl)
 
-pub returns-then-quota_of-eq0-clause-leads : goal.returns-then-quota_of-eq0-clause-leads
-returns-then-quota_of-eq0-clause-leads c = leads_branch c.in-Ok.ensures.ok
-
-pub returns-then-quota_of-eq0-clause-refusal : goal.returns-then-quota_of-eq0-clause-refusal
-returns-then-quota_of-eq0-clause-refusal c = λ s h.
-    ap refusal (delete_told s c.args.accounts.now.nodes c.args.path.now h.nodes
-    (as_term (quota_in c.args.accounts.now.nodes) c.in-Ok.node.now) false true c.in-Ok.ensures.ok
-    (from_false (is_err c.may_remove.result) (has_inferior c.args.accounts.now.nodes c.in-Ok.node.now.uid)
-    c.may_remove.ensures.1 (cc)) (ap (λ (q : ℕ). eqb q 0) (sym c.quota_of.ensures ∙ c.if-quota_of-eq0.true)))
+pub returns-then-quota_of-eq0 : goal.returns-then-quota_of-eq0
+returns-then-quota_of-eq0 c = record {
+  leads = leads_branch c.in-Ok.ensures.ok;
+  refusal = λ s h.
+      ap refusal (delete_told s c.args.accounts.now.nodes c.args.path.now h.nodes
+      (as_term (quota_in c.args.accounts.now.nodes) c.in-Ok.node.now) false true c.in-Ok.ensures.ok
+      (from_false (is_err c.may_remove.result) (has_inferior c.args.accounts.now.nodes c.in-Ok.node.now.uid)
+      c.may_remove.ensures.1 (cc)) (ap (λ (q : ℕ). eqb q 0) (sym c.quota_of.ensures ∙ c.if-quota_of-eq0.true)));
+}
 
 pub returns-else-quota_of-eq0-clause-refusal : goal.returns-else-quota_of-eq0-clause-refusal
 returns-else-quota_of-eq0-clause-refusal c = λ s h.

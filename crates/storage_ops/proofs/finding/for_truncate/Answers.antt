@@ -3,12 +3,12 @@ use Rattle.storage_ops.proofs.FoundLaws.{leads_segment}
 use Rattle.storage_ops.proofs.PathRefusals.{refusal_told, segment_refuses}
 use Rattle.storage_ops.proofs.finding.for_truncate.Goals as goal
 
-pub returns-in-Ok-clause-leads : goal.returns-in-Ok-clause-leads
-returns-in-Ok-clause-leads c = leads_segment c.in-Ok.ensures.ok
-
-pub returns-in-Ok-clause-refusal : goal.returns-in-Ok-clause-refusal
-returns-in-Ok-clause-refusal c = λ s h. ap refusal (truncate_told s c.args.accounts.now.nodes c.args.path.now h.nodes
-    (as_term (quota_in c.args.accounts.now.nodes) c.in-Ok.node.now) c.in-Ok.ensures.ok)
+pub returns-in-Ok : goal.returns-in-Ok
+returns-in-Ok c = record {
+  leads = leads_segment c.in-Ok.ensures.ok;
+  refusal = λ s h. ap refusal (truncate_told s c.args.accounts.now.nodes c.args.path.now h.nodes
+      (as_term (quota_in c.args.accounts.now.nodes) c.in-Ok.node.now) c.in-Ok.ensures.ok);
+}
 
 pub returns-in-Err-clause-refusal : goal.returns-in-Err-clause-refusal
 returns-in-Err-clause-refusal c = λ s h. refusal_told

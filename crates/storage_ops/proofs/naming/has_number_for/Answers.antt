@@ -1,4 +1,3 @@
-use Rattle.storage_ops.proofs.Prelude.{sym, ◌∙◌}
 use Rattle.storage_ops.proofs.NamingLaws.{number_told, room_told}
 use Rattle.storage_ops.proofs.naming.has_number_for.Goals as goal
 

@@ -1,11 +1,10 @@
 use Rattle.storage_ops.proofs.Prelude.{ℕ, ap, ◌∙◌, sum, List, None, no_segments, Paging, plain, Control, no_links, AreFresh, empty_frames, pools_few}
 use Rattle.storage_ops.proofs.Fresh.{filed_fresh, rest_fresh}
-use Rattle.storage_ops.proofs.starting.fresh_segs.Given.{Over}
 use Rattle.storage_ops.proofs.starting.fresh_segs.Goals.{In_ok-pages}
 use Rattle.storage_ops.proofs.starting.fresh_segs.Goals as goal
 
 -- the volumes that pages are given are fresh
-fresh_pages : (g : Over) (c : In_ok-pages g)
+fresh_pages : (g : _) (c : In_ok-pages g)
     → AreFresh c.args.script.now c.in_ok-pages.pages.volumes.records c.in_ok-pages.pages.volumes.vtocs
 fresh_pages g c = rw c.in_ok-pages.ensures c.requires.fresh
 

@@ -1,4 +1,4 @@
-use Rattle.storage_ops.proofs.Prelude.{length, plain}
+use Rattle.storage_ops.proofs.Prelude.{rules, length, plain}
 use Rattle.storage_ops.proofs.Held.{held, shown_held}
 use Rattle.storage_ops.proofs.ChainDown.{may_activate, shown_next, store_next}
 use Rattle.storage_ops.proofs.Tables.{all_drives}
@@ -12,11 +12,15 @@ activate_next-requires-clause-chain g c =
     c.self.invariant c.promise.ensures.tree (rw (← c.self.view_is) at c.requires.chain)
     (all_drives g.D.Drive.pages t.segs.pages.volumes c.look.ensures.parts) off
 
-pub returns-clause-next : goal.returns-clause-next
-returns-clause-next g c = rw (← c.self.view_is) c.activate_next.ensures.next
-
-pub returns-clause-victim : goal.returns-clause-victim
-returns-clause-victim g c = rw (← c.self.view_is) c.activate_next.ensures.victim
+pub returns : goal.returns
+returns g c = record {
+  next = rw (← c.self.view_is) c.activate_next.ensures.next;
+  victim = rw (← c.self.view_is) c.activate_next.ensures.victim;
+  shown = λ p s h.
+      shown_next g.D.Drive.pages p s (held c.self.view_is) c.activate_next.new.self c.args.chain.now
+      c.activate_next.result c.activate_next.ensures.next (shown_held c.self.view_is h);
+  rest = search rules;
+}
 
 pub invariant_of-self : goal.invariant_of-self
 invariant_of-self g c =
@@ -24,8 +28,3 @@ invariant_of-self g c =
     store_next g.D.Drive.pages t.segs c.activate_next.new.self t.accounts t.whos c.args.chain.now
     c.activate_next.result c.activate_next.ensures.next c.promise.ensures.tree
     (rw (← c.self.view_is) at c.requires.chain) c.look.ensures.kept.linked c.self.invariant
-
-pub returns-clause-shown : goal.returns-clause-shown
-returns-clause-shown g c = λ p s h.
-    shown_next g.D.Drive.pages p s (held c.self.view_is) c.activate_next.new.self c.args.chain.now
-    c.activate_next.result c.activate_next.ensures.next (shown_held c.self.view_is h)

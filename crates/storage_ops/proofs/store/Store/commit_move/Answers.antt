@@ -1,5 +1,4 @@
 use Rattle.storage_ops.proofs.Prelude.{rules, w32, to_z-of_z}
-use mir.Val.{SFits}
 use Rattle.storage_ops.proofs.store.Store.commit_move.Goals as goal
 
 pub returns-clause-answer : goal.returns-clause-answer

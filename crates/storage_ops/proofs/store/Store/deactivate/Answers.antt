@@ -1,4 +1,3 @@
-use Rattle.storage_ops.proofs.Prelude.{plain}
 use Rattle.storage_ops.proofs.Held.{store_after}
 use Rattle.storage_ops.proofs.Less.{store_inactive}
 use Rattle.storage_ops.proofs.store.Store.deactivate.Goals as goal

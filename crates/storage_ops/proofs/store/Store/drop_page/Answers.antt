@@ -1,22 +1,21 @@
 use Rattle.storage_ops.proofs.Prelude.{◌≡◌, ◌-◌, refl, ap, ◌∙◌, inl, true, ActiveSegs, plain, is_away, Links, word_of, count_of}
 use Rattle.storage_ops.proofs.Held.{active_held, held, home_held, word_held}
 use Rattle.storage_ops.proofs.PagesLess.{drop_done, may_drop, shown_dropped, unstores_one, MayDrop}
-use Rattle.storage_ops.proofs.Dropped.{store_dropped, HasDropped}
-use Rattle.storage_ops.proofs.CutExactly.{dropped_exactly, other_counts}
-use Rattle.storage_ops.proofs.store.Store.drop_page.Given.{Over}
+use Rattle.storage_ops.proofs.Dropped.{store_dropped, HasDropped, recount_other}
+use Rattle.storage_ops.proofs.CutExactly.{dropped_exactly}
 use Rattle.storage_ops.proofs.store.Store.drop_page.Goals.{After-credit, After-look}
 use Rattle.storage_ops.proofs.store.Store.drop_page.Goals as goal
 
-away : (g : Over) (c : After-look g) → is_away (word_of c.self.inside.segs.ast c.args.uid c.args.page) ≡ true
+away : (g : _) (c : After-look g) → is_away (word_of c.self.inside.segs.ast c.args.uid c.args.page) ≡ true
 away g c = cc (word_held c.self.view_is c.args.uid c.args.page)
 
 -- what is true of the page before
-may : (g : Over) (c : After-look g) → MayDrop (plain g.D.Drive.pages c.self.inside.segs.pages)
+may : (g : _) (c : After-look g) → MayDrop (plain g.D.Drive.pages c.self.inside.segs.pages)
     c.self.inside.segs.ast c.self.inside.accounts c.args.uid c.args.page
 may g c = may_drop c.look.ensures.kept c.self.invariant (active_held c.self.view_is c.requires.may.active) (away g c)
 
 -- and what was done to it
-done : (g : Over) (c : After-credit g) → HasDropped (plain g.D.Drive.pages c.self.inside.segs.pages)
+done : (g : _) (c : After-credit g) → HasDropped (plain g.D.Drive.pages c.self.inside.segs.pages)
     (plain g.D.Drive.pages c.drop_page.new.self.pages) c.self.inside.accounts c.credit.new.self c.args.uid c.args.page
 done g c =
     let before = may g (goal.at.returns g c).After-look in
@@ -57,5 +56,5 @@ returns g c =
       exact = dropped_exactly g.D.Drive.pages t (record t { accounts = c.credit.new.self; segs = c.drop_page.new.self })
           c.args.page (home_held c.self.view_is c.args.uid c.requires.may.home) (away g kept) c.drop_page.ensures.effect
           c.drop_page.ensures.word c.credit.ensures;
-      others = other_counts c.credit.ensures;
+      others = λ s apart. recount_other c.credit.ensures s apart;
     })

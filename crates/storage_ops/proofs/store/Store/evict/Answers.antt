@@ -4,22 +4,19 @@ use Rattle.storage_ops.proofs.PageFacts.{page_counted, page_segment}
 use Rattle.storage_ops.proofs.PageLeft.{may_release, shown_left, store_left}
 use Rattle.storage_ops.proofs.PagesLess.{leaving_words}
 use Rattle.storage_ops.proofs.Still.{own_home}
-use Rattle.storage_ops.proofs.store.Store.evict.Given.{Over}
 use Rattle.storage_ops.proofs.store.Store.evict.Goals.{After-look}
 use Rattle.storage_ops.proofs.store.Store.evict.Goals as goal
 
 -- the page is of a segment, which has a stored page more than none
-stored : (g : Over) (c : After-look g) → (has_segment c.self.inside.accounts.nodes c.args.uid ≡ true)
+stored : (g : _) (c : After-look g) → (has_segment c.self.inside.accounts.nodes c.args.uid ≡ true)
     × (1 ≤ count_of c.self.inside.accounts c.args.uid)
 stored g c =
     let t = held c.self.view_is in
     let active = active_held c.self.view_is c.requires.active in
     let number = number_in (frame_at t.segs.pages.core c.args.f) in
     let on = ap has_record (leaving_held c.self.view_is c.args.uid c.requires.leaving) in (
-      page_segment (plain g.D.Drive.pages t.segs.pages) t.segs.ast t.segs.links t.accounts t.whos
-          c.look.ensures.kept c.self.invariant c.args.uid active number on,
-      page_counted (plain g.D.Drive.pages t.segs.pages) t.segs.ast t.segs.links t.accounts t.whos
-          c.look.ensures.kept c.self.invariant c.args.uid active number on,
+      page_segment c.look.ensures.kept c.self.invariant active number on,
+      page_counted c.look.ensures.kept c.self.invariant active number on,
     )
 
 pub invariant_of-self : goal.invariant_of-self
@@ -28,25 +25,18 @@ invariant_of-self g c =
     let home = home_for_held c.self.view_is g.D.Drive.pages c.requires.home in
     let leaving = leaving_held c.self.view_is c.args.uid c.requires.leaving in
     rw c.evict-left.ensures.links
-    (store_left (plain g.D.Drive.pages t.segs.pages) (plain g.D.Drive.pages c.evict-left.new.self.pages) t.segs.ast
-    c.evict-left.new.self.ast t.segs.links t.accounts c.settle.new.accounts t.whos c.args.uid c.args.home
-    (number_in (frame_at t.segs.pages.core c.args.f)) c.args.f c.look.ensures.kept c.self.invariant
-    (active_held c.self.view_is c.requires.active)
-    (own_home c.self.invariant.housed home) (ap has_record leaving) c.evict-left.ensures.counts c.evict-left.result
+    (store_left _ _ _ c.args.f c.look.ensures.kept c.self.invariant (active_held c.self.view_is c.requires.active) (own_home c.self.invariant.housed home) (ap has_record leaving) c.evict-left.ensures.counts c.evict-left.result
     (record_of (plain g.D.Drive.pages t.segs.pages) c.args.home (number_in (frame_at t.segs.pages.core c.args.f)))
     c.evict-left.ensures.effect c.evict-left.ensures.word c.evict-left.ensures.stored
     c.evict-left.ensures.taken c.settle.ensures)
 
 pub returns-clause-shown : goal.returns-clause-shown
 returns-clause-shown g c = λ p s h.
-    let t = held c.self.view_is in
     let active = active_held c.self.view_is c.requires.active in
     let home = home_for_held c.self.view_is g.D.Drive.pages c.requires.home in
     let leaving = leaving_held c.self.view_is c.args.uid c.requires.leaving in
     rw (← c.self.view_is)
-    (shown_left g.D.Drive.pages p s t (record t { accounts = c.settle.new.accounts; segs = c.evict-left.new.self })
-    c.args.uid c.args.home (number_in (frame_at t.segs.pages.core c.args.f))
-    c.args.f c.evict-left.result c.look.ensures.kept c.self.invariant active (own_home c.self.invariant.housed home)
+    (shown_left _ c.args.f c.evict-left.result c.look.ensures.kept c.self.invariant active (own_home c.self.invariant.housed home)
     (ap has_record leaving) refl c.evict-left.ensures.links c.evict-left.ensures.effect c.evict-left.ensures.stored
     c.evict-left.ensures.words c.evict-left.ensures.counts c.settle.ensures (shown_held c.self.view_is h))
 
@@ -64,10 +54,7 @@ returns-clause-may g c = λ p s h is.
     let t = held c.self.view_is in
     let number = number_in (frame_at t.segs.pages.core c.args.f) in
     let active = active_held c.self.view_is c.requires.active in
-    let leaving : word_of t.segs.ast c.args.uid number ≡ Leaving c.args.f
-    = subst (λ (x : Storage g.row.D.Denot). word_of x.segs.ast c.args.uid
-    (number_in (frame_at x.segs.pages.core c.args.f)) ≡ Leaving c.args.f) (sym c.self.view_is) c.requires.leaving in
-    rw (← c.self.view_is) (may_release g.D.Drive.pages p s t c.args.uid number
-    (words_in (plain g.D.Drive.pages t.segs.pages) c.args.f) c.look.ensures.kept
+    let leaving = leaving_held c.self.view_is c.args.uid c.requires.leaving in
+    rw (← c.self.view_is) (may_release number c.look.ensures.kept
     c.self.invariant active (ap has_record leaving) (leaving_words c.look.ensures.kept c.self.invariant
     number active leaving) (c.evict-left.ensures.zeros.0 is) (shown_held c.self.view_is h))

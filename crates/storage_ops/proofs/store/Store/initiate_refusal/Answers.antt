@@ -2,12 +2,11 @@ use Rattle.storage_ops.proofs.Prelude.{true, false, sym, ap, ◌∙◌, ◌≡�
 use Rattle.book.specs.declared.replies.Reply.TheVariants as reply
 use Rattle.storage_ops.proofs.Held.{tree_held, known_held}
 use Rattle.storage_ops.proofs.NamingLaws.{initiate_free, initiate_refused}
-use Rattle.storage_ops.proofs.store.Store.initiate_refusal.Given.{Over}
 use Rattle.storage_ops.proofs.store.Store.initiate_refusal.Goals.{After-has_number_for}
 use Rattle.storage_ops.proofs.store.Store.initiate_refusal.Goals as goal
 
 -- what is answered by whether there is a number for the segment
-free : (g : Over) (c : After-has_number_for g) (p : Plan) (s : Flat)
+free : (g : _) (c : After-has_number_for g) (p : Plan) (s : Flat)
     → Shows g.D.Drive.pages p s c.args.self.now → (b : Bool) → b ≡ c.has_number_for.result
     → cond b None (Some reply.Full) ≡ refusal (initiate_reply s c.args.process c.args.path.now)
 free g c p s h b is = initiate_free s

@@ -1,10 +1,9 @@
 use Rattle.storage_ops.proofs.Prelude.{◌≡◌, ◌&&◌, Bool, true, false, not, refl, sym, ap, ◌∙◌, is_none, quota_in, as_term, volume_found, Home, is_full, room_of}
-use Rattle.storage_ops.proofs.store.Store.is_out_of_room.Given.{Over}
 use Rattle.storage_ops.proofs.store.Store.is_out_of_room.Goals.{After-is_full}
 use Rattle.storage_ops.proofs.store.Store.is_out_of_room.Goals as goal
 
 -- whether the volume of the node is full
-full : (g : Over) (c : After-is_full g)
+full : (g : _) (c : After-is_full g)
     → is_full c.args.self.now.segs.pages.volumes.records c.args.node.now.volume ≡ c.is_full.result
 full g c =
     let now = c.args.self.now in

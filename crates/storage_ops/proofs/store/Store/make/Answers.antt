@@ -1,4 +1,4 @@
-use Rattle.storage_ops.proofs.Prelude.{◌≡◌, ℕ, true, false, List, refl, sym, ap, ◌∙◌, Node, quota_in, as_term, maker_rows, made_in, node_refuses, make_in_segment, make_refused, make_root, make_told}
+use Rattle.storage_ops.proofs.Prelude.{rules, ◌≡◌, ℕ, true, false, List, refl, sym, ap, ◌∙◌, Node, quota_in, as_term, maker_rows, made_in, node_refuses, make_in_segment, make_refused, make_root, make_told}
 use Rattle.storage_ops.proofs.Held.{shown_held, tree_held}
 use Rattle.storage_ops.proofs.Made.{after_make_is}
 use Rattle.storage_ops.proofs.store.Store.make.Goals as goal
@@ -14,14 +14,18 @@ returns-then-not-node-clause-answer g c = λ p s h.
     c.in-Some.ensures.parts (as_term (quota_in c.self.inside.accounts.nodes) c.in-Ok.node.now) c.in-Ok.ensures.ok
     c.if-not-node.true
 
-pub returns-in-Err-clause-answer : goal.returns-in-Err-clause-answer
-returns-in-Err-clause-answer g c = λ p s h.
-    make_refused p s c.self.inside.accounts.nodes c.args.path.now c.in-Some.above.now c.in-Some.name.now c.args.volume
-    c.args.dir (tree_held c.self.view_is h.tree).nodes c.in-Some.ensures.parts c.in-Err.reply c.in-Err.ensures.err
-
-pub returns-in-Err-clause-effect : goal.returns-in-Err-clause-effect
-returns-in-Err-clause-effect g c = λ p s h.
-    rw (node_refuses c.self.inside.accounts.nodes c.in-Some.above.now c.in-Err.reply c.in-Err.ensures.err) h
+pub returns-in-Err : goal.returns-in-Err
+returns-in-Err g c = record {
+  answer = λ p s h.
+      make_refused p s c.self.inside.accounts.nodes c.args.path.now c.in-Some.above.now c.in-Some.name.now c.args.volume
+      c.args.dir (tree_held c.self.view_is h.tree).nodes c.in-Some.ensures.parts c.in-Err.reply c.in-Err.ensures.err;
+  effect = λ p s h.
+      rw (node_refuses c.self.inside.accounts.nodes c.in-Some.above.now c.in-Err.reply c.in-Err.ensures.err) h;
+  home = λ on.
+      let clash = sym on
+      ∙ node_refuses c.self.inside.accounts.nodes c.in-Some.above.now c.in-Err.reply c.in-Err.ensures.err in cc;
+  rest = search rules;
+}
 
 pub returns-clause-answer : goal.returns-clause-answer
 returns-clause-answer g c = λ p s h.
@@ -38,8 +42,3 @@ returns-clause-effect g c = λ p s h.
     (shown_held c.self.view_is h).tree.nodes
     c.in-Some.ensures.parts c.args.pages (maker_rows c.args.maker) c.in-Ok.ensures.ok)
     (c.make_branch.ensures.effect p s n h refl)
-
-pub returns-in-Err-clause-home : goal.returns-in-Err-clause-home
-returns-in-Err-clause-home g c = λ on.
-    let clash = sym on
-    ∙ node_refuses c.self.inside.accounts.nodes c.in-Some.above.now c.in-Err.reply c.in-Err.ensures.err in cc

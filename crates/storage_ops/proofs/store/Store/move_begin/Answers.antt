@@ -7,10 +7,8 @@ pub move_begin-requires-clause-can : goal.move_begin-requires-clause-can
 move_begin-requires-clause-can g c =
     let t = held c.self.view_is in
     let from : c.args.from ≡ pair_of (home_of t.accounts c.args.uid) = cc (c.requires.home, c.self.view_is) in
-    let to = subst (λ (x : Storage g.row.D.Denot). c.args.to < length x.segs.pages.volumes.drives) (sym c.self.view_is)
-    c.requires.volume in
-    let roomy = subst (λ (x : Storage g.row.D.Denot). is_roomy x.segs.pages.volumes c.args.from.0
-    (count_of x.accounts c.args.uid) c.args.to ≡ true) (sym c.self.view_is) c.requires.room in
+    let to = rw (← c.self.view_is) at c.requires.volume in
+    let roomy = rw (← c.self.view_is) at c.requires.room in
     rw from (may_begin g.D.Drive.pages t c.args.uid c.look.ensures.kept c.self.invariant
     (active_held c.self.view_is c.requires.active) c.look.ensures.parts to
     (subst (λ (x : ℕ × ℕ). is_roomy t.segs.pages.volumes x.0 (count_of t.accounts c.args.uid) c.args.to ≡ true) from

@@ -3,19 +3,18 @@ use Rattle.storage_ops.proofs.Held.{held, shown_held}
 use Rattle.storage_ops.proofs.MoveFacts.{committed_entries, committed_sizes}
 use Rattle.storage_ops.proofs.NodeLaws.{segment_there}
 use Rattle.storage_ops.proofs.Rehomed.{HasRehomed, shown_rehomed, store_rehomed}
-use Rattle.storage_ops.proofs.store.Store.move_commit.Given.{Over}
 use Rattle.storage_ops.proofs.store.Store.move_commit.Goals.{After-set_home}
 use Rattle.storage_ops.proofs.store.Store.move_commit.Goals as goal
 
 -- the home that the segment leaves is the node's
-left : (g : Over) (c : After-set_home g) → home_at c.args.m.from ≡ home_of c.self.inside.accounts c.args.m.uid
+left : (g : _) (c : After-set_home g) → home_at c.args.m.from ≡ home_of c.self.inside.accounts c.args.m.uid
 left g c =
     let way = rw (ap (λ (x : Storage g.row.D.Denot). x.segs.moving) c.self.view_is ∙ c.requires.moving) at
     c.look_at_move.ensures in
     c.self.invariant.housed.only (home_at c.args.m.from) c.args.m.uid way.home.used
 
 -- what has become of its home
-done : (g : Over) (c : After-set_home g) → HasRehomed (plain g.D.Drive.pages c.self.inside.segs.pages)
+done : (g : _) (c : After-set_home g) → HasRehomed (plain g.D.Drive.pages c.self.inside.segs.pages)
     (plain g.D.Drive.pages c.move_commit-home.new.self.pages)
     c.self.inside.accounts c.set_home.new.self c.args.m.uid (home_of c.self.inside.accounts c.args.m.uid)
     (home_at c.args.m.to)
@@ -44,9 +43,7 @@ pub invariant_of-self : goal.invariant_of-self
 invariant_of-self g c =
     let t = held c.self.view_is in
     let links = ap (λ (x : Control g.row.D.Denot). x.links) c.move_commit-home.ensures.effect in
-    rw links (store_rehomed (plain g.D.Drive.pages t.segs.pages)
-    (plain g.D.Drive.pages (c.move_commit-home.new.self).pages) t.accounts
-    c.set_home.new.self c.args.m.uid (home_at c.args.m.to) (done g c) c.self.invariant.housed c.promise.ensures.tree
+    rw links (store_rehomed (done g c) c.self.invariant.housed c.promise.ensures.tree
     (ap (λ (x : Control g.row.D.Denot). x.ast.entries) c.move_commit-home.ensures.effect)
     (ap (λ (x : Control g.row.D.Denot). x.ast.sizes) c.move_commit-home.ensures.effect) c.self.invariant)
 

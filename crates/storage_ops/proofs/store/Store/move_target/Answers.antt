@@ -1,7 +1,6 @@
 use Rattle.storage_ops.proofs.Prelude.{◌≡◌, Bool, cond, List, None, sym, ap, ◌∙◌, Plan, Node, volume_in, is_volume_full, room_for, Flat, Home, Shows}
 use Rattle.storage_ops.proofs.NodeLaws.{segment_there}
 use Rattle.storage_ops.proofs.PageRoom.{full_told}
-use Rattle.storage_ops.proofs.store.Store.move_target.Given.{Over}
 use Rattle.storage_ops.proofs.store.Store.move_target.Goals.{After-is_full}
 use Rattle.storage_ops.proofs.store.Store.move_target.Goals as goal
 
@@ -9,7 +8,7 @@ pub home-home-requires : goal.home-home-requires
 home-home-requires g c = segment_there c.args.self.now.accounts.nodes c.args.uid c.requires.segment
 
 -- whether the volume of the segment is full
-full : (g : Over) (c : After-is_full g) (p : Plan) (s : Flat) → Shows g.D.Drive.pages p s c.args.self.now
+full : (g : _) (c : After-is_full g) (p : Plan) (s : Flat) → Shows g.D.Drive.pages p s c.args.self.now
     → is_volume_full p s (volume_in s.nodes c.args.uid) ≡ c.is_full.result
 full g c p s h =
     let volume = ap (λ (ns : List Node). volume_in ns c.args.uid) h.tree.nodes

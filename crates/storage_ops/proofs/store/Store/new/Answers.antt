@@ -2,17 +2,16 @@ use Rattle.storage_ops.proofs.Prelude.{◌≡◌, ℕ, None, Some, true, false, 
 use Rattle.storage_ops.proofs.Fresh.{blank, boot_is, entries_some, entry_first, none_active, none_known, nothing, records_most, root_gains, shown_nothing, store_nothing}
 use Rattle.storage_ops.proofs.Homes.{HasNewHome, shown_new, store_new}
 use Rattle.storage_ops.proofs.Made.{length_inside}
-use Rattle.storage_ops.proofs.store.Store.new.Given.{Over}
 use Rattle.storage_ops.proofs.store.Store.new.Goals.{In-Some, In_ok-segs}
 use Rattle.storage_ops.proofs.store.Store.new.Goals as goal
 
 -- the volumes of segment control are fresh
-fresh_volumes : (g : Over) (c : In_ok-segs g)
+fresh_volumes : (g : _) (c : In_ok-segs g)
     → AreFresh c.args.script.now c.in_ok-segs.segs.pages.volumes.records c.in_ok-segs.segs.pages.volumes.vtocs
 fresh_volumes g c = rw c.in_ok-segs.ensures c.requires.fresh
 
 -- so the root has the first entry
-first_entry : (g : Over) (c : In-Some g)
+first_entry : (g : _) (c : In-Some g)
     → AreFresh c.args.script.now c.in_ok-segs.segs.pages.volumes.records c.in_ok-segs.segs.pages.volumes.vtocs
     → c.in-Some.entry ≡ 0
 first_entry g c fresh = entry_first (plain g.D.Drive.pages c.in_ok-segs.segs.pages) fresh.free fresh.unused
@@ -33,7 +32,7 @@ unreachable-requires g c =
     let clash : true ≡ false = sym (c.in_default.ensures.none 0 None (omega arith)) ∙ ap is_some (fresh.free 0 0) in cc
 
 -- the root is the one new node
-made : (g : Over) (c : In-Some g) → c.in-Some.entry ≡ 0 → HasNewHome nothing c.in_ok-accounts.accounts
+made : (g : _) (c : In-Some g) → c.in-Some.entry ≡ 0 → HasNewHome nothing c.in_ok-accounts.accounts
     (record (root_of c.args.script.now) { quota = c.quota.result }) c.in-Some.entry
     (plain g.D.Drive.pages c.in_ok-segs.segs.pages) (plain g.D.Drive.pages c.new_home.new.self.pages)
 made g c zero = record {
@@ -66,15 +65,13 @@ invariant_of-result g c =
     (Rattle.seg_control.specs.Control.kst_at x.links.known process) number) (sym c.in_ok-segs.ensures) ∙ e))
     count (λ v. rw (← fresh.records v) (records_most c.args.script.now.volumes v plan.volumes)) in
     rw c.new_home.ensures.ast (rw c.new_home.ensures.links (store_new (made g at.In-Some
-    (first_entry g at.In-Some fresh)) c.in_ok-segs.segs.ast c.in_ok-segs.segs.links (omega arith) (λ d. refl) start))
+    (first_entry g at.In-Some fresh)) (omega arith) (λ d. refl) start))
 
 pub returns-clause-shown : goal.returns-clause-shown
 returns-clause-shown g c =
     let at = goal.at.returns-clause-shown g c in
     let fresh = fresh_volumes g at.In_ok-segs in
     let p : Plan = c.args.script.now in
-    let old : Plain = plain g.D.Drive.pages c.in_ok-segs.segs.pages in
-    let now : Plain = plain g.D.Drive.pages c.new_home.new.self.pages in
     let t : Storage g.row.D.Denot = record {
       accounts = nothing;
       segs = c.in_ok-segs.segs;
@@ -83,10 +80,8 @@ returns-clause-shown g c =
     let u = record t { accounts = c.in_ok-accounts.accounts; segs = c.new_home.new.self } in
     let known = ap (λ (x : Control g.row.D.Denot). x.links.known) c.in_ok-segs.ensures in
     rw (← boot_is p {quota = c.quota.result} c.quota.ensures)
-    (shown_new {a = nothing} {b = c.in_ok-accounts.accounts} {entry = c.in-Some.entry} {old = old} {now = now}
-    (made g at.In-Some (first_entry g at.In-Some fresh)) c.in_ok-segs.segs.ast c.in_ok-segs.segs.links
-    {drive = g.D.Drive.pages} {p = p} {s = blank p} {t = t} {u = u} refl refl refl refl c.new_home.ensures.links refl
-    refl refl c.new_home.ensures.words
+    (shown_new {drive = g.D.Drive.pages} {p = p} {s = blank p} {t = t} {u = u} (made g at.In-Some
+    (first_entry g at.In-Some fresh)) c.new_home.ensures.links refl c.new_home.ensures.words
     (λ v. length_inside c.in_ok-segs.segs.pages.volumes.vtocs 0 c.in-Some.entry v _ (ap (λ
     (x : Plain). x.vtocs) c.in-Some.ensures.effect)) c.look.ensures.kept
     (λ place e. none_active _ place {u = 1} (ap (λ (x : Control g.row.D.Denot). uid_in_place x.ast.entries place)

@@ -15,9 +15,7 @@ returns-clause-shown g c = λ p s h.
     let shown = shown_held c.self.view_is h in
     let stored = shown.pages.stored uid number ∙ bound_filed c.look.ensures.kept c.self.invariant c.args.f bound in
     rw (← c.self.view_is) (rw (← written_there s uid number c.args.at c.args.w c.requires.at stored)
-    (shown_put g.D.Drive.pages p s t (record t { segs = c.put_word.new.self }) uid number c.args.at c.args.w
-    (words_in old c.args.f) refl refl c.put_word.ensures.links c.put_word.ensures.volumes
-    (active_there old t.segs.ast t.segs.links t.accounts t.whos c.look.ensures.kept c.self.invariant uid
+    (shown_put uid number c.args.w c.put_word.ensures.links c.put_word.ensures.volumes (active_there c.look.ensures.kept c.self.invariant
     (bound_active c.look.ensures.kept c.args.f bound)) c.put_word.ensures.words
     (bound_words c.look.ensures.kept c.args.f bound (home_of t.accounts uid))
     c.put_word.ensures.size c.requires.at shown))

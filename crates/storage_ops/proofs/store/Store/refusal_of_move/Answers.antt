@@ -1,5 +1,4 @@
 use Rattle.storage_ops.proofs.Prelude.{rules, w32, to_z-of_z}
-use mir.Val.{SFits}
 use Rattle.storage_ops.proofs.store.Store.refusal_of_move.Goals as goal
 
 pub returns : goal.returns

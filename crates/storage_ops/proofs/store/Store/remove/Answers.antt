@@ -1,4 +1,4 @@
-use Rattle.storage_ops.proofs.Prelude.{refl, ap, ◌∙◌, Plain, plain, Storage, Home, erased}
+use Rattle.storage_ops.proofs.Prelude.{rules, refl, ap, ◌∙◌, Plain, plain, Storage, Home, erased}
 use Rattle.storage_ops.proofs.Held.{held, home_held, shown_held, there_held}
 use Rattle.storage_ops.proofs.NodeLaws.{found_there}
 use Rattle.storage_ops.proofs.Removed.{removed_done, shown_removed, store_removed}
@@ -9,40 +9,31 @@ pub invariant_of-self : goal.invariant_of-self
 invariant_of-self g c =
     let there = there_held c.self.view_is c.args.uid c.requires.there in
     let inactive = rw (← c.self.view_is) at c.requires.inactive in
-    let old = plain g.D.Drive.pages c.self.inside.segs.pages in
-    let now = plain g.D.Drive.pages c.erase.new.self.pages in
     let found = found_there c.self.inside.accounts.nodes c.args.uid there in
     let done = removed_done (home_held c.self.view_is c.args.uid c.home-home.ensures.home) there c.uncount.ensures
     c.remove.ensures c.erase.ensures.effect c.erase.ensures.home
     c.erase.ensures.uids c.erase.ensures.maps c.erase.ensures.words c.erase.ensures.used c.erase.ensures.taken in
     rw c.erase.ensures.ast (rw c.erase.ensures.links
-    (store_removed old now c.self.inside.accounts c.uncount.new.accounts c.remove.new.self c.args.uid done
-    c.self.invariant.housed c.promise.ensures.tree found.1 inactive c.self.invariant))
+    (store_removed done c.self.invariant.housed c.promise.ensures.tree found.1 inactive c.self.invariant))
 
-pub returns-clause-rest : goal.returns-clause-rest
-returns-clause-rest g c =
-    let n = record (held c.self.view_is) { accounts = c.remove.new.self; segs = c.erase.new.self } in
-    rw (← c.self.view_is) (rest_erased g.D.Drive.pages c.home-home.result c.erase.ensures.effect c.erase.ensures.ast
-    c.erase.ensures.links c.erase.ensures.moving refl c.erase.ensures.drives)
-
-pub returns-clause-shown : goal.returns-clause-shown
-returns-clause-shown g c = λ p s h.
-    let home = home_held c.self.view_is c.args.uid c.home-home.ensures.home in
-    let t = held c.self.view_is in
-    let n = record t { accounts = c.remove.new.self; segs = c.erase.new.self } in
-    let old = plain g.D.Drive.pages t.segs.pages in
-    let now = plain g.D.Drive.pages n.segs.pages in
-    let done = removed_done home (there_held c.self.view_is c.args.uid c.requires.there) c.uncount.ensures
-    c.remove.ensures c.erase.ensures.effect c.erase.ensures.home
-    c.erase.ensures.uids c.erase.ensures.maps c.erase.ensures.words c.erase.ensures.used c.erase.ensures.taken in
-    shown_removed g.D.Drive.pages p s t n c.uncount.new.accounts c.args.uid done c.self.invariant.housed
-    c.erase.ensures.links refl (shown_held c.self.view_is h)
-
-pub returns-clause-core : goal.returns-clause-core
-returns-clause-core g c = ap (λ (x : Plain). x.core) c.erase.ensures.effect
-    ∙ ap (λ (x : Storage g.row.D.Denot). x.segs.pages.core) c.self.view_is
-
-pub returns-clause-erased : goal.returns-clause-erased
-returns-clause-erased g c = rw (← c.self.view_is)
-    (c.erase.ensures.effect ∙ ap (λ (h : Home). erased (plain g.D.Drive.pages c.self.inside.segs.pages) h)
-    (home_held c.self.view_is c.args.uid c.home-home.ensures.home))
+pub returns : goal.returns
+returns g c = record {
+  rest =
+      rw (← c.self.view_is) (rest_erased g.D.Drive.pages c.home-home.result c.erase.ensures.effect c.erase.ensures.ast
+      c.erase.ensures.links c.erase.ensures.moving refl c.erase.ensures.drives);
+  shown = λ p s h.
+      let home = home_held c.self.view_is c.args.uid c.home-home.ensures.home in
+      let t = held c.self.view_is in
+      let n = record t { accounts = c.remove.new.self; segs = c.erase.new.self } in
+      let done = removed_done home (there_held c.self.view_is c.args.uid c.requires.there) c.uncount.ensures
+      c.remove.ensures c.erase.ensures.effect c.erase.ensures.home
+      c.erase.ensures.uids c.erase.ensures.maps c.erase.ensures.words c.erase.ensures.used c.erase.ensures.taken in
+      shown_removed g.D.Drive.pages p s t n c.uncount.new.accounts c.args.uid done c.self.invariant.housed
+      c.erase.ensures.links refl (shown_held c.self.view_is h);
+  core = ap (λ (x : Plain). x.core) c.erase.ensures.effect
+      ∙ ap (λ (x : Storage g.row.D.Denot). x.segs.pages.core) c.self.view_is;
+  erased = rw (← c.self.view_is)
+      (c.erase.ensures.effect ∙ ap (λ (h : Home). erased (plain g.D.Drive.pages c.self.inside.segs.pages) h)
+      (home_held c.self.view_is c.args.uid c.home-home.ensures.home));
+  ast = search rules;
+}

@@ -1,4 +1,3 @@
-use Rattle.storage_ops.proofs.Prelude.{row_with, plain}
 use Rattle.storage_ops.proofs.Held.{held, shown_held}
 use Rattle.storage_ops.proofs.Changed.{acl_shown, acl_store}
 use Rattle.storage_ops.proofs.store.Store.set_acl.Goals as goal

@@ -1,16 +1,21 @@
-use Rattle.storage_ops.proofs.Prelude.{◌≡◌, true, false, refl, sym, ap, ◌∙◌, Node, quota_in, as_term, plain, Storage, is_filed, segment_refuses, length_refused}
+use Rattle.storage_ops.proofs.Prelude.{rules, ◌≡◌, true, false, refl, sym, ap, ◌∙◌, Node, quota_in, as_term, plain, Storage, is_filed, segment_refuses, length_refused}
 use Rattle.storage_ops.proofs.Held.{held, shown_held, tree_held}
 use Rattle.storage_ops.proofs.Lengths.{length_answered, length_shown, length_store}
 use Rattle.storage_ops.proofs.store.Store.set_length.Goals as goal
 
-pub returns-in-Err-clause-answer : goal.returns-in-Err-clause-answer
-returns-in-Err-clause-answer g c = λ p s h.
-    length_refused s c.self.inside.accounts.nodes c.args.path.now (tree_held c.self.view_is h.tree).nodes c.args.pages
-    c.in-Err.reply c.in-Err.ensures.err
-
-pub returns-in-Err-clause-effect : goal.returns-in-Err-clause-effect
-returns-in-Err-clause-effect g c = λ p s h.
-    rw (segment_refuses c.self.inside.accounts.nodes c.args.path.now c.in-Err.reply c.in-Err.ensures.err) h
+pub returns-in-Err : goal.returns-in-Err
+returns-in-Err g c = record {
+  answer = λ p s h.
+      length_refused s c.self.inside.accounts.nodes c.args.path.now (tree_held c.self.view_is h.tree).nodes c.args.pages
+      c.in-Err.reply c.in-Err.ensures.err;
+  effect = λ p s h.
+      rw (segment_refuses c.self.inside.accounts.nodes c.args.path.now c.in-Err.reply c.in-Err.ensures.err) h;
+  done = λ on.
+      let clash = sym on ∙ segment_refuses c.self.inside.accounts.nodes c.args.path.now c.in-Err.reply
+      c.in-Err.ensures.err in cc;
+  refused = search rules;
+  rest = search rules;
+}
 
 pub returns-then-stores_from-clause-answer : goal.returns-then-stores_from-clause-answer
 returns-then-stores_from-clause-answer g c = λ p s h.
@@ -18,16 +23,23 @@ returns-then-stores_from-clause-answer g c = λ p s h.
     (as_term (quota_in c.self.inside.accounts.nodes) c.in-Ok.node.now) true c.stores_from.result c.in-Ok.ensures.ok
     (c.stores_from.ensures.answer p s h) c.if-stores_from.true
 
-pub returns-clause-answer : goal.returns-clause-answer
-returns-clause-answer g c = λ p s h. length_answered c.self.view_is g.D.Drive.pages p s h c.args.path.now c.args.pages
-    (as_term (quota_in c.self.inside.accounts.nodes) c.in-Ok.node.now) false c.stores_from.result c.in-Ok.ensures.ok
-    (c.stores_from.ensures.answer p s h) c.if-stores_from.false
-
-pub returns-clause-effect : goal.returns-clause-effect
-returns-clause-effect g c = λ p s h.
-    let t = held c.self.view_is in
-    length_shown c.in-Ok.node.now.uid c.args.pages c.in-Ok.ensures.segment c.set_length.ensures c.args.path.now refl
-    c.in-Ok.ensures.ok refl (shown_held c.self.view_is h)
+pub returns : goal.returns
+returns g c = record {
+  answer = λ p s h. length_answered c.self.view_is g.D.Drive.pages p s h c.args.path.now c.args.pages
+      (as_term (quota_in c.self.inside.accounts.nodes) c.in-Ok.node.now) false c.stores_from.result c.in-Ok.ensures.ok
+      (c.stores_from.ensures.answer p s h) c.if-stores_from.false;
+  effect = λ p s h.
+      let t = held c.self.view_is in
+      length_shown c.in-Ok.node.now.uid c.args.pages c.in-Ok.ensures.segment c.set_length.ensures c.args.path.now refl
+      c.in-Ok.ensures.ok refl (shown_held c.self.view_is h);
+  done = λ on. rw (← c.self.view_is) (record {
+    node = as_term (quota_in c.self.inside.accounts.nodes) c.in-Ok.node.now;
+    found = c.in-Ok.ensures.ok;
+    effect = c.set_length.ensures;
+  });
+  refused = search rules;
+  rest = search rules;
+}
 
 pub invariant_of-self : goal.invariant_of-self
 invariant_of-self g c =
@@ -37,15 +49,3 @@ invariant_of-self g c =
     c.stores_from.ensures.none c.if-stores_from.false q
     (ap (λ (x : Storage g.row.D.Denot). is_filed x.accounts x.segs.pages.volumes.vtocs c.in-Ok.node.now.uid q)
     (sym c.self.view_is) ∙ on)) c.self.invariant
-
-pub returns-in-Err-clause-done : goal.returns-in-Err-clause-done
-returns-in-Err-clause-done g c = λ on.
-    let clash = sym on ∙ segment_refuses c.self.inside.accounts.nodes c.args.path.now c.in-Err.reply
-    c.in-Err.ensures.err in cc
-
-pub returns-clause-done : goal.returns-clause-done
-returns-clause-done g c = λ on. rw (← c.self.view_is) (record {
-  node = as_term (quota_in c.self.inside.accounts.nodes) c.in-Ok.node.now;
-  found = c.in-Ok.ensures.ok;
-  effect = c.set_length.ensures;
-})

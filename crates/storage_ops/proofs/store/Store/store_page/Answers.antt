@@ -1,16 +1,15 @@
-use Rattle.storage_ops.proofs.Prelude.{◌≡◌, ℕ, Bool, true, false, cond, ◌&&◌, List, Err, refl, sym, ap, ◌∙◌, Some, is_none, eq-eqb, Node, volume_in, node_in, is_out_of_room, is_used_up, is_volume_full, room_for, Home, plain, is_full, size, taken, move_target, Shows, Storage, volume_found, Plan, Flat, has_segment, found_uid}
+use Rattle.storage_ops.proofs.Prelude.{rules, ◌≡◌, ℕ, Bool, true, false, cond, ◌&&◌, List, Err, refl, sym, ap, ◌∙◌, Some, is_none, eq-eqb, Node, volume_in, node_in, is_out_of_room, is_used_up, is_volume_full, room_for, Home, plain, is_full, size, taken, move_target, Shows, Storage, volume_found, Plan, Flat, has_segment, found_uid}
 use Rattle.book.specs.declared.replies.Reply.TheVariants as reply
 use Rattle.storage_ops.proofs.Held.{active_held, held, home_held, length_held, shown_held, word_held}
 use Rattle.storage_ops.proofs.PageFacts.{node_segment, word_within}
 use Rattle.storage_ops.proofs.PageMade.{shown_made, store_made}
 use Rattle.storage_ops.proofs.RoomsFound.{none_roomy, room_shown}
 use Rattle.storage_ops.proofs.PageRoom.{all_taken, full_told, no_quota, no_record, on_ok, room, used_told}
-use Rattle.storage_ops.proofs.store.Store.store_page.Given.{Over}
 use Rattle.storage_ops.proofs.store.Store.store_page.Goals.{After-is_full, After-look}
 use Rattle.storage_ops.proofs.store.Store.store_page.Goals as goal
 
 -- whether the volume of the node is full
-full : (g : Over) (c : After-is_full g) (p : Plan) (s : Flat) (n : Node)
+full : (g : _) (c : After-is_full g) (p : Plan) (s : Flat) (n : Node)
     → Shows g.D.Drive.pages p s (held c.self.view_is) → node_in s.nodes c.args.uid ≡ Some n
     → is_volume_full p s n.volume ≡ c.is_full.result
 full g c p s n shown found =
@@ -20,12 +19,9 @@ full g c p s n shown found =
     cc (full_told g.D.Drive.pages p s (held c.self.view_is) c.home-home.result.volume c.self.invariant shown)
 
 -- an active segment is no directory
-segment : (g : Over) (c : After-look g) → has_segment c.self.inside.accounts.nodes c.args.uid ≡ true
-segment g c =
-    node_segment (plain g.D.Drive.pages c.self.inside.segs.pages) c.self.inside.segs.ast c.self.inside.segs.links
-    c.self.inside.accounts c.self.inside.whos.items c.look.ensures.kept c.self.invariant c.args.uid
-    (active_held c.self.view_is c.requires.active) c.args.page
-    (length_held c.self.view_is c.args.uid c.args.page c.requires.page)
+segment : (g : _) (c : After-look g) → has_segment c.self.inside.accounts.nodes c.args.uid ≡ true
+segment g c = node_segment c.look.ensures.kept c.self.invariant (active_held c.self.view_is c.requires.active)
+    c.args.page (length_held c.self.view_is c.args.uid c.args.page c.requires.page)
 
 pub full_reply-requires : goal.full_reply-requires
 full_reply-requires g c = segment g (goal.at.full_reply-requires g c).After-look
@@ -38,11 +34,10 @@ returns-then-is_full-clause-answer g c = λ p s n h found.
     let t = held c.self.view_is in
     let shown = shown_held c.self.view_is h in
     let uid = found_uid s.nodes c.args.uid n found in
-    let used_up : is_full t.segs.pages.volumes.records (volume_in t.accounts.nodes c.args.uid) ≡ true =
-    ap (λ (x : Home). is_full t.segs.pages.volumes.records x.volume) (sym
-    (home_held c.self.view_is c.args.uid c.home-home.ensures.home))
-    ∙ ap (λ (x : Storage g.row.D.Denot). is_full x.segs.pages.volumes.records c.home-home.result.volume) c.self.view_is
-    ∙ sym c.is_full.ensures ∙ c.if-is_full.true in
+    let used_up : is_full t.segs.pages.volumes.records (volume_in t.accounts.nodes c.args.uid) ≡ true
+    = rw (home_held c.self.view_is c.args.uid c.home-home.ensures.home) at
+    (ap (λ (x : Storage g.row.D.Denot). is_full x.segs.pages.volumes.records c.home-home.result.volume) c.self.view_is
+    ∙ sym c.is_full.ensures ∙ c.if-is_full.true) in
     cc (
       c.full_reply.ensures s shown.tree,
       no_record p s n (is_used_up s n.uid) (is_out_of_room p s n) refl refl (cc (
@@ -55,16 +50,13 @@ returns-then-is_full-clause-answer g c = λ p s n h found.
 
 pub returns-then-is_err-clause-answer : goal.returns-then-is_err-clause-answer
 returns-then-is_err-clause-answer g c = λ p s n h found.
-    let t = held c.self.view_is in
     let uid = found_uid s.nodes c.args.uid n found in
     no_quota p s n (cc (used_told c.args.uid (shown_held c.self.view_is h).tree c.charge.ensures.answer))
 
 pub create_page-requires-clause-page : goal.create_page-requires-clause-page
-create_page-requires-clause-page g c =
-    let t = held c.self.view_is in
-    let lt = length_held c.self.view_is c.args.uid c.args.page c.requires.page in
-    word_within (plain g.D.Drive.pages t.segs.pages) t.segs.ast t.segs.links t.accounts t.whos
-    c.look.ensures.kept c.self.invariant c.args.uid (active_held c.self.view_is c.requires.active) c.args.page lt
+create_page-requires-clause-page g c = word_within c.look.ensures.kept c.self.invariant
+    (active_held c.self.view_is c.requires.active) c.args.page
+    (length_held c.self.view_is c.args.uid c.args.page c.requires.page)
 
 pub unreachable-requires : goal.unreachable-requires
 unreachable-requires g c =
@@ -76,55 +68,41 @@ unreachable-requires g c =
 
 pub invariant_of-self-2 : goal.invariant_of-self-2
 invariant_of-self-2 g c =
-    let t = held c.self.view_is in
     let lt = length_held c.self.view_is c.args.uid c.args.page c.requires.page in
     let null = word_held c.self.view_is c.args.uid c.args.page ∙ c.requires.null in
     let home = home_held c.self.view_is c.args.uid c.home-home.ensures.home in
-    rw c.create_page.ensures.links
-    (store_made (plain g.D.Drive.pages t.segs.pages) (plain g.D.Drive.pages c.create_page.new.self.pages) t.segs.ast
-    c.create_page.new.self.ast t.segs.links t.accounts c.charge.new.self t.whos c.args.uid c.home-home.result
-    c.args.page c.args.f c.args.at c.args.w c.look.ensures.kept c.self.invariant
-    (active_held c.self.view_is c.requires.active) home null
-    c.create_page.ensures.counts lt c.in-Ok.ensures.effect c.in-Ok.ensures.word c.in-Ok.ensures.stored
+    rw c.create_page.ensures.links (store_made c.args.f c.args.at c.args.w c.look.ensures.kept c.self.invariant
+    (active_held c.self.view_is c.requires.active) home null c.create_page.ensures.counts lt c.in-Ok.ensures.effect c.in-Ok.ensures.word c.in-Ok.ensures.stored
     c.in-Ok.ensures.taken (on_ok c.charge.result c.if-is_err.ensures.value c.charge.ensures.ok))
 
-pub returns-clause-answer : goal.returns-clause-answer
-returns-clause-answer g c = λ p s n h found.
+pub returns : goal.returns
+returns g c =
     let t = held c.self.view_is in
-    let home = home_held c.self.view_is c.args.uid c.home-home.ensures.home in
-    let shown = shown_held c.self.view_is h in
-    let uid = found_uid s.nodes c.args.uid n found in
-    room p s n (cc (used_told c.args.uid shown.tree c.charge.ensures.answer))
-    (cc (full g (goal.at.returns-clause-answer g c).After-is_full p s n shown found))
-
-pub returns-clause-made : goal.returns-clause-made
-returns-clause-made g c =
-    let u = record (held c.self.view_is) { accounts = c.charge.new.self; segs = c.create_page.new.self } in
-    let home = home_held c.self.view_is c.args.uid c.home-home.ensures.home in
-    rw (← c.self.view_is) (record {
-      pages = cc (c.in-Ok.ensures.effect, home);
-      word = c.in-Ok.ensures.word;
-      words = rw (← home) c.in-Ok.ensures.words;
-      stored = rw (← home) c.in-Ok.ensures.stored;
-      taken_more = cc (c.in-Ok.ensures.taken, home);
-      bound = c.in-Ok.ensures.bound;
-      reads = c.create_page.ensures.reads;
-      counts = c.create_page.ensures.counts;
-      drives = c.create_page.ensures.drives;
-      charged = on_ok c.charge.result c.if-is_err.ensures.value c.charge.ensures.ok;
-      links = c.create_page.ensures.links;
-      moving = c.create_page.ensures.moving;
-      whos = refl;
-    })
-
-pub returns-clause-shown : goal.returns-clause-shown
-returns-clause-shown g c = λ p s h.
-    let t = held c.self.view_is in
-    let active = active_held c.self.view_is c.requires.active in
     let null = word_held c.self.view_is c.args.uid c.args.page ∙ c.requires.null in
     let home = home_held c.self.view_is c.args.uid c.home-home.ensures.home in
-    let shown = shown_held c.self.view_is h in
-    shown_made g.D.Drive.pages p s t (record t { accounts = c.charge.new.self; segs = c.create_page.new.self })
-    c.args.uid c.args.page c.args.at c.args.w c.look.ensures.kept c.self.invariant active null c.requires.at
-    (on_ok c.charge.result c.if-is_err.ensures.value c.charge.ensures.ok) refl c.create_page.ensures.links
-    (rw (← home) c.in-Ok.ensures.stored) (rw (← home) c.in-Ok.ensures.words) c.create_page.ensures.counts shown
+    let charged = on_ok c.charge.result c.if-is_err.ensures.value c.charge.ensures.ok in
+    rw (← c.self.view_is) (record {
+      answer = λ p s n h found.
+          let uid = found_uid s.nodes c.args.uid n found in
+          room p s n (cc (used_told c.args.uid h.tree c.charge.ensures.answer))
+          (cc (full g (goal.at.returns g c).After-is_full p s n h found));
+      made = record {
+        pages = cc (c.in-Ok.ensures.effect, home);
+        word = c.in-Ok.ensures.word;
+        words = rw (← home) c.in-Ok.ensures.words;
+        stored = rw (← home) c.in-Ok.ensures.stored;
+        taken_more = cc (c.in-Ok.ensures.taken, home);
+        bound = c.in-Ok.ensures.bound;
+        reads = c.create_page.ensures.reads;
+        counts = c.create_page.ensures.counts;
+        drives = c.create_page.ensures.drives;
+        charged = charged;
+        links = c.create_page.ensures.links;
+        moving = c.create_page.ensures.moving;
+        whos = refl;
+      };
+      shown = λ p s h. shown_made c.args.w c.look.ensures.kept c.self.invariant
+          (active_held c.self.view_is c.requires.active) null c.requires.at charged refl c.create_page.ensures.links
+          (rw (← home) c.in-Ok.ensures.stored) (rw (← home) c.in-Ok.ensures.words) c.create_page.ensures.counts h;
+      err = search rules;
+    })

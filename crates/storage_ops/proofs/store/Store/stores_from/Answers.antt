@@ -21,7 +21,7 @@ returns-clause-none g c = λ off q on.
     let home = home_held c.self.view_is c.args.uid c.home-home.ensures.home in
     let table = c.vtoc.ensures ∙ ap (λ (x : Vols g.row.D.Denot). vtoc_at x c.home-home.result.volume)
     c.volumes_at_rest.ensures in
-    within_told here.accounts here.segs.pages.volumes.vtocs c.args.uid c.home-home.result c.vtoc.result.now
+    within_told here.accounts here.segs.pages.volumes.vtocs c.args.uid
     (there_held c.self.view_is c.args.uid c.requires.there)
     home table c.args.from c.names_from.result c.self.invariant.counted (rw (← c.pages_of-length.ensures)
     c.names_from.ensures.none) off q (cc (c.self.view_is, on))

@@ -1,12 +1,11 @@
-use Rattle.storage_ops.proofs.Prelude.{◌≡◌, ◌<◌, ℕ, List, Option, length, sym, ap, ◌∙◌, get_or_read, Who, nobody, Reply, uid_of, node_in, quota_in, as_term, refusal_in, target, unless, Storage, who_at, found_uid}
+use Rattle.storage_ops.proofs.Prelude.{rules, ◌≡◌, ◌<◌, ℕ, List, Option, length, sym, ap, ◌∙◌, get_or_read, Who, nobody, Reply, uid_of, node_in, quota_in, as_term, refusal_in, target, unless, Storage, who_at, found_uid}
 use Rattle.storage_ops.proofs.Held.{held}
 use Rattle.storage_ops.proofs.Refusals.{target_found, target_gone, target_unknown, within_told}
-use Rattle.storage_ops.proofs.store.Store.target.Given.{Over}
 use Rattle.storage_ops.proofs.store.Store.target.Goals.{After-refusal_in}
 use Rattle.storage_ops.proofs.store.Store.target.Goals as goal
 
 -- the segment that a number stands for is there, and what refuses the reference is told of it
-found : (g : Over) (c : After-refusal_in g) → target (held c.self.view_is) c.args.process c.args.reference.now
+found : (g : _) (c : After-refusal_in g) → target (held c.self.view_is) c.args.process c.args.reference.now
     ≡ unless c.refusal_in.result (as_term (quota_in c.self.inside.accounts.nodes) c.in-Some-node.node.now)
 found g c =
     let t = held c.self.view_is in
@@ -35,21 +34,20 @@ returns-in-Some-refusal_in-clause-err g c =
     rw (← c.self.view_is) (found g (goal.at.returns-in-Some-refusal_in-clause-err g c).After-refusal_in
     ∙ ap (λ (o : Option Reply). unless o n) c.in-Some-refusal_in.is)
 
-pub returns-in-None-clause-ok : goal.returns-in-None-clause-ok
-returns-in-None-clause-ok g c =
-    let n = as_term (quota_in c.self.inside.accounts.nodes) c.in-Some-node.node.now in
-    rw (← c.self.view_is) (found g (goal.at.returns-in-None-clause-ok g c).After-refusal_in
-    ∙ ap (λ (o : Option Reply). unless o n) c.in-None.is)
-
-pub returns-in-None-clause-there : goal.returns-in-None-clause-there
-returns-in-None-clause-there g c =
-    let t = held c.self.view_is in
-    rw (← c.self.view_is) (cc (
-      found_uid t.accounts.nodes c.in-Some.uid (as_term (quota_in t.accounts.nodes) c.in-Some-node.node.now)
-          c.in-Some-node.ensures.some,
-      c.in-Some-node.ensures.some,
-    ))
-
-pub returns-in-None-clause-within : goal.returns-in-None-clause-within
-returns-in-None-clause-within g c = within_told c.index.result.now c.args.reference.now
-    (as_term (λ u. 0) c.in-Some-node.node.now) (cc (c.refusal_in.ensures (λ u. 0)))
+pub returns-in-None : goal.returns-in-None
+returns-in-None g c = record {
+  ok =
+      let n = as_term (quota_in c.self.inside.accounts.nodes) c.in-Some-node.node.now in
+      rw (← c.self.view_is) (found g (goal.at.returns-in-None g c).After-refusal_in
+      ∙ ap (λ (o : Option Reply). unless o n) c.in-None.is);
+  there =
+      let t = held c.self.view_is in
+      rw (← c.self.view_is) (cc (
+        found_uid t.accounts.nodes c.in-Some.uid (as_term (quota_in t.accounts.nodes) c.in-Some-node.node.now)
+            c.in-Some-node.ensures.some,
+        c.in-Some-node.ensures.some,
+      ));
+  within = within_told c.index.result.now c.args.reference.now
+      (as_term (λ u. 0) c.in-Some-node.node.now) (cc (c.refusal_in.ensures (λ u. 0)));
+  err = search rules;
+}

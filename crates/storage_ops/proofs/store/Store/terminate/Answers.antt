@@ -3,12 +3,11 @@ use Rattle.book.specs.declared.replies.Reply.TheVariants as reply
 use Rattle.storage_ops.proofs.Held.{held, shown_held, known_held}
 use Rattle.storage_ops.proofs.Known.{terminate_shown}
 use Rattle.storage_ops.proofs.NamingLaws.{terminate_told}
-use Rattle.storage_ops.proofs.store.Store.terminate.Given.{Over}
 use Rattle.storage_ops.proofs.store.Store.terminate.Goals.{After-is_none}
 use Rattle.storage_ops.proofs.store.Store.terminate.Goals as goal
 
 -- the reply is that of the number's segment
-told : (g : Over) (c : After-is_none g) (s : Flat) → s.known ≡ c.args.self.now.segs.links.known
+told : (g : _) (c : After-is_none g) (s : Flat) → s.known ≡ c.args.self.now.segs.links.known
     → cond (is_some c.uid_of.result) reply.Done reply.Unknown ≡ terminate_reply s c.args.process c.args.number
 told g c s known = terminate_told s refl (known_held c.self.view_is known) c.args.process c.args.number (cc)
 

@@ -20,11 +20,10 @@ returns-else-is_away g c =
     c.is_away.ensures ∙ c.if-is_away.false) in
     rw (← c.self.view_is) (record {
       rest = unstores_null g.D.Drive.pages c.args.page
-          (active_tie now t.segs.ast t.segs.links t.accounts t.whos c.ast.ensures.kept c.self.invariant
-          c.args.uid active).table null;
+          (active_tie c.ast.ensures.kept c.self.invariant active).table null;
       shown = λ p s h. rw (none_missing s c.args.uid c.args.page (blank_shown c.ast.ensures.kept c.self.invariant h)
-          (h.pages.stored c.args.uid c.args.page ∙ (word_filed now t.segs.ast t.segs.links t.accounts t.whos
-          c.ast.ensures.kept c.self.invariant c.args.uid active c.args.page ∙ ap has_record null))) h;
+          (h.pages.stored c.args.uid c.args.page ∙ (word_filed
+          c.ast.ensures.kept c.self.invariant active c.args.page ∙ ap has_record null))) h;
       exact = ap (page_cut (paged g.D.Drive.pages t c.args.uid) (home_of t.accounts c.args.uid) c.args.uid
           c.args.page) (sym null);
       others = λ s apart. refl;

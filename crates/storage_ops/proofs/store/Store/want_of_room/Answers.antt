@@ -2,12 +2,11 @@ use Rattle.storage_ops.proofs.Prelude.{◌≡◌, true, false, sym, ap, subst, �
 use Rattle.book.specs.declared.replies.Reply.TheVariants as reply
 use Rattle.storage_ops.proofs.PageRoom.{spent_told}
 use Rattle.storage_ops.proofs.Refusals.{want_told}
-use Rattle.storage_ops.proofs.store.Store.want_of_room.Given.{Over}
 use Rattle.storage_ops.proofs.store.Store.want_of_room.Goals.{After-is_out_of_room}
 use Rattle.storage_ops.proofs.store.Store.want_of_room.Goals as goal
 
 -- of an account that isn't spent, whether there is no room for the node tells all
-told : (g : Over) (c : After-is_out_of_room g) (stored : List (ℕ × ℕ)) → Counts c.args.self.now.accounts stored
+told : (g : _) (c : After-is_out_of_room g) (stored : List (ℕ × ℕ)) → Counts c.args.self.now.accounts stored
     → is_err c.may_charge.result ≡ false → (out : Bool) → c.is_out_of_room.result ≡ out
     → cond out (Some reply.NoRecord) None
     ≡ want_of_room c.args.self.now stored (as_term (quota_in c.args.self.now.accounts.nodes) c.args.node.now)

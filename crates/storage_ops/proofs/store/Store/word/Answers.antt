@@ -11,8 +11,6 @@ returns-clause-told g c = λ p s h.
     let old = plain g.D.Drive.pages t.segs.pages in
     let frame = frame_at t.segs.pages.core c.args.f in
     let bound = bound_held c.self.view_is c.args.f c.requires.bound in
-    rw (← c.self.view_is)
-    (cc (word_at g.D.Drive.pages p s t (uid_in frame) (number_in frame) c.args.at (words_in old c.args.f)
-    (active_there old t.segs.ast t.segs.links t.accounts t.whos c.look.ensures.kept c.self.invariant (uid_in frame)
+    rw (← c.self.view_is) (cc (word_at (number_in frame) c.args.at (active_there c.look.ensures.kept c.self.invariant
     (bound_active c.look.ensures.kept c.args.f bound)) (bound_words c.look.ensures.kept c.args.f bound
     (home_of t.accounts (uid_in frame))) c.requires.at (shown_held c.self.view_is h)))
