@@ -1,5 +1,5 @@
 -- How many commands a processor has answered since it loaded its process, and where a process's next command stands.
-use Rattle.machine.proofs.Prelude.{◌≡◌, ◌<◌, ◌+◌, ℕ, eqb, List, [], ◌∷◌, length, Some, refl, sym, ◌∙◌, arith, cond_both, What, Plan, Entry, after_entry, Store, boot, custody_after, custody_from, Custody, Seat, nothing_held, at_put, custody_next, count_next, by_place}
+use Rattle.machine.proofs.Prelude.{◌≡◌, ◌<◌, ◌+◌, ℕ, eqb, List, ◌∷◌, length, Some, refl, sym, ◌∙◌, arith, cond_both, What, Plan, Entry, after_entry, Store, boot, custody_after, custody_from, Custody, Seat, nothing_held, at_put, custody_next, count_next, by_place, []}
 use Rattle.book.specs.declared.entries.Entry.TheVariants as entry
 use Rattle.custody_model.specs.Next.{told}
 

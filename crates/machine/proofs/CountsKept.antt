@@ -1,6 +1,6 @@
 -- There are as many places and drives after each action, and after a visit of the shutdown, as before; and the drives
 -- have counted as many failures, but for a call that tells them.
-use Rattle.machine.proofs.Prelude.{set, Aim, Bool, Command, CutDescriptor, Home, Left, List, None, Option, Outcome, Reference, Some, State, Storage, What, [], after, after_visit, alters, ap, bound_page, calls_drive, committed_at, cond, copy_failed, cut_all, cut_of_owner, cut_one, eviction_done, false, fault_told, first_off_chain, frame_in, frames_from, frames_of_owner, get_or, hand_past, home_in, is_modified, leaving_if, left_after, left_of, length, length-set, new_word, next_command, old_word, page_back, page_copied, page_done, page_gone, page_in, page_taken, pages_after, pages_back, place_of, process_at, record_of, referred, refl, seg_back, seg_gone, segment_emptied, segment_taken, segs_back, segs_gone, take_all, take_one, trailers_in, transfer_failed, transferred, true, uid_of_command, visited_if, with_choice, with_faults, with_hand_moved, with_inactive, with_left, with_pages, with_store, word_put, words_in, write_failed, ℕ, ◌%◌, ◌∙◌, ◌∷◌, ◌≡◌, took}
+use Rattle.machine.proofs.Prelude.{set, Aim, Bool, Command, CutDescriptor, Home, Left, List, None, Option, Outcome, Reference, Some, State, Storage, What, after, after_visit, alters, ap, bound_page, calls_drive, committed_at, cond, copy_failed, cut_all, cut_of_owner, cut_one, eviction_done, false, fault_told, first_off_chain, frame_in, frames_from, frames_of_owner, get_or, hand_past, home_in, is_modified, leaving_if, left_after, left_of, length, length-set, new_word, next_command, old_word, page_back, page_copied, page_done, page_gone, page_in, page_taken, pages_after, pages_back, place_of, process_at, record_of, referred, refl, seg_back, seg_gone, segment_emptied, segment_taken, segs_back, segs_gone, take_all, take_one, trailers_in, transfer_failed, transferred, true, uid_of_command, visited_if, with_choice, with_faults, with_hand_moved, with_inactive, with_left, with_pages, with_store, word_put, words_in, write_failed, ℕ, ◌%◌, ◌∙◌, ◌∷◌, ◌≡◌, took, []}
 use Rattle.script.specs.declared.commands.Command.TheVariants as command
 use Rattle.assoc_mem.specs.declared.What.TheVariants as what
 use Rattle.page_control.specs.declared.Left.TheVariants as left

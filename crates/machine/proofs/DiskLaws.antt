@@ -1,5 +1,5 @@
 -- The volumes of a machine that keeps its promise hold the flat store after the book.
-use Rattle.machine.proofs.Prelude.{◌≡◌, ◌≢◌, cond, ℕ, Bool, true, false, eqb, is_some, get_or, position, List, [], ◌∷◌, Option, Some, None, refl, sym, ap, ◌∙◌, ◌/◌, ◌%◌, Node, node_in, volume_in, is_stored, custody_after, Custody, record_at, Vols, Ptw, Home, is_binding, is_filed_at, words_of_page, bindings, vtoc_in, Mover, in_move, home_of, is_filed, is_there, picture, seen, Keeps, flat_of, bound_use, frame_use, State, position_at, HasHome, HasNode, IsOnDisk, bound_tells}
+use Rattle.machine.proofs.Prelude.{◌≡◌, ◌≢◌, cond, ℕ, Bool, true, false, eqb, is_some, get_or, position, List, ◌∷◌, Option, Some, None, refl, sym, ap, ◌∙◌, ◌/◌, ◌%◌, Node, node_in, volume_in, is_stored, custody_after, Custody, record_at, Vols, Ptw, Home, is_binding, is_filed_at, words_of_page, bindings, vtoc_in, Mover, in_move, home_of, is_filed, is_there, picture, seen, Keeps, flat_of, bound_use, frame_use, State, position_at, HasHome, HasNode, IsOnDisk, bound_tells, []}
 use Rattle.custody_model.specs.Custody.{bound_page}
 use Rattle.vtoc.specs.Vtoc.{Entry}
 use Rattle.page_table.specs.declared.Ptw.TheVariants as ptw
@@ -12,9 +12,7 @@ bound_shows words page x read e = rw e (by (words page.0 page.1))
   where
     by : (w : Ptw) → bound_page (bound_use page w) ≡ Some page
     by ptw.Null = refl
-    by (ptw.Out r) = refl
-    by (ptw.Here f) = refl
-    by (ptw.Leaving f) = refl
+    by _ = refl
 
 -- the volume of a node that is there
 volume_is : (ns : List Node) (u : ℕ) (n : Node) → node_in ns u ≡ Some n → volume_in ns u ≡ n.volume

@@ -1,5 +1,5 @@
 -- What all drives have counted, by what one of them has.
-use Rattle.machine.proofs.Prelude.{◌≡◌, ◌≢◌, ◌≤◌, ℕ, zero, suc, length, List, [], ◌∷◌, refl, arith, OnErr, Result, Ok, Err, sum_by, sum_by-cons, Rose, faults_at, CallsDrive, CallsDrives, seen_same, ◌+◌}
+use Rattle.machine.proofs.Prelude.{◌≡◌, ◌≢◌, ◌≤◌, ℕ, zero, suc, length, List, ◌∷◌, refl, arith, OnErr, Result, Ok, Err, sum_by, sum_by-cons, Rose, faults_at, CallsDrive, CallsDrives, seen_same, ◌+◌, []}
 
 same_sum : {D : Type 0} (faults : D → ℕ) (old new : List D) → length new ≡ length old
     → ((w : ℕ) → faults_at faults new w ≡ faults_at faults old w) → sum_by faults new ≡ sum_by faults old

@@ -1,6 +1,6 @@
 -- A segment that was taken whole is empty once its pages have left: no page of it is in a frame or being read, no
 -- descriptor leads to it, and it has no active inferior.
-use Rattle.machine.proofs.Prelude.{◌≡◌, ◌≢◌, ◌<◌, ℕ, zero, suc, true, false, get_or, List, [], ◌∷◌, Option, Some, is_some, length, arith, None, refl, sym, ap, ◌∙◌, All, Node, node_in, Ptw, HasNoInferior, IsAway, entry_at, superior_of, uid_at, uid_in, trailers_of, place_of, table_of, is_there, superior_in, is_going_descriptor, leads_to, uid_of_page, names, holding, seen, Keeps, cut_of_owner, frames_of_owner, is_active, trailers_in, bound_use, cut_uid, descriptor_use, frame_use, State, IsWhole, active_place, trailers_taken, ArePairs, active_at, no_page_left, IsEmptied, eqb-true, eqb_self, some_same}
+use Rattle.machine.proofs.Prelude.{◌≡◌, ◌≢◌, ◌<◌, ℕ, zero, suc, true, false, get_or, List, ◌∷◌, Option, Some, is_some, length, arith, None, refl, sym, ap, ◌∙◌, All, Node, node_in, Ptw, HasNoInferior, IsAway, entry_at, superior_of, uid_at, uid_in, trailers_of, place_of, table_of, is_there, superior_in, is_going_descriptor, leads_to, uid_of_page, names, holding, seen, Keeps, cut_of_owner, frames_of_owner, is_active, trailers_in, bound_use, cut_uid, descriptor_use, frame_use, State, IsWhole, active_place, trailers_taken, ArePairs, active_at, no_page_left, IsEmptied, eqb-true, eqb_self, some_same, []}
 use Rattle.assoc_mem.specs.declared.What.TheVariants as what
 use Rattle.page_table.specs.declared.Ptw.TheVariants as ptw
 use Rattle.active_segs.specs.declared.Entry.{Entry}
@@ -8,10 +8,9 @@ use Rattle.custody_model.specs.Custody.{page_of}
 
 -- a word that names no frame is of a page that is away
 word_away : (w : Ptw) → ((f : ℕ) → names w ≢ Some f) → IsAway w
-word_away ptw.Null h = tt
-word_away (ptw.Out r) h = tt
 word_away (ptw.Here f) h = h f refl
 word_away (ptw.Leaving f) h = h f refl
+word_away _ h = tt
 
 within_same : (ws : List Ptw) (p : ℕ) (d : Ptw) → p < length ws → get_or ws p ptw.Null ≡ get_or ws p d
 within_same [] p d lt = absurd (omega arith)
@@ -44,9 +43,7 @@ module _ (s : State) (u : ℕ) (k : Keeps s) (whole : IsWhole (holding s) u) (fr
       where
         by : (w : Ptw) → uid_of_page (page_of (bound_use (u, p) w)) ≡ Some u
         by ptw.Null = refl
-        by (ptw.Out r) = refl
-        by (ptw.Here g) = refl
-        by (ptw.Leaving g) = refl
+        by _ = refl
 
     -- none is being read into one
     unread : (f p : ℕ) → (seen s).reads f ≢ Some (u, p)

@@ -1,5 +1,5 @@
 -- No process is ready or running just where every one has ended.
-use Rattle.machine.proofs.Prelude.{◌≡◌, ℕ, suc, Bool, true, false, ◌||◌, is_some, List, [], ◌∷◌, Option, Some, None, refl, sym, ◌∙◌, ◌↔◌, list_any, has_process, is_empty, is_over, KeepsAll, cpu_at, MayRun, State, Processor, flat_ended, HaveEnded, has_head}
+use Rattle.machine.proofs.Prelude.{◌≡◌, ℕ, suc, Bool, true, false, ◌||◌, is_some, List, ◌∷◌, Option, Some, None, refl, sym, ◌∙◌, ◌↔◌, list_any, has_process, is_empty, is_over, KeepsAll, cpu_at, MayRun, State, Processor, flat_ended, HaveEnded, has_head, []}
 
 -- a processor of a list has a process, where one has
 busy_found : (ps : List Processor) → list_any has_process ps ≡ true

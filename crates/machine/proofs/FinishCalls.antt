@@ -1,9 +1,8 @@
 -- What the calls ask that let a page go, and what is shown after them, however the call of the drive ended.
 use Rattle.machine.proofs.Prelude.{Aim, Err, HasOwner, IfOk, IsFaithful, IsLeaving, Left, List, MayAnswer, MayComeBack, MayFail, Ok, Parts, Result, State, Store, ap, arith, by_outcome, cond, descriptors_return, frames_of_owner, left_of, left_page, outcome_of, page_in, pages_return, subst, without_left, words_in, write_failed, ℕ, ◌∙◌, ◌∷◌, ◌≡◌, Plan}
 use Rattle.machine_model.specs.Actions as act
-use Rattle.machine.proofs.Does.{Does, found, keeps_of}
+use Rattle.machine.proofs.Does.{Does, keeps_of}
 use Rattle.machine.proofs.Found.{Waited}
-use Rattle.machine.proofs.OwnerCalls.{owned}
 use Rattle.machine.proofs.Stays.{faithful_as}
 use Rattle.machine.proofs.TakingStays.{failed_as}
 
@@ -30,23 +29,10 @@ module _ {D : Type 0} {t : Parts D} {c : ℕ} {a : act.Action} (d : Does t c a) 
     room = omega arith;
   }
 
-  leaves_by : {f : ℕ} {w : Aim} → Leaves s c f w → IsLeaving s.store f
+  -- the page that leaves is on its way out
+  pub leaves_by : {f : ℕ} {w : Aim} → Leaves s c f w → IsLeaving s.store f
   leaves_by l = (subst (MayComeBack s.store) (ap frames_of_owner l.waited.owner.mine ∙ l.left.1)
       (pages_return s (keeps_of d))).0
-
--- the page that leaves is on its way out, and the owner is there
-module _ {D : Type 0} {t : Parts D} {c f : ℕ} where
-  pub eviction_leaves : Does t c (act.FinishEviction f) → IsLeaving t.state.store f
-  eviction_leaves d = leaves_by d (found d)
-
-  pub eviction_owner : Does t c (act.FinishEviction f) → HasOwner t.state.owner
-  eviction_owner d = owned (found d).waited.owner
-
-  pub page_leaves : Does t c (act.FinishPage f) → IsLeaving t.state.store f
-  page_leaves d = leaves_by d (found d).1
-
-  pub page_owner : Does t c (act.FinishPage f) → HasOwner t.state.owner
-  page_owner d = owned (found d).1.waited.owner
 
 -- what the call tells of the flat store, by how it ended: the page has left its frame, or all is as it was
 pub finished_shown : {E : Type 0} (s : State) (c f n : ℕ) (r : Result Left E) (done now : State)

@@ -1,5 +1,5 @@
 -- What the rules found where they choose an action of the supervisor's owner, or the end of a transfer.
-use Rattle.machine.proofs.Prelude.{◌≡◌, ◌<◌, ℕ, ◌*◌, length, Bool, true, false, not, ◌&&◌, cond, eqb, List, [], ◌∷◌, position, Option, Some, None, refl, sym, ap, subst, ◌∙◌, ◌/◌, nat_le, find, option_map, cond_both, HeldPage, HeldSeg, frame_of, is_page, seg_of, Sdw, Ptw, word_reply, new_word, permits, sdws_at, table_of, word_of, next_out, by_descriptor, by_held, by_page, by_seg, by_word, reference_of, Command, Reference, What, Transfer, Aim, Phase, Processor, action_of, by_move, clear_or, come_to, copy_or_commit, finish_of, go_on_with, has_had_its_turn, is_empty, load_or_idle, look_of, move_of, once_cleared, own_or_run, refer_or_take, run_process, take_or_wait, transfer_or, no_call, IsMachine, AreHeldPages, seen, descriptor_of, is_due, next_command, process_at, processor_at, Owner, State, action_by, LookFinds, look_finds, HasWaited, IsLooking, look_idle, process_here, speaks, IsMine, Looks, and_both, eqb-true}
+use Rattle.machine.proofs.Prelude.{◌≡◌, ◌<◌, ℕ, ◌*◌, length, Bool, true, false, not, ◌&&◌, cond, eqb, List, ◌∷◌, position, Option, Some, None, refl, sym, ap, subst, ◌∙◌, ◌/◌, nat_le, find, option_map, cond_both, HeldPage, HeldSeg, frame_of, is_page, seg_of, Sdw, Ptw, word_reply, new_word, permits, sdws_at, table_of, word_of, next_out, by_descriptor, by_held, by_page, by_seg, by_word, reference_of, Command, Reference, What, Transfer, Aim, Phase, Processor, action_of, by_move, clear_or, come_to, copy_or_commit, finish_of, go_on_with, has_had_its_turn, is_empty, load_or_idle, look_of, move_of, once_cleared, own_or_run, refer_or_take, run_process, take_or_wait, transfer_or, no_call, IsMachine, AreHeldPages, seen, descriptor_of, is_due, next_command, process_at, processor_at, Owner, State, action_by, LookFinds, look_finds, HasWaited, IsLooking, look_idle, process_here, speaks, IsMine, Looks, and_both, eqb-true, []}
 use Rattle.book.specs.declared.replies.Reply.TheVariants as reply
 use Rattle.descriptor_seg.specs.declared.Sdw.TheVariants as sdw
 use Rattle.page_table.specs.declared.Ptw.TheVariants as ptw
@@ -71,9 +71,8 @@ module _ (s : State) (c : ℕ) (m : IsMachine s) (there : c < length s.processor
         by : (b : Bool) → Found s c (by_move s.owner r (cond b (move.Plain (word_reply 0 r.kind)) move.Fault))
         by true = tt
         by false = take_found s.owner refl
-    word_found (ptw.Out n) = take_found s.owner refl
     word_found (ptw.Here f) = tt
-    word_found (ptw.Leaving f) = take_found s.owner refl
+    word_found _ = take_found s.owner refl
 
     page_found : (h : HeldSeg) (x : Option ℕ) → frame_of p.cpu.assoc h.uid (r.offset / 1024) ≡ x
         → Found s c (by_move s.owner r (by_page x (word_of s.store.ast h.uid (r.offset / 1024)) r.kind))

@@ -1,5 +1,5 @@
 -- What the loops that make a machine end come to, turn by turn.
-use Rattle.machine.proofs.Prelude.{◌≡◌, ◌≤◌, ◌<◌, ℕ, ◌+◌, ◌++◌, ◌∷◌, [], true, false, cond, eqb, ◌&&◌, length, is_some, List, Option, Some, None, position, refl, sym, ap, subst, ◌∙◌, arith, inl, inr, cases_lt, append-nil, get_or_past, Err, Ok, OnErr, OnOk, Result, Transfer, action_of, has_process, is_over, CommandDone, Goes, HasTaken, IsReader, JobDone, JobFell, RoundDone, command_gauge, is_at, all_rank, Outline, Runner, runner_at, around, outline_of, stage_of, KeepsAll, cpu_at, no_processor, process_at, processor_at, IsGoing, IsOwnedBy, Owner, State, Processor, position_at, position_none, round_done, way_falls, way_next, kept_of, in_job, at_outline, long_outline, seen_reading, no_owner, pools_kept, Parts, Why, HasGone, HasMoved, HasStalled, HasTurned, MayWait, OwnerTurned, WaitsFor, is_into, is_still_at, reads_into, with_spare, Grows, HasRun, HasStood, is_moved, tally, with_room, Appends, IfStill, IsTurn, KeepsParts, TellsFaults, turn_of, why_by, Turn, eqb-true, eqb_self, some_same}
+use Rattle.machine.proofs.Prelude.{◌≡◌, ◌≤◌, ◌<◌, ℕ, ◌+◌, ◌++◌, ◌∷◌, true, false, cond, eqb, ◌&&◌, length, is_some, List, Option, Some, None, position, refl, sym, ap, subst, ◌∙◌, arith, inl, inr, cases_lt, append-nil, get_or_past, Err, Ok, OnErr, OnOk, Result, Transfer, action_of, has_process, is_over, CommandDone, Goes, HasTaken, IsReader, JobDone, JobFell, RoundDone, command_gauge, is_at, all_rank, Outline, Runner, runner_at, around, outline_of, stage_of, KeepsAll, cpu_at, no_processor, process_at, processor_at, IsGoing, IsOwnedBy, Owner, State, Processor, position_at, position_none, round_done, way_falls, way_next, kept_of, in_job, at_outline, long_outline, seen_reading, pools_kept, Parts, Why, HasGone, HasMoved, HasStalled, HasTurned, MayWait, OwnerTurned, WaitsFor, is_into, is_still_at, reads_into, with_spare, Grows, HasRun, HasStood, is_moved, tally, with_room, Appends, IfStill, IsTurn, KeepsParts, TellsFaults, turn_of, why_by, Turn, eqb-true, eqb_self, some_same, []}
 use Rattle.machine_model.specs.Actions as act
 use Rattle.machine_model.specs.Outline as outline
 use Rattle.machine_model.specs.Turns as model
@@ -135,7 +135,7 @@ says_turn s c act.HasEnded = refl
 says_turn s c (act.Waits reason) = (reason, refl, refl)
 says_turn s c a = refl
 
-module _ (s t : State) (c : ℕ) (answer : Turn) (turned : HasTurned s t c answer) (on : s.stopped ≡ false) where
+module _ {s t : State} {c : ℕ} {answer : Turn} (turned : HasTurned s t c answer) (on : s.stopped ≡ false) where
   abbrev roomy : State
   roomy = with_spare s turned.spare
 
@@ -185,9 +185,6 @@ pub owner_there : (s : State) (c : ℕ) → KeepsAll s → IsOwnedBy s c → c <
 owner_there s c keeps mine = rw (← mine.cpu, ← (long_outline s)) ((kept_of s keeps).job.at_work mine.owner.cpu
     (stage_of s.store.ast.entries mine.owner.frames mine.owner.phase) (in_job s mine.owner mine.mine)).within
 
-pub owner_planned : (s : State) (c : ℕ) → KeepsAll s → IsOwnedBy s c → c < s.plan.processors
-owner_planned s c keeps mine = rw (← keeps.machine.keeps.sizes.processors) (owner_there s c keeps mine)
-
 -- what the owner waits for is a processor, or is read by one
 pub may_wait : (s t : State) (c : ℕ) (answer : Turn) → OwnerTurned s t c answer → MayWait t c answer
 may_wait s t c (turn.Moved p) h = tt
@@ -219,9 +216,9 @@ module _ (s t u : State) (c d : ℕ) (late : Turn) (on : t.stopped ≡ false) (t
       → JobFell (outline_of s) (outline_of u) c
   unfolding outline_of
   awaited_fell (turn.Waits (why.ForClear e)) h waits = subst (λ (o : Outline). JobFell o (outline_of u) c) h.0
-      (rounds.cleared_turn ready u c d (roomy_goes t u d late turned on) waits.1 turned.stepped)
+      (rounds.cleared_turn ready u c d (roomy_goes turned on) waits.1 turned.stepped)
   awaited_fell (turn.Waits (why.ForTransfer frame)) h waits = subst (λ (o : Outline). JobFell o (outline_of u) c) h.0
-      (rounds.read_turn ready u c frame d (roomy_goes t u d late turned on) turned.now waits.0 waits.1 turned.stepped)
+      (rounds.read_turn ready u c frame d (roomy_goes turned on) turned.now waits.0 waits.1 turned.stepped)
   awaited_fell _ h waits = absurd waits
 
 -- somebody reads into the frame that is waited for
@@ -271,11 +268,7 @@ running_there s c running = elim (cases_lt c (length s.processors)) [
       (get_or_past s.processors c no_processor past))
 ]
 
-pub running_planned : (s : State) (c : ℕ) → KeepsAll s → is_some (cpu_at s.processors c).process ≡ true
-    → c < s.plan.processors
-running_planned s c keeps running = rw (← keeps.machine.keeps.sizes.processors) (running_there s c running)
-
-module _ (s t : State) (c : ℕ) (answer : Turn) (turned : HasTurned s t c answer) (on : s.stopped ≡ false)
+module _ {s t : State} {c : ℕ} {answer : Turn} (turned : HasTurned s t c answer) (on : s.stopped ≡ false)
     (none : s.owner ≡ None) (running : is_some (cpu_at s.processors c).process ≡ true) where
   abbrev given : State
   given = with_spare s turned.spare
@@ -284,7 +277,7 @@ module _ (s t : State) (c : ℕ) (answer : Turn) (turned : HasTurned s t c answe
   there = running_there s c running
 
   going : IsGoing given
-  going = roomy_goes s t c answer turned on
+  going = roomy_goes turned on
 
   -- nobody owns the supervisor after the turn
   pub turn_free : t.owner ≡ None → CommandDone (outline_of s) (outline_of t) c
@@ -337,9 +330,6 @@ way_ends old t c since keeps none way gone = round_done (outline_of old) (outlin
 
 -- ---- a round
 
-pub round_freed : (s t : State) → RoundDone (outline_of s) (outline_of t) → t.owner ≡ None
-round_freed s t done = no_owner t done.owner
-
 -- the first processor that has a process has one
 pub first_runs : (s : State) (c : ℕ) → position has_process s.processors ≡ Some c
     → is_some (cpu_at s.processors c).process ≡ true
@@ -350,5 +340,5 @@ pub idle_done : (s t : State) (answer : Turn) (turned : HasTurned s t 0 answer) 
     → position has_process s.processors ≡ None → is_over s ≡ false → RoundDone (outline_of s) (outline_of t)
 unfolding outline_of
 idle_done s t answer turned on none idle more = rounds.idle_round (with_spare s turned.spare) t
-    (roomy_goes s t 0 answer turned on) turned.now none
+    (roomy_goes turned on) turned.now none
     (λ d. position_none has_process s.processors no_processor d idle refl) more turned.stepped

@@ -1,6 +1,6 @@
 -- What the shutdown tells of drives that fail: at a visit one failure at the most, of no process; and at the end one
 -- for each page that is still in a frame.
-use Rattle.machine.proofs.Prelude.{◌≡◌, ◌<◌, ◌≤◌, ℕ, ◌+◌, ◌++◌, ◌∷◌, [], Bool, true, false, cond, List, Option, Some, None, inl, inr, refl, sym, ap, subst, ◌∙◌, arith, append-nil, ◌⊎◌, count_by, list_all, and_parts, Entry, bound_page, Left, frame_in, words_in, Ptw, Custody, page_held, Outcome, seen, entries_left, left_of, page_back, page_gone, page_in, Keeps, is_fault, frame_use, after_visit, page_taken, visited_if, State, fault_told, with_faults, TellsBack, WasVisited, append_assoc, binding_is, none_some, Parts, AllVisited, AreToldBack, CallsAtVisit, HasVisited, TellsLoss, CallsAs, calls_drive, length}
+use Rattle.machine.proofs.Prelude.{◌≡◌, ◌<◌, ◌≤◌, ℕ, ◌+◌, ◌++◌, ◌∷◌, Bool, true, false, cond, List, Option, Some, None, inl, inr, refl, sym, ap, subst, ◌∙◌, arith, append-nil, ◌⊎◌, count_by, list_all, and_parts, Entry, bound_page, Left, frame_in, words_in, Ptw, Custody, page_held, Outcome, seen, entries_left, left_of, page_back, page_gone, page_in, Keeps, is_fault, frame_use, after_visit, page_taken, visited_if, State, fault_told, with_faults, TellsBack, WasVisited, append_assoc, binding_is, none_some, Parts, AllVisited, AreToldBack, CallsAtVisit, HasVisited, TellsLoss, CallsAs, calls_drive, length, []}
 use Rattle.book.specs.declared.entries.Entry.TheVariants as entry
 use Rattle.page_control.specs.declared.Left.TheVariants as left
 use Rattle.machine_model.specs.Actions as act

@@ -1,6 +1,6 @@
 -- Once every frame was visited no stored page is all zeros: such a page would be in a frame, and the pages that stayed
 -- in theirs have a word other than 0.
-use Rattle.machine.proofs.Prelude.{◌≡◌, ◌<◌, ◌≤◌, ◌+◌, ◌*◌, ℕ, Bool, true, false, get_or, length, position, List, [], Option, Some, None, inl, inr, refl, sym, ap, subst, ◌∙◌, arith, ◌/◌, ◌%◌, All, and_parts, cases_lt, get_or_past, length-replicate, All-get_or, All-nil, AreZero, bound_page, is_stored, is_zero_page, zero_words, record_at, HaveFullPages, is_binding, is_stored_at, words_filed, words_held, words_of_page, bindings, frame_in, words_in, IsInFrame, vtoc_in, place_of, IsHomeOf, is_filed, is_there, picture, Keeps, flat_of, home_in, is_active, State, WasVisited, active_place, frame_words, binding_is, none_some, active_at, AllVisited, HasNoZeros, words_of, get_or_default_zero, zeros_to}
+use Rattle.machine.proofs.Prelude.{◌≡◌, ◌<◌, ◌≤◌, ◌+◌, ◌*◌, ℕ, Bool, true, false, get_or, length, position, List, Option, Some, None, inl, inr, refl, sym, ap, subst, ◌∙◌, arith, ◌/◌, ◌%◌, All, and_parts, cases_lt, get_or_past, length-replicate, All-get_or, All-nil, AreZero, bound_page, is_stored, is_zero_page, zero_words, record_at, HaveFullPages, is_binding, is_stored_at, words_filed, words_held, words_of_page, bindings, frame_in, words_in, IsInFrame, vtoc_in, place_of, IsHomeOf, is_filed, is_there, picture, Keeps, flat_of, home_in, is_active, State, WasVisited, active_place, frame_words, binding_is, none_some, active_at, AllVisited, HasNoZeros, words_of, get_or_default_zero, zeros_to, []}
 use Rattle.machine.proofs.VisitNext.{bound_there}
 
 -- ---- pages of 1024 words

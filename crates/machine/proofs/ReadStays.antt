@@ -1,5 +1,5 @@
 -- A page that comes into its frame, or a frame that is free again where the drive failed, isn't seen in the flat store.
-use Rattle.machine.proofs.Prelude.{◌≡◌, ◌≢◌, ◌<◌, ℕ, true, false, set, length, [], Some, None, refl, sym, ap, ◌∙◌, get_or-set_other, get_or-set_same, Frame, bound_page, frame_at, is_modified, started_page, with_frame, Ptw, Home, framed, KeepsWords, words_at, Plain, binding_at, bindings, frame_in, IsTied, shown_in, shown_out, Touches, page_none, page_some, words_kept, IsActive, table_at, table_of, word_of, IsHomeOf, IsKept, IsOutAt, home_of, Transfer, names, seen, Keeps, home_in, is_active, processor_at, State, brought, with_pages, map_list, within_by, active_at, word_within, some_same}
+use Rattle.machine.proofs.Prelude.{◌≡◌, ◌≢◌, ◌<◌, ℕ, true, false, set, length, Some, None, refl, sym, ap, ◌∙◌, get_or-set_other, get_or-set_same, Frame, bound_page, frame_at, is_modified, started_page, with_frame, Ptw, Home, framed, KeepsWords, words_at, Plain, binding_at, bindings, frame_in, IsTied, shown_in, shown_out, Touches, page_none, page_some, words_kept, IsActive, table_at, table_of, word_of, IsHomeOf, IsKept, IsOutAt, home_of, Transfer, names, seen, Keeps, home_in, is_active, processor_at, State, brought, with_pages, map_list, within_by, active_at, word_within, some_same, []}
 use Rattle.core_map.specs.declared.Frame.TheVariants as frame
 use Rattle.page_table.specs.declared.Ptw.TheVariants as ptw
 use Rattle.page_control.proofs.Touching.{moves}
@@ -18,9 +18,7 @@ free_unlike u p h = cc
 -- a page that is on its record alone is in no frame
 out_nowhere : (w : Ptw) (g : ℕ) → is_out w ≡ true → names w ≢ Some g
 out_nowhere ptw.Null g h e = cc
-out_nowhere (ptw.Out r) g h e = cc
-out_nowhere (ptw.Here f) g h e = cc
-out_nowhere (ptw.Leaving f) g h e = cc
+out_nowhere _ g h e = cc
 
 module _ (s : State) (c : ℕ) (t : Transfer) (k : Keeps s)
     (mine : (processor_at s.processors c).cpu.transfer ≡ Some t) where

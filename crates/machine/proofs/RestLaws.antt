@@ -38,15 +38,13 @@ module _ (s : State) (spare : ℕ) (stopped : Bool) where
   }
 
   by_aim : (a : Aim) (k : ℕ) (c : Option Command) → TakenTo a s k c → TakenTo a now k c
-  by_aim aim.Evicting k c h = tt
-  by_aim (aim.Deactivating u) k c h = tt
   by_aim aim.Committing k c h = command_still k c h
+  by_aim _ k c h = tt
 
   taken_still : (p : Phase) (k : ℕ) (c : Option Command) → TakenIn p s k c → TakenIn p now k c
-  taken_still phase.Looking k c h = tt
   taken_still (phase.Taken a w) k c h = by_aim a k c h
   taken_still (phase.Waiting a w) k c h = by_aim a k c h
-  taken_still (phase.Moving m) k c h = tt
+  taken_still _ k c h = tt
 
   working_still : IsWorking s → IsWorking now
   working_still h = record {

@@ -1,5 +1,5 @@
 -- What processors come to that make their steps one after the other.
-use Rattle.machine.proofs.Prelude.{◌≡◌, ◌≤◌, ◌+◌, ℕ, Bool, true, false, length, List, [], ◌∷◌, ◌++◌, drop, append-nil, ◌<◌, get_or, take, Some, refl, sym, ap, subst, ◌∙◌, arith, ◌↔◌, Result, Ok, Err, IfOk, OnErr, count_by, list_any, or_parts, take-append-drop, take_more, action_of, process_at, move_to, outside_refusal, refusal_of, room_refusal, append_assoc, Parts, Grows, HasRun, HasStood, IsRound, is_moved, tally, with_room, would_move, Appends, AreTold, IsTurn, KeepsParts, TellsFaults, Turn, is_fault}
+use Rattle.machine.proofs.Prelude.{◌≡◌, ◌≤◌, ◌+◌, ℕ, Bool, true, false, length, List, ◌∷◌, ◌++◌, drop, append-nil, ◌<◌, get_or, take, Some, refl, sym, ap, subst, ◌∙◌, arith, ◌↔◌, Result, Ok, Err, IfOk, OnErr, count_by, list_any, or_parts, take-append-drop, take_more, action_of, process_at, move_to, outside_refusal, refusal_of, room_refusal, append_assoc, Parts, Grows, HasRun, HasStood, IsRound, is_moved, tally, with_room, would_move, Appends, AreTold, IsTurn, KeepsParts, TellsFaults, Turn, is_fault, []}
 use Rattle.machine.proofs.CallLaws.{keeps_on, keeps_room}
 use Rattle.machine.proofs.TurnLaws.{still_of, told_moves}
 

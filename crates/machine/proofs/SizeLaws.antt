@@ -1,5 +1,5 @@
 -- Each drive has as many records as the script gives its volume.
-use Rattle.machine.proofs.Prelude.{◌≡◌, ℕ, zero, suc, Bool, length, map, List, [], ◌∷◌, get_or, Option, Some, slice_get, Plan, records_of, HasParts, size, map_list, HaveSizes}
+use Rattle.machine.proofs.Prelude.{◌≡◌, ℕ, zero, suc, Bool, length, map, List, ◌∷◌, get_or, Option, Some, slice_get, Plan, records_of, HasParts, size, map_list, HaveSizes, []}
 
 size_at : {D : Type 0} (pages : D → List (List ℕ)) (drives : List D) (v : ℕ) (d : D) → slice_get drives v ≡ Some d
     → get_or (map length (map pages drives)) v 0 ≡ length (pages d)

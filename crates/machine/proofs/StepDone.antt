@@ -70,6 +70,4 @@ module _ {D X : Type 0} {plan : D → X} {places faults : D → ℕ} {t u new : 
 -- what is waited for, as it is told
 pub why_told : (w : Why) → w ≡ why_by (why_of w)
 why_told (why.ForOwner cpu) = refl
-why_told (why.ForClear cpu) = refl
-why_told (why.ForTransfer frame) = refl
-why_told (why.WhileIdle busy) = refl
+why_told _ = refl

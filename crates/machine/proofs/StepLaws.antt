@@ -23,8 +23,7 @@ module _ {D X : Type 0} {plan : D → X} {places faults : D → ℕ} {old new : 
       by (turn.Moved point) e = rw made.step.done
           (moved_changes old.state c made.step.outcome sound.keeps there (sym e))
       by (turn.Waits why) e = tt
-      by turn.Ended e = tt
-      by turn.Stopped e = tt
+      by _ e = tt
 
   pub step_faults : TellsFaults faults old new (process_at old.state c)
   step_faults = record {

@@ -1,5 +1,5 @@
 -- What the call asks that takes what a tree command must have out of use.
-use Rattle.machine.proofs.Prelude.{◌≡◌, ◌≢◌, ◌<◌, ◌≤◌, ◌+◌, ℕ, zero, suc, Bool, true, false, cond, length, [], ◌∷◌, drop, Option, Some, None, ◌⊎◌, inl, inr, refl, ap, subst, arith, Command, IsActive, descriptors_taken, first_taken, frames_taken, Keeps, cpu_at, cut_of_owner, frames_in, frames_of_owner, is_active, is_connected, descriptor_of, next_command, or_zero, process_at, trailers_in, uid_of_command, State, Storage, command_few, connected_few, frames_from_few, trailers_few, no_table, HasItsSegment, frames_for, of_segment, pairs_for, what_for, taken_for, HasOwner, Parts, is_of_process, IsBusy, IsSound, MayDo, took_for}
+use Rattle.machine.proofs.Prelude.{◌≡◌, ◌≢◌, ◌<◌, ◌≤◌, ◌+◌, ℕ, zero, suc, Bool, true, false, cond, length, ◌∷◌, drop, Option, Some, None, ◌⊎◌, inl, inr, refl, ap, subst, arith, Command, IsActive, descriptors_taken, first_taken, frames_taken, Keeps, cpu_at, cut_of_owner, frames_in, frames_of_owner, is_active, is_connected, descriptor_of, next_command, or_zero, process_at, trailers_in, uid_of_command, State, Storage, command_few, connected_few, frames_from_few, trailers_few, no_table, HasItsSegment, frames_for, of_segment, pairs_for, what_for, taken_for, HasOwner, Parts, is_of_process, IsBusy, IsSound, MayDo, took_for, []}
 use Rattle.script.specs.declared.commands.Command.TheVariants as command
 use Rattle.machine_model.specs.declared.Aim.TheVariants as aim
 use Rattle.machine_model.specs.Actions as act

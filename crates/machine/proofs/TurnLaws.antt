@@ -11,6 +11,4 @@ told_moves s c a = refl
 -- where nothing was done, nothing changed
 pub still_of : (x : Turn) {P : Type 0} → is_moved x ≡ false → IfStill x P → P
 still_of (turn.Moved point) moved h = cc
-still_of (turn.Waits why) moved h = h
-still_of turn.Ended moved h = h
-still_of turn.Stopped moved h = h
+still_of _ moved h = h

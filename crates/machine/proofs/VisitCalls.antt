@@ -22,9 +22,8 @@ shown_stays s f o (Some page) t e = cc
 
 -- a frame that has no page isn't modified
 unbound_clean : (x : Frame) → bound_page x ≡ None → is_modified x ≡ false
-unbound_clean frame.Free e = refl
-unbound_clean (frame.Started uid page) e = refl
 unbound_clean (frame.Bound uid page used modified) e = cc
+unbound_clean _ e = refl
 
 module _ {D : Type 0} {t : Parts D} (sound : IsSound t) (over : is_over t.state ≡ true) where
   abbrev s : State

@@ -1,11 +1,10 @@
 use Rattle.machine.proofs.Prelude.{◌<◌, ap, arith, length, common_steps}
 use Rattle.machine.proofs.FirstParts.{part_told, parts_none}
-use Rattle.machine.proofs.starting.parts.Given.{Over}
 use Rattle.machine.proofs.starting.parts.Goals.{After-len}
 use Rattle.machine.proofs.starting.parts.Goals as goal
 
 -- the drive's line is there
-within : (g : Over) (c : After-len g) → c.len.result < length c.args.lines.now
+within : (g : _) (c : After-len g) → c.len.result < length c.args.lines.now
 within g c = grind (arith, common_steps)
 
 pub part-part-requires : goal.part-part-requires

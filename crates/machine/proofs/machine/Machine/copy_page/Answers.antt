@@ -7,15 +7,14 @@ use Rattle.machine.proofs.StepDone.{drive_turn}
 use Rattle.machine.proofs.Steps.{drive_sound}
 use Rattle.machine.proofs.machine.Machine.copy_page.Goals as goal
 
-pub copy_page-copied-requires-clause-moving : goal.copy_page-copied-requires-clause-moving
-copy_page-copied-requires-clause-moving g c = still_for (does c.self.view_is c.self.invariant c.requires)
-
-pub copy_page-copied-requires-clause-page : goal.copy_page-copied-requires-clause-page
-copy_page-copied-requires-clause-page g c = (knows (does c.self.view_is c.self.invariant c.requires)).next
-
-pub copy_page-copied-requires-clause-may : goal.copy_page-copied-requires-clause-may
-copy_page-copied-requires-clause-may g c = may_copy (does c.self.view_is c.self.invariant c.requires)
-    (rw c.self.view_is c.to_answer-process.ensures)
+pub copy_page-copied-requires : goal.copy_page-copied-requires
+copy_page-copied-requires g c =
+    let d = does c.self.view_is c.self.invariant c.requires in
+    record {
+      moving = still_for d;
+      page = (knows d).next;
+      may = may_copy d (rw c.self.view_is c.to_answer-process.ensures);
+    }
 
 pub returns : goal.returns
 unfolding after

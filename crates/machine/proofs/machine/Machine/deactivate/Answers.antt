@@ -6,19 +6,17 @@ use Rattle.machine.proofs.Stays.{stays_sound}
 use Rattle.machine.proofs.TakingStays.{emptied_as}
 use Rattle.machine.proofs.machine.Machine.deactivate.Goals as goal
 
-pub deactivate-requires-clause-still : goal.deactivate-requires-clause-still
-deactivate-requires-clause-still g c = still_for (does c.self.view_is c.self.invariant c.requires)
-
-pub deactivate-requires-clause-owner : goal.deactivate-requires-clause-owner
-deactivate-requires-clause-owner g c = inactive_owner (does c.self.view_is c.self.invariant c.requires)
-
-pub deactivate-requires-clause-empty : goal.deactivate-requires-clause-empty
-deactivate-requires-clause-empty g c = inactive_emptied (does c.self.view_is c.self.invariant c.requires)
-
-pub deactivate-requires-clause-room : goal.deactivate-requires-clause-room
-deactivate-requires-clause-room g c = let few = c.self.invariant.keeps.working.few in
-    let room : 320 ≤ c.self.inside.tables.state.spare = rw c.self.view_is c.requires.room in
-    omega arith
+pub deactivate-requires : goal.deactivate-requires
+deactivate-requires g c =
+    let d = does c.self.view_is c.self.invariant c.requires in
+    record {
+      still = still_for d;
+      owner = inactive_owner d;
+      empty = inactive_emptied d;
+      room = let few = c.self.invariant.keeps.working.few in
+          let room : 320 ≤ c.self.inside.tables.state.spare = rw c.self.view_is c.requires.room in
+          omega arith;
+    }
 
 pub returns : goal.returns
 unfolding after

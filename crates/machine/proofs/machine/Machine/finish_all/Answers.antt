@@ -1,11 +1,11 @@
-use Rattle.machine.proofs.Prelude.{rules}
-use Rattle.machine.proofs.LoopCalls.{gone_on, round_freed, stalled_on}
+use Rattle.machine.proofs.Prelude.{no_owner, rules}
+use Rattle.machine.proofs.LoopCalls.{gone_on, stalled_on}
 use Rattle.machine.proofs.machine.Machine.finish_all.Goals as goal
 
 pub loop-self-preserved : goal.loop-self-preserved
 loop-self-preserved g c = assumption (
   gone_on c.loop-self.invariant.gone c.in_ok-finish_round.ensures.gone,
-  round_freed c.loop-self.self.state c.finish_round.new.self.state c.in_ok-finish_round.ensures.done,
+  no_owner c.finish_round.new.self.state c.in_ok-finish_round.ensures.done.owner,
 )
 
 pub returns-in_err-finish_round-clause-stalled : goal.returns-in_err-finish_round-clause-stalled

@@ -1,5 +1,5 @@
 use Rattle.machine.proofs.Prelude.{sym, ◌∙◌, rules, command_freed}
-use Rattle.machine.proofs.LoopCalls.{gauge_falls, gone_on, gone_planned, gone_self, running_planned, stalled_on, way_begins, way_ends, way_goes}
+use Rattle.machine.proofs.LoopCalls.{gauge_falls, gone_on, gone_planned, gone_self, running_there, stalled_on, way_begins, way_ends, way_goes}
 use Rattle.machine.proofs.machine.Machine.finish_command.Goals as goal
 
 pub loop-self-init : goal.loop-self-init
@@ -34,4 +34,5 @@ returns-in_err-command_turn-clause-stalled g c =
 
 pub is_still_at-requires : goal.is_still_at-requires
 is_still_at-requires g c = gone_planned c.loop-self.invariant.gone
-    (running_planned c.args.self.now.state c.args.c c.promise.ensures c.requires.runs)
+    (rw (← c.promise.ensures.machine.keeps.sizes.processors)
+    (running_there c.args.self.now.state c.args.c c.requires.runs))

@@ -1,22 +1,21 @@
 use Rattle.machine.proofs.Prelude.{after, refl, eviction_done, with_faults}
 use Rattle.machine.proofs.CallLaws.{outcome_faults, page_let_go}
-use Rattle.machine.proofs.Does.{does, still_for}
+use Rattle.machine.proofs.Does.{does, found, still_for}
 use Rattle.machine.proofs.DriveCounts.{call_counts}
-use Rattle.machine.proofs.FinishCalls.{eviction_leaves, eviction_owner, finished_shown, may_fail}
+use Rattle.machine.proofs.FinishCalls.{finished_shown, leaves_by, may_fail}
+use Rattle.machine.proofs.OwnerCalls.{owned}
 use Rattle.machine.proofs.StepDone.{drive_turn}
 use Rattle.machine.proofs.Steps.{drive_sound}
 use Rattle.machine.proofs.machine.Machine.finish_eviction.Goals as goal
 
-pub finish_eviction-gone-requires-clause-still : goal.finish_eviction-gone-requires-clause-still
-finish_eviction-gone-requires-clause-still g c = still_for (does c.self.view_is c.self.invariant c.requires)
-
-pub finish_eviction-gone-requires-clause-leaving : goal.finish_eviction-gone-requires-clause-leaving
-finish_eviction-gone-requires-clause-leaving g c = eviction_leaves (does c.self.view_is c.self.invariant c.requires)
-
-pub finish_eviction-gone-requires-clause-failing : goal.finish_eviction-gone-requires-clause-failing
-finish_eviction-gone-requires-clause-failing g c =
+pub finish_eviction-gone-requires : goal.finish_eviction-gone-requires
+finish_eviction-gone-requires g c =
     let d = does c.self.view_is c.self.invariant c.requires in
-    may_fail d (rw c.self.view_is c.to_answer-process.ensures) (eviction_owner d)
+    record {
+      still = still_for d;
+      leaving = leaves_by d (found d);
+      failing = may_fail d (rw c.self.view_is c.to_answer-process.ensures) (owned (found d).waited.owner);
+    }
 
 pub returns : goal.returns
 unfolding after

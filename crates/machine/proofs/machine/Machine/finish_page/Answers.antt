@@ -1,22 +1,21 @@
 use Rattle.machine.proofs.Prelude.{after, refl, page_done, with_faults}
 use Rattle.machine.proofs.CallLaws.{outcome_faults, page_let_go}
-use Rattle.machine.proofs.Does.{does, still_for}
+use Rattle.machine.proofs.Does.{does, found, still_for}
 use Rattle.machine.proofs.DriveCounts.{call_counts}
-use Rattle.machine.proofs.FinishCalls.{page_leaves, page_owner, finished_shown, may_fail}
+use Rattle.machine.proofs.FinishCalls.{finished_shown, leaves_by, may_fail}
+use Rattle.machine.proofs.OwnerCalls.{owned}
 use Rattle.machine.proofs.StepDone.{drive_turn}
 use Rattle.machine.proofs.Steps.{drive_sound}
 use Rattle.machine.proofs.machine.Machine.finish_page.Goals as goal
 
-pub finish_page-gone-requires-clause-still : goal.finish_page-gone-requires-clause-still
-finish_page-gone-requires-clause-still g c = still_for (does c.self.view_is c.self.invariant c.requires)
-
-pub finish_page-gone-requires-clause-leaving : goal.finish_page-gone-requires-clause-leaving
-finish_page-gone-requires-clause-leaving g c = page_leaves (does c.self.view_is c.self.invariant c.requires)
-
-pub finish_page-gone-requires-clause-failing : goal.finish_page-gone-requires-clause-failing
-finish_page-gone-requires-clause-failing g c =
+pub finish_page-gone-requires : goal.finish_page-gone-requires
+finish_page-gone-requires g c =
     let d = does c.self.view_is c.self.invariant c.requires in
-    may_fail d (rw c.self.view_is c.to_answer-process.ensures) (page_owner d)
+    record {
+      still = still_for d;
+      leaving = leaves_by d (found d).1;
+      failing = may_fail d (rw c.self.view_is c.to_answer-process.ensures) (owned (found d).1.waited.owner);
+    }
 
 pub returns : goal.returns
 unfolding after
