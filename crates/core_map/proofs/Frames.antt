@@ -1,14 +1,10 @@
-use Rattle.core_map.proofs.Prelude.{◌≡◌, ℕ, zero, suc, ◌+◌, ◌<◌, ◌≤◌, ◌^◌, Bool, true, false, not, cond, List, [], ◌∷◌, length, Option, None, Some, refl, sym, ap, ◌∙◌, arith, get_or, set, replicate, map, inl, inr, All, IfSome, IfNone, prefix_len, list_any, map-set, get_or-map, get_or_past, length-map, length-set, length-replicate, get_or_read, set_past, All-get_or, All-from_get_or, in_use, least_free, IsLeastFree, Frame, Core, is_free, is_taken, is_bound, started_page, after_reference, with_modified, least_free_frame, IsLeastFreeFrame, frame_in, unmarked, IsTied, below_or_past, map_kept}
+use Rattle.core_map.proofs.Prelude.{◌≡◌, ℕ, zero, suc, ◌+◌, ◌<◌, ◌≤◌, ◌^◌, Bool, true, false, not, cond, List, [], ◌∷◌, length, Option, None, Some, refl, sym, ap, ◌∙◌, arith, get_or, set, replicate, map, inl, inr, All, IfSome, IfNone, prefix_len, list_any, map-set, get_or-map, get_or_past, length-map, length-set, length-replicate, get_or_read, set_past, All-get_or, All-from_get_or, in_use, least_free, IsLeastFree, Frame, Core, is_free, is_taken, is_bound, started_page, after_reference, with_modified, least_free_frame, IsLeastFreeFrame, frame_in, IsTied, below_or_past, map_kept}
 use Rattle.core_map.specs.declared.Frame.TheVariants.{Free, Bound}
 
 -- What a change of marks leaves as it is: whether the frame is taken, and which page is being read in.
 pub record IsSeenAs (x y : Frame) : Type 0 where
   pub taken : is_taken x ≡ is_taken y
   pub started : started_page x ≡ started_page y
-
-pub seen_unmarked : (x : Frame) → IsSeenAs (unmarked x) x
-seen_unmarked Free = assumption
-seen_unmarked _ = assumption
 
 pub seen_referred : (x : Frame) (wrote : Bool) → IsSeenAs (after_reference x wrote) x
 seen_referred Free wrote = assumption

@@ -2,8 +2,13 @@
 use Rattle.core_map.proofs.Prelude.{◌≡◌, ℕ, ◌+◌, ◌-◌, ◌<◌, ◌≤◌, Bool, true, List, [], ◌∷◌, ◌++◌, length, Option, None, Some, refl, sym, ap, ◌∙◌, arith, map, inl, inr, cond, ◌==◌, range_with_len, find, list_any, append-nil, ext_get_or, get_or-map, length-map, Frame, Core, is_bound, frame_in, is_idle, unmarked, round_frames, or_else, clock_choice, after_choice, IsFirst, HasNone, IsUnmarked, PassesAll, IsFirstBound, GoesAround, IsTurned, below_or_past}
 use Rattle.core_map.specs.declared.Frame.TheVariants.{Free}
 use Rattle.core_map.specs.Clock.{passed_over}
-use Rattle.core_map.proofs.Frames.{none_bound}
+use Rattle.core_map.proofs.Frames.{IsSeenAs, none_bound}
 use Rattle.core_map.proofs.Passing.{found_none, found_first, passed_all, passed_to}
+
+-- whether a frame is taken, and which page is read into it, is so after its mark is turned off
+pub seen_unmarked : (x : Frame) → IsSeenAs (unmarked x) x
+seen_unmarked Free = assumption
+seen_unmarked _ = assumption
 
 abbrev core_of : List Frame → ℕ → Core
 core_of frames hand = record { frames = frames; hand = hand }

@@ -63,8 +63,7 @@ unfoldable pub use Rattle.custody_model.specs.Next.{custody_next}
 pub use Rattle.page_table.specs.declared.Ptw.{Ptw}
 pub use Rattle.record_map.specs.Bitmap.{in_use}
 pub use Rattle.vtoc.specs.Vtoc.{record_at}
-pub use Rattle.core_map.specs.Clock.{after_choice, clock_choice, is_idle, round_frames, unmarked}
-unfoldable pub use Rattle.core_map.specs.Clock.{passed_over}
+pub use Rattle.core_map.specs.Clock.{after_choice, clock_choice}
 pub use Rattle.core_map.specs.CoreMap.{Core, bound_page, frame_at, is_bound, is_free, is_modified, started_page, with_frame}
 pub use Rattle.core_map.specs.declared.Frame.{Frame}
 pub use Rattle.volumes.specs.FailLine.{IsOneMore}
@@ -108,6 +107,7 @@ pub use Rattle.machine_model.proofs.ActiveSeen.{active_place, any_at, within_som
 pub use Rattle.machine_model.proofs.AllEnded.{flat_ended, over_complete}
 pub use Rattle.machine_model.proofs.BookAfter.{entries_after}
 pub use Rattle.machine_model.proofs.ChainFacts.{chain_active, first_there}
+pub use Rattle.machine_model.proofs.ChoiceLaws.{choice_bindings}
 pub use Rattle.machine_model.proofs.CommandFacts.{LeadsToSegment, length_stands}
 pub use Rattle.machine_model.proofs.CommitReady.{IsCommitting, committing}
 pub use Rattle.machine_model.proofs.CommitRests.{none_listed}
@@ -117,7 +117,6 @@ pub use Rattle.machine_model.proofs.FindLaws.{choice_bound, free_frame, free_is,
 pub use Rattle.machine_model.proofs.FlatAlike.{append_assoc}
 pub use Rattle.machine_model.proofs.IdleKept.{FillsBusy, idle_kept}
 pub use Rattle.machine_model.proofs.InsideLaws.{due_is, inside_is}
-pub use Rattle.page_control.proofs.Turns.{page_unmarked}
 pub use Rattle.machine_model.proofs.LeafLaws.{leaf_inferiors, victim_leaf}
 pub use Rattle.machine_model.proofs.ListLaws.{map_list, within_by}
 pub use Rattle.machine_model.proofs.ListSizes.{command_few, connected_few, descriptors_few, frames_from_few, no_table, pages_few, trailers_few}

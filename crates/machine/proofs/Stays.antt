@@ -1,7 +1,6 @@
 -- A store after a call that isn't seen in the flat store: it shows what it showed.
-use Rattle.machine.proofs.Prelude.{◌≡◌, ℕ, Bool, true, false, cond, get_or, map, replicate, set, List, ◌∷◌, None, refl, ap, subst, ◌∙◌, ◌/◌, map-set_same, Plan, AccountMaps, Frame, Core, bound_page, with_frame, after_choice, is_idle, passed_over, round_frames, unmarked, ActiveSegs, Plain, bindings, words_at, entries, picture_by, Links, home_of, is_filed, is_there, picture, Store, Action, after, no_call, IsFaithful, shown_after, State, Storage, with_pages, Parts, IsSound, page_unmarked, with_state, []}
+use Rattle.machine.proofs.Prelude.{◌≡◌, ℕ, Bool, true, false, cond, get_or, map, replicate, set, List, ◌∷◌, None, refl, ap, subst, ◌∙◌, ◌/◌, map-set_same, Plan, AccountMaps, Frame, Core, bound_page, with_frame, ActiveSegs, Plain, bindings, words_at, entries, picture_by, Links, home_of, is_filed, is_there, picture, Store, Action, after, no_call, IsFaithful, shown_after, State, Storage, with_pages, Parts, IsSound, with_state, []}
 use Rattle.core_map.specs.declared.Frame.TheVariants as frame
-use Rattle.core_map.specs.Clock.{frame_in}
 use Rattle.machine.proofs.Does.{Does, keeps_of}
 use Rattle.machine.proofs.Steps.{IsStoreOf, changed_sound}
 
@@ -103,24 +102,6 @@ module _ {D : Type 0} {t now : Parts D} {c : ℕ} {a : Action} {v : State} (d : 
 pub unbound_put : (core : Core) (f : ℕ) (x : Frame) → bound_page (get_or core.frames f frame.Free) ≡ None
     → bound_page x ≡ None → bindings (with_frame core f x) ≡ bindings core
 unbound_put core f x before now = map-set_same bound_page core.frames f x frame.Free (cc)
-
-passed_bound : (frames : List Frame) (fs : List ℕ) → map bound_page (passed_over frames fs) ≡ map bound_page frames
-unfolding passed_over
-passed_bound frames [] = refl
-passed_bound frames (f ∷ fs) = by (is_idle (frame_in frames f))
-    (passed_bound (set frames f (unmarked (frame_in frames f))) fs
-    ∙ map-set_same bound_page frames f (unmarked (frame_in frames f)) frame.Free (page_unmarked (frame_in frames f)))
-  where
-    by : (b : Bool) → map bound_page (passed_over (set frames f (unmarked (frame_in frames f))) fs)
-        ≡ map bound_page frames
-        → map bound_page (cond b frames (passed_over (set frames f (unmarked (frame_in frames f))) fs))
-        ≡ map bound_page frames
-    by true rest = refl
-    by false rest = rest
-
--- the clock's choice leaves each frame bound as it was
-pub choice_bindings : (core : Core) (f : ℕ) → bindings (after_choice core f) ≡ bindings core
-choice_bindings core f = passed_bound core.frames (round_frames core)
 
 -- where the frames are bound as before, and words and volumes are, each page has the words that it had
 pub words_stay : (a b : Plain) → bindings b.core ≡ bindings a.core → b.frames ≡ a.frames → b.disks ≡ a.disks

@@ -1,6 +1,5 @@
 use Rattle.core_map.proofs.Prelude.{arith, is_taken, started_page}
-use Rattle.core_map.proofs.Frames.{seen_unmarked}
-use Rattle.core_map.proofs.Turning.{turned_same, turned_choice, turned_core, turned_count}
+use Rattle.core_map.proofs.Turning.{seen_unmarked, turned_same, turned_choice, turned_core, turned_count}
 use Rattle.core_map.proofs.CoreMap.choose.Goals as goal
 
 pub invariant_of-self : goal.invariant_of-self
