@@ -22,7 +22,8 @@ module _ {f : Node → Node} (keeps : Keeps f) {a b : AccountMaps} (changes : Ch
     housed = housed_alike a b alike h.housed;
     counted = counted_alike a b alike h.counted (pages_map pages);
     taken = taken_alike a b alike h.taken;
-    active = active_alike f keeps.uid a b changes.nodes keeps.superior h.active (λ place u m e found. rw (keeps.kind m, pages m));
+    active = active_alike f keeps.uid a b changes.nodes keeps.superior h.active
+        (λ place u m e found. rw (keeps.kind m, pages m));
     rights = rights_alike f keeps.uid a b changes.nodes h.rights
         (λ process number place n u mode m d e found. (rows process number place n u mode m d e found, pages m));
     known = rw changes.next h.known;

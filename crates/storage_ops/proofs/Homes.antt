@@ -160,7 +160,8 @@ module _ {a b : AccountMaps} {n : Node} {entry : ℕ} {old now : Plain} (made : 
   pages_new u ne = ap pages_of (node_new u ne)
 
   kind_new : (u : ℕ) → u ≢ n.uid → has_directory b.nodes u ≡ has_directory a.nodes u
-  kind_new u ne = ap (λ (ns : List Node). has_directory ns u) made.gains.nodes ∙ rw (ne_eqb n.uid u (λ e. ne (sym e))) refl
+  kind_new u ne = ap (λ (ns : List Node). has_directory ns u) made.gains.nodes
+      ∙ rw (ne_eqb n.uid u (λ e. ne (sym e))) refl
 
   kind_own : has_directory b.nodes n.uid ≡ n.directory
   kind_own = rw (made.gains.nodes, own) refl
@@ -209,7 +210,8 @@ module _ {a b : AccountMaps} {n : Node} {entry : ℕ} {old now : Plain} (made : 
 
   -- ---- the whole
 
-  pub store_new : {ast : ActiveSegs} {links : Links} {whos : List Who} → n.pages ≤ 256 → (n.directory ≡ true → n.pages ≡ 0)
+  pub store_new : {ast : ActiveSegs} {links : Links} {whos : List Who} → n.pages ≤ 256
+      → (n.directory ≡ true → n.pages ≡ 0)
       → IsStore old ast links a whos → IsStore now ast links b whos
   store_new {ast} {links} most flat h = record {
     housed = housed_new h.housed;

@@ -149,9 +149,11 @@ pub shown_left : {D E : Type 0} {drive : D → List (List ℕ)} {plan : Plan} {s
     → KeepsWords (plain drive t.segs.pages) (plain drive u.segs.pages) uid home
     → KeepsCounts (plain drive t.segs.pages) (plain drive u.segs.pages) → IsSettled t.accounts u.accounts uid r
     → Shows drive plan s t → Shows drive plan (page_left s uid p r) u
-shown_left p f (Err e) kept store active own on whos links effect stored words keeps settled h = shown_kept settled whos links
+shown_left p f (Err e) kept store active own on whos links effect stored words keeps settled h =
+    shown_kept settled whos links
     (assumption (ap (λ (x : Plain). x.records) effect, ap (λ (x : Plain). x.vtocs) effect)) store.housed own words h
-shown_left p f (Ok Kept) kept store active own on whos links effect stored words keeps settled h = shown_kept settled whos links
+shown_left p f (Ok Kept) kept store active own on whos links effect stored words keeps settled h =
+    shown_kept settled whos links
     (assumption (ap (λ (x : Plain). x.records) effect, ap (λ (x : Plain). x.vtocs) effect)) store.housed own words h
 shown_left {t} {uid} p f (Ok Released) kept store active own on whos links effect stored words keeps settled h =
     let there = active_there kept store active

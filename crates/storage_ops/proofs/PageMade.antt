@@ -108,7 +108,8 @@ shown_made {drive} {s} {t} {u} {uid} {p} {at} w kept store active off within cha
         h.tree.nodes ∙ sym change.nodes,
         h.tree.next ∙ sym change.next,
         counts_more t.accounts u.accounts uid p s.stored change (h.pages.stored uid p
-            ∙ (filed_there t.accounts t.segs.pages.volumes.vtocs uid p there ∙ filed_word kept store active p ∙ ap has_record off)) h.tree.counts,
+            ∙ (filed_there t.accounts t.segs.pages.volumes.vtocs uid p there ∙ filed_word kept store active p
+            ∙ ap has_record off)) h.tree.counts,
       );
       known = rw links h.known;
       pages = record {

@@ -141,7 +141,8 @@ written_there s uid p at w within on =
 
 -- a store that shows a flat store shows it with the word
 pub shown_put : {D : Type 0} {drive : D → List (List ℕ)} {plan : Plan} {s : Store} {t : Storage D} {segs : Control D}
-    (uid p : ℕ) {at : ℕ} (w : ℕ) {words : List ℕ} → segs.links ≡ t.segs.links → segs.pages.volumes ≡ t.segs.pages.volumes
+    (uid p : ℕ) {at : ℕ} (w : ℕ) {words : List ℕ} → segs.links ≡ t.segs.links
+    → segs.pages.volumes ≡ t.segs.pages.volumes
     → is_there t.accounts.nodes uid ≡ true
     → words_at (plain drive segs.pages) ≡ changed_page (words_at (plain drive t.segs.pages)) uid p (set words at w)
     → words_at (plain drive t.segs.pages) uid (home_of t.accounts uid) p ≡ words → length words ≡ 1024 → at < 1024

@@ -317,8 +317,8 @@ shown_cut {drive} {s} {t} {segs} u q f at links volumes there has words h = reco
   tree = assumption h.tree;
   known = cc;
   pages = subst (λ (v : List (List (Option VtocEntry))). ShowsPages (cleared s u q at) t.accounts v
-      (words_at (plain drive segs.pages))) (cc) (pages_cut t.accounts t.segs.pages.volumes.vtocs (words_at (plain drive t.segs.pages))
-      (words_at (plain drive segs.pages)) u q at _ there has words s h.pages);
+      (words_at (plain drive segs.pages))) (cc) (pages_cut t.accounts t.segs.pages.volumes.vtocs
+      (words_at (plain drive t.segs.pages)) (words_at (plain drive segs.pages)) u q at _ there has words s h.pages);
   script = record {
     records = λ v. cc (h.script.records v);
     entries = λ v. cc (h.script.entries v);

@@ -61,9 +61,10 @@ returns-in-Some g c =
     rw (← c.self.view_is) (record {
       rest = unstores_cut refl c.cut_from.ensures.ast c.cut_from.ensures.bindings c.cut_from.ensures.reads
           c.cut_from.ensures.links c.cut_from.ensures.moving refl c.cut_from.ensures.volumes;
-      shown = λ p s h. shown_cut c.args.uid c.args.page c.in-Some.f c.args.at c.cut_from.ensures.links c.cut_from.ensures.volumes (there g some) (before g some)
-          (after g c) h;
-      zero = λ p s h. cut_told t.accounts t.segs.pages.volumes.vtocs _ _ c.args.uid c.args.page c.args.at _ (there g some) (before g some) (after g c) s c.cut_from.result h.pages
+      shown = λ p s h. shown_cut c.args.uid c.args.page c.in-Some.f c.args.at c.cut_from.ensures.links
+          c.cut_from.ensures.volumes (there g some) (before g some) (after g c) h;
+      zero = λ p s h. cut_told t.accounts t.segs.pages.volumes.vtocs _ _ c.args.uid c.args.page c.args.at _
+          (there g some) (before g some) (after g c) s c.cut_from.result h.pages
           (word_filed c.look.ensures.kept c.self.invariant (active_held c.self.view_is c.requires.active) c.args.page
           ∙ ap has_record here) c.requires.at (frame_told (plain g.D.Drive.pages t.segs.pages) c.in-Some.f c.args.at
           c.cut_from.result _ c.cut_from.ensures.cut c.cut_from.ensures.zero);

@@ -25,7 +25,8 @@ invariant_of-self g c =
     let home = home_for_held c.self.view_is g.D.Drive.pages c.requires.home in
     let leaving = leaving_held c.self.view_is c.args.uid c.requires.leaving in
     rw c.evict-left.ensures.links
-    (store_left _ _ _ c.args.f c.look.ensures.kept c.self.invariant (active_held c.self.view_is c.requires.active) (own_home c.self.invariant.housed home) (ap has_record leaving) c.evict-left.ensures.counts c.evict-left.result
+    (store_left _ _ _ c.args.f c.look.ensures.kept c.self.invariant (active_held c.self.view_is c.requires.active)
+    (own_home c.self.invariant.housed home) (ap has_record leaving) c.evict-left.ensures.counts c.evict-left.result
     (record_of (plain g.D.Drive.pages t.segs.pages) c.args.home (number_in (frame_at t.segs.pages.core c.args.f)))
     c.evict-left.ensures.effect c.evict-left.ensures.word c.evict-left.ensures.stored
     c.evict-left.ensures.taken c.settle.ensures)
@@ -35,8 +36,8 @@ returns-clause-shown g c = λ p s h.
     let active = active_held c.self.view_is c.requires.active in
     let home = home_for_held c.self.view_is g.D.Drive.pages c.requires.home in
     let leaving = leaving_held c.self.view_is c.args.uid c.requires.leaving in
-    rw (← c.self.view_is)
-    (shown_left _ c.args.f c.evict-left.result c.look.ensures.kept c.self.invariant active (own_home c.self.invariant.housed home)
+    rw (← c.self.view_is) (shown_left _ c.args.f c.evict-left.result c.look.ensures.kept c.self.invariant active
+    (own_home c.self.invariant.housed home)
     (ap has_record leaving) refl c.evict-left.ensures.links c.evict-left.ensures.effect c.evict-left.ensures.stored
     c.evict-left.ensures.words c.evict-left.ensures.counts c.settle.ensures (shown_held c.self.view_is h))
 

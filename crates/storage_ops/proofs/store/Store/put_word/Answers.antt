@@ -15,7 +15,8 @@ returns-clause-shown g c = λ p s h.
     let shown = shown_held c.self.view_is h in
     let stored = shown.pages.stored uid number ∙ bound_filed c.look.ensures.kept c.self.invariant c.args.f bound in
     rw (← c.self.view_is) (rw (← written_there s uid number c.args.at c.args.w c.requires.at stored)
-    (shown_put uid number c.args.w c.put_word.ensures.links c.put_word.ensures.volumes (active_there c.look.ensures.kept c.self.invariant
+    (shown_put uid number c.args.w c.put_word.ensures.links c.put_word.ensures.volumes
+    (active_there c.look.ensures.kept c.self.invariant
     (bound_active c.look.ensures.kept c.args.f bound)) c.put_word.ensures.words
     (bound_words c.look.ensures.kept c.args.f bound (home_of t.accounts uid))
     c.put_word.ensures.size c.requires.at shown))

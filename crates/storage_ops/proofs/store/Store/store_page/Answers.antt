@@ -72,7 +72,8 @@ invariant_of-self-2 g c =
     let null = word_held c.self.view_is c.args.uid c.args.page ∙ c.requires.null in
     let home = home_held c.self.view_is c.args.uid c.home-home.ensures.home in
     rw c.create_page.ensures.links (store_made c.args.f c.args.at c.args.w c.look.ensures.kept c.self.invariant
-    (active_held c.self.view_is c.requires.active) home null c.create_page.ensures.counts lt c.in-Ok.ensures.effect c.in-Ok.ensures.word c.in-Ok.ensures.stored
+    (active_held c.self.view_is c.requires.active) home null c.create_page.ensures.counts lt c.in-Ok.ensures.effect
+    c.in-Ok.ensures.word c.in-Ok.ensures.stored
     c.in-Ok.ensures.taken (on_ok c.charge.result c.if-is_err.ensures.value c.charge.ensures.ok))
 
 pub returns : goal.returns

@@ -29,7 +29,8 @@ returns g c =
     same_uid node n (sym c.in-Ok.ensures.ok ∙ found) in
     let done = rw (← c.self.view_is) at c.cut_off.ensures in
     rw (← c.self.view_is) (record {
-      answer = λ p s h. truncate_told s c.self.inside.accounts.nodes c.args.path.now h.tree.nodes node c.in-Ok.ensures.ok;
+      answer = λ p s h. truncate_told s c.self.inside.accounts.nodes c.args.path.now h.tree.nodes node
+          c.in-Ok.ensures.ok;
       effect = λ p s h. rw (truncate_done s c.args.path.now c.args.words node (cc (h.tree.nodes, c.in-Ok.ensures.ok)))
           (done.shown p s h);
       rest = rest_unstored (held c.self.view_is) c.cut_off.new.self c.in-Ok.node.now.uid done.pages.test
