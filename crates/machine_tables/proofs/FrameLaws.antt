@@ -1,28 +1,10 @@
 -- The frames of core: whether one is bound, and what the clock chooses then.
-use Rattle.machine_tables.proofs.Prelude.{◌≡◌, ◌<◌, ◌≤◌, ◌-◌, ℕ, true, false, List, [], ◌∷◌, length, position, Option, Some, None, refl, sym, ap, ◌∙◌, arith, inl, inr, All, list_any, position_or_len, cases_lt, All-get_or, Frame, Free, Started, Core, bound_page, frame_at, is_bound, is_free, is_started, clock_choice, or_else, round_frames, evict_or_wait, unless_read, or_zero, any_at, some_within, choice_bound, map_list, found, bound_is}
+use Rattle.machine_tables.proofs.Prelude.{◌≡◌, ◌<◌, ◌≤◌, ℕ, true, false, List, [], ◌∷◌, length, position, Option, Some, None, refl, sym, ap, ◌∙◌, arith, All, list_any, position_or_len, All-get_or, Frame, Free, Started, Core, bound_page, frame_at, is_bound, is_free, is_started, clock_choice, evict_or_wait, unless_read, or_zero, any_at, some_within, chosen, choice_bound, map_list, found, bound_is}
 use Rattle.machine_model.specs.Actions as act
 use Rattle.laws.proofs.Bools.{first_false}
-use Rattle.tree_model.proofs.Finds.{IsMember, member_found, member_left, member_right}
-use Rattle.machine_model.proofs.PoolRoom.{range_has}
 use Rattle.machine_tables.proofs.FindLaws.{position_first}
 
 -- ---- the clock
-
--- the hand meets each frame
-meets : (core : Core) (f : ℕ) → f < length core.frames → IsMember f (round_frames core)
-meets core f lt = elim (cases_lt f core.hand) [
-  | inl before ↦ member_right f _ _ (range_has 0 core.hand f (omega arith) (omega arith))
-  | inr past ↦ member_left f _ _ (range_has core.hand (length core.frames - core.hand) f past (omega arith))
-]
-
-chosen : (core : Core) (f : ℕ) → f < length core.frames → is_bound (frame_at core f) ≡ true
-    → clock_choice core ≡ None → ⊥
-chosen core f lt bound none = member_found (λ g. is_bound (frame_at core g)) (round_frames core) f (meets core f lt)
-    bound (second _ _ none)
-  where
-    second : (x y : Option ℕ) → or_else x y ≡ None → y ≡ None
-    second None y e = e
-    second (Some g) y e = cc
 
 -- where one is bound the clock's choice goes
 pub bound_goes : (core : Core) → true ≡ list_any is_bound core.frames

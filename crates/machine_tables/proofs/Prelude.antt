@@ -82,7 +82,7 @@ pub use Rattle.page_table.specs.PageTable.{ptw_at}
 pub use Rattle.page_table.specs.declared.Ptw.{Ptw}
 pub use Rattle.page_table.specs.declared.Ptw.TheVariants.{Here, Leaving, Null, Out}
 pub use Rattle.vtoc.specs.Vtoc.{Entry as VtocEntry, fresh_entry, least_free_entry, with_record}
-pub use Rattle.core_map.specs.Clock.{clock_choice, or_else, round_frames}
+pub use Rattle.core_map.specs.Clock.{clock_choice}
 pub use Rattle.core_map.specs.CoreMap.{Core, after_reference, bound_page, frame_at, is_bound, is_free, is_started, least_free_frame, reads_of, started_page}
 pub use Rattle.core_map.specs.declared.Frame.{Frame}
 pub use Rattle.core_map.specs.declared.Frame.TheVariants.{Bound, Free, Started}
@@ -140,7 +140,8 @@ pub use Rattle.machine_model.proofs.AllEnded.{over_idle}
 pub use Rattle.machine_model.proofs.ChainFacts.{AllFail, chain_active, first_there, turned}
 pub use Rattle.machine_model.proofs.CommandFacts.{truncate_stands}
 pub use Rattle.machine_model.proofs.DeleteKept.{freed_length}
-pub use Rattle.machine_model.proofs.FindLaws.{choice_bound, find_true}
+pub use Rattle.machine_model.proofs.ChoiceLaws.{choice_bound, chosen}
+pub use Rattle.machine_model.proofs.FindLaws.{find_true}
 pub use Rattle.machine_model.proofs.FitsKept.{none_fits}
 pub use Rattle.machine_model.proofs.FlatAlike.{conserved_by}
 pub use Rattle.machine_model.proofs.InsideLaws.{inside_is}
