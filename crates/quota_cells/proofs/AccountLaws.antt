@@ -1,5 +1,5 @@
 -- The laws of accounts: what a page more, and another quota, do to the loads from scratch.
-use Rattle.quota_cells.proofs.Prelude.{◌≡◌, ◌≢◌, ℕ, ◌+◌, ◌<◌, true, false, cond, eqb, not, if◌then◌else◌, List, [], ◌∷◌, refl, sym, ap, ◌∙◌, arith, inl, inr, cases_Bool, cases_eq, both_ways, eqb-true, eq-eqb, ne_eqb, or_cases, and_parts, or_right, or_left, not-true, not_from_false, account, AreUnder, IsChain, EndsAtRoot, covers, load, is_an_account}
+use Rattle.quota_cells.proofs.Prelude.{◌≡◌, ◌≢◌, ℕ, ◌+◌, true, false, cond, eqb, not, if◌then◌else◌, List, [], ◌∷◌, refl, sym, arith, inl, inr, cases_Bool, cases_eq, both_ways, eqb-true, eq-eqb, ne_eqb, or_cases, and_parts, or_right, or_left, not-true, not_from_false, account, AreUnder, IsChain, EndsAtRoot, covers, load, is_an_account}
 use Rattle.quota_cells.proofs.ColumnLaws.{weigh_same}
 use Rattle.quota_cells.proofs.PlaceLaws.{covers_under, covers_not}
 
@@ -72,10 +72,10 @@ module _ (f : ℕ → List ℕ) (q r : ℕ → ℕ) (x : ℕ) (same : (y : ℕ) 
   appears_on e w [] c = elim (cases_Bool (covers q (f x) e)) [ inl t ↦ rw t refl | inr u ↦ rw u refl ]
   appears_on e w (y ∷ ys) c = elim (cases_eq y x) [
     | inl here ↦
-        (let q_none : eqb (q y) 0 ≡ true = eq-eqb (q y) 0 (cc) in
-        let r_some : eqb (r y) 0 ≡ false = ne_eqb (r y) 0 (λ z. some (cc)) in
+        (let q_none = eq-eqb (q y) 0 (cc) in
+        let r_some = ne_eqb (r y) 0 (λ z. some (cc)) in
         let rest : f x ≡ ys = sym (cc) in
-        let is_x : eqb y x ≡ true = eq-eqb y x here in
+        let is_x = eq-eqb y x here in
         elim (cases_eq y e) [
           | inl at ↦
               (let off : covers q ys e ≡ false = rw (← at) (covers_not q y ys c.1) in
@@ -85,8 +85,8 @@ module _ (f : ℕ → List ℕ) (q r : ℕ → ℕ) (x : ℕ) (same : (y : ℕ) 
               (elim (cases_Bool (covers q ys e)) [ inl t ↦ rw t (omega arith) | inr u ↦ rw u (omega arith) ])
         ])
     | inr other ↦
-        (let r_is : r y ≡ q y = same y other in
-        let isnt_x : eqb y x ≡ false = ne_eqb y x other in
+        (let r_is = same y other in
+        let isnt_x = ne_eqb y x other in
         elim (cases_Bool (eqb (q y) 0)) [
           | inr stop ↦ rw (r_is, isnt_x, stop) (elim (cases_Bool (covers q (f x) e))
               [ inl t ↦ rw t (omega arith) | inr u ↦ rw u (omega arith) ])
@@ -97,10 +97,9 @@ module _ (f : ℕ → List ℕ) (q r : ℕ → ℕ) (x : ℕ) (same : (y : ℕ) 
                 elim (cases_Bool (covers q ys x)) [
                   | inr u ↦ rw u (elim (cases_Bool (covers q (f x) e)) [ inl t ↦ rw t refl | inr v ↦ rw v refl ])
                   | inl t ↦
-                      (let x_below : x < y = covers_under q y ys x c.1 t in
-                      let off : covers q (f x) e ≡ false = elim (cases_Bool (covers q (f x) e)) [
+                      (let off : covers q (f x) e ≡ false = elim (cases_Bool (covers q (f x) e)) [
                         | inr v ↦ v
-                        | inl v ↦ absurd (omega (arith, covers_under q x (f x) e under v))
+                        | inl v ↦ absurd (omega (arith, covers_under q x (f x) e under v, covers_under q y ys x c.1 t))
                       ] in
                       rw off refl)
                 ] in
@@ -115,10 +114,8 @@ module _ (f : ℕ → List ℕ) (q r : ℕ → ℕ) (x : ℕ) (same : (y : ℕ) 
   appears chains [] ws e = elim (cases_Bool (covers q (f x) e)) [ inl t ↦ rw t refl | inr u ↦ rw u refl ]
   appears chains (k ∷ ks) [] e = elim (cases_Bool (covers q (f x) e)) [ inl t ↦ rw t refl | inr u ↦ rw u refl ]
   appears chains (k ∷ ks) (w ∷ ws) e =
-      let ih : load f r ks ws e + cond (covers q (f x) e) (load f q ks ws x) 0 ≡ load f q ks ws e =
-      appears chains ks ws e in
-      let here : cond (covers r (f k) e) w 0 + cond (covers q (f x) e) (cond (covers q (f k) x) w 0) 0
-      ≡ cond (covers q (f k) e) w 0 = appears_on e w (f k) (chains k) in
+      let ih = appears chains ks ws e in
+      let here = appears_on e w (f k) (chains k) in
       elim (cases_Bool (covers q (f x) e)) [
         | inl t ↦ (let ih' = rw t at ih in let here' = rw t at here in rw t (omega arith))
         | inr u ↦ (let ih' = rw u at ih in let here' = rw u at here in rw u (omega arith))

@@ -1,5 +1,5 @@
 -- Values beside uids: one set, all of some changed, one more and one less.
-use Rattle.quota_cells.proofs.Prelude.{◌≡◌, ◌≢◌, ℕ, suc, zero, ◌+◌, ◌<◌, ◌≤◌, Bool, true, false, eqb, if◌then◌else◌, List, [], ◌∷◌, length, refl, ap, arith, get_or, inl, inr, sum, cases_Bool, cases_eq, eq-eqb, ne_eqb, or_right, or_left, sum_by-cons, look, has, with_value, weigh, changed_where}
+use Rattle.quota_cells.proofs.Prelude.{◌≡◌, ◌≢◌, ℕ, suc, zero, ◌+◌, ◌<◌, ◌≤◌, Bool, true, eqb, if◌then◌else◌, List, [], ◌∷◌, length, refl, ap, arith, get_or, inl, inr, sum, cases_Bool, cases_eq, eq-eqb, ne_eqb, or_right, or_left, sum_by-cons, look, has, with_value, weigh, changed_where}
 
 -- one value set
 pub look_with : (ks vs : List ℕ) (u v w : ℕ) → length vs ≡ length ks → has ks u ≡ true
@@ -12,10 +12,9 @@ look_with (k ∷ ks) (x ∷ vs) u v w len e = elim (cases_eq k u) [
     | inr there ↦ rw (eq-eqb k u same, ne_eqb k w (λ q. there (omega arith)), ne_eqb u w there) refl
   ]
   | inr other ↦
-      (let far : eqb k u ≡ false = ne_eqb k u other in
+      (let far = ne_eqb k u other in
       let rest : has ks u ≡ true = rw far at e in
-      let ih : look ks (with_value ks vs u v) w ≡ (if eqb u w then v else look ks vs w) =
-      look_with ks vs u v w (omega arith) rest in
+      let ih = look_with ks vs u v w (omega arith) rest in
       elim (cases_eq k w) [
         | inl here ↦ rw (far, eq-eqb k w here, ne_eqb u w (λ q. other (omega arith))) refl
         | inr there ↦ rw (far, ne_eqb k w there) ih
@@ -45,12 +44,11 @@ pub sum_with : (ks vs : List ℕ) (u v : ℕ) → length vs ≡ length ks → ha
 sum_with [] vs u v len e = cc
 sum_with (k ∷ ks) [] u v len e = absurd (omega arith)
 sum_with (k ∷ ks) (x ∷ vs) u v len e = elim (cases_Bool (eqb k u)) [
-  | inl is ↦ rw is (let a = sum_by-cons (λ (y : ℕ). y) v vs in let b = sum_by-cons (λ (y : ℕ). y) x vs in omega arith)
+  | inl is ↦ rw is (omega (arith, sum_by-cons (λ (y : ℕ). y) v vs, sum_by-cons (λ (y : ℕ). y) x vs))
   | inr isnt ↦
       (let rest : has ks u ≡ true = rw isnt at e in
-      let ih : sum (with_value ks vs u v) + look ks vs u ≡ sum vs + v = sum_with ks vs u v (omega arith) rest in
       rw isnt (let a = sum_by-cons (λ (y : ℕ). y) x (with_value ks vs u v) in let b =
-      sum_by-cons (λ (y : ℕ). y) x vs in omega arith))
+      sum_by-cons (λ (y : ℕ). y) x vs in omega (arith, sum_with ks vs u v (omega arith) rest)))
 ]
 
 pub look_le_sum : (ks vs : List ℕ) (u : ℕ) → look ks vs u ≤ sum vs
@@ -79,8 +77,7 @@ look_changed g t [] ws u len e = cc
 look_changed g t (k ∷ ks) [] u len e = absurd (omega arith)
 look_changed g t (k ∷ ks) (w ∷ ws) u len e = elim (cases_eq k u) [
   | inl same ↦ rw (eq-eqb k u same, same) refl
-  | inr other ↦ (let far : eqb k u ≡ false = ne_eqb k u other in rw far
-      (look_changed g t ks ws u (omega arith) (rw far at e)))
+  | inr other ↦ (let far = ne_eqb k u other in rw far (look_changed g t ks ws u (omega arith) (rw far at e)))
 ]
 
 pub length_changed : (g : ℕ → ℕ) (t : ℕ → Bool) (ks ws : List ℕ) → length ws ≡ length ks
@@ -105,9 +102,8 @@ weigh_with t (k ∷ ks) (w ∷ ws) u v len e = elim (cases_eq k u) [
   | inl same ↦ rw (eq-eqb k u same, same) (elim (cases_Bool (t u))
       [ inl is ↦ rw is (omega arith) | inr isnt ↦ rw isnt (omega arith) ])
   | inr other ↦
-      (let far : eqb k u ≡ false = ne_eqb k u other in
-      let ih = weigh_with t ks ws u v (omega arith) (rw far at e) in
-      rw far (omega arith))
+      (let far = ne_eqb k u other in
+      rw far (omega (arith, weigh_with t ks ws u v (omega arith) (rw far at e))))
 ]
 
 pub weigh_same : (s t : ℕ → Bool) (ks ws : List ℕ) → ((k : ℕ) → has ks k ≡ true → s k ≡ t k) → weigh s ks ws
@@ -131,10 +127,9 @@ pub weigh_le_on : (s t : ℕ → Bool) (ks ws : List ℕ) → ((k : ℕ) → has
     → weigh s ks ws ≤ weigh t ks ws
 weigh_le_on s t [] ws le = omega arith
 weigh_le_on s t (k ∷ ks) [] le = omega arith
-weigh_le_on s t (k ∷ ks) (w ∷ ws) le = (let ih : weigh s ks ws ≤ weigh t ks ws =
-    weigh_le_on s t ks ws (λ j h. le j (or_right (eqb k j) (has ks j) h)) in
+weigh_le_on s
+    t (k ∷ ks) (w ∷ ws) le = (let ih = weigh_le_on s t ks ws (λ j h. le j (or_right (eqb k j) (has ks j) h)) in
     elim (cases_Bool (s k)) [
-      | inl is ↦ (let also : t k ≡ true = le k (or_left (eqb k k) (has ks k) (eq-eqb k k refl)) is in rw (is, also)
-          (omega arith))
+      | inl is ↦ (let also = le k (or_left (eqb k k) (has ks k) (eq-eqb k k refl)) is in rw (is, also) (omega arith))
       | inr isnt ↦ rw isnt (omega arith)
     ])

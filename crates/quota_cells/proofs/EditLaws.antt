@@ -1,5 +1,5 @@
 -- One more value beside a uid, 0, and one less.
-use Rattle.quota_cells.proofs.Prelude.{◌≡◌, ◌≢◌, ℕ, suc, zero, ◌+◌, ◌<◌, ◌≤◌, Bool, true, false, eqb, not, ◌&&◌, ◌||◌, if◌then◌else◌, List, [], ◌∷◌, length, refl, sym, ap, ◌∙◌, arith, get_or, inl, inr, insert, remove, cases_Bool, cases_eq, cases_lt, eq-eqb, ne_eqb, length-insert, get_or-insert_below, get_or-insert_at, get_or-insert_above, length-remove, get_or-remove_below, get_or-remove_above, look, has, weigh, IsRising, IsGap, look_absent, Where, Before, Here, After, where_is, first_once, rest_rises}
+use Rattle.quota_cells.proofs.Prelude.{◌≡◌, ◌≢◌, ℕ, suc, zero, ◌+◌, ◌<◌, ◌≤◌, Bool, true, false, eqb, not, ◌&&◌, ◌||◌, List, [], ◌∷◌, length, refl, sym, ◌∙◌, arith, get_or, inl, inr, insert, remove, cases_Bool, cases_eq, cases_lt, eq-eqb, ne_eqb, length-insert, get_or-insert_below, get_or-insert_at, get_or-insert_above, length-remove, get_or-remove_below, get_or-remove_above, look, has, weigh, IsRising, IsGap, look_absent, Where, Before, Here, After, where_is, first_once, rest_rises}
 
 pub has_insert : (ks : List ℕ) (i u v : ℕ) → has (insert ks i u) v ≡ (eqb u v || has ks v)
 has_insert ks zero u v = refl
@@ -43,11 +43,10 @@ has_remove (k ∷ ks) zero v up lt = elim (cases_eq k v) [
   | inr other ↦ rw (ne_eqb k v other) (elim (cases_Bool (has ks v)) [ inl t ↦ rw t refl | inr f ↦ rw f refl ])
 ]
 has_remove (k ∷ ks) (suc i) v up lt =
-    let ih : has (remove ks i) v ≡ (has ks v && not (eqb (get_or ks i 0) v)) =
-    has_remove ks i v (rest_rises k ks up) (omega arith) in
-    let less : k < get_or ks i 0 = up 0 (suc i) (omega arith) lt in
+    let ih = has_remove ks i v (rest_rises k ks up) (omega arith) in
     elim (cases_eq k v) [
-      | inl same ↦ rw (eq-eqb k v same, ne_eqb (get_or ks i 0) v (λ q. omega arith)) refl
+      | inl
+          same ↦ rw (eq-eqb k v same, ne_eqb (get_or ks i 0) v (λ q. omega (arith, up 0 (suc i) (omega arith) lt))) refl
       | inr other ↦ rw (ne_eqb k v other) ih
     ]
 
@@ -90,8 +89,7 @@ module _ (ks : List ℕ) (u i : ℕ) (up : IsRising ks) (gap : IsGap ks u i) whe
 
   rises : (a b : ℕ) → a < b → b < length (insert ks i u) → Where a i → Where b i
       → get_or (insert ks i u) a 0 < get_or (insert ks i u) b 0
-  rises a b lt w (Before x) (Before y) = rw (at_before a x, at_before b y)
-      (let n : i ≤ length ks = gap.within in up a b lt (omega arith))
+  rises a b lt w (Before x) (Before y) = rw (at_before a x, at_before b y) (up a b lt (omega (arith, gap.within)))
   rises a b lt w (Before x) (Here y) = rw (at_before a x, at_here b y) (gap.below a x)
   rises a b lt w (Before x) (After j e g) = rw (at_before a x, at_after b j e g)
       (let n = length-insert ks i u gap.within in up a j (omega arith) (omega arith))

@@ -1,5 +1,5 @@
 -- What a new cell, and a cell less, leave.
-use Rattle.quota_cells.proofs.Prelude.{◌≡◌, ◌≢◌, ℕ, ◌+◌, ◌<◌, ◌≤◌, Bool, true, false, eqb, not, ◌&&◌, if◌then◌else◌, List, [], ◌∷◌, length, refl, sym, ◌∙◌, arith, get_or, inl, inr, insert, remove, sum, cases_Bool, cases_eq, both_ways, eqb-true, eq-eqb, ne_eqb, or_parts, or_cases, and_parts, or_right, or_left, false_from_ne_true, length-map, length-insert, length-remove, sum_by-insert, sum_by-remove, above, Node, is_directory, is_segment, is_in, without, shape, shapes, HasChains, look, has, covers, weigh, load, CellMaps, quota_in, load_in, stored_in, Fits, IsTable, Enters, Leaves, has_cell, without_directory, without_segment, entered, left, IsGap, not_in_directory, not_in_segment, directory_shape, segment_shape, look_absent, on_directories, on_segments, and_false, place_there, ◌||◌, with_beside, without_beside, IsRising, subst}
+use Rattle.quota_cells.proofs.Prelude.{◌≡◌, ◌≢◌, ℕ, ◌+◌, ◌<◌, ◌≤◌, Bool, true, false, eqb, not, ◌&&◌, if◌then◌else◌, List, [], ◌∷◌, length, refl, sym, ◌∙◌, arith, get_or, inl, inr, insert, remove, sum, cases_Bool, cases_eq, both_ways, eqb-true, eq-eqb, ne_eqb, or_parts, or_cases, and_parts, or_right, or_left, false_from_ne_true, length-map, length-insert, length-remove, sum_by-insert, sum_by-remove, above, Node, is_directory, is_segment, is_in, without, shape, shapes, HasChains, look, has, covers, weigh, load, CellMaps, quota_in, load_in, stored_in, Fits, IsTable, Enters, Leaves, has_cell, without_directory, without_segment, entered, left, IsGap, not_in_directory, not_in_segment, directory_shape, segment_shape, look_absent, on_directories, on_segments, and_false, place_there, ◌||◌, with_beside, without_beside, IsRising}
 use Rattle.quota_cells.proofs.ColumnLaws.{weigh_same}
 use Rattle.quota_cells.proofs.PlaceLaws.{look_at}
 use Rattle.quota_cells.proofs.FitLaws.{all_there, covered_there}
@@ -49,19 +49,17 @@ module _ (nodes : List Node) (n : Node) (old new : CellMaps) (fits : Fits nodes 
 
   pub fits_entered : Fits (n ∷ nodes) new
   fits_entered = record {
-    count = (omega arith);
+    count = omega arith;
     directories = λ u. enters.directories u ∙ elim (cases_Bool (eqb n.uid u)) [
       | inl is ↦
-          (let off : has old.directories u ≡ false = on_directories nodes fits u
-          ∙ not_in_directory nodes u (rw (eqb-true n.uid u is) at absent) in
+          (let off = on_directories nodes fits u ∙ not_in_directory nodes u (rw (eqb-true n.uid u is) at absent) in
           rw (is, off) (elim (cases_Bool n.dir) [ inl t ↦ rw t refl | inr f ↦ rw f refl ]))
       | inr isnt ↦ rw isnt (elim (cases_Bool n.dir)
           [ inl t ↦ rw t (fits.directories u) | inr f ↦ rw f (fits.directories u) ])
     ];
     segments = λ u. enters.segments u ∙ elim (cases_Bool (eqb n.uid u)) [
       | inl is ↦
-          (let off : has old.segments u ≡ false = on_segments nodes fits u
-          ∙ not_in_segment nodes u (rw (eqb-true n.uid u is) at absent) in
+          (let off = on_segments nodes fits u ∙ not_in_segment nodes u (rw (eqb-true n.uid u is) at absent) in
           rw (is, off) (elim (cases_Bool n.dir) [ inl t ↦ rw t refl | inr f ↦ rw f refl ]))
       | inr isnt ↦ rw isnt (elim (cases_Bool n.dir) [ inl t ↦ rw t (fits.segments u) | inr f ↦ rw f (fits.segments u) ])
     ];
@@ -201,9 +199,8 @@ module _ (ks : List ℕ) (u : ℕ) (rising : IsRising ks) (there : has ks u ≡ 
   length_less vs len = rw (less_is vs len) (let lt = place.1 in length-remove vs place.0 (omega arith) ∙ len)
 
   sum_less : (vs : List ℕ) → length vs ≡ length ks → look ks vs u ≡ 0 → sum (without_beside ks vs u) ≡ sum vs
-  sum_less vs len none = rw (less_is vs len) (let lt = place.1 in
-      let s = sum_by-remove (λ (x : ℕ). x) vs place.0 0 (omega arith) in
-      omega (arith, value_at vs ∙ none))
+  sum_less vs len none = rw (less_is vs len)
+      (omega (arith, value_at vs ∙ none, place.1, sum_by-remove (λ (x : ℕ). x) vs place.0 0 (omega (arith, place.1))))
 
 module _ (c : CellMaps) (table : IsTable c) (uid : ℕ) (absent : has_cell c uid ≡ false) where
   no_directory : has c.directories uid ≡ false
@@ -248,21 +245,19 @@ module _ (c : CellMaps) (table : IsTable c) (uid : ℕ) (absent : has_cell c uid
           | inr isnt ↦ table.apart u (sym (enters.directories u ∙ rw isnt refl) ∙ h)
         ];
         within = λ a h is. rw (enters.loads a, enters.quotas a) (elim (cases_Bool (eqb uid a)) [
-          | inl at ↦ (let none : load_in c a ≡ 0 =
-              look_absent c.directories c.loads a (rw (eqb-true uid a at) at no_directory) in omega arith)
+          | inl at ↦ omega (arith, look_absent c.directories c.loads a (rw (eqb-true uid a at) at no_directory))
           | inr off ↦ table.within a (sym (enters.directories a ∙ rw off refl) ∙ h) (rw (enters.quotas a) at is)
         ]);
         total = rw enters.total table.total;
       }
   table_entered false =
-      let enters = enters_entered false in
       let size = length_more c.segments uid table.segments_rise no_segment in record {
         rising = table.rising;
         segments_rise = rising_more c.segments uid table.segments_rise no_segment;
         quota_count = table.quota_count;
         load_count = table.load_count;
         stored_count = size c.stored 0 table.stored_count ∙ sym (size c.segments uid refl);
-        apart = λ u h. enters.segments u ∙ elim (cases_Bool (eqb uid u)) [
+        apart = λ u h. (enters_entered false).segments u ∙ elim (cases_Bool (eqb uid u)) [
           | inl is ↦ absurd (both_ways (has c.directories u) (rw (eqb-true uid u is) at no_directory) h)
           | inr isnt ↦ rw isnt (table.apart u h)
         ];

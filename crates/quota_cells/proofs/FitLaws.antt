@@ -1,7 +1,7 @@
 -- What keeps the cells fit for a tree.
-use Rattle.quota_cells.proofs.Prelude.{◌≡◌, ◌≢◌, ℕ, ◌+◌, ◌-◌, ◌<◌, ◌≤◌, ◌^◌, true, eqb, List, [], ◌∷◌, refl, sym, subst, ◌∙◌, arith, inl, inr, Ok, sum, cases_Bool, cases_eq, eqb-true, eq-eqb, ne_eqb, and_parts, above, account, Node, is_segment, shapes, HasChains, IsChain, AreDirectories, EndsAtRoot, has, with_value, covers, load, is_an_account, changed_where, CellMaps, quota_in, load_in, stored_in, Fits, IsTable, charged, credited, charge_fault, CountsUsed, directory_shape, uid_shape, segment_in, segment_not, on_segments, AreThere, IsFalling, directory_in, on_directories}
+use Rattle.quota_cells.proofs.Prelude.{◌≡◌, ◌≢◌, ℕ, ◌+◌, ◌-◌, ◌<◌, ◌≤◌, ◌^◌, true, eqb, List, [], ◌∷◌, refl, sym, ◌∙◌, arith, inl, inr, Ok, cases_Bool, cases_eq, eqb-true, eq-eqb, ne_eqb, and_parts, above, account, Node, is_segment, shapes, HasChains, IsChain, AreDirectories, EndsAtRoot, has, with_value, covers, load, is_an_account, changed_where, CellMaps, quota_in, load_in, stored_in, Fits, IsTable, charged, credited, charge_fault, CountsUsed, directory_shape, uid_shape, segment_in, segment_not, on_segments, AreThere, IsFalling, directory_in, on_directories}
 use Rattle.quota_cells.proofs.ColumnLaws.{look_changed, length_with, length_changed, weigh_with, weigh_same, weigh_le_on, look_le_weigh, look_le_sum}
-use Rattle.quota_cells.proofs.AccountLaws.{account_covers, account_through, account_is, account_from, account_of_chain}
+use Rattle.quota_cells.proofs.AccountLaws.{account_covers, account_through, account_is, account_of_chain}
 
 pub falling : (f : ℕ → List ℕ) (xs : List ℕ) → IsChain f xs → IsFalling xs
 falling f [] c = tt
@@ -98,13 +98,12 @@ module _ {nodes : List Node} {c : CellMaps} (settled : Settled nodes c) where
   -- what covers a node has no more pages than its account
   load_up : (s e : ℕ) → EndsAtRoot (f s) → covers q (f s) e ≡ true → load_in c e ≤ load_in c (account_of s)
   load_up s e ends_s covered =
-      let a : ℕ = account_of s in
-      let through : a ≡ account_from f q e = account_through f q (f s) e (chains.chain s) covered in
+      let a = account_of s in
       rw (fits.loads e (covered_there q c.directories (f s) e (there s) covered), fits.loads a (account_here s ends_s))
       (weigh_le_on (λ k. covers q (f k) e) (λ k. covers q (f k) a) c.segments c.stored (λ k h k_covered.
-      (let seg : is_segment nodes k ≡ true = sym (on_segments nodes fits k) ∙ h in
-      let same : account q (f k) ≡ a = account_through f q (f k) e (chains.chain k) k_covered ∙ sym through in
-      rw same at (account_covers q (f k) (ends k seg)))))
+      (let same = account_through f q (f k) e (chains.chain k) k_covered
+      ∙ sym (account_through f q (f s) e (chains.chain s) covered) in
+      rw same at (account_covers q (f k) (ends k (sym (on_segments nodes fits k) ∙ h))))))
 
   -- so it has no more than there is quota
   pub load_bound : (s e : ℕ) → EndsAtRoot (f s) → covers q (f s) e ≡ true → load_in c e < 2 ^ 32
@@ -147,8 +146,7 @@ module _ {nodes : List Node} {c : CellMaps} (settled : Settled nodes c) where
           rw (look_changed (λ w. w + 1) (covers q (f s)) c.directories c.loads b table.load_count here)
           (elim (cases_Bool (covers q (f s) b)) [
             | inl t ↦
-                (let own : account q (f s) ≡ b = eqb-true (account q (f s)) b
-                (sym (account_is q (f s) b (ends s is) b_is) ∙ t) in
+                (let own = eqb-true (account q (f s)) b (sym (account_is q (f s) b (ends s is) b_is) ∙ t) in
                 let less : load_in c b < q b = rw own at below_quota in rw t (omega arith))
             | inr u ↦ rw u (table.within b here b_is)
           ]);
@@ -189,6 +187,5 @@ counts_used nodes c fits chains a a_there = elim (cases_Bool (is_an_account (quo
 
 pub not_full : (c : CellMaps) (up : List ℕ) → charge_fault c up ≡ Ok tt
     → load_in c (account (quota_in c) up) ≢ quota_in c (account (quota_in c) up)
-not_full c up e same = (let full : eqb (load_in c (account (quota_in c) up)) (quota_in c (account (quota_in c) up))
-    ≡ true = eq-eqb _ _ same in
+not_full c up e same = (let full = eq-eqb _ _ same in
     let z = rw full at e in cc)

@@ -66,15 +66,14 @@ module _ {nodes : List Node} {c : CellMaps} {d : ℕ} (changing : Changing nodes
         | inr u ↦ (let law' = rw u at law in rw u (omega arith))
       ]
   fits_at e there false true is_b is_w =
-      let some : q d ≢ 0 = eqb-false (q d) 0 is_b in
-      let none : r d ≡ 0 = quota_own ∙ eqb-true v 0 is_w in
+      let some = eqb-false (q d) 0 is_b in
+      let none = quota_own ∙ eqb-true v 0 is_w in
       let back : (y : ℕ) → y ≢ d → q y ≡ r y = λ y ne. sym (quota_other y ne) in
       let law = appears f r q d back none some (chains.under d) chains.chain c.segments c.stored e in
-      let cover : covers r (f d) e ≡ covers q (f d) e = covers_above q r d (f d) e quota_other (chains.under d) in
-      let own' : load f q c.segments c.stored d ≡ load f r c.segments c.stored d =
-      appears_own f r q d back none some (chains.under d) chains.chain c.segments c.stored in
-      let own : load_in c d ≡ load f q c.segments c.stored d = fits.loads d here in
-      let old : load_in c e ≡ load f q c.segments c.stored e = fits.loads e there in
+      let cover = covers_above q r d (f d) e quota_other (chains.under d) in
+      let own' = appears_own f r q d back none some (chains.under d) chains.chain c.segments c.stored in
+      let own = fits.loads d here in
+      let old = fits.loads e there in
       let l = look_changed (λ w. w + load_in c d) (covers q (f d)) c.directories c.loads e even.loads there in
       load_then e there false true is_b is_w ∙ l ∙ elim (cases_Bool (covers q (f d) e)) [
         | inl t ↦ (let law' = rw (cover, t) at law in rw t (omega arith))
@@ -128,6 +127,4 @@ covers_more {nodes} {c} {d} changing none e there is =
     let law = appears f q one d (λ y ne. rw (ne_eqb d y (λ e. ne (sym e))) refl) none
     (λ z. (let o : one d ≡ 1 = rw (eq-eqb d d refl) refl in omega arith)) (changing.chains.under d)
     changing.chains.chain c.segments c.stored e in
-    let own : load_in c d ≡ load f q c.segments c.stored d = changing.fits.loads d changing.here in
-    let old : load_in c e ≡ load f q c.segments c.stored e = changing.fits.loads e there in
-    let law' = rw is at law in omega arith
+    let law' = rw is at law in omega (arith, changing.fits.loads d changing.here, changing.fits.loads e there)

@@ -1,5 +1,5 @@
 -- Which accounts can be above their quotas once quota has moved.
-use Rattle.quota_cells.proofs.Prelude.{◌≡◌, ◌≢◌, ℕ, suc, ◌+◌, ◌-◌, ◌<◌, ◌≤◌, ◌^◌, Bool, true, false, eqb, ltb, if◌then◌else◌, List, [], ◌∷◌, length, Some, None, refl, sym, ap, ◌∙◌, arith, get_or, inl, inr, ◌⊎◌, sum, find, cases_Bool, cases_eq, cases_lt, both_ways, eqb-true, eq-eqb, ne_eqb, or_cases, and_parts, or_right, or_left, and_from, lt-ltb, ltb-true, false_from_ne_true, above, Node, shapes, has, covers, is_an_account, CellMaps, quota_in, load_in, Fits, IsTable, with_quota, IsRising, is_over, first_over, IsPlaced, CanGive, directories_of}
+use Rattle.quota_cells.proofs.Prelude.{◌≡◌, ◌≢◌, ℕ, suc, ◌+◌, ◌-◌, ◌<◌, ◌≤◌, ◌^◌, Bool, true, false, eqb, ltb, if◌then◌else◌, List, [], ◌∷◌, length, Some, None, refl, sym, ◌∙◌, arith, get_or, inl, inr, ◌⊎◌, sum, find, cases_Bool, cases_eq, cases_lt, both_ways, eqb-true, eq-eqb, ne_eqb, or_cases, and_parts, or_right, or_left, and_from, lt-ltb, ltb-true, false_from_ne_true, above, Node, shapes, has, covers, is_an_account, CellMaps, quota_in, load_in, Fits, IsTable, with_quota, IsRising, is_over, first_over, IsPlaced, CanGive, directories_of}
 use Rattle.quota_cells.proofs.AccountLaws.{covers_above}
 use Rattle.quota_cells.proofs.ColumnLaws.{two_le_sum}
 use Rattle.quota_cells.proofs.FitLaws.{Settled, covered_there, ends_at, falls, load_bound, there}
@@ -142,9 +142,8 @@ module _ {nodes : List Node} {c : CellMaps} {g v n : ℕ} (moving : Moving nodes
       → is_over c2 b ≡ false
   within_still b h ne_g ne_v le = false_from_ne_true _ (λ over.
       (let both = and_parts (is_an_account (quota_in c2) b) (ltb (quota_in c2 b) (load_in c2 b)) over in
-      let same : quota_in c2 b ≡ q b = q2_other b ne_g ne_v in
-      let in_quota : load_in c b ≤ q b = table.within b h (rw same at both.0) in
-      omega (arith, ltb-true (quota_in c2 b) (load_in c2 b) both.1)))
+      let same = q2_other b ne_g ne_v in
+      omega (arith, ltb-true (quota_in c2 b) (load_in c2 b) both.1, table.within b h (rw same at both.0))))
 
   pub over_who : (b : ℕ) → has c.directories b ≡ true → is_over c2 b ≡ true
       → (b ≡ g) ⊎ ((b ≡ v) ⊎ ((q v ≡ n) × (covers (quota_in c1) (f v) b ≡ true)
@@ -161,8 +160,7 @@ module _ {nodes : List Node} {c : CellMaps} {g v n : ℕ} (moving : Moving nodes
               (rw (load2_rises all b h, off) (load1_le b h))) over)
           | inl on ↦
               (let both = and_parts (is_an_account (quota_in c2) b) (ltb (quota_in c2 b) (load_in c2 b)) over in
-              let same : quota_in c2 b ≡ quota_in c1 b = q2_other b ne_g ne_v ∙ sym (q1_other b ne_g) in
-              inr (inr (all, on, (rw same at both.0))))
+              inr (inr (all, on, (rw (q2_other b ne_g ne_v ∙ sym (q1_other b ne_g)) at both.0))))
         ]
       ]
     ]
@@ -194,10 +192,9 @@ module _ {nodes : List Node} {c : CellMaps} {g v n : ℕ} (moving : Moving nodes
   room2 none all e is =
       let root_no : v ≢ 1 = λ z. both_ways (covers (quota_in c1) (f v) e) (rw (z, chains.root) refl) is in
       let here_e = covered_there (quota_in c1) c.directories (f v) e (there moving.settled v) is in
-      let same : covers (quota_in c2) (f v) e ≡ covers (quota_in c1) (f v) e =
-      covers_above (quota_in c1) (quota_in c2) v (f v) e (quota_other second (q v - n)) (chains.under v) in
-      let bound : load_in c2 e < 2 ^ 32 = load_bound (record { table = table2 none; fits = fits2; chains = chains }) v e
-      (ends_at moving.settled v here_v root_no) (same ∙ is) in
+      let same = covers_above (quota_in c1) (quota_in c2) v (f v) e (quota_other second (q v - n)) (chains.under v) in
+      let bound = load_bound (record { table = table2 none; fits = fits2; chains = chains })
+      v e (ends_at moving.settled v here_v root_no) (same ∙ is) in
       let rises : load_in c2 e ≡ load_in c1 e + load_in c1 v = rw is at (load2_rises all e here_e) in omega arith
 
   placed : (u : ℕ) → has c.directories u ≡ true → IsPlaced c.directories u (f u)

@@ -86,6 +86,4 @@ padded_put held front p v past lt is = cc (
     long = rw (is, length-append held (zeros (p - length held)), many_zeros (p - length held)) (omega arith)
 
     inside : p < length (front ++ alone 0)
-    inside =
-        let all : length (front ++ alone 0) ≡ length front + 1 = length-append front (alone 0) in
-        omega (arith, all, long)
+    inside = omega (arith, length-append front (alone 0), long)

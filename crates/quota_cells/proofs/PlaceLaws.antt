@@ -82,8 +82,7 @@ module _ {g : ℕ → ℕ} {P : ℕ → Type 0} {ks : List ℕ} {q : ℕ → ℕ
 
   other_covers : (i : ℕ) → i < length ks → i ≢ p → covers q (x ∷ xs) (get_or ks i 0)
       ≡ (eqb (q x) 0 && covers q xs (get_or ks i 0))
-  other_covers i lt ne = (let far : eqb x (get_or ks i 0) ≡ false =
-      ne_eqb x (get_or ks i 0) (λ e. apart ks up i p lt within ne (cc)) in
+  other_covers i lt ne = (let far = ne_eqb x (get_or ks i 0) (λ e. apart ks up i p lt within ne (cc)) in
       rw far refl)
 
   sizes : length changed ≡ length ws
@@ -97,17 +96,17 @@ module _ {g : ℕ → ℕ} {P : ℕ → Type 0} {ks : List ℕ} {q : ℕ → ℕ
         let a : get_or (changed_where g (covers q xs) ks changed) p 0 ≡ g (get_or ws p 0) =
         get_changed g (covers q xs) ks changed p (sizes ∙ going.loads) within
         ∙ rw not_again (get_or-set_same ws p (g (get_or ws p 0)) 0 in_ws) in
-        let b : get_or (changed_where g (covers q (x ∷ xs)) ks ws) p 0 ≡ g (get_or ws p 0) =
-        get_changed g (covers q (x ∷ xs)) ks ws p going.loads within
+        let b = get_changed g (covers q (x ∷ xs)) ks ws p going.loads within
         ∙ ap (λ t. cond t (g (get_or ws p 0)) (get_or ws p 0)) here_covers in
         rw same (a ∙ sym b))
     | inr other ↦
-        (let none : eqb (q x) 0 ≡ true = eq-eqb (q x) 0 zero_q in
-        let c : covers q (x ∷ xs) (get_or ks i 0) ≡ covers q xs (get_or ks i 0) = other_covers i lt other
-        ∙ rw none refl in
-        let w : get_or changed i 0 ≡ get_or ws i 0 = get_or-set_other ws p i (g (get_or ws p 0)) 0 other in
-        get_changed g (covers q xs) ks changed i (sizes ∙ going.loads) lt
-        ∙ rw (w, ← c) (sym (get_changed g (covers q (x ∷ xs)) ks ws i going.loads lt)))
+        (let c : covers q (x ∷ xs) (get_or ks i 0) ≡ covers q xs (get_or ks i 0) = other_covers i lt other
+        ∙ rw (eq-eqb (q x) 0 zero_q) refl in
+        get_changed g (covers q xs) ks changed i (sizes ∙ going.loads) lt ∙ rw (
+          get_or-set_other ws
+              p i (g (get_or ws p 0)) 0 other,
+          ← c,
+        ) (sym (get_changed g (covers q (x ∷ xs)) ks ws i going.loads lt)))
   ]
 
   same_end : q x ≢ 0 → (i : ℕ) → i < length ks → get_or changed i 0
@@ -128,19 +127,16 @@ module _ {g : ℕ → ℕ} {P : ℕ → Type 0} {ks : List ℕ} {q : ℕ → ℕ
   ]
 
   pub going_ends : q x ≢ 0 → changed ≡ goal
-  going_ends some_q = (let n : length ws ≡ length ks = going.loads in
-      ext_get_or 0 changed (changed_where g (covers q (x ∷ xs)) ks ws)
-      (sizes ∙ sym (length_changed g (covers q (x ∷ xs)) ks ws going.loads))
-      (λ i lt. same_end some_q i (let m = sizes in omega arith))) ∙ going.so_far
+  going_ends some_q = (ext_get_or 0 changed
+      (changed_where g (covers q (x ∷ xs)) ks ws) (sizes ∙ sym (length_changed g (covers q (x ∷ xs)) ks ws going.loads))
+      (λ i lt. same_end some_q i (omega (arith, going.loads, sizes)))) ∙ going.so_far
 
   still_room : q x ≡ 0 → (e : ℕ) → covers q xs e ≡ true → P (look ks changed e)
   still_room zero_q e c =
-      let less : e < x = covers_under q x xs e going.falls.0 c in
-      let there : has ks (get_or ks p 0) ≡ true = has_at ks p within in
+      let there = has_at ks p within in
       let same : look ks changed e ≡ look ks ws e = ap (λ vs. look ks vs e)
-      (set_at ks ws p (g (get_or ws p 0)) up within)
-      ∙ look_with ks ws (get_or ks p 0) (g (get_or ws p 0)) e going.loads there
-      ∙ rw (ne_eqb (get_or ks p 0) e (λ z. omega arith)) refl in
+      (set_at ks ws p (g (get_or ws p 0)) up within) ∙ look_with ks ws (get_or ks p 0) (g (get_or ws p 0)) e going.loads
+      there ∙ rw (ne_eqb (get_or ks p 0) e (λ z. omega (arith, covers_under q x xs e going.falls.0 c))) refl in
       subst P (sym same) (going.room e (or_right (eqb x e) (eqb (q x) 0 && covers q xs e)
       (rw (eq-eqb (q x) 0 zero_q) c)))
 
@@ -150,9 +146,8 @@ module _ {g : ℕ → ℕ} {P : ℕ → Type 0} {ks : List ℕ} {q : ℕ → ℕ
     there = going.there.1;
     falls = going.falls.1;
     room = still_room zero_q;
-    so_far = cc (ext_get_or 0 (changed_where g (covers q xs) ks changed) (changed_where g (covers q (x ∷ xs)) ks ws)
-        (length_changed g (covers q xs) ks changed (sizes ∙ going.loads) ∙ sizes ∙ sym
-        (length_changed g (covers q (x ∷ xs)) ks ws going.loads)) (λ i lt. same_next zero_q i
-        (let m = length_changed g (covers q xs) ks changed (sizes ∙ going.loads) in let n : length ws ≡ length
-        ks = going.loads in let k = sizes in omega arith)));
+    so_far = cc (ext_get_or 0 (changed_where g (covers q xs) ks changed)
+        (changed_where g (covers q (x ∷ xs)) ks ws) (length_changed g (covers q xs) ks changed (sizes ∙ going.loads)
+        ∙ sizes ∙ sym (length_changed g (covers q (x ∷ xs)) ks ws going.loads)) (λ i lt. same_next zero_q
+        i (omega (arith, length_changed g (covers q xs) ks changed (sizes ∙ going.loads), going.loads, sizes))));
   }

@@ -17,8 +17,7 @@ insert_beside [] [] u zero v len gap = refl
 insert_beside [] [] u (suc i) v len gap = absurd (omega arith)
 insert_beside [] (w ∷ vs) u i v len gap = absurd (omega arith)
 insert_beside (k ∷ ks) [] u i v len gap = absurd (omega arith)
-insert_beside (k ∷ ks) (w ∷ vs) u zero v len gap = (let less : u < k =
-    gap.above 0 (omega arith) (omega arith) in rw (lt-ltb u k less) refl)
+insert_beside (k ∷ ks) (w ∷ vs) u zero v len gap = rw (lt-ltb u k (gap.above 0 (omega arith) (omega arith))) refl
 insert_beside (k ∷ ks) (w ∷ vs) u (suc i) v len gap =
     let more : k < u = gap.below 0 (omega arith) in
     rw (le-ltb u k (omega arith), insert_beside ks vs u i v (omega arith) (rest_gap k ks u i gap)) refl
@@ -48,8 +47,7 @@ gap_of (k ∷ ks) u up off = elim (cases_order u k) [
         (0, record { within = omega arith; below = λ j lt. absurd (omega arith); above = λ j le. above_first less j })
     | inr more ↦
         (let g = gap_of ks u (rest_rises k ks up) (rw (ne_eqb k u (λ q. omega arith)) at off) in
-        let w : g.0 ≤ length ks = g.1.within in
-        (suc g.0, record { within = omega arith; below = below_next more g; above = above_next g }))
+        (suc g.0, record { within = omega (arith, g.1.within); below = below_next more g; above = above_next g }))
   ]
 ]
   where
@@ -75,17 +73,24 @@ pub record Walks (g : ℕ → ℕ) (P : ℕ → Type 0) (start now : CellMaps) (
   pub going : Going g P start.directories (quota_in start) left now.loads
       (changed_where g (covers (quota_in start) up) start.directories start.loads)
 
+-- the directory has a load
+pub walk_there : {g : ℕ → ℕ} {P : ℕ → Type 0} {start now : CellMaps} {up : List ℕ} {i : ℕ}
+    → Walks g P start now up (drop i up) → i < length up → has now.directories (get_or up i 0) ≡ true
+walk_there {up = up} {i = i} walks lt = rw walks.kept (rw (drop_more up i 0 lt) at walks.going.there).0
+
 module _ {g : ℕ → ℕ} {P : ℕ → Type 0} {start now : CellMaps} {up : List ℕ} {i : ℕ}
-    (walks : Walks g P start now up (drop i up)) (rises : IsRising now.directories) (lt : i < length up) {p : ℕ}
-    (within : p < length now.directories) (is : get_or now.directories p 0 ≡ get_or up i 0) where
+    (walks : Walks g P start now up (drop i up)) (rises : IsRising now.directories) (lt : i < length up) where
   abbrev x : ℕ
   x = get_or up i 0
 
-  abbrev after : List ℕ
-  after = set now.loads p (g (get_or now.loads p 0))
-
   abbrev target : List ℕ
   target = changed_where g (covers (quota_in start) up) start.directories start.loads
+
+  place : (i : ℕ) × (i < length now.directories) × (get_or now.directories i 0 ≡ x)
+  place = place_there now.directories x (walk_there walks lt)
+
+  abbrev after : List ℕ
+  after = set now.loads place.0 (g (get_or now.loads place.0 0))
 
   rising : IsRising start.directories
   rising = rw walks.kept at rises
@@ -93,63 +98,45 @@ module _ {g : ℕ → ℕ} {P : ℕ → Type 0} {start now : CellMaps} {up : Lis
   going : Going g P start.directories (quota_in start) (x ∷ drop (i + 1) up) now.loads target
   going = rw (drop_more up i 0 lt) at walks.going
 
-  in_start : p < length start.directories
-  in_start = rw walks.kept at within
+  in_start : place.0 < length start.directories
+  in_start =
+      let same : length now.directories ≡ length start.directories =
+      ap (λ (c : CellMaps). length c.directories) walks.kept in
+      omega (arith, place.1, same)
 
-  at_start : get_or start.directories p 0 ≡ x
-  at_start = cc
+  at_start : get_or start.directories place.0 0 ≡ x
+  at_start = cc (place.2)
 
-  quota : get_or now.quotas p 0 ≡ quota_in start x
-  quota = cc (look_at start.directories start.quotas p rising in_start)
-
-  walk_fits : P (get_or now.loads p 0)
-  walk_fits = going_here going rising in_start at_start
-
-  walk_ends : get_or now.quotas p 0 ≢ 0 → with_loads now after ≡ with_loads start target
-  walk_ends some = cc (going_ends going rising in_start at_start (λ e. some (quota ∙ e)))
-
-  walk_next : get_or now.quotas p 0 ≡ 0 → Walks g P start (with_loads now after) up (drop (i + 1) up)
-  walk_next none = assumption (
-    ap (λ (c : CellMaps). with_loads c after) walks.kept,
-    going_next going rising in_start at_start (sym quota ∙ none),
-  )
-
--- the directory has a load
-pub walk_there : {g : ℕ → ℕ} {P : ℕ → Type 0} {start now : CellMaps} {up : List ℕ} {i : ℕ}
-    → Walks g P start now up (drop i up) → i < length up → has now.directories (get_or up i 0) ≡ true
-walk_there {up = up} {i = i} walks lt = rw walks.kept (rw (drop_more up i 0 lt) at walks.going.there).0
-
--- the same by what stands beside it
-module _ {g : ℕ → ℕ} {P : ℕ → Type 0} {start now : CellMaps} {up : List ℕ} {i : ℕ}
-    (walks : Walks g P start now up (drop i up)) (rises : IsRising now.directories) (lt : i < length up) where
-  abbrev y : ℕ
-  y = get_or up i 0
-
-  place : (i : ℕ) × (i < length now.directories) × (get_or now.directories i 0 ≡ y)
-  place = place_there now.directories y (walk_there walks lt)
-
-  spot_quota : quota_in now y ≡ get_or now.quotas place.0 0
+  spot_quota : quota_in now x ≡ get_or now.quotas place.0 0
   spot_quota = cc (place.2, look_at now.directories now.quotas place.0 rises place.1)
 
-  spot_load : load_in now y ≡ get_or now.loads place.0 0
+  quota : quota_in now x ≡ quota_in start x
+  quota = spot_quota ∙ (cc (at_start, look_at start.directories start.quotas place.0 rising in_start))
+
+  spot_load : load_in now x ≡ get_or now.loads place.0 0
   spot_load = cc (place.2, look_at now.directories now.loads place.0 rises place.1)
 
-  spot_set : with_value now.directories now.loads y (g (load_in now y))
-      ≡ set now.loads place.0 (g (get_or now.loads place.0 0))
+  spot_set : with_value now.directories now.loads x (g (load_in now x)) ≡ after
   spot_set = rw spot_load
       (sym (set_there now.directories now.loads place.0 (g (get_or now.loads place.0 0)) rises place.1 place.2))
 
-  pub load_fits : P (load_in now y)
-  load_fits = rw spot_load (walk_fits walks rises lt place.1 place.2)
+  pub load_fits : P (load_in now x)
+  load_fits = rw spot_load (going_here going rising in_start at_start)
 
-  pub load_ends : quota_in now y ≢ 0 → with_loads now (with_value now.directories now.loads y (g (load_in now y)))
-      ≡ with_loads start (changed_where g (covers (quota_in start) up) start.directories start.loads)
-  load_ends some = cc (spot_set, walk_ends walks rises lt place.1 place.2 (λ e. some (spot_quota ∙ e)))
+  pub load_ends : quota_in now x ≢ 0
+      → with_loads now (with_value now.directories now.loads x (g (load_in now x))) ≡ with_loads start target
+  load_ends some =
+      let ends : with_loads now after ≡ with_loads start target =
+      cc (going_ends going rising in_start at_start (λ e. some (quota ∙ e))) in
+      cc (spot_set, ends)
 
-  pub load_next : quota_in now y ≡ 0
-      → Walks g P start (with_loads now (with_value now.directories now.loads y (g (load_in now y)))) up
+  pub load_next : quota_in now x ≡ 0
+      → Walks g P start (with_loads now (with_value now.directories now.loads x (g (load_in now x)))) up
       (drop (i + 1) up)
-  load_next none = rw spot_set (walk_next walks rises lt place.1 place.2 (sym spot_quota ∙ none))
+  load_next none = rw spot_set (assumption (
+    ap (λ (c : CellMaps). with_loads c after) walks.kept,
+    going_next going rising in_start at_start (sym quota ∙ none),
+  ))
 
 pub walk_done : {g : ℕ → ℕ} {P : ℕ → Type 0} {start now : CellMaps} {up : List ℕ} → Walks g P start now up []
     → now ≡ with_loads start (changed_where g (covers (quota_in start) up) start.directories start.loads)

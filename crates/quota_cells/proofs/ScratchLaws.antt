@@ -1,12 +1,12 @@
 -- The counts that the cells keep are the counts from scratch over the stored pages.
-use Rattle.quota_cells.proofs.Prelude.{◌≡◌, ◌≢◌, ℕ, suc, ◌+◌, ◌-◌, ◌<◌, ◌≤◌, Bool, true, false, cond, eqb, leb, ◌&&◌, if◌then◌else◌, List, [], ◌∷◌, length, map, Option, Some, None, Result, Ok, Err, refl, sym, ap, subst, ◌∙◌, arith, get_or, inl, inr, count_by, OnOk, OnErr, find, sum, cases_Bool, cases_eq, cases_lt, both_ways, eqb-true, eq-eqb, ne_eqb, or_cases, and_parts, or_right, or_left, and_from, le-leb, lt-leb, lt-ltb, le-ltb, true_from_ne_false, false_from_ne_true, sum_by-cons, Term, above, account, account_of, has_directory, quota_at, used_by, superior_of, getter_of, giver_of, with_quota_of, with_moved, tree_moved, is_over_at, lesser, least_where, over_in, Node, as_term, with_quotas, is_directory, is_segment, shapes, shape, HasChains, Full, MoveFault, look, has, with_value, weigh, charged_to, is_an_account, CellMaps, quota_in, load_in, stored_in, used_in, Fits, IsRising, charge_fault, moved, is_over, first_over, over_answer, move_answer, HoldCounts, charge_answer, scratch_answer, above_any, directory_shape, not_in_directory, segment_in, segment_not, uid_shape, look_absent, on_directories, on_segments, least_none, directory_mapped, quota_mapped}
+use Rattle.quota_cells.proofs.Prelude.{◌≡◌, ◌≢◌, ℕ, suc, ◌+◌, ◌-◌, ◌<◌, ◌≤◌, Bool, true, false, cond, eqb, leb, ◌&&◌, if◌then◌else◌, List, [], ◌∷◌, length, map, Option, Some, None, Result, Ok, Err, refl, sym, ap, ◌∙◌, arith, get_or, inl, inr, count_by, OnOk, OnErr, find, sum, cases_Bool, cases_eq, cases_lt, both_ways, eqb-true, eq-eqb, ne_eqb, or_cases, and_parts, or_right, or_left, and_from, le-leb, lt-leb, lt-ltb, le-ltb, true_from_ne_false, false_from_ne_true, sum_by-cons, Term, above, account, account_of, quota_at, used_by, superior_of, getter_of, giver_of, with_quota_of, with_moved, tree_moved, is_over_at, lesser, least_where, over_in, Node, as_term, with_quotas, is_directory, is_segment, shapes, shape, HasChains, Full, MoveFault, look, has, with_value, weigh, charged_to, is_an_account, CellMaps, quota_in, load_in, stored_in, used_in, Fits, IsRising, charge_fault, moved, is_over, first_over, over_answer, move_answer, HoldCounts, charge_answer, scratch_answer, above_any, directory_shape, not_in_directory, segment_in, segment_not, uid_shape, look_absent, on_directories, on_segments, least_none, directory_mapped, quota_mapped}
 use Rattle.quota_cells.proofs.ColumnLaws.{look_with, length_with, weigh_with}
 use Rattle.quota_cells.proofs.PlaceLaws.{look_at}
 use Rattle.quota_cells.proofs.AccountLaws.{account_of_chain}
 use Rattle.quota_cells.proofs.FitLaws.{Settled, account_there, all_there, counts_used}
 use Rattle.quota_cells.proofs.EnterLaws.{no_weight}
 use Rattle.quota_cells.proofs.OverLaws.{Moving, passes, later, fits2, conserved, q2_g, q2_v, q2_other}
-use Rattle.quota_cells.proofs.TransferLaws.{IsBelow, top, answer_ok}
+use Rattle.quota_cells.proofs.TransferLaws.{Between, IsBelow, answer_ok, moving, rising, top}
 
 -- ---- counts of pages beside uids are counts over the pages
 
@@ -91,19 +91,17 @@ module _ (nodes : List Node) (c : CellMaps) (fits : Fits nodes c) (chains : HasC
 
   used_weighed : (a : ℕ) → used_in c a ≡ charged_to f q c.segments c.stored a
   used_weighed a = elim (cases_Bool (has c.directories a)) [
-    | inl there ↦ (let counted = counts_used nodes c fits chains a there in elim (cases_Bool (is_an_account q a)) [
-      | inl y ↦ counted ∙ rw y refl
+    | inl there ↦ elim (cases_Bool (is_an_account q a)) [
+      | inl y ↦ counts_used nodes c fits chains a there ∙ rw y refl
       | inr n ↦
-          (let none : charged_to f q c.segments c.stored a ≡ 0 =
-          no_weight (λ s. eqb (account q (f s)) a) c.segments c.stored
-          (λ k is. ne_eqb _ _ (λ e. both_ways (is_an_account q a) n (rw (← e) (account_of_chain q (f k))))) in
+          (let none = no_weight (λ s. eqb (account q (f s)) a) c.segments
+          c.stored (λ k is. ne_eqb _ _ (λ e. both_ways (is_an_account q a) n (rw (← e) (account_of_chain q (f k))))) in
           rw n (sym none))
-    ])
+    ]
     | inr absent ↦
-        (let none : charged_to f q c.segments c.stored a ≡ 0 =
-        no_weight (λ s. eqb (account q (f s)) a) c.segments c.stored
-        (λ k is. ne_eqb _ _ (λ e. both_ways (has c.directories a) absent (rw (← e) (account_here k is)))) in
-        let zero : load_in c a ≡ 0 = look_absent c.directories c.loads a absent in
+        (let none = no_weight (λ s. eqb (account q (f s)) a) c.segments
+        c.stored (λ k is. ne_eqb _ _ (λ e. both_ways (has c.directories a) absent (rw (← e) (account_here k is)))) in
+        let zero = look_absent c.directories c.loads a absent in
         let used : used_in c a ≡ 0 = elim (cases_Bool (is_an_account q a)) [ inl y ↦ rw y zero | inr n ↦ rw n refl ] in
         cc)
   ]
@@ -129,8 +127,7 @@ module _ (nodes : List Node) (c : CellMaps) (fits : Fits nodes c) (chains : HasC
     -- and who is above its quota
     over_same : (u : ℕ) → is_over_at tree xs u ≡ (has c.directories u && is_over c u)
     over_same u =
-        let dir : has_directory tree u ≡ has c.directories u =
-        directory_mapped (as_term q) shape (λ n. refl) (λ n. refl) nodes u ∙ sym (fits.directories u) in
+        let dir = directory_mapped (as_term q) shape (λ n. refl) (λ n. refl) nodes u ∙ sym (fits.directories u) in
         rw (dir, quota_same u, sym (used_same u)) (elim (cases_Bool (is_an_account q u))
         [ inl y ↦ rw y refl | inr n ↦ rw n refl ])
 
@@ -252,40 +249,30 @@ module _ {nodes : List Node} {c : CellMaps} (settled : Settled nodes c) {d n : �
   above_d : IsBelow nodes d (superior_of up d)
   above_d = top nodes chains d dir ne
 
-  here_d : has c.directories d ≡ true
-  here_d = on_directories nodes fits d ∙ dir
-
-  here_s : has c.directories (superior_of up d) ≡ true
-  here_s = on_directories nodes fits (superior_of up d) ∙ above_d.directory
+  between : Between nodes c d (superior_of up d) n
+  between = record {
+    settled = settled;
+    up = above_d.chain;
+    here_d = on_directories nodes fits d ∙ dir;
+    here_s = on_directories nodes fits (superior_of up d) ∙ above_d.directory;
+    below = above_d.below;
+    some = some;
+  }
 
   up_same : above nodes_now ≡ up
   up_same = λ i. λ u. above_any (quota_in c) nodes u i
 
   -- who gets the pages, and who gives them
-  moving : (down : Bool) → n ≤ quota_in c (giver_of up d down)
+  moves : (down : Bool) → n ≤ quota_in c (giver_of up d down)
       → Moving nodes c (getter_of up d down) (giver_of up d down) n
-  moving true enough = record {
-    settled = settled;
-    other = λ e. (let lt = above_d.below in omega arith);
-    here_g = here_d;
-    here_v = here_s;
-    some = some;
-    enough = enough;
-  }
-  moving false enough = record {
-    settled = settled;
-    other = λ e. (let lt = above_d.below in omega arith);
-    here_g = here_s;
-    here_v = here_d;
-    some = some;
-    enough = enough;
-  }
+  moves true enough = moving between enough
+  moves false enough = rising between enough
 
   -- the cells once quota has moved are those of the tree once it has
   pub moved_tree : (down : Bool) → n ≤ quota_in c (giver_of up d down)
       → with_quotas (quota_in (moved c up d down n)) nodes ≡ tree_moved nodes_now d down n
   moved_tree down enough =
-      let m = moving down enough in
+      let m = moves down enough in
       moved_nodes _ (quota_in c) (getter_of up d down) (giver_of up d down) n m.other (q2_g m) (q2_v m)
       (q2_other m) nodes
       ∙ ap (λ (h : ℕ → List ℕ). with_moved nodes_now (giver_of h d down) (getter_of h d down) n) (sym up_same)
@@ -295,7 +282,7 @@ module _ {nodes : List Node} {c : CellMaps} (settled : Settled nodes c) {d n : �
   after_move down (Err e) is ok err = rw err assumption
   after_move down (Ok tt) is ok err =
       let enough = (answer_ok c up d down n (sym is)).0 in
-      rw ok assumption (fits2 (moving down enough), conserved (moving down enough), moved_tree down enough)
+      rw ok assumption (fits2 (moves down enough), conserved (moves down enough), moved_tree down enough)
 
   module _ (xs : List (ℕ × ℕ)) (holds : HoldCounts c xs) where
     over_moved : (down : Bool) → n ≤ quota_in c (giver_of up d down) → over_in (tree_moved nodes_now d down n) xs
@@ -306,7 +293,7 @@ module _ {nodes : List Node} {c : CellMaps} (settled : Settled nodes c) {d n : �
       least_first (is_over_at (with_quotas (quota_in (moved c up d down n)) nodes) xs)
           (is_over (moved c up d down n)) c.directories (map (λ n. n.uid) (with_quotas
           (quota_in (moved c up d down n))
-          nodes)) table.rising (over_same nodes (moved c up d down n) (fits2 (moving down enough)) chains
+          nodes)) table.rising (over_same nodes (moved c up d down n) (fits2 (moves down enough)) chains
           table.segments_rise table.stored_count xs holds) (λ u is. uids_there (quota_in (moved c up d down n))
           nodes u (sym (on_directories nodes fits u) ∙ is)) (first_over (moved c up d down n)) refl,
     )

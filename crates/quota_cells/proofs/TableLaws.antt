@@ -15,21 +15,17 @@ lower f g (k ∷ ks) le r = (omega arith, r.1)
 below_absent : (f x : ℕ) (ks : List ℕ) → Rises f ks → x < f → has ks x ≡ false
 below_absent f x [] r lt = refl
 below_absent f x (k ∷ ks) r lt =
-    let le : f ≤ k = r.0 in
-    rw (ne_eqb k x (λ q. omega arith)) (below_absent (k + 1) x ks r.1 (omega arith))
+    rw (ne_eqb k x (λ q. omega (arith, r.0))) (below_absent (k + 1) x ks r.1 (omega (arith, r.0)))
 
 all_from : (f : ℕ) (ks : List ℕ) (j : ℕ) → Rises f ks → j < length ks → f ≤ get_or ks j 0
 all_from f [] j r lt = absurd (omega arith)
 all_from f (k ∷ ks) zero r lt = r.0
-all_from f (k ∷ ks) (suc j) r lt =
-    let le : f ≤ k = r.0 in
-    let more : k + 1 ≤ get_or ks j 0 = all_from (k + 1) ks j r.1 (omega arith) in omega arith
+all_from f (k ∷ ks) (suc j) r lt = omega (arith, r.0, all_from (k + 1) ks j r.1 (omega (arith, r.0)))
 
 in_order : (f : ℕ) (ks : List ℕ) → Rises f ks → IsRising ks
 in_order f [] r i j lt within = absurd (omega arith)
 in_order f (k ∷ ks) r zero zero lt within = absurd (omega arith)
-in_order f (k ∷ ks) r zero (suc j) lt within = (let more : k + 1 ≤ get_or ks j 0 =
-    all_from (k + 1) ks j r.1 (omega arith) in omega arith)
+in_order f (k ∷ ks) r zero (suc j) lt within = omega (arith, all_from (k + 1) ks j r.1 (omega arith))
 in_order f (k ∷ ks) r (suc i) zero lt within = absurd (omega arith)
 in_order f (k ∷ ks) r (suc i) (suc j) lt within = in_order (k + 1) ks r.1 i j (omega arith) (omega arith)
 
@@ -240,9 +236,7 @@ module _ (bs : List Bool) (values : List ℕ) (now : NumberMap) (view : numbers_
       )
 
       in_wide : u < length wide
-      in_wide =
-          let all : length wide ≡ length front + 1 = length-append front (false ∷ []) in
-          omega (arith, all, long)
+      in_wide = omega (arith, length-append front (false ∷ []), long)
 
       same : uids_from 0 wide ≡ us
       same = cc (blanks_next bs front u false is past, none_past bs 0 (u + 1 - length bs))

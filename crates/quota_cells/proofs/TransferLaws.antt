@@ -88,7 +88,7 @@ module _ {nodes : List Node} {c : CellMaps} {d s n : ℕ} (between : Between nod
   abbrev m2 : CellMaps
   m2 = both_changed nodes c d s n
 
-  moving : Moving nodes c d s n
+  pub moving : Moving nodes c d s n
   moving = record {
     settled = between.settled;
     other = λ e. omega arith;
@@ -166,8 +166,7 @@ module _ {nodes : List Node} {c : CellMaps} {d s n : ℕ} (between : Between nod
 
   over_x : q s ≡ n → s ≢ 1 → is_over m2 x ≡ ltb (q x) (load_in c x + left)
   over_x all ne =
-      let lt : x < s = x_below ne in
-      let quota : quota_in m2 x ≡ q x = q2_other moving x (λ e. omega arith) (λ e. omega arith) in
+      let quota = q2_other moving x (λ e. omega (arith, x_below ne)) (λ e. omega (arith, x_below ne)) in
       rw (quota, load_x all ne, account_of_chain q (f s)) refl
 
   pub over_s : is_over m2 s ≡ ((eqb s 1 || not (eqb (q s - n) 0)) && ltb (q s - n) left)
@@ -221,8 +220,7 @@ module _ {nodes : List Node} {c : CellMaps} {d s n : ℕ} (between : Between nod
   above_yes e =
       let a = and_parts (eqb (q s - n) 0) (not (eqb s 1) && ltb (q x) (load_in c x + left)) e in
       let b = and_parts (not (eqb s 1)) (ltb (q x) (load_in c x + left)) a.1 in
-      let none : q s - n ≡ 0 = eqb-true (q s - n) 0 a.0 in
-      let all : q s ≡ n = omega arith in
+      let all : q s ≡ n = omega (arith, eqb-true (q s - n) 0 a.0) in
       let ne : s ≢ 1 = λ z. both_ways (not (eqb s 1)) (rw (eq-eqb s 1 z) refl) b.0 in
       first_is_x all ne (over_x all ne ∙ b.1)
 
@@ -247,7 +245,7 @@ module _ {nodes : List Node} {c : CellMaps} {d s n : ℕ} (between : Between nod
   abbrev u2 : CellMaps
   u2 = both_changed nodes c s d n
 
-  rising : Moving nodes c s d n
+  pub rising : Moving nodes c s d n
   rising = record {
     settled = between.settled;
     other = λ e. omega arith;
@@ -269,8 +267,7 @@ module _ {nodes : List Node} {c : CellMaps} {d s n : ℕ} (between : Between nod
   up1_d : load_in u1 d ≡ load_in c d
   up1_d = elim (cases_eq (r s) 0) [
     | inl none ↦
-        (let off : covers r (g s) d ≡ false = false_from_ne_true _ (λ is.
-        (omega (arith, covers_under r s (g s) d (chains.under s) is))) in
+        (let off = false_from_ne_true _ (λ is. (omega (arith, covers_under r s (g s) d (chains.under s) is))) in
         rw (load1_falls rising none d here_d, off) refl)
     | inr is ↦ load1_stays rising is d here_d
   ]
@@ -312,8 +309,7 @@ module _ {nodes : List Node} {c : CellMaps} {d s n : ℕ} (between : Between nod
       | inr w ↦ elim (cases_eq b s) [
         | inl at_s ↦ both_ways (is_over u2 b) (rw at_s (not_s at_s)) over
         | inr far ↦
-            (let quota : quota_in u1 s ≡ r s + n = q1_g rising in
-            let stop : eqb (quota_in u1 s) 0 ≡ false = ne_eqb (quota_in u1 s) 0 (λ e. omega arith) in
+            (let stop = ne_eqb (quota_in u1 s) 0 (λ e. omega (arith, q1_g rising)) in
             both_ways (covers (quota_in u1) (g d) b) (rw (up, ne_eqb s b (λ e. far (sym e)), stop) refl) w.1)
       ]
     ]

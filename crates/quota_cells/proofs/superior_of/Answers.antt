@@ -1,4 +1,4 @@
-use Rattle.quota_cells.proofs.Prelude.{◌≡◌, ℕ, List, get_or, sym, ap, subst, ◌∙◌, above, shapes, directory_in}
+use Rattle.quota_cells.proofs.Prelude.{ℕ, List, get_or, sym, ap, ◌∙◌, directory_in}
 use Rattle.quota_cells.proofs.TransferLaws.{IsBelow, top, not_empty}
 use Rattle.quota_cells.proofs.superior_of.Goals as goal
 
@@ -11,9 +11,8 @@ bounds-as_slice-0 c = rw (c.as_slice.ensures.value, c.superiors-up.ensures.plain
 
 pub returns : goal.returns
 returns c =
-    let up : c.as_slice.result.now ≡ above (shapes c.args.t.now.nodes) c.args.dir = c.as_slice.ensures.value
-    ∙ c.superiors-up.ensures.plain in
-    let first : IsBelow c.args.t.now.nodes c.args.dir (get_or (above (shapes c.args.t.now.nodes) c.args.dir) 0 0) =
+    let up = c.as_slice.ensures.value ∙ c.superiors-up.ensures.plain in
+    let first =
     top c.args.t.now.nodes c.superiors-up.ensures.chains c.args.dir c.requires.directory c.requires.branch in
     let below : IsBelow c.args.t.now.nodes c.args.dir (get_or c.as_slice.result.now 0 0) = rw up first in
     record {

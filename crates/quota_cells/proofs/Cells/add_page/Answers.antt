@@ -1,4 +1,4 @@
-use Rattle.quota_cells.proofs.Prelude.{ap, CellMaps, IsTable, charged, both_maps}
+use Rattle.quota_cells.proofs.Prelude.{ap, CellMaps, charged}
 use Rattle.quota_cells.proofs.Cells.add_page.Goals as goal
 
 pub count-requires-clause-room : goal.count-requires-clause-room
@@ -6,12 +6,9 @@ count-requires-clause-room c = rw (← c.self.view_is) at c.requires.room
 
 pub invariant_of-self : goal.invariant_of-self
 invariant_of-self c =
-    let s : CellMaps = both_maps c.self.inside.directories c.self.inside.segments in
-    let table : IsTable (charged s c.args.up.now c.args.seg) = rw (← c.self.view_is) at c.requires.table in
-    rw (c.count.ensures, c.set.ensures, c.look-pages.ensures) table
+    rw (c.count.ensures, c.set.ensures, c.look-pages.ensures) (rw (← c.self.view_is) at c.requires.table)
 
 pub returns : goal.returns
 returns c =
-    let s : CellMaps = both_maps c.self.inside.directories c.self.inside.segments in
     rw (c.count.ensures, c.set.ensures, c.look-pages.ensures)
     (ap (λ (m : CellMaps). charged m c.args.up.now c.args.seg) c.self.view_is)

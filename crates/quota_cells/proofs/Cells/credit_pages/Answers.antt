@@ -1,4 +1,4 @@
-use Rattle.quota_cells.proofs.Prelude.{◌≡◌, ◌-◌, ℕ, List, ap, subst, ◌∙◌, above, shapes, quota_in, stored_in, IsTable, credited, on_segments}
+use Rattle.quota_cells.proofs.Prelude.{◌≡◌, ◌-◌, ap, subst, ◌∙◌, above, shapes, quota_in, stored_in, IsTable, credited, on_segments}
 use Rattle.quota_cells.proofs.ColumnLaws.{look_with}
 use Rattle.quota_cells.proofs.FitLaws.{Settled, there, falls, room_credited, fits_credited, table_credited}
 use Rattle.quota_cells.proofs.Cells.credit_pages.Goals as goal

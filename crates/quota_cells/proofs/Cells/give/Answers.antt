@@ -1,4 +1,4 @@
-use Rattle.quota_cells.proofs.Prelude.{◌∙◌, sym, ap, subst, both_maps, CellMaps, IsTable, given}
+use Rattle.quota_cells.proofs.Prelude.{◌∙◌, ap, both_maps, CellMaps, given}
 use Rattle.quota_cells.proofs.Cells.give.Goals as goal
 
 pub give-requires : goal.give-requires

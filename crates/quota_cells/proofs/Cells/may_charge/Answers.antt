@@ -1,4 +1,4 @@
-use Rattle.quota_cells.proofs.Prelude.{◌≡◌, ap, ◌∙◌, above, shapes, charge_fault}
+use Rattle.quota_cells.proofs.Prelude.{◌≡◌, ◌∙◌, above, shapes}
 use Rattle.quota_cells.proofs.ScratchLaws.{charge_same}
 use Rattle.quota_cells.proofs.Cells.may_charge.Goals as goal
 

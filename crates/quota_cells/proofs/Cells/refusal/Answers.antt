@@ -1,4 +1,4 @@
-use Rattle.quota_cells.proofs.Prelude.{rules, ◌≡◌, ap, false, refl, true, ◌∙◌, above, account, shapes, CellMaps, quota_in, cell_in}
+use Rattle.quota_cells.proofs.Prelude.{rules, ◌≡◌, ap, false, refl, true, ◌∙◌, CellMaps, quota_in, cell_in}
 use Rattle.quota_cells.proofs.MoveLaws.{covers_more}
 use Rattle.quota_cells.proofs.OverLaws.{changing_of}
 use Rattle.quota_cells.proofs.TransferLaws.{between_of, top_covers}
@@ -27,9 +27,7 @@ returns c =
     let below_is = c.cell-below.ensures ∙ ap (λ (m : CellMaps). cell_in m c.args.dir) c.self.view_is in
     let above_is = c.cell-above.ensures ∙ ap (λ (m : CellMaps). cell_in m c.args.superior) c.self.view_is in
     let up = c.as_slice.ensures.value ∙ c.superiors-up.ensures.plain in
-    let account_is : c.account-account.result ≡ cell_in c.args.self.now
-    (account (quota_in c.args.self.now) (above (shapes c.args.t.now.nodes) c.args.superior)) =
-    c.account-account.ensures ∙ (rw (up, ← c.self.view_is) refl) in
+    let account_is = c.account-account.ensures ∙ (rw (up, ← c.self.view_is) refl) in
     let down : c.args.down ≡ true = search rules in
     let between = between_of c.requires.table c.requires.fits c.requires.lies c.requires.pages in
     rw down (rw (below_is, above_is, account_is) at c.refusal_down.ensures ∙ down_decided between c.requires.lies.is)

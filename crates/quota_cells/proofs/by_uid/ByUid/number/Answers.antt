@@ -1,4 +1,4 @@
-use Rattle.quota_cells.proofs.Prelude.{◌≡◌, ◌≤◌, ◌∙◌, ℕ, List, length, get_or, ap, sym, arith, common_steps, get_or_past}
+use Rattle.quota_cells.proofs.Prelude.{◌≡◌, ◌≤◌, length, get_or, arith, common_steps, get_or_past}
 use Rattle.quota_cells.proofs.PadLaws.{padded_read}
 use Rattle.quota_cells.proofs.by_uid.ByUid.number.Goals as goal
 

@@ -1,11 +1,10 @@
-use Rattle.quota_cells.proofs.Prelude.{◌<◌, ◌≤◌, ◌∙◌, ℕ, List, length, set, ap, sym, arith, common_steps, padded}
+use Rattle.quota_cells.proofs.Prelude.{arith, common_steps}
 use Rattle.quota_cells.proofs.PadLaws.{padded_long, padded_put, padded_set}
 use Rattle.quota_cells.proofs.by_uid.ByUid.put.Goals as goal
 
 pub returns-then-uid-len-clause-number : goal.returns-then-uid-len-clause-number
 returns-then-uid-len-clause-number c =
-    let lt : c.args.uid < length c.self.inside.held.items = grind (arith, common_steps) in
-    cc (padded_set c.self.inside.held.items c.args.uid c.args.number lt)
+    cc (padded_set c.self.inside.held.items c.args.uid c.args.number (grind (arith, common_steps)))
 
 pub returns-then-uid-len-clause-size : goal.returns-then-uid-len-clause-size
 returns-then-uid-len-clause-size c = cc (padded_long c.self.inside.held.items
@@ -13,9 +12,8 @@ returns-then-uid-len-clause-size c = cc (padded_long c.self.inside.held.items
 
 pub returns-else-uid-len-clause-number : goal.returns-else-uid-len-clause-number
 returns-else-uid-len-clause-number c =
-    let past : length c.self.inside.held.items ≤ c.args.uid = grind (arith, common_steps) in
-    cc (padded_put c.self.inside.held.items c.reach.new.held.items c.args.uid c.args.number past c.requires
-    c.reach.ensures.items)
+    cc (padded_put c.self.inside.held.items
+    c.reach.new.held.items c.args.uid c.args.number (grind (arith, common_steps)) c.requires c.reach.ensures.items)
 
 pub returns-else-uid-len-clause-size : goal.returns-else-uid-len-clause-size
 returns-else-uid-len-clause-size c = cc (padded_long c.self.inside.held.items

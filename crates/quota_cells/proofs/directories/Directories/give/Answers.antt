@@ -1,4 +1,4 @@
-use Rattle.quota_cells.proofs.Prelude.{◌≡◌, ◌<◌, ◌+◌, ◌^◌, true, arith, sym, ap, subst, ◌∙◌, covers, CellMaps, quota_in, load_in, with_quota}
+use Rattle.quota_cells.proofs.Prelude.{◌≡◌, ◌+◌, true, arith, ap, subst, ◌∙◌, covers, CellMaps, quota_in, with_quota}
 use Rattle.quota_cells.proofs.ColumnLaws.{look_with_other}
 use Rattle.quota_cells.proofs.directories.Directories.give.Goals as goal
 

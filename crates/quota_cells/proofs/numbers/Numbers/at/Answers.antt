@@ -1,4 +1,3 @@
-use Rattle.quota_cells.proofs.Prelude.{get_or, ap, ◌∙◌}
 use Rattle.quota_cells.proofs.TableLaws.{number_read}
 use Rattle.quota_cells.proofs.numbers.Numbers.at.Goals as goal
 

@@ -1,4 +1,4 @@
-use Rattle.quota_cells.proofs.Prelude.{◌<◌, ◌≤◌, ◌++◌, ◌∷◌, [], Bool, ℕ, List, length, true, set, ap, ◌∙◌, arith, common_steps, numbers_of}
+use Rattle.quota_cells.proofs.Prelude.{◌<◌, ◌≤◌, length, arith, common_steps}
 use Rattle.quota_cells.proofs.TableLaws.{now_rises, number_entered, number_reached}
 use Rattle.quota_cells.proofs.numbers.Numbers.enter.Goals as goal
 

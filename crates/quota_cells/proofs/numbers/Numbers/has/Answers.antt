@@ -1,4 +1,4 @@
-use Rattle.quota_cells.proofs.Prelude.{◌≡◌, ◌≤◌, false, length, get_or, sym, ap, ◌∙◌, arith, common_steps, has, NumberMap}
+use Rattle.quota_cells.proofs.Prelude.{◌≡◌, false, get_or, arith, common_steps}
 use Rattle.quota_cells.proofs.TableLaws.{is_there, past_absent}
 use Rattle.quota_cells.proofs.numbers.Numbers.has.Goals as goal
 
@@ -8,6 +8,4 @@ returns-in-Some c =
     cc (is_there c.self.inside.there.items c.args.uid)
 
 pub returns-in-None : goal.returns-in-None
-returns-in-None c =
-    let past : length c.self.inside.there.items ≤ c.args.uid = grind (arith, common_steps) in
-    cc (past_absent c.self.inside.there.items c.args.uid past)
+returns-in-None c = cc (past_absent c.self.inside.there.items c.args.uid (grind (arith, common_steps)))

@@ -1,4 +1,4 @@
-use Rattle.quota_cells.proofs.Prelude.{◌<◌, arith, length}
+use Rattle.quota_cells.proofs.Prelude.{arith}
 use Rattle.quota_cells.proofs.TableLaws.{number_left, there_now, there_within}
 use Rattle.quota_cells.proofs.numbers.Numbers.leave.Goals as goal
 

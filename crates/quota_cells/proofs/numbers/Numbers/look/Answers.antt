@@ -1,4 +1,4 @@
-use Rattle.quota_cells.proofs.Prelude.{sym, ◌∙◌, look_absent}
+use Rattle.quota_cells.proofs.Prelude.{sym, look_absent}
 use Rattle.quota_cells.proofs.numbers.Numbers.look.Goals as goal
 
 pub returns-then-not-has : goal.returns-then-not-has

@@ -1,4 +1,4 @@
-use Rattle.quota_cells.proofs.Prelude.{◌<◌, length, arith}
+use Rattle.quota_cells.proofs.Prelude.{arith}
 use Rattle.quota_cells.proofs.TableLaws.{now_rises, there_now, there_within}
 use Rattle.quota_cells.proofs.numbers.Numbers.place.Goals as goal
 

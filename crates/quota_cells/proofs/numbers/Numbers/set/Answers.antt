@@ -1,4 +1,4 @@
-use Rattle.quota_cells.proofs.Prelude.{ap, ◌∙◌, arith, List, ℕ, numbers_of}
+use Rattle.quota_cells.proofs.Prelude.{arith}
 use Rattle.quota_cells.proofs.TableLaws.{number_set}
 use Rattle.quota_cells.proofs.numbers.Numbers.set.Goals as goal
 
