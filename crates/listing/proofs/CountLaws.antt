@@ -26,8 +26,7 @@ absent (n ∷ ns) {u} v b le =
 
 older_all : {ns : List Node} (u : ℕ) → AreBelow u ns → older u ns ≡ ns
 older_all {ns = []} u b = refl
-older_all {ns = n ∷ ns} u b = (let yes : nat_lt n.uid u ≡ true = let lt : n.uid < u =
-    b.0 in grind (arith, nat_tests) in rw yes refl)
+older_all {ns = n ∷ ns} u b = let yes : nat_lt n.uid u ≡ true = grind (arith, nat_tests, b.0) in rw yes refl
 
 older_more : (ns : List Node) (u : ℕ) → IsTree ns → older (u + 1) ns ≡ as_nodes (node_in ns u) ++ older u ns
 older_more [] u t = refl
@@ -75,8 +74,7 @@ one_more s (Some n) xs = ap (flat_map (account_count s)) (reverse-cons n xs)
 
 pub gathered_more : (s : Store) (u : ℕ) → IsTree s.nodes → gathered s (u + 1) ≡ gathered s u
     ++ account_at s (node_in s.nodes u)
-gathered_more s u t = ap (λ (x : List Node). flat_map (account_count s) (reverse x)) (older_more s.nodes u t)
-    ∙ one_more s (node_in s.nodes u) (older u s.nodes)
+gathered_more s u t = cc (older_more s.nodes u t, one_more s (node_in s.nodes u) (older u s.nodes))
 
 pub gathered_end : (s : Store) (u : ℕ) → AreBelow u s.nodes → gathered s u ≡ accounts_of s
 unfolding accounts_of
@@ -84,7 +82,7 @@ gathered_end s u b = ap (λ (x : List Node). flat_map (account_count s) (reverse
 
 pub pushed : (old : List AccountCount) {new now : List AccountCount} {a : AccountCount} {o : Option AccountCount}
     → o ≡ Some a → new ≡ old ++ a ∷ [] → now ≡ new → now ≡ old ++ as_list o
-pushed old is add same = same ∙ add ∙ ap (λ (x : Option AccountCount). old ++ as_list x) (sym is)
+pushed old is add same = cc
 
 pub skipped : (old now : List AccountCount) (o : Option AccountCount) → ((a : AccountCount) → o ≡ Some a → ⊥) → now
     ≡ old → now ≡ old ++ as_list o
@@ -99,8 +97,7 @@ pub counts_more : (s : Store) (nodes : List Node) (u : ℕ) (items new : List Ac
     → IsTree nodes → s.nodes ≡ nodes
     → as_list o ≡ account_at s (node_in s.nodes u) → items ≡ gathered s u → new ≡ items ++ as_list o → new
     ≡ gathered s (u + 1)
-counts_more s nodes u items new o t same found h add = add ∙ ap (λ (x : List AccountCount). x ++ as_list o) h
-    ∙ ap (λ (x : List AccountCount). gathered s u ++ x) found ∙ sym (gathered_more s u (subst IsTree (sym same) t))
+counts_more s nodes u items new o t same found h add = cc (gathered_more s u (subst IsTree (sym same) t))
 
 pub counts_end : (s : Store) (nodes : List Node) (u next : ℕ) (items : List AccountCount) → s.nodes ≡ nodes
     → AreBelow next nodes → next ≤ u → items ≡ gathered s u → items ≡ accounts_of s
@@ -152,23 +149,19 @@ account_one s {nodes} u {q} {used} {path} b is same dir quota one trail count ma
 
 volumes_push : (s : Store) (v : ℕ) (xs : List VolumeLine) (y : VolumeLine)
     → volumes_of s v (xs ++ y ∷ []) ≡ volumes_of s v xs ++ volume_of s (v + length xs) y ∷ []
-volumes_push s v [] y = (let same : v ≡ v + 0 = omega arith in ap (λ (n : ℕ). volume_of s n y ∷ []) same)
+volumes_push s v [] y = let same : v ≡ v + 0 = omega arith in cc
 volumes_push s v (x ∷ xs) y =
     let same : v + 1 + length xs ≡ v + length (x ∷ xs) = omega arith in
-    ap (λ (t : List VolumeCount). volume_of s v x ∷ t)
-    (volumes_push s (v + 1) xs y ∙ ap (λ (n : ℕ). volumes_of s (v + 1) xs ++ volume_of s n y ∷ []) same)
+    cc (volumes_push s (v + 1) xs y)
 
 pub volumes_more : (s : Store) (xs : List VolumeLine) (i v : ℕ) (x : VolumeLine) (c : VolumeCount)
     (items new : List VolumeCount) → i < length xs → v ≡ i
     → x ≡ get_or xs i x → items ≡ volumes_of s 0 (take i xs) → c ≡ volume_of s v x → new ≡ items ++ c ∷ [] → new
     ≡ volumes_of s 0 (take (i + 1) xs)
 volumes_more s xs i v x c items new lt counted at h is add =
-    let more : take (i + 1) xs ≡ take i xs ++ x ∷ [] = take_more xs i x lt
-    ∙ ap (λ (y : VolumeLine). take i xs ++ y ∷ []) (sym at) in
+    let more = take_more xs i x lt ∙ ap (λ (y : VolumeLine). take i xs ++ y ∷ []) (sym at) in
     let size : v ≡ 0 + length (take i xs) = grind (arith, common_steps) in
-    add ∙ ap (λ (t : List VolumeCount). t ++ c ∷ []) h
-    ∙ ap (λ (y : VolumeCount). volumes_of s 0 (take i xs) ++ y ∷ []) (is ∙ ap (λ (n : ℕ). volume_of s n x) size)
-    ∙ sym (volumes_push s 0 (take i xs) x) ∙ ap (volumes_of s 0) (sym more)
+    cc (volumes_push s 0 (take i xs) x)
 
 -- ---- the whole
 
@@ -176,9 +169,7 @@ pub summary_whole : (p : Plan) (s : Store) {accounts : List AccountCount} {volum
     → accounts ≡ accounts_of s
     → volumes ≡ volumes_of s 0 p.volumes → r ≡ record { accounts = accounts; volumes = volumes } → r ≡ summary_of p s
 unfolding summary_of
-summary_whole p s {accounts} {volumes} a v made =
-    made ∙ ap (λ (x : List AccountCount). record { accounts = x; volumes = volumes }) a
-    ∙ ap (λ (x : List VolumeCount). record { accounts = accounts_of s; volumes = x }) v
+summary_whole p s a v made = cc
 
 pub listing_whole : {p q : Plan} {k : Kept} (es : List Entry) {r : Summary} {text : List ℕ} → q ≡ p
     → ((s : Store) → Shows q k s → r ≡ summary_of q s) → Shows p k (store_after p es)

@@ -29,8 +29,7 @@ pub each_more : {X : Type 0} (line : X → List ℕ) (before : List ℕ) (xs : L
     → i < length xs → x ≡ get_or xs i x
     → HasEach line before (take i xs) now → new ≡ now ++ line x → HasEach line before (take (i + 1) xs) new
 each_more {X} line before xs i x now new lt at h add =
-    let more : take (i + 1) xs ≡ take i xs ++ x ∷ [] = take_more xs i x lt
-    ∙ ap (λ (y : X). take i xs ++ y ∷ []) (sym at) in
+    let more = take_more xs i x lt ∙ ap (λ (y : X). take i xs ++ y ∷ []) (sym at) in
     cc (flat_map_more line before (take i xs) x)
 
 pub each_end : {X : Type 0} (line : X → List ℕ) (before : List ℕ) (xs : List X) (i : ℕ) (now : List ℕ) → length xs ≤ i
@@ -70,8 +69,7 @@ pub processes_more : (before : List ℕ) (p : Plan) (es : List Entry) (k : ℕ) 
     ++ flat_map (entry_line p) (part k es) → HasProcesses before p es (k + 1) new
 unfolding process_lines
 processes_more before p es k w now middle new lt who h first second =
-    let more : take (k + 1) p.processes ≡ take k p.processes ++ get_or p.processes k no_process ∷ [] =
-    take_more p.processes k no_process lt in
+    let more = take_more p.processes k no_process lt in
     let size : 0 + length (take k p.processes) ≡ k = grind (arith, common_steps) in
     let so_far : List ℕ = processes_lines p es 0 (take k p.processes) in
     let lines : List ℕ = flat_map (entry_line p) (part k es) in
@@ -98,8 +96,7 @@ pub names_more : (before : List ℕ) (names : List (List ℕ)) (i : ℕ) (name :
     → i < length names → name ≡ get_or names i name
     → HasNames before (take i names) now → new ≡ now ++ 62 ∷ name → HasNames before (take (i + 1) names) new
 names_more before names i name now new lt at h add =
-    let more : take (i + 1) names ≡ take i names ++ name ∷ [] = take_more names i name lt
-    ∙ ap (λ (x : List ℕ). take i names ++ x ∷ []) (sym at) in
+    let more = take_more names i name lt ∙ ap (λ (x : List ℕ). take i names ++ x ∷ []) (sym at) in
     cc (flat_map_more (λ (x : List ℕ). 62 ∷ x) before (take i names) name)
 
 pub names_end : (before : List ℕ) (names : List (List ℕ)) (i : ℕ) (now : List ℕ) → length names ≤ i

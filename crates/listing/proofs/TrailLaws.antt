@@ -1,5 +1,5 @@
 -- The names from the root down to a node are those of the nodes on the way there.
-use Rattle.listing.proofs.Prelude.{◌≡◌, ℕ, ◌+◌, ◌<◌, ◌≤◌, true, false, eqb, List, [], ◌∷◌, ◌++◌, length, reverse, take, is_some, Option, Some, None, refl, sym, ap, subst, ◌∙◌, arith, inl, inr, flat_map, cases_Bool, nat_tests, common_steps, flat_map-append, Node, above, node_in, step_up, AreBelow, AreUnder, IsTree, Joins, has_chains, under_more, trail_of, trail_up, rest_of, later_joined, directory_there}
+use Rattle.listing.proofs.Prelude.{◌≡◌, ℕ, ◌<◌, ◌≤◌, true, false, eqb, List, [], ◌∷◌, ◌++◌, length, reverse, take, is_some, Option, Some, None, refl, sym, subst, ◌∙◌, arith, inl, inr, flat_map, cases_Bool, nat_tests, common_steps, flat_map-append, Node, above, node_in, step_up, AreBelow, AreUnder, IsTree, Joins, has_chains, under_more, trail_of, trail_up, rest_of, later_joined, directory_there}
 use mathlib.Core.List.{reverse-cons}
 
 -- the name of a node, where there is one

@@ -1,4 +1,3 @@
-use Rattle.listing.proofs.Prelude.{ℕ, ◌≤◌, ap, subst}
 use Rattle.listing.proofs.CountLaws.{counts_start, counts_more, counts_end, pushed, skipped}
 use Rattle.listing.proofs.summing.accounts_by_uid.Goals.{in-Some+in_ok-push, in_default}
 use Rattle.listing.proofs.summing.accounts_by_uid.Goals as goal

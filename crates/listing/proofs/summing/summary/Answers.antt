@@ -1,4 +1,4 @@
-use Rattle.listing.proofs.Prelude.{ap, ◌≡◌, ◌∙◌, List, length, IfOk-weaker, VolumeLine, Counts, Store, Shows, Summary, summary_of, uses_of}
+use Rattle.listing.proofs.Prelude.{◌≡◌, length, IfOk-weaker, Counts, Store, Shows, Summary, summary_of, uses_of}
 use Rattle.listing.proofs.summing.summary.Goals as goal
 
 pub returns : goal.returns

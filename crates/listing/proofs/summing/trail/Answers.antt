@@ -1,4 +1,3 @@
-use Rattle.listing.proofs.Prelude.{ap, ◌∙◌, rest_of}
 use Rattle.listing.proofs.TrailLaws.{trail_end}
 use Rattle.listing.proofs.summing.trail.Goals as goal
 

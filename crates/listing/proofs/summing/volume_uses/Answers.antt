@@ -1,4 +1,4 @@
-use Rattle.listing.proofs.Prelude.{ap, arith, ◌≡◌, ◌∙◌, ℕ, use_of, uses_of}
+use Rattle.listing.proofs.Prelude.{ap, arith, ◌≡◌, ◌∙◌, ℕ, use_of}
 use Rattle.listing.proofs.UseLaws.{uses_more}
 use Rattle.listing.proofs.summing.volume_uses.Goals as goal
 
