@@ -1,5 +1,5 @@
 -- How a reader passes the lines before the one that parts a text (own).
-use Rattle.std.proofs.Common.{◌≡◌, ℕ, suc, ◌+◌, ◌-◌, ◌<◌, ◌≤◌, Bool, true, false, List, [], ◌∷◌, ◌++◌, length, refl, sym}
+use Rattle.std.proofs.Common.{◌≡◌, ℕ, ◌+◌, ◌-◌, ◌<◌, ◌≤◌, Bool, true, false, List, [], ◌∷◌, ◌++◌, length, refl, sym}
 use Rattle.std.proofs.Common.{ap, ◌∙◌, arith, take, drop, append-nil}
 use Rattle.std.specs.List.{list_any}
 use Rattle.std.proofs.lemmas.Grind.{common_steps}
@@ -80,11 +80,8 @@ module _ (test : List ℕ → Bool) where
 
       pub stop_first : test line ≡ true → number + 1 ≡ first_after test (lines_of bytes)
       stop_first stop =
-          let whole : length (lines_of bytes) ≡ length is.before + suc (length (lines_of rest)) =
-          ap length lines_here ∙ length-append is.before (line ∷ lines_of rest) in
-          let left : length (lines_after test (lines_of bytes)) ≡ length (lines_of rest) =
-          ap length (sym (stop_after stop)) in
-          omega (arith, whole, left, is.count)
+          let left = ap length (sym (stop_after stop)) in
+          omega (arith, ap length lines_here ∙ length-append is.before (line ∷ lines_of rest), left, is.count)
 
       module _ (left : rest ≡ drop (length (Here bytes at) - length rest) (Here bytes at))
           (fewer : length rest < length (Here bytes at))
