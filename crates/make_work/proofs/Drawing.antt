@@ -19,11 +19,8 @@ line_more bs i x =
     let front : ((bs ++ lines_of (references i x)) ++ command_text [] (reference_at (state_at i x))) ++ codes "\n"
     ≡ (bs ++ lines_of (references i x)) ++ ended (command_text [] (reference_at (state_at i x))) =
     append_assoc (bs ++ lines_of (references i x)) (command_text [] (reference_at (state_at i x))) (codes "\n") in
-    let more : (bs ++ lines_of (references i x)) ++ ended (command_text [] (reference_at (state_at i x))) ≡ bs
-    ++ lines_of (references (suc i) x) = flat_map_more (λ c. ended (command_text [] c)) bs (references i x)
-    (reference_at (state_at i x)) in
-    let next : bs ++ lines_of (references (suc i) x) ≡ bs ++ lines_of (references (i + 1) x) =
-    ap (λ n. bs ++ lines_of (references n x)) (sym (add-one i)) in
+    let more = flat_map_more (λ c. ended (command_text [] c)) bs (references i x) (reference_at (state_at i x)) in
+    let next = ap (λ n. bs ++ lines_of (references n x)) (sym (add-one i)) in
     cc
 
 pub lines_none : {bs : List ℕ} (x : ℕ) → bs ≡ bs ++ lines_of (references 0 x)

@@ -134,9 +134,8 @@ unfolding weight_of user
 user_weighs j x =
     let refs = references reference_count x in
     let front = command.Initiate counter ∷ command.Initiate shared ∷ command.Initiate (own j) ∷ [] in
-    let parts = sum_by-append weight front (refs ++ command.End ∷ []) in
     let more = sum_by-append weight refs (command.End ∷ []) in
-    omega (arith, parts, more, weigh_as_many reference_count x)
+    omega (arith, sum_by-append weight front (refs ++ command.End ∷ []), more, weigh_as_many reference_count x)
 
 -- ---- the day
 
