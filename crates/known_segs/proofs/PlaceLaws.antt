@@ -96,8 +96,11 @@ at_most_next kept {n} few e =
     let size = padded_size kept few in
     let within = h.0 in
     elim (cases_lt (length kept) n) [
-      | inl lt ↦ absurd (cc (h.2 (length kept) lt, ap is_none (sym (padded_at kept (length kept))
-          ∙ get_or_past kept (length kept) None (omega arith))))
+      | inl lt ↦ absurd (cc (
+        h.2 (length kept) lt,
+        ap is_none (sym (padded_at kept (length kept))
+            ∙ get_or_past kept (length kept) None (omega arith)),
+      ))
       | inr le ↦ (omega arith, omega arith)
     ]
 

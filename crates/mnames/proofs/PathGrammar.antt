@@ -201,9 +201,14 @@ name_before m x rest k name sign h = record {
         → Begins m (take (suc j) r)
     none [] j at b lt = absurd (omega arith)
     none (c ∷ s) j at ([], more, few, each, e) lt = absurd (cc)
-    none (c ∷ s) j at (y ∷ ys, more, few, each, e) lt =
-        (ys, more, omega arith, each.1, cc (inner (take j s) y ys more each.0
-            (cc (append_assoc x (c ∷ take j s) more))))
+    none (c ∷ s) j at (y ∷ ys, more, few, each, e) lt = (
+      ys,
+      more,
+      omega arith,
+      each.1,
+      cc (inner (take j s) y ys more each.0
+          (cc (append_assoc x (c ∷ take j s) more))),
+    )
 
     past : (j : ℕ) → k < j → j ≤ length rest → Begins (suc m) (62 ∷ take (length x + j) (x ++ rest)) → ⊥
     past zero lt le b = omega arith

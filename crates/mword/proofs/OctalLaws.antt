@@ -101,7 +101,7 @@ octal_digits_step zero rest digits all some h e = absurd (omega arith)
 octal_digits_step (suc place) rest digits all some h e =
     let low : suc place - 1 ≡ place = omega arith in
     rw (low, rw add-one at (drop-set digits place (48 + rest % 8) (omega arith)))
-        (sym (append_assoc (octal_digits place (rest / 8)) ((48 + rest % 8) ∷ []) (drop (suc place) digits))
+    (sym (append_assoc (octal_digits place (rest / 8)) ((48 + rest % 8) ∷ []) (drop (suc place) digits))
     ∙ e)
 
 pub octal_digits_end : (place rest : ℕ) (digits all : List ℕ) → place ≤ 0 → octal_digits place rest

@@ -187,21 +187,21 @@ other_keeps volumes word fields h = either_keeps (bytes_eq word (codes "acl"))
     (either_keeps (bytes_eq word (codes "truncate")) (then_keeps (path_and_number_keeps 0 262144 fields) (λ p n.
     goes (and_from (is_path p.0) (nat_le p.1 262144) n.path (up_to_most 262144 p.1 n.number)) refl))
     (either_keeps (bytes_eq word (codes "move"))
-        (any_keeps _ (λ f. then_keeps (path_keeps f.0) (λ path p. then_keeps (amount_keeps f.1) (λ amount a.
+    (any_keeps _ (λ f. then_keeps (path_keeps f.0) (λ path p. then_keeps (amount_keeps f.1) (λ amount a.
     goes (and_from (is_path path) (is_from 1 16384 (unsigned_abs amount)) p a) refl))))
     (either_keeps (bytes_eq word (codes "status")) (then_keeps (path_alone_keeps fields) (λ path p. goes p refl))
-        (no_end _ _ h)))))
+    (no_end _ _ h)))))
 
 reference_keeps : (volumes : ℕ) (word : List ℕ) (fields : List (List ℕ)) → bytes_eq word (codes "end") ≡ false
     → Keeps (Goes volumes) (reference_or word fields)
 unfolding reference_or read_of write_of add_of await_of is_command
 reference_keeps volumes word fields h =
     either_keeps (bytes_eq word (codes "read"))
-        (any_keeps _ (λ f. then_keeps (place_keeps f.0 f.1) (λ p n. goes n refl)))
+    (any_keeps _ (λ f. then_keeps (place_keeps f.0 f.1) (λ p n. goes n refl)))
     (either_keeps (bytes_eq word (codes "write")) (then_keeps (place_and_word_keeps fields) (λ p n. goes n refl))
     (either_keeps (bytes_eq word (codes "add")) (then_keeps (place_and_word_keeps fields) (λ p n. goes n refl))
     (either_keeps (bytes_eq word (codes "await"))
-        (any_keeps _ (λ f. then_keeps (place_keeps f.0 f.1) (λ p h. then_keeps (word_keeps f.2) (λ w k.
+    (any_keeps _ (λ f. then_keeps (place_keeps f.0 f.1) (λ p h. then_keeps (word_keeps f.2) (λ w k.
     then_keeps (number_keeps 1 100000 f.3) (λ tries n. goes (and_from (is_place p.0 p.1)
     (is_word w && is_from 1 100000 tries) h (and_from (is_word w) (is_from 1 100000 tries) k n)) refl)))))
     (other_keeps volumes word fields h))))
@@ -213,15 +213,15 @@ unfolding command_of mkdir_of mkseg_of initiate_of terminate_of delete_of is_com
 command_keeps vs word fields h = either_keeps (bytes_eq word (codes "mkdir"))
     (any_keeps _ (λ f. then_keeps (path_keeps f.0) (λ path p.
     then_keeps (volume_keeps vs f.1) (λ volume v. goes (and_from (is_path path) (nat_lt volume (length vs)) p v)
-        refl))))
+    refl))))
     (either_keeps (bytes_eq word (codes "mkseg"))
-        (any_keeps _ (λ f. then_keeps (path_keeps f.0) (λ path p. then_keeps (number_keeps 1 256 f.1) (λ pages n.
+    (any_keeps _ (λ f. then_keeps (path_keeps f.0) (λ path p. then_keeps (number_keeps 1 256 f.1) (λ pages n.
     then_keeps (volume_keeps vs f.2) (λ volume v. goes (and_from (is_path path)
     (is_from 1 256 pages && nat_lt volume (length vs)) p
     (and_from (is_from 1 256 pages) (nat_lt volume (length vs)) n v)) refl)))))
     (either_keeps (bytes_eq word (codes "initiate")) (then_keeps (path_alone_keeps fields) (λ path p. goes p refl))
     (either_keeps (bytes_eq word (codes "terminate"))
-        (any_keeps _ (λ f. then_keeps (number_keeps 0 255 f) (λ number n. goes (up_to_most 255 number n) refl)))
+    (any_keeps _ (λ f. then_keeps (number_keeps 0 255 f) (λ number n. goes (up_to_most 255 number n) refl)))
     (either_keeps (bytes_eq word (codes "delete")) (then_keeps (path_alone_keeps fields) (λ path p. goes p refl))
     (reference_keeps (length vs) word fields h)))))
 

@@ -63,8 +63,11 @@ placed n o h =
     record {
       number = decimal_field n (omega arith);
       offset = decimal_field o (omega arith);
-      again = rw (number_again 0 255 n (omega arith) (omega arith) few, number_again 0 999999 o (omega arith)
-          (omega arith) near) refl;
+      again = rw (
+        number_again 0 255 n (omega arith) (omega arith) few,
+        number_again 0 999999 o (omega arith)
+            (omega arith) near,
+      ) refl;
     }
 
 -- ---- each command is read back
@@ -94,8 +97,12 @@ command_again vs (command.MkSeg path pages volume) a h =
     record {
       fields = worded (command.MkSeg path pages volume)
           (three (path_field path p) (decimal_field pages (omega arith)) (volume_field vs volume v a.each));
-      again = rw (path_in_again path p, number_again 1 256 pages (omega arith) n.0 n.1, volume_again vs volume v
-          a.each a.own) refl;
+      again = rw (
+        path_in_again path p,
+        number_again 1 256 pages (omega arith) n.0 n.1,
+        volume_again vs volume v
+            a.each a.own,
+      ) refl;
     }
 command_again vs (command.Initiate path) a h = record {
   fields = worded (command.Initiate path) (last_field (path_field path h));

@@ -77,7 +77,7 @@ volume_reaches base s done v takes h new room sum =
     let few : nat_le 4 (length done) ≡ false = grind (arith, nat_tests) in
     let fits : nat_lt 16384 (sum_by records_of done + v.records) ≡ false = grind (arith, nat_tests) in
     reaches_line {word = codes "volume"} (front_field (record { some = omega arith; bytes = refl })
-        (front_field (name_field v.name named)
+    (front_field (name_field v.name named)
     (front_field (decimal_field v.records (omega arith)) (last_field (decimal_field v.entries (omega arith)))))) refl
     (simp (
       and_false,
@@ -167,7 +167,7 @@ bulks_reach base done (b ∷ bs) a h =
     let v : b.volume < length base.plan.volumes = grind (arith, nat_tests, h.each) in
     let n : (1 ≤ b.places) × (b.places ≤ 1024) = (grind (arith, nat_tests, h.each), grind (arith, nat_tests, h.each)) in
     reaches_both (reaches_line {word = codes "bulk"}
-        (front_field (record { some = omega arith; bytes = refl }) (front_field
+    (front_field (record { some = omega arith; bytes = refl }) (front_field
     (volume_field base.plan.volumes b.volume v a.each) (last_field (decimal_field b.places (omega arith))))) refl (rw (
       volume_again base.plan.volumes b.volume v a.each a.own,
       other_volumes done b bs h.own,
@@ -216,12 +216,12 @@ fails_reach base s done (f ∷ fs) takes a h =
     let vs = base.plan.volumes in
     let v : f.volume < length base.plan.volumes = grind (arith, nat_tests, h.each) in
     let n : (1 ≤ f.number) × (f.number ≤ 1000000) =
-        (grind (arith, nat_tests, h.each), grind (arith, nat_tests, h.each)) in
+    (grind (arith, nat_tests, h.each), grind (arith, nat_tests, h.each)) in
     let few : nat_lt (length done) 100 ≡ true = grind (arith, nat_tests, h.few) in
     let rest = fails_reach base stage.Fails (done ++ f ∷ []) fs refl a
     (record { each = grind (arith, nat_tests, h.each); few = omega (arith, length-append done (f ∷ []), h.few) }) in
     reaches_both (reaches_line {word = codes "fail"}
-        (front_field (record { some = omega arith; bytes = refl }) (front_field
+    (front_field (record { some = omega arith; bytes = refl }) (front_field
     (volume_field vs f.volume v a.each) (front_field (write_field f.write)
     (last_field (call_field f.number f.onward n.1))))) refl (simp (
       and_false,

@@ -27,7 +27,7 @@ module _ (base : DraftPlan) (a : AreVolumes base.plan.volumes) where
   goes_on : (done : List Command) (u : ℕ) (c : Command) → is_command (length base.plan.volumes) c ≡ true
       → is_end c ≡ false → u + weight c ≤ 100000
       → Reaches (inside base done u) (ended (command_text base.plan.volumes c))
-          (inside base (done ++ c ∷ []) (u + weight c))
+      (inside base (done ++ c ∷ []) (u + weight c))
   unfolding line_at later_at command_line
   goes_on done u c h going le =
       let few : nat_le (u + weight c) 100000 ≡ true = grind (arith, nat_tests) in
@@ -37,7 +37,7 @@ module _ (base : DraftPlan) (a : AreVolumes base.plan.volumes) where
   ends : (done : List Command) (u : ℕ) (c : Command) → is_command (length base.plan.volumes) c ≡ true
       → is_end c ≡ true → u + weight c ≤ 100000
       → Reaches (inside base done u) (ended (command_text base.plan.volumes c))
-          (behind base (done ++ c ∷ []) (u + weight c))
+      (behind base (done ++ c ∷ []) (u + weight c))
   unfolding line_at later_at command_line
   ends done u c h end le =
       let few : nat_le (u + weight c) 100000 ≡ true = grind (arith, nat_tests) in
@@ -87,7 +87,7 @@ process_reaches base s done before u x may a h room le =
     let after : has_volume s ≡ true = grind (arith, nat_tests) in
     let outer : is_inside s ≡ false = grind (arith, nat_tests) in
     reaches_both (reaches_line {word = codes "process"}
-        (front_field (record { some = omega arith; bytes = refl }) (last_field (who_field x.who who))) refl
+    (front_field (record { some = omega arith; bytes = refl }) (last_field (who_field x.who who))) refl
     (simp (and_false, outer, after, who_in_again x.who who, few)))
     (commands_reach (record base { plan = record base.plan { processes = done }; who = x.who }) a [] u
     (u + weight_of x) x.commands (grind (arith, nat_tests)) (grind (arith, nat_tests)) refl le)
@@ -128,7 +128,7 @@ processes_read base s done before u (x ∷ xs) n may a h room le =
     (omega (arith, le, sum_by-cons weight_of x xs))).reads n (processes_text base.plan.volumes false xs) in
     step.1
     ∙ processes_read base stage.Processes (done ++ x ∷ []) x.who (u + weight_of x) xs step.0 refl a
-        (grind (arith, nat_tests))
+    (grind (arith, nat_tests))
     (omega (arith, room, length-append done (x ∷ []))) (omega (arith, le, sum_by-cons weight_of x xs))
     ∙ ap (λ (t : List ProcessPlan). Ok (record base.plan { processes = t })) (append_assoc done (x ∷ []) xs)
 
@@ -141,7 +141,7 @@ unfolding processes_text
 first_read base s before [] n may a h first room le = absurd first
 first_read base s before (x ∷ xs) n may a h first room le =
     let step = (first_reaches base s before 0 x may a (grind (arith, nat_tests)) first
-        (omega (arith, le, sum_by-cons weight_of x xs))).reads n
+    (omega (arith, le, sum_by-cons weight_of x xs))).reads n
     (processes_text base.plan.volumes false xs) in
     step.1
     ∙ processes_read (initial base) stage.Processes (x ∷ []) initializer_who (0 + weight_of x) xs
