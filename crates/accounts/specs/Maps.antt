@@ -1,7 +1,6 @@
 -- What a contract sees of the directory tree with its accounts: the nodes with their quotas, the newest first, the VTOC
 -- entry of each, the next uid, and how many stored pages each segment has (Organick 1972).
-use Rattle.std.specs.Prelude.{◌≡◌, ◌≢◌, ℕ, ◌+◌, ◌==◌, if◌then◌else◌, codes, true, map, List, [], ◌∷◌, Some, None}
-use Rattle.std.specs.Prelude.{count_by, length}
+use Rattle.std.specs.Prelude.{◌≡◌, ◌≢◌, ℕ, ◌+◌, ◌==◌, if◌then◌else◌, codes, true, map, List, [], ◌∷◌, Some, None, count_by, length}
 use Rattle.tree_model.specs.Access.{Row, with_row}
 use Rattle.tree_model.specs.Tree.{Node, with_node, without_node}
 use Rattle.tree_model.specs.Trees.{has_segment}

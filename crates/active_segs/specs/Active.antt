@@ -1,7 +1,5 @@
 -- What a contract sees of an active segment table (Bensoussan, Clingen and Daley 1972; the pools are own).
-use Rattle.std.specs.Prelude.{◌≡◌, ◌≢◌, ℕ, ◌+◌, ◌^◌, ◌<◌, List, [], ◌++◌, length, replicate, take, drop, count_by}
-use Rattle.std.specs.Prelude.{Option, Some, None, IsSome, is_some}
-use Rattle.std.specs.Prelude.{slice_index_or, slice_set, sum}
+use Rattle.std.specs.Prelude.{◌≡◌, ◌≢◌, ℕ, ◌+◌, ◌^◌, ◌<◌, List, [], ◌++◌, length, replicate, take, drop, count_by, Option, Some, None, IsSome, is_some, slice_index_or, slice_set, sum}
 use Rattle.page_table.specs.declared.Ptw.{Ptw}
 use Rattle.page_table.specs.declared.Ptw.TheVariants.{Null, Out, Here, Leaving}
 use Rattle.active_segs.specs.declared.Entry.{Entry}

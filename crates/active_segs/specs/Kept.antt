@@ -1,6 +1,5 @@
 -- What holds of the fields of an active segment table; contracts don't see it.
-use Rattle.std.specs.Prelude.{◌≡◌, ℕ, ◌+◌, ◌<◌, ◌↔◌, Bool, false, List, [], length, Option, Some, None, is_some}
-use Rattle.std.specs.Prelude.{slice_index_or, slice_set, sum, count_by}
+use Rattle.std.specs.Prelude.{◌≡◌, ℕ, ◌+◌, ◌<◌, ◌↔◌, Bool, false, List, [], length, Option, Some, None, is_some, slice_index_or, slice_set, sum, count_by}
 use Rattle.bitmap.specs.Bitmap.{in_use}
 use Rattle.page_table.specs.declared.Ptw.{Ptw}
 use Rattle.active_segs.specs.declared.Entry.{Entry}

@@ -1,7 +1,5 @@
 -- What the rest of the crate sees of the index: a list of uids with their places, and how many it has room for.
-use Rattle.std.specs.Prelude.{◌≡◌, ◌≢◌, ℕ, ◌<◌, ◌≤◌, ◌%◌, ◌==◌, List, [], ◌∷◌, Option, Some, None, length}
-use Rattle.std.specs.Prelude.{slice_index_or, if◌then◌else◌}
-use Rattle.std.specs.Prelude.{flat_map}
+use Rattle.std.specs.Prelude.{◌≡◌, ◌≢◌, ℕ, ◌<◌, ◌≤◌, ◌%◌, ◌==◌, List, [], ◌∷◌, Option, Some, None, length, slice_index_or, if◌then◌else◌, flat_map}
 
 -- the uids that are in the index, each with its place, and the room for them
 pub record Pairs : Type 0 where

@@ -1,7 +1,6 @@
 -- What a contract sees of the associative memories of a processor: what they hold, in two lists, the oldest fill first
 -- (Bensoussan, Clingen and Daley 1972; the 16 places of each kind, and that the oldest fill is dropped, are own).
-use Rattle.std.specs.Prelude.{ℕ, ◌==◌, ◌&&◌, Bool, true, false, not, List, [], ◌∷◌, ◌++◌, length, drop, filter, Option}
-use Rattle.std.specs.Prelude.{if◌then◌else◌}
+use Rattle.std.specs.Prelude.{ℕ, ◌==◌, ◌&&◌, Bool, true, false, not, List, [], ◌∷◌, ◌++◌, length, drop, filter, Option, if◌then◌else◌}
 use Rattle.std.specs.Option.{option_map}
 use Rattle.std.specs.List.{find}
 use Rattle.assoc_mem.specs.declared.HeldSeg.{HeldSeg}

@@ -1,8 +1,6 @@
 use Rattle.bitmap.proofs.Prelude.{◌≡◌, ◌≢◌, ℕ, ◌+◌, ◌-◌, ◌*◌, ◌/◌, ◌%◌, ◌^◌, ◌<◌, ◌≤◌, Bool, true, false, not, cond, eqb, List, length, Some, None, refl, sym, ap, ◌∙◌, arith, get_or, set, inl, inr, slice_index, count_by, All, bit_at, w64, trailing_ones, eqb_tells, cases_eq, lt-ltb, le-ltb, length-set, get_or_read, All-get_or, All-from_get_or, prefix_len_is, count_by-le-length, bit_at-trailing_ones, in_use, least_free, IsLeastFree, with_bit, without_bit, full_after, flags_of, IsFirstOff, HasTwoLevels, below_or_past, count_with, count_without}
 use Rattle.bitmap.specs.Bits.{bit_on}
-use Rattle.bitmap.proofs.BitLemmas.{word_with_other, word_without_other, length_with_bit, length_without_bit}
-use Rattle.bitmap.proofs.BitLemmas.{on_with_bit, off_without_bit, on_with_other, on_without_other, on_in_full_word}
-use Rattle.bitmap.proofs.BitLemmas.{off_word_has_room, length_flags, flag_at, flags_with_bit, flags_without_bit}
+use Rattle.bitmap.proofs.BitLemmas.{word_with_other, word_without_other, length_with_bit, length_without_bit, on_with_bit, off_without_bit, on_with_other, on_without_other, on_in_full_word, off_word_has_room, length_flags, flag_at, flags_with_bit, flags_without_bit}
 
 -- a test for equality that fails, and one that holds
 pub off_test : (a b : ℕ) → a ≢ b → eqb a b ≡ false

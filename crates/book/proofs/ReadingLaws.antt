@@ -1,19 +1,14 @@
 -- That each entry's text is read back as the entry, and that nothing else is read.
-use Rattle.std.proofs.Common.{rules, ◌≡◌, ℕ, zero, suc, ◌+◌, ◌<◌, ◌≤◌, ◌^◌, ◌⊎◌, Bool, true, false, not, ◌&&◌, cond}
-use Rattle.std.proofs.Common.{eqb, List, [], ◌∷◌, ◌++◌, length, get_or, take, drop, drop-cons, add-one, Option, Some}
-use Rattle.std.proofs.Common.{None, refl, sym, ap, subst}
-use Rattle.std.proofs.Common.{◌∙◌, arith, IfSome, inl, inr}
+use Rattle.std.proofs.Common.{rules, ◌≡◌, ℕ, zero, suc, ◌+◌, ◌<◌, ◌≤◌, ◌^◌, ◌⊎◌, Bool, true, false, not, ◌&&◌, cond, eqb, List, [], ◌∷◌, ◌++◌, length, get_or, take, drop, drop-cons, add-one, Option, Some, None, refl, sym, ap, subst, ◌∙◌, arith, IfSome, inl, inr}
 use Rattle.std.specs.Prelude.{codes, nat_lt, nat_le, ◌==◌, ◌/◌, ◌%◌}
 use Rattle.std.specs.Char.{is_ascii_digit}
 use Rattle.std.specs.Fmt.{decimal}
-use Rattle.std.specs.List.{AllByRecursion, slice_split, list_all, join_with_byte, before_first, after_first}
-use Rattle.std.specs.List.{position_or_len}
+use Rattle.std.specs.List.{AllByRecursion, slice_split, list_all, join_with_byte, before_first, after_first, position_or_len}
 use Rattle.std.specs.Option.{option_map, option_and_then}
 use Rattle.std.specs.Str.{bytes_eq}
 use Rattle.std.specs.Str.Parse.{digits_value}
 use Rattle.std.proofs.lemmas.Bool.Decides.{nat_tests}
-use Rattle.std.proofs.lemmas.Fmt.{decimal_digit, digits_decimal, decimal-digits_value, digits_value-decimal}
-use Rattle.std.proofs.lemmas.Fmt.{decimal_nonempty, length-decimal-le, first_decimal}
+use Rattle.std.proofs.lemmas.Fmt.{decimal_digit, digits_decimal, decimal-digits_value, digits_value-decimal, decimal_nonempty, length-decimal-le, first_decimal}
 use Rattle.std.proofs.lemmas.Grind.{common_steps}
 use Rattle.std.proofs.lemmas.List.{append_assoc, take_all}
 use Rattle.std.proofs.lemmas.List.Splits.{join_with_byte-slice_split}
@@ -34,11 +29,7 @@ use Rattle.book.specs.declared.replies.Reply.{Reply}
 use Rattle.book.specs.declared.replies.Reply.TheVariants as reply
 use Rattle.book.specs.Entries.{counted_text, entry_text, number_text, what_text}
 use Rattle.book.specs.Replies.{bare_replies, bare_text, reply_text}
-use Rattle.book.specs.Reading.{is_space, is_dot, is_plain, is_number, number_of, number_or_none, word_of, both}
-use Rattle.book.specs.Reading.{dotted_of, named_reply, bare_reply}
-use Rattle.book.specs.Reading.{numbered_reply, status_reply, status_of, triple, reply_of, what_of, dropped_of}
-use Rattle.book.specs.Reading.{named_of, gone, back, filled, fill_of, fault_of, answered_of, do_of, of_one, of_two}
-use Rattle.book.specs.Reading.{of_three, plain_of, entry_of, entry_of_words, IsSmall, IsReply, IsWhat, IsEntry}
+use Rattle.book.specs.Reading.{is_space, is_dot, is_plain, is_number, number_of, number_or_none, word_of, both, dotted_of, named_reply, bare_reply, numbered_reply, status_reply, status_of, triple, reply_of, what_of, dropped_of, named_of, gone, back, filled, fill_of, fault_of, answered_of, do_of, of_one, of_two, of_three, plain_of, entry_of, entry_of_words, IsSmall, IsReply, IsWhat, IsEntry}
 use Rattle.book.proofs.Words.{lacks, AllLack, words_of_join, before_dot, after_dot, dot_there, dot_within}
 
 -- ---- numbers

@@ -1,6 +1,5 @@
 -- How the text of an entry is read: as words with a space between each two (own).
-use Rattle.std.specs.Prelude.{◌<◌, ◌^◌, ℕ, Bool, ◌&&◌, ◌||◌, not, ◌==◌, nat_lt, nat_le, if◌then◌else◌, length}
-use Rattle.std.specs.Prelude.{slice_index, List, [], ◌∷◌, Option, Some, None, codes, IfSome}
+use Rattle.std.specs.Prelude.{◌<◌, ◌^◌, ℕ, Bool, ◌&&◌, ◌||◌, not, ◌==◌, nat_lt, nat_le, if◌then◌else◌, length, slice_index, List, [], ◌∷◌, Option, Some, None, codes, IfSome}
 use Rattle.std.specs.Char.{is_ascii_digit}
 use Rattle.std.specs.List.{before_first, after_first, list_all}
 use Rattle.std.specs.Option.{option_map, option_and_then}

@@ -1,6 +1,5 @@
 -- The lines of an input: a script, a line `book`, and the lines of a listing (own).
-use Rattle.std.specs.Prelude.{ℕ, ◌+◌, ◌-◌, Bool, ◌==◌, ◌&&◌, if◌then◌else◌, List, [], ◌∷◌, length, take, drop, fold}
-use Rattle.std.specs.Prelude.{slice_index_or, Result, Ok, codes}
+use Rattle.std.specs.Prelude.{ℕ, ◌+◌, ◌-◌, Bool, ◌==◌, ◌&&◌, if◌then◌else◌, List, [], ◌∷◌, length, take, drop, fold, slice_index_or, Result, Ok, codes}
 use Rattle.std.specs.List.{list_all}
 use Rattle.std.specs.Str.{bytes_eq}
 use Rattle.script.specs.Drafts.{blank}

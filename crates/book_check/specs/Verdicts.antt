@@ -12,8 +12,7 @@ use Rattle.flat_store.specs.Zeros.{HasZeroPage}
 use Rattle.custody_model.specs.Allowed.{IsAllowed}
 use Rattle.custody_model.specs.Clean.{IsClean, custody_after}
 use Rattle.listing.specs.Listings.{summary_of, summary_text}
-use Rattle.book_check.specs.Inputs.{script_lines, listing_lines, first_number, script_of_lines, entry_lines}
-use Rattle.book_check.specs.Inputs.{summary_lines}
+use Rattle.book_check.specs.Inputs.{script_lines, listing_lines, first_number, script_of_lines, entry_lines, summary_lines}
 use Rattle.book_check.specs.declared.offences.Rule.{Rule}
 use Rattle.book_check.specs.declared.offences.Rule.TheVariants as rule
 use Rattle.book_check.specs.declared.offences.Offence.{Offence}

@@ -1,7 +1,5 @@
 -- The index tells what the list does, before and after each change.
-use Rattle.std.proofs.Common.{◌≡◌, ◌≢◌, ◌<◌, ◌+◌, ℕ, max, List, [], ◌∷◌, ◌⊎◌, None, Some, length, get_or, set}
-use Rattle.std.proofs.Common.{sym, ◌∙◌, ap, inl, inr, arith}
-use Rattle.std.proofs.Common.{length-append}
+use Rattle.std.proofs.Common.{◌≡◌, ◌≢◌, ◌<◌, ◌+◌, ℕ, max, List, [], ◌∷◌, ◌⊎◌, None, Some, length, get_or, set, sym, ◌∙◌, ap, inl, inr, arith, length-append}
 use Rattle.std.proofs.lemmas.Bool.{cases_eq}
 use Rattle.std.proofs.lemmas.List.{get_or-set_same, get_or-set_other, length-set, get_or_past}
 use Rattle.bulk_store.specs.declared.index.Held.{Held}

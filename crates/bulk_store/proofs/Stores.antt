@@ -1,6 +1,5 @@
 -- A store stays one, and its pages change as they should, by each step of a write.
-use Rattle.std.proofs.Common.{◌≡◌, ◌<◌, ◌≤◌, ℕ, List, ◌∷◌, [], false, nat_lt, None, Some, length, get_or, set, refl}
-use Rattle.std.proofs.Common.{sym, ◌∙◌, ap, inl, inr, arith}
+use Rattle.std.proofs.Common.{◌≡◌, ◌<◌, ◌≤◌, ℕ, List, ◌∷◌, [], false, nat_lt, None, Some, length, get_or, set, refl, sym, ◌∙◌, ap, inl, inr, arith}
 use Rattle.std.proofs.lemmas.Bool.{cases_eq, lt-ltb}
 use Rattle.std.proofs.lemmas.List.{get_or-set_same, get_or-set_other, length-set, get_or_past}
 use Rattle.std.proofs.lemmas.List.Elements.{All-get_or, All-from_get_or}
@@ -11,10 +10,8 @@ use Rattle.bulk_store.specs.Index.{Holdings, IsIndexed}
 use Rattle.bulk_store.specs.Pages.{pages_of}
 use Rattle.bulk_store.specs.Contents.{Contents, IsStore, gave_up_oldest, took_in}
 use Rattle.bulk_store.proofs.Places.{place_of-first, place_of-rest, place_of-newest, place_of-others}
-use Rattle.bulk_store.proofs.Indexed.{rest_places, with_record-indexed, without_oldest-indexed}
-use Rattle.bulk_store.proofs.Indexed.{free_place-within}
-use Rattle.bulk_store.proofs.Pages.{held_or_not, page_of-held, page_of-other, pages_same, pages_with, length-pages_of}
-use Rattle.bulk_store.proofs.Pages.{get_or-pages_of}
+use Rattle.bulk_store.proofs.Indexed.{rest_places, with_record-indexed, without_oldest-indexed, free_place-within}
+use Rattle.bulk_store.proofs.Pages.{held_or_not, page_of-held, page_of-other, pages_same, pages_with, length-pages_of, get_or-pages_of}
 use Rattle.laws.proofs.Numbers.{below_or_past}
 
 -- a held record is one of the disk's, and its place one of the fast store's

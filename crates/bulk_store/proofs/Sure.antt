@@ -1,7 +1,5 @@
 -- A drive in core without lines never fails.
-use Rattle.std.proofs.Common.{◌≡◌, ℕ, false, true, [], refl, ◌⊎◌, Option, None, Some, Result, Ok, Err}
-use Rattle.std.proofs.Common.{IsOk, IfSome, IfNone, OnOk, OnErr, inl, inr}
-use Rattle.std.proofs.Common.{arith}
+use Rattle.std.proofs.Common.{◌≡◌, ℕ, false, true, [], refl, ◌⊎◌, Option, None, Some, Result, Ok, Err, IsOk, IfSome, IfNone, OnOk, OnErr, inl, inr, arith}
 use Rattle.site_io.specs.Faults.{Rose}
 use Rattle.volumes.specs.FailLine.{IsOneMore}
 use Rattle.volumes.specs.CoreDrive.{DriveState, faults_of}

@@ -1,7 +1,5 @@
 -- What a whole write leaves, from what its steps leave.
-use Rattle.std.proofs.Common.{◌≡◌, ◌<◌, ℕ, List, [], ◌⊎◌, Bool, true, false, nat_lt, is_some, None, Some, Result}
-use Rattle.std.proofs.Common.{Ok, Err, OnOk, OnErr, length, get_or}
-use Rattle.std.proofs.Common.{set, refl, sym, ◌∙◌, ap, subst, inl, inr, arith}
+use Rattle.std.proofs.Common.{◌≡◌, ◌<◌, ℕ, List, [], ◌⊎◌, Bool, true, false, nat_lt, is_some, None, Some, Result, Ok, Err, OnOk, OnErr, length, get_or, set, refl, sym, ◌∙◌, ap, subst, inl, inr, arith}
 use Rattle.std.proofs.lemmas.List.{length-set, ext_get_or}
 use Rattle.bulk_store.specs.declared.index.Held.{Held}
 use Rattle.bulk_store.specs.Held.{place_of, IsLeastFreePlace, BulkAfter}

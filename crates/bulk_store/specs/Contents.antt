@@ -1,6 +1,5 @@
 -- What a bulk store consists of: the pages of its two drives and the list of what is held (own).
-use Rattle.std.specs.Prelude.{◌≡◌, ◌<◌, ◌≤◌, ◌^◌, ◌⊎◌, ℕ, Bool, List, [], false, nat_lt, length, slice_index_or}
-use Rattle.std.specs.Prelude.{slice_set, if◌then◌else◌, Option, None, Some, IsTrue, OnOk, OnErr, Result}
+use Rattle.std.specs.Prelude.{◌≡◌, ◌<◌, ◌≤◌, ◌^◌, ◌⊎◌, ℕ, Bool, List, [], false, nat_lt, length, slice_index_or, slice_set, if◌then◌else◌, Option, None, Some, IsTrue, OnOk, OnErr, Result}
 use Rattle.site_io.specs.Faults.{Rose}
 use Rattle.site_io.specs.declared.stream.Failed.{Failed}
 use Rattle.volumes.specs.declared.drive.FailLine.{FailLine}

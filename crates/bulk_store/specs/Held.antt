@@ -1,7 +1,5 @@
 -- The list of the records that a fast store holds, the oldest first (own).
-use Rattle.std.specs.Prelude.{◌≡◌, ◌≢◌, ◌<◌, ℕ, Bool, ◌||◌, is_some, List, [], ◌∷◌, ◌++◌, drop, length, nat_lt, ◌==◌}
-use Rattle.std.specs.Prelude.{if◌then◌else◌, Option, None, Some}
-use Rattle.std.specs.Prelude.{MatchOption, MatchBool}
+use Rattle.std.specs.Prelude.{◌≡◌, ◌≢◌, ◌<◌, ℕ, Bool, ◌||◌, is_some, List, [], ◌∷◌, ◌++◌, drop, length, nat_lt, ◌==◌, if◌then◌else◌, Option, None, Some, MatchOption, MatchBool}
 use Rattle.bulk_store.specs.declared.index.Held.{Held}
 
 -- the place of record r, if it is held

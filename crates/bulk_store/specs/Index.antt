@@ -1,6 +1,5 @@
 -- The list of what is held, with an index by record (own).
-use Rattle.std.specs.Prelude.{◌≡◌, ◌≢◌, ◌<◌, ◌≤◌, ◌+◌, ℕ, max, List, [], ◌∷◌, drop, length, replicate, slice_index_or}
-use Rattle.std.specs.Prelude.{slice_set, Option, None, Some}
+use Rattle.std.specs.Prelude.{◌≡◌, ◌≢◌, ◌<◌, ◌≤◌, ◌+◌, ℕ, max, List, [], ◌∷◌, drop, length, replicate, slice_index_or, slice_set, Option, None, Some}
 use Rattle.bulk_store.specs.declared.index.Held.{Held}
 use Rattle.bulk_store.specs.Held.{place_of, oldest_of, with_newest}
 

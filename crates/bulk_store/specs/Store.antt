@@ -1,6 +1,5 @@
 -- What callers see of a bulk store (own).
-use Rattle.std.specs.Prelude.{◌≡◌, ◌+◌, ◌⊎◌, ℕ, false, List, [], ◌∷◌, ◌++◌, drop, length, slice_index_or, slice_set}
-use Rattle.std.specs.Prelude.{if◌then◌else◌, Option, None, Some}
+use Rattle.std.specs.Prelude.{◌≡◌, ◌+◌, ◌⊎◌, ℕ, false, List, [], ◌∷◌, ◌++◌, drop, length, slice_index_or, slice_set, if◌then◌else◌, Option, None, Some}
 use Rattle.volumes.specs.declared.drive.FailLine.{FailLine}
 use Rattle.bulk_store.specs.declared.index.Held.{Held}
 use Rattle.bulk_store.specs.Held.{is_fast_write}

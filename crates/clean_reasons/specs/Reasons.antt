@@ -1,6 +1,5 @@
 -- What the reasons say of the state before an entry, and that they are reasons of it (own).
-use Rattle.std.specs.Prelude.{◌≡◌, ◌≢◌, ◌≤◌, ℕ, ◌&&◌, Bool, true, false, count_by, length, []}
-use Rattle.std.specs.Prelude.{Option, Some, None, IsSomeAnd, MatchOption}
+use Rattle.std.specs.Prelude.{◌≡◌, ◌≢◌, ◌≤◌, ℕ, ◌&&◌, Bool, true, false, count_by, length, [], Option, Some, None, IsSomeAnd, MatchOption}
 use Rattle.assoc_mem.specs.declared.What.{What}
 use Rattle.script.specs.Plans.{Plan}
 use Rattle.script.specs.References.{reference_of}
@@ -12,8 +11,7 @@ use Rattle.flat_model.specs.Pages.{is_stored}
 use Rattle.flat_model.specs.Store.{Store, known_uid, progress_of}
 use Rattle.custody_model.specs.declared.FrameUse.TheVariants as slot
 use Rattle.custody_model.specs.declared.DescriptorUse.TheVariants as lead
-use Rattle.custody_model.specs.Custody.{Custody, bound_page, has, is_going_descriptor, is_going_frame, is_started}
-use Rattle.custody_model.specs.Custody.{is_uid, leads_to, names_descriptor, names_frame}
+use Rattle.custody_model.specs.Custody.{Custody, bound_page, has, is_going_descriptor, is_going_frame, is_started, is_uid, leads_to, names_descriptor, names_frame}
 use Rattle.custody_model.specs.Allowed.{IsAllowed, IsFront, SomethingGoes, is_active_in, is_word_or_done, next_command}
 use Rattle.clean_reasons.specs.Rows.{IsAbout}
 use Rattle.clean_reasons.specs.declared.reasons.Held.{Held}

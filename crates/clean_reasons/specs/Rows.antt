@@ -1,7 +1,6 @@
 -- Which reasons an entry can have: each is one of the conditions that the entry needs, with the numbers that it names
 -- (own).
-use Rattle.std.specs.Prelude.{◌≡◌, ◌≢◌, ◌<◌, ◌≤◌, ◌⊎◌, ℕ, ◌+◌, ◌*◌, ◌/◌, true, false}
-use Rattle.std.specs.Prelude.{Option, Some, None, IsSomeAnd, is_some, Result, Ok, Err}
+use Rattle.std.specs.Prelude.{◌≡◌, ◌≢◌, ◌<◌, ◌≤◌, ◌⊎◌, ℕ, ◌+◌, ◌*◌, ◌/◌, true, false, Option, Some, None, IsSomeAnd, is_some, Result, Ok, Err}
 use Rattle.assoc_mem.specs.declared.What.{What}
 use Rattle.script.specs.Plans.{Plan}
 use Rattle.script.specs.References.{reference_of}

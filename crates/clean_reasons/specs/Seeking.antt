@@ -1,8 +1,7 @@
 -- What frames, descriptors and processors are looked for by (own).
 use Rattle.std.specs.Prelude.{◌≡◌, ◌<◌, ◌≤◌, ℕ, Bool, true, false, ◌&&◌, ◌==◌, not, is_some, Option, Some, None}
 use Rattle.assoc_mem.specs.declared.What.{What}
-use Rattle.custody_model.specs.Custody.{Custody, Seat, bound_page, has, is_going_descriptor, is_going_frame, is_uid}
-use Rattle.custody_model.specs.Custody.{leads_to, page_of, uid_of_page}
+use Rattle.custody_model.specs.Custody.{Custody, Seat, bound_page, has, is_going_descriptor, is_going_frame, is_uid, leads_to, page_of, uid_of_page}
 use Rattle.custody_model.specs.declared.FrameUse.{FrameUse}
 use Rattle.custody_model.specs.declared.FrameUse.TheVariants as frame
 use Rattle.custody_model.specs.declared.DescriptorUse.{DescriptorUse}

@@ -1,6 +1,5 @@
 -- What each entry changes in the tables (own).
-use Rattle.std.specs.Prelude.{◌≡◌, ◌<◌, ◌+◌, ◌-◌, ℕ, Bool, true, false, not, ◌==◌, if◌then◌else◌, slice_set}
-use Rattle.std.specs.Prelude.{replicate, length, drop, List, [], ◌∷◌, ◌++◌, Option, Some, None}
+use Rattle.std.specs.Prelude.{◌≡◌, ◌<◌, ◌+◌, ◌-◌, ℕ, Bool, true, false, not, ◌==◌, if◌then◌else◌, slice_set, replicate, length, drop, List, [], ◌∷◌, ◌++◌, Option, Some, None}
 use Rattle.std.specs.List.{filter}
 use Rattle.assoc_mem.specs.declared.What.{What}
 use Rattle.assoc_mem.specs.declared.What.TheVariants as what
@@ -12,8 +11,7 @@ use Rattle.book.specs.declared.replies.Reply.{Reply}
 use Rattle.tree_model.specs.Tree.{node_in}
 use Rattle.flat_model.specs.Store.{Store, known_uid}
 use Rattle.custody_model.specs.Allowed.{next_command}
-use Rattle.custody_model.specs.Custody.{Seat, bound_page, cut, filled, given_back, is_uid, leads_to, reconnected}
-use Rattle.custody_model.specs.Custody.{taken, uid_of_page}
+use Rattle.custody_model.specs.Custody.{Seat, bound_page, cut, filled, given_back, is_uid, leads_to, reconnected, taken, uid_of_page}
 use Rattle.custody_model.specs.Next.{is_try, queued, released_by}
 use Rattle.custody_model.specs.declared.FrameUse.{FrameUse}
 use Rattle.custody_model.specs.declared.FrameUse.TheVariants as frame

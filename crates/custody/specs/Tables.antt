@@ -1,11 +1,8 @@
 -- What the program of custody keeps, and the custody that this is (own).
-use Rattle.std.specs.Prelude.{◌≡◌, ◌<◌, ◌≤◌, ◌^◌, ◌+◌, ℕ, Bool, true, false, ◌==◌, is_some, slice_index_or, length}
-use Rattle.std.specs.Prelude.{List, [], ◌∷◌, Option, Some, None, IfSome, IsSomeAnd}
-use Rattle.std.specs.Prelude.{count_by}
+use Rattle.std.specs.Prelude.{◌≡◌, ◌<◌, ◌≤◌, ◌^◌, ◌+◌, ℕ, Bool, true, false, ◌==◌, is_some, slice_index_or, length, List, [], ◌∷◌, Option, Some, None, IfSome, IsSomeAnd, count_by}
 use Rattle.assoc_mem.specs.declared.What.{What}
 use Rattle.tree_model.specs.Tree.{Node, node_in, pool_of}
-use Rattle.custody_model.specs.Custody.{Custody, Seat, offline, is_going_frame, is_going_descriptor, names_frame}
-use Rattle.custody_model.specs.Custody.{names_descriptor}
+use Rattle.custody_model.specs.Custody.{Custody, Seat, offline, is_going_frame, is_going_descriptor, names_frame, names_descriptor}
 use Rattle.custody_model.specs.declared.FrameUse.{FrameUse}
 use Rattle.custody_model.specs.declared.DescriptorUse.{DescriptorUse}
 use Rattle.script.specs.Plans.{Plan}

@@ -1,6 +1,5 @@
 -- What each entry of a clean book leaves: what processors hold stays current, or they are warned.
-use Rattle.std.proofs.Common.{◌≡◌, ◌≢◌, ℕ, Bool, true, false, not, ◌&&◌, ◌||◌, cond, eqb, List, [], ◌∷◌, ◌++◌, Option}
-use Rattle.std.proofs.Common.{Some, None, ◌+◌, refl, sym, ap, subst, ◌∙◌, inl, inr, ◌⊎◌, arith}
+use Rattle.std.proofs.Common.{◌≡◌, ◌≢◌, ℕ, Bool, true, false, not, ◌&&◌, ◌||◌, cond, eqb, List, [], ◌∷◌, ◌++◌, Option, Some, None, ◌+◌, refl, sym, ap, subst, ◌∙◌, inl, inr, ◌⊎◌, arith}
 use Rattle.std.specs.Prelude.{IsSomeAnd, drop, length, nat_le, if◌then◌else◌}
 use Rattle.std.specs.List.{filter}
 use Rattle.std.proofs.lemmas.Bool.Decides.{nat_tests, eqb_tells}
@@ -16,14 +15,10 @@ use Rattle.custody_model.specs.declared.FrameUse.{FrameUse}
 use Rattle.custody_model.specs.declared.FrameUse.TheVariants as frame
 use Rattle.custody_model.specs.declared.DescriptorUse.{DescriptorUse}
 use Rattle.custody_model.specs.declared.DescriptorUse.TheVariants as descriptor
-use Rattle.custody_model.specs.Custody.{Custody, Seat, has, is_current_frame, is_going_frame, is_current_descriptor}
-use Rattle.custody_model.specs.Custody.{is_going_descriptor, names_frame, names_descriptor, names_number, is_started}
-use Rattle.custody_model.specs.Custody.{taken, given_back, cut, reconnected, cleared, filled, nothing_held}
-use Rattle.custody_model.specs.Allowed.{IsAllowed, MayBeHere, MayTakeSeg, NobodyHoldsPage, NobodyHoldsSeg}
-use Rattle.custody_model.specs.Allowed.{NamesAllGoing, next_command}
+use Rattle.custody_model.specs.Custody.{Custody, Seat, has, is_current_frame, is_going_frame, is_current_descriptor, is_going_descriptor, names_frame, names_descriptor, names_number, is_started, taken, given_back, cut, reconnected, cleared, filled, nothing_held}
+use Rattle.custody_model.specs.Allowed.{IsAllowed, MayBeHere, MayTakeSeg, NobodyHoldsPage, NobodyHoldsSeg, NamesAllGoing, next_command}
 use Rattle.custody_model.specs.Fine.{Fine, IsFinePage, IsFineSeg, IsWarned, NoneDue, FillsOnline, pending_after}
-use Rattle.custody_model.specs.Next.{with_frame, with_descriptor, with_active, with_seat, signalled, answered_clear}
-use Rattle.custody_model.specs.Next.{queued, is_try, released_by, custody_next}
+use Rattle.custody_model.specs.Next.{with_frame, with_descriptor, with_active, with_seat, signalled, answered_clear, queued, is_try, released_by, custody_next}
 use Rattle.laws.proofs.Bools.{not_both}
 use Rattle.std.proofs.lemmas.Bool.{false_from_ne_true}
 

@@ -1,6 +1,5 @@
 -- Which entries of a book custody allows, by the flat store before the entry (Bensoussan, Clingen and Daley 1972).
-use Rattle.std.specs.Prelude.{◌≡◌, ◌≢◌, ◌<◌, ◌≤◌, ℕ, ◌/◌, Bool, true, false, ◌&&◌, not, ◌==◌, count_by, slice_index}
-use Rattle.std.specs.Prelude.{List, [], ◌∷◌, Option, Some, None, IfSome, IsSomeAnd, ◌⊎◌}
+use Rattle.std.specs.Prelude.{◌≡◌, ◌≢◌, ◌<◌, ◌≤◌, ℕ, ◌/◌, Bool, true, false, ◌&&◌, not, ◌==◌, count_by, slice_index, List, [], ◌∷◌, Option, Some, None, IfSome, IsSomeAnd, ◌⊎◌}
 use Rattle.assoc_mem.specs.declared.What.{What}
 use Rattle.script.specs.Plans.{Plan, command_at}
 use Rattle.script.specs.References.{reference_of}
@@ -16,8 +15,7 @@ use Rattle.flat_model.specs.Pages.{is_stored}
 use Rattle.flat_model.specs.Store.{Store, known_uid, progress_of}
 use Rattle.custody_model.specs.declared.FrameUse.TheVariants as frame
 use Rattle.custody_model.specs.declared.DescriptorUse.TheVariants as descriptor
-use Rattle.custody_model.specs.Custody.{Custody, Seat, bound_page, is_started, is_current_frame, is_going_frame}
-use Rattle.custody_model.specs.Custody.{is_current_descriptor, is_going_descriptor, has, names_frame, names_descriptor}
+use Rattle.custody_model.specs.Custody.{Custody, Seat, bound_page, is_started, is_current_frame, is_going_frame, is_current_descriptor, is_going_descriptor, has, names_frame, names_descriptor}
 use Rattle.custody_model.specs.Effects.{HasNoPage, HasNoDescriptor, IsInNoFrame, MayTakeEffect}
 
 -- ---- processors and processes

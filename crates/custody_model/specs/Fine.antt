@@ -3,8 +3,7 @@ use Rattle.std.specs.Prelude.{◌≡◌, ℕ, Bool, true, false, [], Some, None,
 use Rattle.assoc_mem.specs.declared.What.{What}
 use Rattle.book.specs.declared.entries.Entry.{Entry}
 use Rattle.book.specs.declared.entries.Entry.TheVariants as entry
-use Rattle.custody_model.specs.Custody.{Custody, is_current_frame, is_going_frame, is_current_descriptor}
-use Rattle.custody_model.specs.Custody.{is_going_descriptor, has, names_frame, names_descriptor}
+use Rattle.custody_model.specs.Custody.{Custody, is_current_frame, is_going_frame, is_current_descriptor, is_going_descriptor, has, names_frame, names_descriptor}
 
 -- a processor is to drop something that passes a test, or the signal is still to come
 abbrev pub IsWarned : Custody → Bool → ℕ → (What → Bool) → Type 0

@@ -1,8 +1,7 @@
 -- The index of branches by superior and name.
-use Rattle.std.specs.Prelude.{false, ◌≡◌, ℕ, zero, suc, ◌<◌, ◌≤◌, ◌+◌, ◌*◌, ◌/◌, ◌%◌, ◌^◌, List, [], ◌∷◌, length, drop, fold, Option, None}
+use Rattle.std.specs.Prelude.{false, ◌≡◌, ℕ, zero, suc, ◌<◌, ◌≤◌, ◌+◌, ◌*◌, ◌/◌, ◌%◌, ◌^◌, List, [], ◌∷◌, length, drop, fold, Option, None, slice_index, slice_index_or}
 use Rattle.std.specs.Int.{from_be_bytes, w64}
 use Rattle.std.specs.Simd.{first_chunks}
-use Rattle.std.specs.Prelude.{slice_index, slice_index_or}
 use Rattle.std.specs.declared.cmp.Ordering.{Ordering}
 use Rattle.std.specs.declared.cmp.Ordering.TheVariants.{Less}
 use Rattle.std.specs.Ordering.{nat_cmp, ordering_then}

@@ -1,7 +1,5 @@
 -- What always holds of the tables behind a tree.
-use Rattle.std.specs.Prelude.{◌≡◌, ◌≢◌, ℕ, ◌+◌, ◌<◌, ◌≤◌, Bool, List, [], ◌∷◌, ◌++◌, length, map, count_by}
-use Rattle.std.specs.Prelude.{Option, Some, None, slice_index}
-use Rattle.std.specs.Prelude.{slice_index_or, ◌-◌, ◌==◌, if◌then◌else◌}
+use Rattle.std.specs.Prelude.{◌≡◌, ◌≢◌, ℕ, ◌+◌, ◌<◌, ◌≤◌, Bool, List, [], ◌∷◌, ◌++◌, length, map, count_by, Option, Some, None, slice_index, slice_index_or, ◌-◌, ◌==◌, if◌then◌else◌}
 use Rattle.dir_tree.specs.declared.node.Node.{Node}
 use Rattle.dir_tree.specs.declared.entries.Entry.{Entry}
 use Rattle.dir_tree.specs.Index.{Places, HasPlace, IsOrdered, node_at}

@@ -1,6 +1,5 @@
 -- Laws of uids and kinds, for the proofs of the crates above too.
-use Rattle.std.specs.Prelude.{◌≡◌, ◌<◌, ◌≤◌, ◌+◌, ◌-◌, ℕ, Bool, true, false, ◌||◌, ◌&&◌, not, is_some, List, [], ◌∷◌}
-use Rattle.std.specs.Prelude.{map}
+use Rattle.std.specs.Prelude.{◌≡◌, ◌<◌, ◌≤◌, ◌+◌, ◌-◌, ℕ, Bool, true, false, ◌||◌, ◌&&◌, not, is_some, List, [], ◌∷◌, map}
 use Rattle.std.proofs.Common.{arith, cond, eqb, refl, sym, ap, ◌∙◌, inl, inr}
 use Rattle.std.proofs.lemmas.Bool.{cases_Bool, cases_order, or_left, or_right, or_parts}
 use Rattle.tree_model.specs.Tree.{Node as Term, above, step_up, node_in, has_directory}

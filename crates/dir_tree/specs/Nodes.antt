@@ -1,7 +1,5 @@
 -- What a contract sees of a directory tree: its nodes, the newest first, and the next uid.
-use Rattle.std.specs.Prelude.{ℕ, ◌+◌, ◌==◌, Bool, true, false, ◌&&◌, not, if◌then◌else◌, nat_le, List, [], ◌∷◌, length}
-use Rattle.std.specs.Prelude.{map, reverse, Option, Some, None}
-use Rattle.std.specs.Prelude.{Result, Ok, Err, is_some, codes}
+use Rattle.std.specs.Prelude.{ℕ, ◌+◌, ◌==◌, Bool, true, false, ◌&&◌, not, if◌then◌else◌, nat_le, List, [], ◌∷◌, length, map, reverse, Option, Some, None, Result, Ok, Err, is_some, codes}
 use Rattle.std.specs.List.{find, filter, list_any}
 use Rattle.mnames.specs.declared.modes.Mode.TheVariants as mode
 use Rattle.mnames.specs.declared.principals.Who.{Who}

@@ -1,6 +1,5 @@
 -- What each thread of the drill has done, and what the keeper has taken out (own).
-use Rattle.std.specs.Prelude.{◌≡◌, ℕ, zero, suc, ◌+◌, ◌-◌, ◌%◌, ◌^◌, ◌<◌, ◌≤◌, List, [], ◌∷◌, map, length, replicate}
-use Rattle.std.specs.Prelude.{slice_index, slice_index_or, IsSomeAnd, Bool, false, IsTrue, All, sum}
+use Rattle.std.specs.Prelude.{◌≡◌, ℕ, zero, suc, ◌+◌, ◌-◌, ◌%◌, ◌^◌, ◌<◌, ◌≤◌, List, [], ◌∷◌, map, length, replicate, slice_index, slice_index_or, IsSomeAnd, Bool, false, IsTrue, All, sum}
 use Rattle.live_doors.specs.declared.views.Watch.{Watch}
 use Rattle.live_pages.specs.declared.touch.Touch.{Touch}
 use Rattle.live_pages.specs.declared.touch.Touch.TheVariants.{Add}

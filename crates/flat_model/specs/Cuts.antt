@@ -1,7 +1,6 @@
 -- Pages that are stored no more, words that are cut off, and a branch that is taken out, each by itself (Bensoussan,
 -- Clingen and Daley 1972).
-use Rattle.std.specs.Prelude.{ℕ, ◌-◌, ◌/◌, ◌%◌, Bool, true, ◌&&◌, ◌==◌, nat_le, if◌then◌else◌, List, ◌++◌, take}
-use Rattle.std.specs.Prelude.{replicate, Option, Some, None}
+use Rattle.std.specs.Prelude.{ℕ, ◌-◌, ◌/◌, ◌%◌, Bool, true, ◌&&◌, ◌==◌, nat_le, if◌then◌else◌, List, ◌++◌, take, replicate, Option, Some, None}
 use Rattle.tree_model.specs.Tree.{without_node}
 use Rattle.flat_model.specs.Pages.{is_stored, is_zero_page, without_stored, without_words}
 use Rattle.flat_model.specs.Store.{Store}

@@ -1,7 +1,6 @@
 -- What a reference to a word is answered, and what it changes (Bensoussan, Clingen and Daley 1972; quota and records
 -- are those of Organick 1972).
-use Rattle.std.specs.Prelude.{ℕ, ◌*◌, ◌/◌, Bool, not, ◌&&◌, ◌==◌, nat_le, if◌then◌else◌, is_none}
-use Rattle.std.specs.Prelude.{Option, Some, None}
+use Rattle.std.specs.Prelude.{ℕ, ◌*◌, ◌/◌, Bool, not, ◌&&◌, ◌==◌, nat_le, if◌then◌else◌, is_none, Option, Some, None}
 use Rattle.script.specs.Plans.{Plan, who_of}
 use Rattle.script.specs.References.{alters, new_word, permits}
 use Rattle.script.specs.declared.commands.RefKind.{RefKind}

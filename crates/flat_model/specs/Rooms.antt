@@ -1,6 +1,5 @@
 -- Which volume a segment moves to when its own has no free record (Organick 1972).
-use Rattle.std.specs.Prelude.{ℕ, zero, suc, ◌-◌, Bool, not, ◌&&◌, ◌==◌, nat_lt, if◌then◌else◌, count_by, length}
-use Rattle.std.specs.Prelude.{Option, Some, None}
+use Rattle.std.specs.Prelude.{ℕ, zero, suc, ◌-◌, Bool, not, ◌&&◌, ◌==◌, nat_lt, if◌then◌else◌, count_by, length, Option, Some, None}
 use Rattle.script.specs.Plans.{Plan}
 use Rattle.tree_model.specs.Tree.{entries_on, taken_on, volume_in}
 use Rattle.flat_model.specs.Store.{Store, entries_of, records_of}

@@ -1,8 +1,7 @@
 -- The flat store: the tree, the words, the stored pages, what numbers stand for, and how far each process has come. It
 -- restates the view that a user has of segments (Bensoussan, Clingen and Daley 1972): words under a segment number and
 -- an offset, and pages that cost nothing while they are zeros.
-use Rattle.std.specs.Prelude.{ℕ, Bool, true, false, not, ◌||◌, ◌==◌, replicate, slice_get, slice_index_or, slice_set}
-use Rattle.std.specs.Prelude.{List, [], ◌∷◌, length, Option, Some, None, codes}
+use Rattle.std.specs.Prelude.{ℕ, Bool, true, false, not, ◌||◌, ◌==◌, replicate, slice_get, slice_index_or, slice_set, List, [], ◌∷◌, length, Option, Some, None, codes}
 use Rattle.script.specs.Plans.{Plan}
 use Rattle.script.specs.declared.plan.VolumeLine.{VolumeLine}
 use Rattle.known_segs.specs.Known.{uid_of}

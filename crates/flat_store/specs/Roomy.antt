@@ -1,6 +1,5 @@
 -- Where a segment may move to, by the gauges of the volumes, and what they are once it has (Organick 1972).
-use Rattle.std.specs.Prelude.{◌≡◌, ℕ, ◌<◌, ◌+◌, ◌-◌, Bool, true, false, not, ◌&&◌, ◌==◌, nat_lt, nat_le}
-use Rattle.std.specs.Prelude.{if◌then◌else◌, slice_set, List}
+use Rattle.std.specs.Prelude.{◌≡◌, ℕ, ◌<◌, ◌+◌, ◌-◌, Bool, true, false, not, ◌&&◌, ◌==◌, nat_lt, nat_le, if◌then◌else◌, slice_set, List}
 use Rattle.flat_store.specs.Shown.{Gauge, gauge_at}
 
 -- a volume other than a segment's own has more free records than so many pages, and a free VTOC entry

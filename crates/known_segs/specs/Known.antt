@@ -1,7 +1,6 @@
 -- What a contract sees of a known segment table: the list of its 256 places, where place n has the uid that segment
 -- number n stands for (Bensoussan, Clingen and Daley 1972; the 256 places and the least free number are own).
-use Rattle.std.specs.Prelude.{◌≡◌, ◌≢◌, ℕ, ◌==◌, Bool, false, List, Option, Some, None, count_by, is_some, is_none}
-use Rattle.std.specs.Prelude.{position, slice_index_or, slice_set, ◌++◌, ◌-◌, length, replicate}
+use Rattle.std.specs.Prelude.{◌≡◌, ◌≢◌, ℕ, ◌==◌, Bool, false, List, Option, Some, None, count_by, is_some, is_none, position, slice_index_or, slice_set, ◌++◌, ◌-◌, length, replicate}
 
 -- the uid that number n stands for, if it is known
 abbrev pub uid_of : List (Option ℕ) → ℕ → Option ℕ

@@ -1,6 +1,5 @@
 -- How each way out of a call ends.
-use Rattle.std.proofs.Common.{◌≡◌, ℕ, ◌+◌, ◌<◌, ◌≤◌, Bool, true, false, List, length, Option, Some, None, IfSome, refl}
-use Rattle.std.proofs.Common.{Result, Ok, Err, sym, subst, arith}
+use Rattle.std.proofs.Common.{◌≡◌, ℕ, ◌+◌, ◌<◌, ◌≤◌, Bool, true, false, List, length, Option, Some, None, IfSome, refl, Result, Ok, Err, sym, subst, arith}
 use Rattle.text_model.specs.Lines.{lines_of}
 use Rattle.script.specs.Plans.{Plan}
 use Rattle.site_io.specs.Streams.{ConsumesFront}
@@ -14,8 +13,7 @@ use Rattle.schedule.specs.declared.orders.Line.{Line}
 use Rattle.schedule.specs.declared.refusals.Refused.{Refused}
 use Rattle.schedule.specs.declared.reader.ScheduleFault.{ScheduleFault}
 use Rattle.schedule.specs.declared.reader.ScheduleFault.TheVariants as fault
-use Rattle.lab_calls.specs.Endings.{EndsBy, EndsRun, EndsSo, FollowsTo, LabEnds, Printed, ReadsTo, RunsTo, ServesBy}
-use Rattle.lab_calls.specs.Endings.{EndsAstray, EndsFault, ServesTo, Unreads, WritesRefused, text_of}
+use Rattle.lab_calls.specs.Endings.{EndsBy, EndsRun, EndsSo, FollowsTo, LabEnds, Printed, ReadsTo, RunsTo, ServesBy, EndsAstray, EndsFault, ServesTo, Unreads, WritesRefused, text_of}
 use Rattle.lab_calls.specs.Counted.{CountsTo}
 use Rattle.lab_calls.specs.Judged.{JudgesTo}
 use Rattle.lab_runs.specs.Runs.{GoesAstray, HasRunBy, RunsAstray}

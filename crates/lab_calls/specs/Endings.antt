@@ -1,6 +1,5 @@
 -- How a call of the program may end, and what it wrote (own).
-use Rattle.std.specs.Prelude.{◌≡◌, ℕ, ◌+◌, ◌<◌, ◌≤◌, Bool, true, false, List, length}
-use Rattle.std.specs.Prelude.{Option, Some, None, IfSome, Result, Ok, Err}
+use Rattle.std.specs.Prelude.{◌≡◌, ℕ, ◌+◌, ◌<◌, ◌≤◌, Bool, true, false, List, length, Option, Some, None, IfSome, Result, Ok, Err}
 use Rattle.site_io.specs.Streams.{ConsumesFront}
 use Rattle.site_io.specs.declared.whole.Unread.{Unread}
 use Rattle.site_io.specs.declared.whole.Unread.TheVariants as unread

@@ -1,6 +1,5 @@
 -- What a machine does by a schedule that is drawn from a seed until all processes have ended (own).
-use Rattle.std.specs.Prelude.{◌≡◌, ◌⊎◌, ◌≤◌, ◌++◌, ℕ, zero, suc, Bool, true, false, List, [], ◌∷◌, drop, length, map}
-use Rattle.std.specs.Prelude.{sum_by}
+use Rattle.std.specs.Prelude.{◌≡◌, ◌⊎◌, ◌≤◌, ◌++◌, ℕ, zero, suc, Bool, true, false, List, [], ◌∷◌, drop, length, map, sum_by}
 use Rattle.std.specs.List.{list_any}
 use Rattle.book.specs.Books.{is_answer}
 use Rattle.book.specs.declared.entries.Entry.{Entry}

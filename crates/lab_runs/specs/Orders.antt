@@ -1,6 +1,5 @@
 -- What the lines of a schedule mean: which processors make steps, and in which order (own).
-use Rattle.std.specs.Prelude.{◌≡◌, ◌⊎◌, ◌≤◌, ◌<◌, ◌+◌, ◌++◌, ℕ, zero, suc, Bool, true, false, List, [], ◌∷◌, drop, length, map}
-use Rattle.std.specs.Prelude.{replicate}
+use Rattle.std.specs.Prelude.{◌≡◌, ◌⊎◌, ◌≤◌, ◌<◌, ◌+◌, ◌++◌, ℕ, zero, suc, Bool, true, false, List, [], ◌∷◌, drop, length, map, replicate}
 use Rattle.std.specs.List.{list_any}
 use Rattle.book.specs.Entries.{entry_text}
 use Rattle.book.specs.declared.entries.Entry.{Entry}

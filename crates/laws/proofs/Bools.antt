@@ -1,6 +1,5 @@
 -- Laws of booleans.
-use Rattle.std.proofs.Common.{Bool, arith, cond, false, inl, inr, not, refl, sym, true, ◌&&◌, ◌||◌, ◌∙◌, ◌≡◌, ◌≤◌}
-use Rattle.std.proofs.Common.{◌⊎◌}
+use Rattle.std.proofs.Common.{Bool, arith, cond, false, inl, inr, not, refl, sym, true, ◌&&◌, ◌||◌, ◌∙◌, ◌≡◌, ◌≤◌, ◌⊎◌}
 use Rattle.std.specs.Prelude.{◌||◌}
 
 pub not_both : {b : Bool} → b ≡ true → b ≡ false → ⊥

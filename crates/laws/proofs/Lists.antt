@@ -1,7 +1,5 @@
 -- Laws of lists.
-use Rattle.std.proofs.Common.{Bool, IsSome, List, None, Option, Some, [], add-one, ap, arith, cond, drop, drop-cons}
-use Rattle.std.proofs.Common.{false, filter, get_or, inl, inr, length, map, not, position, refl, replicate, set, suc}
-use Rattle.std.proofs.Common.{sum_by, sym, take, true, zero, ℕ, ◌++◌, ◌+◌, ◌-◌, ◌<◌, ◌∙◌, ◌∷◌, ◌≡◌, ◌≤◌}
+use Rattle.std.proofs.Common.{Bool, IsSome, List, None, Option, Some, [], add-one, ap, arith, cond, drop, drop-cons, false, filter, get_or, inl, inr, length, map, not, position, refl, replicate, set, suc, sum_by, sym, take, true, zero, ℕ, ◌++◌, ◌+◌, ◌-◌, ◌<◌, ◌∙◌, ◌∷◌, ◌≡◌, ◌≤◌}
 use Rattle.std.proofs.lemmas.Bool.{both_ways, cases_Bool, cases_eq, not-true}
 use Rattle.std.proofs.lemmas.Bool.Decides.{leb_tells}
 use Rattle.std.proofs.lemmas.Grind.{common_steps}

@@ -1,6 +1,5 @@
 -- Laws of numbers.
-use Rattle.std.proofs.Common.{arith, eqb, false, inl, inr, ltb, nat_lt, refl, suc, sym, true, ℕ, ◌&&◌, ◌<◌, ◌∙◌, ◌≡◌}
-use Rattle.std.proofs.Common.{◌≤◌, ◌⊎◌}
+use Rattle.std.proofs.Common.{arith, eqb, false, inl, inr, ltb, nat_lt, refl, suc, sym, true, ℕ, ◌&&◌, ◌<◌, ◌∙◌, ◌≡◌, ◌≤◌, ◌⊎◌}
 use Rattle.std.proofs.lemmas.Bool.Decides.{Decides-eqb, eqb_tells, leb_tells, nat_tests}
 use Rattle.std.specs.Prelude.{nat_le}
 

@@ -1,6 +1,5 @@
 -- Laws of options and results.
-use Rattle.std.proofs.Common.{Bool, Err, IsSome, None, Ok, Option, Result, Some, ap, false, is_some, refl, true, ℕ, ◌≡◌}
-use Rattle.std.proofs.Common.{arith, cond, eqb, inl, inr, ◌≤◌}
+use Rattle.std.proofs.Common.{Bool, Err, IsSome, None, Ok, Option, Result, Some, ap, false, is_some, refl, true, ℕ, ◌≡◌, arith, cond, eqb, inl, inr, ◌≤◌}
 use Rattle.std.proofs.lemmas.Option.{same_Some}
 use Rattle.std.specs.Option.{option_map}
 use Rattle.std.specs.Prelude.{IfNone, OnOk}

@@ -1,6 +1,5 @@
 -- Laws of one place of a list: whether it is within the list, and what a write of it changes.
-use Rattle.std.proofs.Common.{Bool, IsSome, List, None, Option, Some, [], ap, arith, cond, eqb, false, get_or, inl, inr, length}
-use Rattle.std.proofs.Common.{map, refl, replicate, set, suc, sum, sym, true, zero, ℕ, ◌++◌, ◌+◌, ◌<◌, ◌∙◌, ◌∷◌, ◌≡◌, ◌≢◌}
+use Rattle.std.proofs.Common.{Bool, IsSome, List, None, Option, Some, [], ap, arith, cond, eqb, false, get_or, inl, inr, length, map, refl, replicate, set, suc, sum, sym, true, zero, ℕ, ◌++◌, ◌+◌, ◌<◌, ◌∙◌, ◌∷◌, ◌≡◌, ◌≢◌}
 use Rattle.std.proofs.lemmas.Bool.{cases_eq, eq-eqb, ne_eqb}
 use Rattle.std.proofs.lemmas.List.{get_or-set_other, get_or-set_same, length-append, length-replicate, set-set}
 use Rattle.std.proofs.lemmas.List.Sums.{sum_by-set}

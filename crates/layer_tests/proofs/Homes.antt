@@ -1,6 +1,5 @@
 -- A record that the tests of moves take at a home.
-use Rattle.std.proofs.Common.{◌≡◌, ◌⊎◌, ℕ, ◌<◌, ◌≤◌, Bool, true, false, List, [], length, Option, None, Some}
-use Rattle.std.proofs.Common.{IsSome, refl, sym, ap, ◌∙◌, arith, get_or, set, inl, inr}
+use Rattle.std.proofs.Common.{◌≡◌, ◌⊎◌, ℕ, ◌<◌, ◌≤◌, Bool, true, false, List, [], length, Option, None, Some, IsSome, refl, sym, ap, ◌∙◌, arith, get_or, set, inl, inr}
 use Rattle.std.proofs.lemmas.Bool.{cases_eq}
 use Rattle.std.proofs.lemmas.List.{get_or-set_same, get_or-set_other, get_or_past, length-set}
 use Rattle.bitmap.specs.Bitmap.{in_use, IsLeastFree}

@@ -1,6 +1,5 @@
 -- What each reason says: of a state, and of the command that it names (own).
-use Rattle.std.specs.Prelude.{◌≡◌, ◌≢◌, ◌<◌, ◌≤◌, ℕ, ◌+◌, ◌*◌, Bool, true, false, is_some, length}
-use Rattle.std.specs.Prelude.{IsSomeAnd, Option, Some, None, ◌⊎◌}
+use Rattle.std.specs.Prelude.{◌≡◌, ◌≢◌, ◌<◌, ◌≤◌, ℕ, ◌+◌, ◌*◌, Bool, true, false, is_some, length, IsSomeAnd, Option, Some, None, ◌⊎◌}
 use Rattle.script.specs.Plans.{Plan, command_at}
 use Rattle.script.specs.References.{new_word, reference_of}
 use Rattle.script.specs.declared.commands.Command.{Command}

@@ -1,7 +1,6 @@
 -- Laws of the line that is due.
-use Rattle.std.proofs.Common.{◌≡◌, ℕ, Bool, true, false, ◌&&◌, cond, eqb, List, [], ◌∷◌, Option, Some, None, refl, sym}
+use Rattle.std.proofs.Common.{◌≡◌, ℕ, Bool, true, false, ◌&&◌, cond, eqb, List, [], ◌∷◌, Option, Some, None, refl, sym, IfSome, ap, subst, ◌∙◌}
 use Rattle.std.specs.Prelude.{◌==◌}
-use Rattle.std.proofs.Common.{IfSome, ap, subst, ◌∙◌}
 use Rattle.std.specs.Option.{is_some}
 use Rattle.std.specs.List.{slice_get}
 use Rattle.script.specs.Plans.{Plan}
@@ -16,8 +15,7 @@ use Rattle.line_reasons.specs.declared.due_lines.DueLine.TheVariants as due
 use Rattle.line_reasons.specs.declared.sum_reasons.SumWord.TheVariants as word
 use Rattle.line_reasons.specs.declared.sum_reasons.SumReason.{SumReason}
 use Rattle.line_reasons.specs.declared.sum_reasons.SumReason.TheVariants as reason
-use Rattle.line_reasons.specs.DueLines.{IsAccountDue, IsVolumeDue, IsDue, IsSoSum, account_reason, volume_reason}
-use Rattle.line_reasons.specs.DueLines.{reason_of_line, reason_of_end, is_still_so, account_still}
+use Rattle.line_reasons.specs.DueLines.{IsAccountDue, IsVolumeDue, IsDue, IsSoSum, account_reason, volume_reason, reason_of_line, reason_of_end, is_still_so, account_still}
 use Rattle.line_reasons.specs.Fronts.{same_front}
 use Rattle.std.proofs.lemmas.Bool.{and_from}
 use Rattle.laws.proofs.Numbers.{same_test}

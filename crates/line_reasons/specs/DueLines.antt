@@ -1,6 +1,5 @@
 -- The line that is due, and what is said of the one that stands there (own).
-use Rattle.std.specs.Prelude.{◌≡◌, ℕ, Bool, true, false, ◌&&◌}
-use Rattle.std.specs.Prelude.{◌==◌, if◌then◌else◌, is_some, slice_get, Option, Some, None}
+use Rattle.std.specs.Prelude.{◌≡◌, ℕ, Bool, true, false, ◌&&◌, ◌==◌, if◌then◌else◌, is_some, slice_get, Option, Some, None}
 use Rattle.script.specs.Plans.{Plan}
 use Rattle.tree_model.specs.Tree.{has_directory, quota_in, used_by, taken_on, entries_on}
 use Rattle.flat_model.specs.Store.{Store, records_of, entries_of}

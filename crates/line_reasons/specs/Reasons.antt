@@ -1,6 +1,5 @@
 -- Why a line is no entry's text (own): what comes first, the fields being read from left to right.
-use Rattle.std.specs.Prelude.{ℕ, ◌+◌, Bool, false, not, ◌==◌, if◌then◌else◌, List, [], ◌∷◌, ◌++◌, length}
-use Rattle.std.specs.Prelude.{Option, Some, None, codes}
+use Rattle.std.specs.Prelude.{ℕ, ◌+◌, Bool, false, not, ◌==◌, if◌then◌else◌, List, [], ◌∷◌, ◌++◌, length, Option, Some, None, codes}
 use Rattle.std.specs.Fmt.{decimal}
 use Rattle.script.specs.Fields.{is_printable}
 use Rattle.line_reasons.specs.declared.grammar.FixedWord.{FixedWord}

@@ -1,6 +1,5 @@
 -- The listing of a book: what each process was answered, or each entry; then the accounts, then the volumes (own).
-use Rattle.std.specs.Prelude.{ℕ, zero, suc, ◌+◌, List, [], ◌∷◌, ◌++◌, reverse, Option, Some, None, codes}
-use Rattle.std.specs.Prelude.{eqb, if◌then◌else◌}
+use Rattle.std.specs.Prelude.{ℕ, zero, suc, ◌+◌, List, [], ◌∷◌, ◌++◌, reverse, Option, Some, None, codes, eqb, if◌then◌else◌}
 use Rattle.std.specs.List.{flat_map}
 use Rattle.std.specs.Fmt.{decimal}
 use Rattle.mnames.specs.Names.{path_text}

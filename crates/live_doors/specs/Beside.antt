@@ -1,6 +1,5 @@
 -- What a pass and the keeper have beside their seats, as plain data: rows of the same values that the seats know.
-use Rattle.std.specs.Prelude.{◌≡◌, ℕ, ◌+◌, ◌/◌, ◌%◌, ◌<◌, ◌⊎◌, ◌==◌, Bool, true, false, List, length, replicate, Option}
-use Rattle.std.specs.Prelude.{Some, None, slice_index, slice_set}
+use Rattle.std.specs.Prelude.{◌≡◌, ℕ, ◌+◌, ◌/◌, ◌%◌, ◌<◌, ◌⊎◌, ◌==◌, Bool, true, false, List, length, replicate, Option, Some, None, slice_index, slice_set}
 use Rattle.live_doors.specs.declared.views.Walk.{Walk}
 use Rattle.live_doors.specs.declared.views.Watch.{Watch}
 

@@ -1,9 +1,7 @@
 -- What the keeper and the passes know of doors, stamps and acknowledgements, as plain data.
 -- Source: own. The problem is that of Bensoussan, Clingen and Daley 1972: once a table entry has changed, every
 -- processor's associative memory is cleared before what the entry named is used again.
-use Rattle.std.specs.Prelude.{◌≡◌, ℕ, zero, suc, ◌+◌, ◌%◌, ◌<◌, ◌≤◌, ◌⊎◌, List, [], ◌∷◌, ◌++◌, length, replicate}
-use Rattle.std.specs.Prelude.{slice_index, slice_index_or, slice_set, All}
-use Rattle.std.specs.Prelude.{None, Some}
+use Rattle.std.specs.Prelude.{◌≡◌, ℕ, zero, suc, ◌+◌, ◌%◌, ◌<◌, ◌≤◌, ◌⊎◌, List, [], ◌∷◌, ◌++◌, length, replicate, slice_index, slice_index_or, slice_set, All, None, Some}
 use Rattle.atomic_table.specs.Seated.{TableId}
 use Rattle.live_doors.specs.declared.views.Walk.{Walk}
 use Rattle.live_doors.specs.declared.views.Watch.{Watch}

@@ -1,6 +1,5 @@
 -- What each kind of step on a word tells the seat that makes it.
-use Rattle.std.specs.Prelude.{◌≡◌, ℕ, ◌+◌, ◌/◌, ◌%◌, ◌≤◌, ◌==◌, List, [], ◌∷◌, ◌++◌, replicate, length, slice_index}
-use Rattle.std.specs.Prelude.{Bool, true, false}
+use Rattle.std.specs.Prelude.{◌≡◌, ℕ, ◌+◌, ◌/◌, ◌%◌, ◌≤◌, ◌==◌, List, [], ◌∷◌, ◌++◌, replicate, length, slice_index, Bool, true, false}
 use Rattle.atomic_table.specs.Table.{Step, Me}
 use Rattle.atomic_table.specs.Seated.{TableId}
 use Rattle.live_doors.specs.declared.rule.Size.{Size}
@@ -8,8 +7,7 @@ use Rattle.live_doors.specs.declared.views.Walk.{Walk}
 use Rattle.live_doors.specs.declared.views.Watch.{Watch}
 use Rattle.live_doors.specs.declared.views.View.{View}
 use Rattle.live_doors.specs.declared.views.View.TheVariants.{Walking, Keeping, Spent}
-use Rattle.live_doors.specs.Doors.{blank, first_watch, having_read, holding, forgotten, acknowledged, shut, raised}
-use Rattle.live_doors.specs.Doors.{having_noted, HasNoted}
+use Rattle.live_doors.specs.Doors.{blank, first_watch, having_read, holding, forgotten, acknowledged, shut, raised, having_noted, HasNoted}
 use Rattle.live_doors.specs.Beside.{EntryRows, KeeperRows, AreEntriesOf, AreRowsOf}
 
 -- the word of frame f's door

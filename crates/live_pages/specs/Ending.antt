@@ -1,6 +1,5 @@
 -- What is seen at the end: all touches in order of their tickets, and each binding with its pages.
-use Rattle.std.specs.Prelude.{◌≡◌, ℕ, zero, suc, ◌+◌, ◌<◌, All, List, [], ◌∷◌, ◌++◌, length, replicate, reverse}
-use Rattle.std.specs.Prelude.{slice_index_or, Option, Some}
+use Rattle.std.specs.Prelude.{◌≡◌, ℕ, zero, suc, ◌+◌, ◌<◌, All, List, [], ◌∷◌, ◌++◌, length, replicate, reverse, slice_index_or, Option, Some}
 use mathlib.Core.Option as M
 use lib.ListN.{get_elem?}
 use Rattle.live_pages.specs.declared.rule.Held.{Held}

@@ -1,6 +1,5 @@
 -- The rule over the words of the table, the pages in their slots and the views of its seats.
-use Rattle.std.specs.Prelude.{◌≡◌, ◌≢◌, ℕ, ◌+◌, ◌/◌, ◌^◌, ◌<◌, ◌≤◌, List, [], ◌∷◌, length, replicate, slice_index}
-use Rattle.std.specs.Prelude.{slice_index_or, Option, None, Some}
+use Rattle.std.specs.Prelude.{◌≡◌, ◌≢◌, ℕ, ◌+◌, ◌/◌, ◌^◌, ◌<◌, ◌≤◌, List, [], ◌∷◌, length, replicate, slice_index, slice_index_or, Option, None, Some}
 use mathlib.Core.Option as M
 use lib.ListN.{get_elem?}
 use Rattle.live_doors.specs.declared.views.Walk.{Walk}

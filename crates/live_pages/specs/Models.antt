@@ -1,6 +1,5 @@
 -- What callers see of pages, passes and the keeper.
-use Rattle.std.specs.Prelude.{◌≡◌, ℕ, zero, suc, ◌+◌, ◌++◌, replicate, Option, ◌<◌, ◌≤◌, List, [], ◌∷◌, length}
-use Rattle.std.specs.Prelude.{slice_index_or, slice_set, All, Some}
+use Rattle.std.specs.Prelude.{◌≡◌, ℕ, zero, suc, ◌+◌, ◌++◌, replicate, Option, ◌<◌, ◌≤◌, List, [], ◌∷◌, length, slice_index_or, slice_set, All, Some}
 use mathlib.Core.Option as M
 use lib.ListN.{get_elem?}
 use Rattle.atomic_table.specs.Seated.{TableId}
@@ -15,8 +14,7 @@ use Rattle.live_pages.specs.declared.rule.Held.{Held}
 use Rattle.live_pages.specs.declared.rule.Size.{Size}
 use Rattle.live_pages.specs.declared.views.Walker.{Walker}
 use Rattle.live_pages.specs.declared.views.Holder.{Holder}
-use Rattle.live_pages.specs.Turns.{Seat, watching, first_holder, first_walker, walker_of, holder_of, taken}
-use Rattle.live_pages.specs.Turns.{having_made, admitted, current}
+use Rattle.live_pages.specs.Turns.{Seat, watching, first_holder, first_walker, walker_of, holder_of, taken, having_made, admitted, current}
 
 -- which table it is, and how many frames and processors it has
 pub record PagesModel : Type 0 where

@@ -90,9 +90,9 @@ module _ (s : State) (k : ℕ) (keeps : Keeps s) where
       }
         where
           alone : (list_any (is_inferior n.uid) (flat_of s).nodes ≡ false) × (n.quota ≡ 0)
-          alone = cases (list_any (is_inferior n.uid) (flat_of s).nodes) (eqb n.quota 0) refl i
+          alone = told (list_any (is_inferior n.uid) (flat_of s).nodes) (eqb n.quota 0) refl i
             where
-              cases : (b z : Bool) → eqb n.quota 0 ≡ z → refusal (deletion_of b z) ≡ None → (b ≡ false) × (n.quota ≡ 0)
-              cases true z x y = cc
-              cases false true x y = (refl, elim (eqb_tells n.quota 0) [ inl e ↦ e.1 | inr e ↦ absurd (not_both x e.0) ])
-              cases false false x y = cc
+              told : (b z : Bool) → eqb n.quota 0 ≡ z → refusal (deletion_of b z) ≡ None → (b ≡ false) × (n.quota ≡ 0)
+              told true z x y = cc
+              told false true x y = (refl, elim (eqb_tells n.quota 0) [ inl e ↦ e.1 | inr e ↦ absurd (not_both x e.0) ])
+              told false false x y = cc

@@ -1,9 +1,8 @@
 -- What a processor does in its next step, by the rules in their order and by the owner's job (Bensoussan, Clingen and
 -- Daley 1972; Corbató 1968; the steps and their order are own).
-use Rattle.std.specs.Prelude.{ℕ, ◌/◌, ◌%◌, Bool, true, false, not, ◌&&◌, ◌||◌, ◌==◌, nat_le, if◌then◌else◌, is_some}
-use Rattle.std.specs.Prelude.{count_by, position, List, [], ◌∷◌, Option, Some, None}
+use Rattle.std.specs.Prelude.{ℕ, ◌/◌, ◌%◌, Bool, true, false, not, ◌&&◌, ◌||◌, ◌==◌, nat_le, if◌then◌else◌, is_some, count_by, position, List, [], ◌∷◌, Option, Some, None}
 use Rattle.std.specs.List.{list_any}
-use Rattle.script.specs.References.{reference_of}
+use Rattle.script.specs.References.{reference_of, new_word}
 use Rattle.script.specs.declared.commands.Command.{Command}
 use Rattle.script.specs.declared.commands.Command.TheVariants as command
 use Rattle.script.specs.declared.commands.Reference.{Reference}
@@ -12,7 +11,6 @@ use Rattle.assoc_mem.specs.declared.What.{What}
 use Rattle.assoc_mem.specs.declared.What.TheVariants as what
 use Rattle.tree_model.specs.Tree.{Node, node_in, pool_of}
 use Rattle.dir_tree.specs.Nodes.{chain_of}
-use Rattle.script.specs.References.{new_word}
 use Rattle.core_map.specs.CoreMap.{Core, is_started, least_free_frame}
 use Rattle.core_map.specs.Clock.{clock_choice}
 use Rattle.page_table.specs.declared.Ptw.{Ptw}
@@ -35,11 +33,8 @@ use Rattle.machine_model.specs.declared.Phase.{Phase}
 use Rattle.machine_model.specs.declared.Phase.TheVariants as phase
 use Rattle.machine_model.specs.declared.Processor.{Processor}
 use Rattle.machine_model.specs.State.{State, Storage, Owner}
-use Rattle.machine_model.specs.Reads.{or_zero, processor_at, next_command, is_due, is_active, first_inactive}
-use Rattle.machine_model.specs.Reads.{free_place, frame_reading, frames_from, descriptor_of, is_connected}
-use Rattle.machine_model.specs.Reads.{connected_of, trailers_in}
-use Rattle.machine_model.specs.Refusal.{outside_refusal, room_refusal, refusal_of, uid_of_number, uid_of_command}
-use Rattle.machine_model.specs.Refusal.{move_to}
+use Rattle.machine_model.specs.Reads.{or_zero, processor_at, next_command, is_due, is_active, first_inactive, free_place, frame_reading, frames_from, descriptor_of, is_connected, connected_of, trailers_in}
+use Rattle.machine_model.specs.Refusal.{outside_refusal, room_refusal, refusal_of, uid_of_number, uid_of_command, move_to}
 
 -- what a step waits for: that a processor gives the supervisor up, that one clears, that a page is read into a frame,
 -- or work, while so many processors have a process

@@ -4,11 +4,8 @@ use Rattle.machine_model.specs.declared.Aim.TheVariants as aim
 use Rattle.machine_model.specs.State.{State}
 use Rattle.machine_model.specs.Reads.{next_command, process_at}
 use Rattle.machine_model.specs.Actions as act
-use Rattle.machine_model.specs.Steps.{activated_at, answered, came_online, cleared_at, connected_to, left_at, loaded}
-use Rattle.machine_model.specs.Steps.{looking, page_created, page_filled, seg_filled, started, told, transfer_failed}
-use Rattle.machine_model.specs.Steps.{transferred, went_through, with_faults, with_owner}
-use Rattle.machine_model.specs.Jobs.{deactivation_begun, emptied, eviction_begun, eviction_done, page_done, signalled}
-use Rattle.machine_model.specs.Jobs.{took, victim_taken, write_failed}
+use Rattle.machine_model.specs.Steps.{activated_at, answered, came_online, cleared_at, connected_to, left_at, loaded, looking, page_created, page_filled, seg_filled, started, told, transfer_failed, transferred, went_through, with_faults, with_owner}
+use Rattle.machine_model.specs.Jobs.{deactivation_begun, emptied, eviction_begun, eviction_done, page_done, signalled, took, victim_taken, write_failed}
 use Rattle.machine_model.specs.Commits.{committed_at}
 use Rattle.machine_model.specs.Moves.{copy_failed, move_begun, move_committed, page_copied}
 

@@ -1,7 +1,6 @@
 -- The steps of an outline: what each action of a processor does to what the measures read. A step of the machine is
 -- one of these in its outline (own).
-use Rattle.std.specs.Prelude.{◌≡◌, ◌≢◌, ℕ, ◌+◌, ◌-◌, ◌<◌, ◌≤◌, Bool, true, false, ◌&&◌, ◌==◌, nat_lt, if◌then◌else◌}
-use Rattle.std.specs.Prelude.{is_some, length, List, [], ◌∷◌, Option, Some, None, Contains}
+use Rattle.std.specs.Prelude.{◌≡◌, ◌≢◌, ℕ, ◌+◌, ◌-◌, ◌<◌, ◌≤◌, Bool, true, false, ◌&&◌, ◌==◌, nat_lt, if◌then◌else◌, is_some, length, List, [], ◌∷◌, Option, Some, None, Contains}
 use Rattle.core_map.specs.declared.Frame.{Frame}
 use Rattle.core_map.specs.declared.Frame.TheVariants as frame
 use Rattle.active_segs.specs.declared.Entry.{Entry}
@@ -9,10 +8,7 @@ use Rattle.active_segs.specs.Active.{entry_at, uid_in}
 use Rattle.active_segs.specs.Victim.{IsOffChain}
 use Rattle.processor.specs.declared.Transfer.{Transfer}
 use Rattle.machine_model.specs.Actions.{ForOwner, ForClear, ForTransfer, WhileIdle}
-use Rattle.machine_model.specs.Outline.{Want, Refer, Truncate, Runner, Work, EvictFrame, EmptyPlace, CommitCommand}
-use Rattle.machine_model.specs.Outline.{Stage, Look, Taken, Waiting, Copying, Keeper, Outline, Turn, Moved}
-use Rattle.machine_model.specs.Outline.{WaitsFor, Ended}
-use Rattle.machine_model.specs.Outline.{runner_at, frame_in, want_at, with_runner, with_frame, with_entry, at_stage}
+use Rattle.machine_model.specs.Outline.{Want, Refer, Truncate, Runner, Work, EvictFrame, EmptyPlace, CommitCommand, Stage, Look, Taken, Waiting, Copying, Keeper, Outline, Turn, Moved, WaitsFor, Ended, runner_at, frame_in, want_at, with_runner, with_frame, with_entry, at_stage}
 use Rattle.machine_model.specs.Measures.{chain_of, is_active, dues, has_free, is_here, lack, missing, is_over}
 
 -- ---- which rule applies

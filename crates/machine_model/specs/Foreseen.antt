@@ -1,8 +1,6 @@
 -- What each action of a processor must find, so that its step is one of the outline. That the machine keeps its
 -- promise gives these facts; here they stand as the loop that makes it end asks for them (own).
-use Rattle.std.specs.Prelude.{◌≡◌, ◌≢◌, ◌⊎◌, ℕ, ◌<◌, ◌≤◌, Bool, true, false, length, is_some, slice_get, List, [], ◌∷◌}
-use Rattle.std.specs.Prelude.{Some}
-use Rattle.std.specs.Prelude.{None, slice_index_or}
+use Rattle.std.specs.Prelude.{◌≡◌, ◌≢◌, ◌⊎◌, ℕ, ◌<◌, ◌≤◌, Bool, true, false, length, is_some, slice_get, List, [], ◌∷◌, Some, None, slice_index_or}
 use Rattle.script.specs.Forms.{weight}
 use Rattle.script.specs.Plans.{commands_of}
 use Rattle.script.specs.declared.commands.Command.{Command}

@@ -32,8 +32,7 @@ use Rattle.machine_model.specs.declared.Phase.TheVariants as phase
 use Rattle.machine_model.specs.declared.Processor.{Processor}
 use Rattle.machine_model.specs.declared.CutDescriptor.{CutDescriptor}
 use Rattle.machine_model.specs.State.{State, Storage, Owner}
-use Rattle.machine_model.specs.Reads.{or_zero, frames_of_owner, cut_of_owner, process_at, home_in, frames_from}
-use Rattle.machine_model.specs.Reads.{trailers_in, descriptor_of}
+use Rattle.machine_model.specs.Reads.{or_zero, frames_of_owner, cut_of_owner, process_at, home_in, frames_from, trailers_in, descriptor_of}
 use Rattle.machine_model.specs.Steps.{booked, with_owner, with_store, with_pages, with_word, fault_told, looking, told}
 
 -- ---- what is taken

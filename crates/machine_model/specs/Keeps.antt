@@ -1,6 +1,5 @@
 -- What the machine keeps over every schedule (Bensoussan, Clingen and Daley 1972; Organick 1972; own).
-use Rattle.std.specs.Prelude.{◌≡◌, ◌≤◌, ◌<◌, ◌^◌, ℕ, Bool, true, false, count_by, length, map, min, sum, slice_get}
-use Rattle.std.specs.Prelude.{is_some, List, [], ◌∷◌, Some, None}
+use Rattle.std.specs.Prelude.{◌≡◌, ◌≤◌, ◌<◌, ◌^◌, ℕ, Bool, true, false, count_by, length, map, min, sum, slice_get, is_some, List, [], ◌∷◌, Some, None}
 use Rattle.std.specs.List.{list_all}
 use Rattle.mnames.specs.declared.principals.Who.{Who}
 use Rattle.script.specs.Plans.{Plan}

@@ -1,12 +1,9 @@
 -- What each turn of the loop that makes the machine end brings, by the measures: a turn of a job, one of a command,
 -- and a round (own).
-use Rattle.std.specs.Prelude.{◌≡◌, ◌<◌, ◌≤◌, ℕ, ◌+◌, Bool, true, false, ◌&&◌, ◌==◌, if◌then◌else◌, length, Some, None}
-use Rattle.std.specs.Prelude.{◌⊎◌}
+use Rattle.std.specs.Prelude.{◌≡◌, ◌<◌, ◌≤◌, ℕ, ◌+◌, Bool, true, false, ◌&&◌, ◌==◌, if◌then◌else◌, length, Some, None, ◌⊎◌}
 use Rattle.core_map.specs.declared.Frame.TheVariants as frame
 use Rattle.machine_model.specs.Actions.{ForOwner, ForClear, ForTransfer, WhileIdle}
-use Rattle.machine_model.specs.Outline.{Want, Refer, Truncate, Length, Other, Runner, Work, Stage, Look, Waiting}
-use Rattle.machine_model.specs.Outline.{Outline}
-use Rattle.machine_model.specs.Outline.{Turn, Moved, WaitsFor, Ended, runner_at, frame_in, want_at, at_stage}
+use Rattle.machine_model.specs.Outline.{Want, Refer, Truncate, Length, Other, Runner, Work, Stage, Look, Waiting, Outline, Turn, Moved, WaitsFor, Ended, runner_at, frame_in, want_at, at_stage}
 use Rattle.machine_model.specs.Measures.{lack, job_rank, command_rank, all_rank}
 use Rattle.machine_model.specs.Finishing.{IsIn}
 

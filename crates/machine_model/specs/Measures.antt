@@ -1,8 +1,6 @@
 -- The measures of the loop that makes the machine end: of a job in the supervisor, of a command of a processor, and of
 -- all commands. Each is one number (own).
-use Rattle.std.specs.Prelude.{ℕ, ◌+◌, ◌*◌, ◌<◌, Bool, true, false, not, ◌&&◌, ◌||◌, ◌==◌, nat_le, if◌then◌else◌}
-use Rattle.std.specs.Prelude.{is_some}
-use Rattle.std.specs.Prelude.{count_by, length, List, [], Option, Some, None}
+use Rattle.std.specs.Prelude.{ℕ, ◌+◌, ◌*◌, ◌<◌, Bool, true, false, not, ◌&&◌, ◌||◌, ◌==◌, nat_le, if◌then◌else◌, is_some, count_by, length, List, [], Option, Some, None}
 use Rattle.std.specs.List.{list_any}
 use Rattle.script.specs.declared.plan.TheConstants.{MOST_PROCESSORS}
 use Rattle.core_map.specs.declared.Frame.{Frame}
@@ -12,8 +10,7 @@ use Rattle.active_segs.specs.declared.Entry.{Entry}
 use Rattle.active_segs.specs.Victim.{off_chain}
 use Rattle.seg_control.specs.Control.{is_for}
 use Rattle.processor.specs.declared.Transfer.{Transfer}
-use Rattle.machine_model.specs.Outline.{Want, Refer, Truncate, Length, Other, Runner, Work, EvictFrame, EmptyPlace}
-use Rattle.machine_model.specs.Outline.{CommitCommand, Stage, Look, Taken, Waiting, Copying, Keeper, Outline, runner_at}
+use Rattle.machine_model.specs.Outline.{Want, Refer, Truncate, Length, Other, Runner, Work, EvictFrame, EmptyPlace, CommitCommand, Stage, Look, Taken, Waiting, Copying, Keeper, Outline, runner_at}
 
 -- ---- a job
 

@@ -6,10 +6,7 @@ use Rattle.core_map.specs.declared.Frame.{Frame}
 use Rattle.core_map.specs.declared.Frame.TheVariants as frame
 use Rattle.active_segs.specs.Victim.{IsOffChain}
 use Rattle.processor.specs.declared.Transfer.{Transfer}
-use Rattle.machine_model.specs.Outline.{Want, Refer, Truncate, Length, Other, Runner, Work, EvictFrame, EmptyPlace}
-use Rattle.machine_model.specs.Outline.{CommitCommand, Stage, Look, Taken, Waiting, Copying, Outline, runner_at}
-use Rattle.machine_model.specs.Outline.{frame_in}
-use Rattle.machine_model.specs.Outline.{want_at}
+use Rattle.machine_model.specs.Outline.{Want, Refer, Truncate, Length, Other, Runner, Work, EvictFrame, EmptyPlace, CommitCommand, Stage, Look, Taken, Waiting, Copying, Outline, runner_at, frame_in, want_at}
 use Rattle.machine_model.specs.Measures.{chain_of, dues, is_of}
 use Rattle.machine_model.specs.Finishing.{IsIn}
 

@@ -1,10 +1,9 @@
 -- The outline of a machine: what each processor's next command wants, by the tables.
-use Rattle.std.specs.Prelude.{ℕ, ◌+◌, ◌-◌, ◌*◌, ◌/◌, ◌%◌, Bool, true, false, not, ◌==◌, nat_le, if◌then◌else◌, is_some}
-use Rattle.std.specs.Prelude.{map, sum_by, length, drop, List, [], ◌∷◌, Option, Some, None, Result, Ok, Err}
+use Rattle.std.specs.Prelude.{ℕ, ◌+◌, ◌-◌, ◌*◌, ◌/◌, ◌%◌, Bool, true, false, not, ◌==◌, nat_le, if◌then◌else◌, is_some, map, sum_by, length, drop, List, [], ◌∷◌, Option, Some, None, Result, Ok, Err}
 use Rattle.mnames.specs.declared.principals.Who.{Who}
 use Rattle.script.specs.Forms.{weight}
 use Rattle.script.specs.Plans.{ProcessPlan}
-use Rattle.script.specs.References.{reference_of}
+use Rattle.script.specs.References.{reference_of, new_word, permits}
 use Rattle.script.specs.declared.commands.Command.{Command}
 use Rattle.script.specs.declared.commands.Command.TheVariants as command
 use Rattle.script.specs.declared.commands.Reference.{Reference}
@@ -15,7 +14,6 @@ use Rattle.tree_model.specs.Tree.{Node, node_in, volume_in}
 use Rattle.dir_tree.specs.Nodes.{chain_of}
 use Rattle.known_segs.specs.Known.{uid_of}
 use Rattle.flat_model.specs.Branches.{segment_at}
-use Rattle.script.specs.References.{new_word, permits}
 use Rattle.active_segs.specs.declared.Entry.{Entry}
 use Rattle.core_map.specs.declared.Frame.{Frame}
 use Rattle.core_map.specs.declared.Frame.TheVariants as frame
@@ -31,9 +29,7 @@ use Rattle.machine_model.specs.declared.Run.{Run}
 use Rattle.machine_model.specs.State.{State, Owner}
 use Rattle.machine_model.specs.Reads.{descriptor_of, is_connected, next_command}
 use Rattle.machine_model.specs.Steps.{uid_of_held}
-use Rattle.machine_model.specs.Outline.{Want, Refer, Truncate, Length, Other, Runner, no_runner, Work, EvictFrame}
-use Rattle.machine_model.specs.Outline.{EmptyPlace, CommitCommand, Stage, Look, Taken, Waiting, Copying, Keeper}
-use Rattle.machine_model.specs.Outline.{Outline}
+use Rattle.machine_model.specs.Outline.{Want, Refer, Truncate, Length, Other, Runner, no_runner, Work, EvictFrame, EmptyPlace, CommitCommand, Stage, Look, Taken, Waiting, Copying, Keeper, Outline}
 
 -- what a processor's outline reads beside the processor: the tree, the principals, what leads to segments, and the
 -- next command of each process

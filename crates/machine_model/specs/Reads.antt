@@ -1,6 +1,5 @@
 -- What is read of a machine: of its processors and processes, its frames, its active segments and its descriptors.
-use Rattle.std.specs.Prelude.{ℕ, ◌+◌, Bool, true, false, not, ◌&&◌, ◌==◌, if◌then◌else◌, is_some, is_none, map, filter}
-use Rattle.std.specs.Prelude.{position, slice_index_or, List, [], ◌∷◌, ◌++◌, drop, Option, Some, None}
+use Rattle.std.specs.Prelude.{ℕ, ◌+◌, Bool, true, false, not, ◌&&◌, ◌==◌, if◌then◌else◌, is_some, is_none, map, filter, position, slice_index_or, List, [], ◌∷◌, ◌++◌, drop, Option, Some, None}
 use Rattle.std.specs.List.{find, list_any, range_with_len}
 use Rattle.mnames.specs.declared.modes.Mode.{Mode}
 use Rattle.script.specs.Plans.{command_at}

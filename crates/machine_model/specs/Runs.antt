@@ -1,8 +1,6 @@
 -- Short runs of the machine over one volume, which the rows of `proofs/` speak of: one processor after another makes
 -- its steps until the book has so many entries.
-use Rattle.std.specs.Prelude.{ℕ, zero, suc, ◌+◌, true, false, nat_le, if◌then◌else◌, length, map, replicate, codes}
-use Rattle.std.specs.Prelude.{List}
-use Rattle.std.specs.Prelude.{[], ◌∷◌, None, Some}
+use Rattle.std.specs.Prelude.{ℕ, zero, suc, ◌+◌, true, false, nat_le, if◌then◌else◌, length, map, replicate, codes, List, [], ◌∷◌, None, Some}
 use Rattle.mnames.specs.Principals.{default_project}
 use Rattle.mnames.specs.declared.rows.Row.{Row}
 use Rattle.script.specs.Plans.{Plan, ProcessPlan}

@@ -1,7 +1,6 @@
 -- What the steps without the supervisor, and the looks that end at once, change: each function has the effect of one
 -- entry, or of one change that has none (Bensoussan, Clingen and Daley 1972; Corbató 1968).
-use Rattle.std.specs.Prelude.{ℕ, ◌+◌, ◌-◌, ◌/◌, ◌%◌, Bool, true, false, if◌then◌else◌, length, slice_index_or}
-use Rattle.std.specs.Prelude.{slice_set, List, [], ◌∷◌, ◌++◌, drop, Option, Some, None}
+use Rattle.std.specs.Prelude.{ℕ, ◌+◌, ◌-◌, ◌/◌, ◌%◌, Bool, true, false, if◌then◌else◌, length, slice_index_or, slice_set, List, [], ◌∷◌, ◌++◌, drop, Option, Some, None}
 use Rattle.mnames.specs.declared.modes.Mode.TheVariants as mode
 use Rattle.script.specs.declared.commands.Command.{Command}
 use Rattle.script.specs.declared.commands.Reference.{Reference}
@@ -39,8 +38,7 @@ use Rattle.machine_model.specs.declared.Phase.TheVariants as phase
 use Rattle.machine_model.specs.declared.Processor.{Processor}
 use Rattle.machine_model.specs.declared.Run.{Run}
 use Rattle.machine_model.specs.State.{State, Storage, Owner}
-use Rattle.machine_model.specs.Reads.{or_zero, processor_at, cpu_at, run_at, process_at, next_command, home_in}
-use Rattle.machine_model.specs.Reads.{length_in, mode_in, superior_of_node, descriptor_of}
+use Rattle.machine_model.specs.Reads.{or_zero, processor_at, cpu_at, run_at, process_at, next_command, home_in, length_in, mode_in, superior_of_node, descriptor_of}
 use Rattle.machine_model.specs.Actions.{pool_of_node}
 
 -- ---- parts that change

@@ -1,8 +1,7 @@
 -- What the owner's job rests on: while it makes room, that a drive's failure may be told of its command, and that the
 -- segment that it makes inactive is a leaf that it took whole; while it moves a segment, what the beginning of the move
 -- found; otherwise, that its command is one that takes, and that it took just that.
-use Rattle.std.specs.Prelude.{◌≡◌, ◌≢◌, ◌⊎◌, ◌<◌, ◌≤◌, ◌*◌, ℕ, Bool, true, false, List, [], ◌∷◌, Option, Some}
-use Rattle.std.specs.Prelude.{◌+◌, length, None, Ok}
+use Rattle.std.specs.Prelude.{◌≡◌, ◌≢◌, ◌⊎◌, ◌<◌, ◌≤◌, ◌*◌, ℕ, Bool, true, false, List, [], ◌∷◌, Option, Some, ◌+◌, length, None, Ok}
 use Rattle.script.specs.References.{reference_of}
 use Rattle.script.specs.declared.commands.Command.{Command}
 use Rattle.script.specs.declared.commands.Command.TheVariants as command

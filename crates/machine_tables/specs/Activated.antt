@@ -8,8 +8,7 @@ use Rattle.page_control.specs.Tied.{map_at}
 use Rattle.seg_control.specs.declared.Link.{Link}
 use Rattle.seg_control.specs.declared.Next.{Next}
 use Rattle.seg_control.specs.declared.Next.TheVariants.{Activated, Victim, Whole}
-use Rattle.seg_control.specs.Next.{AreActive, IsFirstInactive, link_at, made_active, superior_of, table_for, uids_of}
-use Rattle.seg_control.specs.Next.{words_in}
+use Rattle.seg_control.specs.Next.{AreActive, IsFirstInactive, link_at, made_active, superior_of, table_for, uids_of, words_in}
 use Rattle.storage_ops.specs.Connecting.{link_of}
 use Rattle.storage_ops.specs.Shown.{is_there}
 use Rattle.machine_model.specs.Actions.{pool_of_node}

@@ -1,6 +1,5 @@
 -- What the tables of a machine have.
-use Rattle.std.specs.Prelude.{◌≡◌, ℕ, true, false, replicate, sum_by, List, Result, Ok}
-use Rattle.std.specs.Prelude.{Err, IsOk}
+use Rattle.std.specs.Prelude.{◌≡◌, ℕ, true, false, replicate, sum_by, List, Result, Ok, Err, IsOk}
 use Rattle.accounts.specs.Maps.{AccountMaps}
 use Rattle.page_control.specs.Effects.{NeedsNoWrite}
 use Rattle.page_control.specs.Plain.{Plain, plain}

@@ -5,8 +5,7 @@ use Rattle.script.specs.References.{reference_of}
 use Rattle.script.specs.declared.commands.Command.{Command}
 use Rattle.custody_model.specs.Next.{released_by}
 use Rattle.machine_model.specs.Keeps.{IsFaithful}
-use Rattle.machine_model.specs.Reads.{cpu_at, cut_of_owner, flat_of, frames_of_owner, next_command, processor_at}
-use Rattle.machine_model.specs.Reads.{run_at}
+use Rattle.machine_model.specs.Reads.{cpu_at, cut_of_owner, flat_of, frames_of_owner, next_command, processor_at, run_at}
 use Rattle.machine_model.specs.Ready.{IsReadyFor, OwnsFor}
 use Rattle.machine_model.specs.Refusal.{reply_of}
 use Rattle.machine_tables.specs.Committed.{HasEffect}

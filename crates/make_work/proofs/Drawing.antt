@@ -1,6 +1,5 @@
 -- Of references and their lines. (own)
-use Rattle.std.proofs.Common.{◌≡◌, ℕ, suc, ◌+◌, true, false, nat_lt, if◌then◌else◌, List, [], ◌++◌, refl, sym, ap, ◌∙◌}
-use Rattle.std.proofs.Common.{add-one, append_assoc, append-nil, codes}
+use Rattle.std.proofs.Common.{◌≡◌, ℕ, suc, ◌+◌, true, false, nat_lt, if◌then◌else◌, List, [], ◌++◌, refl, sym, ap, ◌∙◌, add-one, append_assoc, append-nil, codes}
 use Rattle.std.proofs.lemmas.List.{flat_map_more}
 use Rattle.script.specs.Scripts.{commands_text, ended}
 use Rattle.script.specs.Texts.{arguments_text, command_text}

@@ -1,14 +1,11 @@
 -- The text of a day is its lines. (own)
-use Rattle.std.proofs.Common.{◌≡◌, ℕ, suc, zero, ◌+◌, ◌<◌, true, false, List, [], ◌∷◌, ◌++◌, refl, sym, ap, ◌∙◌}
-use Rattle.std.proofs.Common.{append_assoc, codes, Result, Ok, Err, OnOk}
+use Rattle.std.proofs.Common.{◌≡◌, ℕ, suc, zero, ◌+◌, ◌<◌, true, false, List, [], ◌∷◌, ◌++◌, refl, sym, ap, ◌∙◌, append_assoc, codes, Result, Ok, Err, OnOk}
 use Rattle.std.proofs.lemmas.Grind.{flat_map-append}
 use Rattle.std.specs.Fmt.{decimal, digits}
 use Rattle.std.proofs.lemmas.Fmt.{decimal_digit}
 use Rattle.mnames.specs.Principals.{who_text, row_text}
-use Rattle.script.specs.Scripts.{begin_text, commands_text, ended, head_text, machine_text, print_text, process_text}
-use Rattle.script.specs.Scripts.{processes_text, quota_text, script_text, volume_text}
-use Rattle.script.specs.Texts.{arguments_text, command_text, mode_text, path_fields_text, reference_text}
-use Rattle.script.specs.Texts.{sign_text, word_text}
+use Rattle.script.specs.Scripts.{begin_text, commands_text, ended, head_text, machine_text, print_text, process_text, processes_text, quota_text, script_text, volume_text}
+use Rattle.script.specs.Texts.{arguments_text, command_text, mode_text, path_fields_text, reference_text, sign_text, word_text}
 use Rattle.script.specs.declared.commands.Command.TheVariants as command
 use Rattle.script.specs.declared.plan.VolumeLine.{VolumeLine}
 use Rattle.make_work.specs.Day.{day_of, initializer, made, reference_count, user, users}

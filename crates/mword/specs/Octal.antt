@@ -1,6 +1,5 @@
 -- Octal text of words: Multics writes a word of 36 bits as twelve octal digits (Organick 1972).
-use Rattle.std.specs.Prelude.{ℕ, zero, suc, ◌+◌, ◌-◌, ◌*◌, ◌/◌, ◌%◌, ◌≤◌, Bool, ◌&&◌, nat_le, if◌then◌else◌, List, []}
-use Rattle.std.specs.Prelude.{◌∷◌, ◌++◌, length, fold, All, Option, Some, None}
+use Rattle.std.specs.Prelude.{ℕ, zero, suc, ◌+◌, ◌-◌, ◌*◌, ◌/◌, ◌%◌, ◌≤◌, Bool, ◌&&◌, nat_le, if◌then◌else◌, List, [], ◌∷◌, ◌++◌, length, fold, All, Option, Some, None}
 use Rattle.std.specs.List.{list_all}
 
 -- the last `count` octal digits of a number in ASCII, the highest first

@@ -1,7 +1,5 @@
 -- What each call of page control does (Bensoussan, Clingen and Daley 1972).
-use Rattle.std.specs.Prelude.{◌≡◌, ◌⊎◌, ℕ, ◌-◌, List, [], ◌∷◌, ◌++◌, drop, Bool, true, false, if◌then◌else◌, Option}
-use Rattle.std.specs.Prelude.{None, Some, Result, Ok, Err, replicate}
-use Rattle.std.specs.Prelude.{take, slice_set}
+use Rattle.std.specs.Prelude.{◌≡◌, ◌⊎◌, ℕ, ◌-◌, List, [], ◌∷◌, ◌++◌, drop, Bool, true, false, if◌then◌else◌, Option, None, Some, Result, Ok, Err, replicate, take, slice_set}
 use Rattle.bitmap.specs.Bitmap.{least_free}
 use Rattle.core_map.specs.declared.Frame.{Frame}
 use Rattle.core_map.specs.declared.Frame.TheVariants.{Free, Bound}
@@ -14,8 +12,7 @@ use Rattle.volumes.specs.Volumes.{with_page}
 use Rattle.page_control.specs.declared.Home.{Home}
 use Rattle.page_control.specs.declared.Left.{Left}
 use Rattle.page_control.specs.declared.Left.TheVariants.{Released, Kept}
-use Rattle.page_control.specs.Plain.{Plain, frame_in, words_in, flags_of, vtoc_of, words_on, entry_of, file_map_of}
-use Rattle.page_control.specs.Plain.{record_of, number_or_zero}
+use Rattle.page_control.specs.Plain.{Plain, frame_in, words_in, flags_of, vtoc_of, words_on, entry_of, file_map_of, record_of, number_or_zero}
 
 -- frame f becomes what is given
 abbrev pub framed : Plain → ℕ → Frame → Plain

@@ -1,7 +1,6 @@
 -- What the frames, the records and the VTOCs stand for: the words of each page of a segment at its home, and which of
 -- its pages are stored (Bensoussan, Clingen and Daley 1972; that a page of zeros has no record is Organick 1972).
-use Rattle.std.specs.Prelude.{◌≡◌, ℕ, true, ◌==◌, ◌&&◌, if◌then◌else◌, Bool, false, List, [], Option, None, Some}
-use Rattle.std.specs.Prelude.{is_some, replicate, position, slice_index_or}
+use Rattle.std.specs.Prelude.{◌≡◌, ℕ, true, ◌==◌, ◌&&◌, if◌then◌else◌, Bool, false, List, [], Option, None, Some, is_some, replicate, position, slice_index_or}
 use Rattle.vtoc.specs.Vtoc.{Entry, record_at}
 use Rattle.page_control.specs.declared.Home.{Home}
 use Rattle.page_control.specs.declared.Left.{Left}

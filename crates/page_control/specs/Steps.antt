@@ -8,8 +8,7 @@ use Rattle.page_control.specs.declared.Home.{Home}
 use Rattle.page_control.specs.declared.Left.{Left}
 use Rattle.page_control.specs.declared.Left.TheVariants.{Released}
 use Rattle.page_control.specs.Plain.{Plain, words_in, disk_of, flags_of, vtoc_of, filed, record_of}
-use Rattle.page_control.specs.Effects.{next_record, after_evict, after_read, after_create, after_asked, words_left}
-use Rattle.page_control.specs.Effects.{words_here}
+use Rattle.page_control.specs.Effects.{next_record, after_evict, after_read, after_create, after_asked, words_left, words_here}
 
 -- page p at a home was to leave frame f, and its words changed from t to u
 pub record HasLeft {E : Type 0} (old now : Plain) (t u : List Ptw) (home : Home) (p f : ℕ) (result : Result Left E) :

@@ -1,6 +1,5 @@
 -- What ties page tables, homes and frames together (Bensoussan, Clingen and Daley 1972).
-use Rattle.std.specs.Prelude.{◌≡◌, ◌≢◌, ◌≤◌, ℕ, Bool, true, false, List, [], Option, None, Some, is_some, length}
-use Rattle.std.specs.Prelude.{slice_index_or}
+use Rattle.std.specs.Prelude.{◌≡◌, ◌≢◌, ◌≤◌, ℕ, Bool, true, false, List, [], Option, None, Some, is_some, length, slice_index_or}
 use Rattle.core_map.specs.CoreMap.{Core, frame_at, is_bound}
 use Rattle.core_map.specs.declared.Frame.{Frame}
 use Rattle.core_map.specs.declared.Frame.TheVariants.{Free, Started, Bound}

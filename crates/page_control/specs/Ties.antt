@@ -6,8 +6,7 @@ use Rattle.page_table.specs.declared.Ptw.{Ptw}
 use Rattle.page_table.specs.declared.Ptw.TheVariants.{Null, Out}
 use Rattle.page_control.specs.declared.Home.{Home}
 use Rattle.page_control.specs.Plain.{Plain, bindings, binding_at, frame_in, words_in, words_on}
-use Rattle.page_control.specs.Tied.{IsTableOf, IsMapOf, AreFiled, IsInFrame, IsBoundTo, uid_at, map_at, frame_of}
-use Rattle.page_control.specs.Tied.{has_record, is_out}
+use Rattle.page_control.specs.Tied.{IsTableOf, IsMapOf, AreFiled, IsInFrame, IsBoundTo, uid_at, map_at, frame_of, has_record, is_out}
 use Rattle.page_control.specs.Picture.{words_at, words_out, is_stored}
 use Rattle.page_control.specs.Counts.{taken}
 

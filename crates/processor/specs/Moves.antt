@@ -1,7 +1,6 @@
 -- What a processor does by itself with a reference, by its associative memories and the tables (Bensoussan, Clingen and
 -- Daley 1972).
-use Rattle.std.specs.Prelude.{◌≡◌, ◌≤◌, ℕ, ◌*◌, ◌/◌, ◌==◌, false, not, nat_le, if◌then◌else◌, length, List, Option}
-use Rattle.std.specs.Prelude.{Some, None}
+use Rattle.std.specs.Prelude.{◌≡◌, ◌≤◌, ℕ, ◌*◌, ◌/◌, ◌==◌, false, not, nat_le, if◌then◌else◌, length, List, Option, Some, None}
 use Rattle.active_segs.specs.Active.{ActiveSegs, IsActive, table_at, uid_at}
 use Rattle.assoc_mem.specs.Held.{Held, frame_of, nothing_held, seg_of}
 use Rattle.assoc_mem.specs.declared.HeldSeg.{HeldSeg}

@@ -1,9 +1,7 @@
 -- What a contract sees of quota cells: a finite map from directory to quota, one from segment to stored pages, and
 -- for each directory the stored pages below it that no lower account takes (Organick 1972). A map is a list of uids
 -- with a list of values beside them.
-use Rattle.std.specs.Prelude.{◌≡◌, ◌≢◌, ℕ, ◌+◌, ◌-◌, ◌<◌, ◌≤◌, ◌==◌, ◌^◌, Bool, true, false, ◌&&◌, ◌||◌, not}
-use Rattle.std.specs.Prelude.{if◌then◌else◌, List, [], ◌∷◌, length, Option}
-use Rattle.std.specs.Prelude.{Some, None, slice_index, sum, nat_lt, Result, Ok, Err}
+use Rattle.std.specs.Prelude.{◌≡◌, ◌≢◌, ℕ, ◌+◌, ◌-◌, ◌<◌, ◌≤◌, ◌==◌, ◌^◌, Bool, true, false, ◌&&◌, ◌||◌, not, if◌then◌else◌, List, [], ◌∷◌, length, Option, Some, None, slice_index, sum, nat_lt, Result, Ok, Err}
 use Rattle.tree_model.specs.Tree.{Node as Term, above, account, has_directory}
 use Rattle.tree_model.specs.Quotas.{getter_of, giver_of}
 use Rattle.dir_tree.specs.declared.node.Node.{Node}
@@ -13,8 +11,7 @@ use Rattle.std.specs.List.{find}
 use Rattle.quota_cells.specs.declared.Full.{Full}
 use Rattle.quota_cells.specs.declared.MoveFault.{MoveFault}
 use Rattle.quota_cells.specs.declared.MoveFault.TheVariants as fault
-use Rattle.quota_cells.specs.Accounts.{look, has, with_value, with_beside, without_beside, covers, weigh, load}
-use Rattle.quota_cells.specs.Accounts.{charged_to, is_an_account, changed_where}
+use Rattle.quota_cells.specs.Accounts.{look, has, with_value, with_beside, without_beside, covers, weigh, load, charged_to, is_an_account, changed_where}
 
 pub record CellMaps : Type 0 where
   pub directories : List ℕ

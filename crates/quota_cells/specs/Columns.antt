@@ -1,6 +1,5 @@
 -- Cells in the order of uids as columns of numbers, lists of uids, and quota that goes from one directory to another.
-use Rattle.std.specs.Prelude.{◌≡◌, ◌≢◌, ℕ, ◌+◌, ◌-◌, ◌<◌, ◌≤◌, ◌^◌, Bool, true, if◌then◌else◌, List, [], ◌∷◌}
-use Rattle.std.specs.Prelude.{length, map, slice_index}
+use Rattle.std.specs.Prelude.{◌≡◌, ◌≢◌, ℕ, ◌+◌, ◌-◌, ◌<◌, ◌≤◌, ◌^◌, Bool, true, if◌then◌else◌, List, [], ◌∷◌, length, map, slice_index}
 use Rattle.tree_model.specs.Trees.{AreUnder}
 use Rattle.quota_cells.specs.declared.directories.Pages.{Pages}
 use Rattle.quota_cells.specs.declared.directories.Pages.TheVariants.{More, Less}

@@ -1,6 +1,5 @@
 -- What a move of quota is refused for, by the numbers of the directories that can come to be above their quotas.
-use Rattle.std.specs.Prelude.{◌≡◌, ◌≢◌, ◌<◌, ℕ, Bool, true, List, ◌∷◌, ◌+◌, ◌-◌, ◌==◌, ◌&&◌, ◌||◌, not, nat_lt}
-use Rattle.std.specs.Prelude.{if◌then◌else◌, Result, Ok, Err}
+use Rattle.std.specs.Prelude.{◌≡◌, ◌≢◌, ◌<◌, ℕ, Bool, true, List, ◌∷◌, ◌+◌, ◌-◌, ◌==◌, ◌&&◌, ◌||◌, not, nat_lt, if◌then◌else◌, Result, Ok, Err}
 use Rattle.tree_model.specs.Tree.{above}
 use Rattle.tree_model.specs.Trees.{HasChains}
 use Rattle.tree_model.specs.Quotas.{superior_of}

@@ -1,6 +1,5 @@
 -- A listing up to its first line at fault (own).
-use Rattle.std.specs.Prelude.{◌≡◌, ◌⊎◌, ℕ, ◌+◌, true, false, List, [], ◌∷◌, ◌++◌, length, map, Option, Some, None}
-use Rattle.std.specs.Prelude.{Result, Ok, Err}
+use Rattle.std.specs.Prelude.{◌≡◌, ◌⊎◌, ℕ, ◌+◌, true, false, List, [], ◌∷◌, ◌++◌, length, map, Option, Some, None, Result, Ok, Err}
 use Rattle.book.specs.Entries.{entry_text}
 use Rattle.book.specs.declared.entries.Entry.{Entry}
 use Rattle.script.specs.Grammar.{script_of}

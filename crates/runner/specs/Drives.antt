@@ -1,6 +1,5 @@
 -- The drives of a script's volumes, and what a book tells of them (own).
-use Rattle.std.specs.Prelude.{◌≡◌, ◌≤◌, ◌+◌, ℕ, Bool, false, true, ◌==◌, if◌then◌else◌, List, [], ◌∷◌}
-use Rattle.std.specs.Prelude.{filter, map, length, count_by, slice_get, sum_by, Option, Some}
+use Rattle.std.specs.Prelude.{◌≡◌, ◌≤◌, ◌+◌, ℕ, Bool, false, true, ◌==◌, if◌then◌else◌, List, [], ◌∷◌, filter, map, length, count_by, slice_get, sum_by, Option, Some}
 use Rattle.std.specs.List.{list_any}
 use Rattle.volumes.specs.CoreDrive.{faults_of}
 use Rattle.volumes.specs.FailLine.{named_calls}

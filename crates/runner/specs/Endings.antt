@@ -1,6 +1,5 @@
 -- How a call of the program may end, and what it leaves then. (own)
-use Rattle.std.specs.Prelude.{◌≡◌, ◌⊎◌, ℕ, ◌+◌, ◌<◌, ◌≤◌, true, List, length}
-use Rattle.std.specs.Prelude.{Option, Some, None, is_some, IfSome, IsSomeAnd, Result, Ok, Err}
+use Rattle.std.specs.Prelude.{◌≡◌, ◌⊎◌, ℕ, ◌+◌, ◌<◌, ◌≤◌, true, List, length, Option, Some, None, is_some, IfSome, IsSomeAnd, Result, Ok, Err}
 use Rattle.std.specs.Io.KnownBytes.{Appends, Keeps}
 use Rattle.site_io.specs.Faults.{Rose}
 use Rattle.site_io.specs.Streams.{AppendsFront, ConsumesFront}

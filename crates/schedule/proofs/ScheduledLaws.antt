@@ -9,8 +9,7 @@ use Rattle.script.specs.declared.reader.ScriptFault.TheVariants as script_fault
 use Rattle.script.specs.declared.refusals.Refusal.{Refusal}
 use Rattle.schedule.specs.Inputs.{first_number, has_schedule, schedule_lines, script_lines}
 use Rattle.schedule.specs.Orders.{orders_in}
-use Rattle.schedule.specs.Scheduled.{FailsLines, FailsScheduled, of_script, scheduled_of, script_of_lines}
-use Rattle.schedule.specs.Scheduled.{with_orders, with_plan}
+use Rattle.schedule.specs.Scheduled.{FailsLines, FailsScheduled, of_script, scheduled_of, script_of_lines, with_orders, with_plan}
 use Rattle.schedule.specs.declared.orders.Line.{Line}
 use Rattle.schedule.specs.declared.reader.ScheduleFault.{ScheduleFault}
 use Rattle.schedule.specs.declared.reader.ScheduleFault.TheVariants as fault

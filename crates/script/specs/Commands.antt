@@ -1,8 +1,7 @@
 -- The commands of a script, and why a line is none (own). A line is its word and the fields after it.
 use Rattle.std.specs.Prelude.{ℕ, if◌then◌else◌, List, Result, Ok, Err, codes}
 use Rattle.std.specs.Str.{bytes_eq}
-use Rattle.script.specs.Lines.{◌>>=◌, no_fields, one_field, two_fields, three_fields, four_fields, number_in, word_in}
-use Rattle.script.specs.Lines.{row_in, path_in, mode_in, volume_in, amount_in}
+use Rattle.script.specs.Lines.{◌>>=◌, no_fields, one_field, two_fields, three_fields, four_fields, number_in, word_in, row_in, path_in, mode_in, volume_in, amount_in}
 use Rattle.script.specs.declared.commands.Command.{Command}
 use Rattle.script.specs.declared.commands.Command.TheVariants as command
 use Rattle.script.specs.declared.plan.VolumeLine.{VolumeLine}

@@ -1,12 +1,10 @@
 -- What the lines of a script so far say (own).
-use Rattle.std.specs.Prelude.{◌≡◌, ℕ, ◌+◌, ◌<◌, ◌≤◌, Bool, true, false, not, nat_le, ◌==◌, List, [], ◌∷◌, ◌++◌}
-use Rattle.std.specs.Prelude.{length, sum_by, codes}
+use Rattle.std.specs.Prelude.{◌≡◌, ℕ, ◌+◌, ◌<◌, ◌≤◌, Bool, true, false, not, nat_le, ◌==◌, List, [], ◌∷◌, ◌++◌, length, sum_by, codes}
 use Rattle.std.specs.List.{list_all}
 use Rattle.mnames.specs.Principals.{default_project}
 use Rattle.mnames.specs.declared.principals.Who.{Who}
 use Rattle.script.specs.CommandLists.{ListPlan}
-use Rattle.script.specs.Forms.{ArePools, BeginsWithInitializer, have_own_names, have_own_volumes, is_bulk, is_command}
-use Rattle.script.specs.Forms.{is_end, is_fail, is_process, is_volume, is_who, records_of, weight, weight_of}
+use Rattle.script.specs.Forms.{ArePools, BeginsWithInitializer, have_own_names, have_own_volumes, is_bulk, is_command, is_end, is_fail, is_process, is_volume, is_who, records_of, weight, weight_of}
 use Rattle.script.specs.Parts.{plan_of}
 use Rattle.script.specs.Plans.{Plan, ProcessPlan}
 use Rattle.script.specs.declared.commands.Command.{Command}

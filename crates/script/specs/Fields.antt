@@ -1,6 +1,5 @@
 -- What a line of a script has, and what a field stands for (own).
-use Rattle.std.specs.Prelude.{◌≡◌, true, false, ℕ, ◌+◌, ◌-◌, ◌*◌, Bool, ◌&&◌, ◌==◌, nat_le, if◌then◌else◌, List, []}
-use Rattle.std.specs.Prelude.{◌∷◌, length, Option, ◌<◌, ◌≤◌, slice_index, Some, None}
+use Rattle.std.specs.Prelude.{◌≡◌, true, false, ℕ, ◌+◌, ◌-◌, ◌*◌, Bool, ◌&&◌, ◌==◌, nat_le, if◌then◌else◌, List, [], ◌∷◌, length, Option, ◌<◌, ◌≤◌, slice_index, Some, None}
 use Rattle.std.specs.List.{list_all}
 use Rattle.std.specs.Char.{is_ascii_digit}
 use Rattle.text_model.specs.Lines.{onto_piece}

@@ -1,6 +1,5 @@
 -- The script of some bytes, or the first refusal (own).
-use Rattle.std.specs.Prelude.{◌≡◌, ℕ, ◌+◌, Bool, not, ◌&&◌, ◌==◌, if◌then◌else◌, List, [], ◌∷◌, fold, slice_index_or}
-use Rattle.std.specs.Prelude.{Result, Ok, Err}
+use Rattle.std.specs.Prelude.{◌≡◌, ℕ, ◌+◌, Bool, not, ◌&&◌, ◌==◌, if◌then◌else◌, List, [], ◌∷◌, fold, slice_index_or, Result, Ok, Err}
 use Rattle.script.specs.Drafts.{DraftPlan, blank, has_volume, is_inside}
 use Rattle.text_model.specs.Lines.{lines_of, fields_of}
 use Rattle.script.specs.Fields.{is_printable}

@@ -1,16 +1,13 @@
 -- What each line adds to the draft of a script, and why it is refused (own). A line is its word and the fields after
 -- it.
-use Rattle.std.specs.Prelude.{ℕ, ◌+◌, Bool, true, not, ◌&&◌, ◌||◌, ◌==◌, nat_le, nat_lt, if◌then◌else◌, List, [], ◌∷◌}
-use Rattle.std.specs.Prelude.{◌++◌}
-use Rattle.std.specs.Prelude.{length, sum_by, Result, Ok, Err, codes}
+use Rattle.std.specs.Prelude.{ℕ, ◌+◌, Bool, true, not, ◌&&◌, ◌||◌, ◌==◌, nat_le, nat_lt, if◌then◌else◌, List, [], ◌∷◌, ◌++◌, length, sum_by, Result, Ok, Err, codes}
 use Rattle.std.specs.List.{list_any}
 use Rattle.std.specs.Str.{bytes_eq}
 use Rattle.script.specs.CommandLists.{ListPlan, longer}
 use Rattle.script.specs.Commands.{command_of}
 use Rattle.script.specs.Drafts.{DraftPlan, has_volume, initializer_who, is_inside, reach}
 use Rattle.script.specs.Forms.{is_before, is_end, is_from, records_of, weight}
-use Rattle.script.specs.Lines.{◌>>=◌, only_if, no_fields, one_field, two_fields, three_fields, six_fields, number_in}
-use Rattle.script.specs.Lines.{who_in, print_in, is_write_in, volume_in, new_name_in, call_in}
+use Rattle.script.specs.Lines.{◌>>=◌, only_if, no_fields, one_field, two_fields, three_fields, six_fields, number_in, who_in, print_in, is_write_in, volume_in, new_name_in, call_in}
 use Rattle.script.specs.declared.commands.Command.{Command}
 use Rattle.script.specs.declared.drafts.Stage.{Stage}
 use Rattle.script.specs.declared.drafts.Stage.TheVariants as stage

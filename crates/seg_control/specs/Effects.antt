@@ -1,6 +1,5 @@
 -- What each call of segment control does (Bensoussan, Clingen and Daley 1972).
-use Rattle.std.specs.Prelude.{ℕ, ◌==◌, if◌then◌else◌, List, [], ◌∷◌, ◌++◌, take, drop, map, Option, None, Some, Result}
-use Rattle.std.specs.Prelude.{Ok, Err, replicate, slice_set}
+use Rattle.std.specs.Prelude.{ℕ, ◌==◌, if◌then◌else◌, List, [], ◌∷◌, ◌++◌, take, drop, map, Option, None, Some, Result, Ok, Err, replicate, slice_set}
 use Rattle.mnames.specs.declared.modes.Mode.{Mode}
 use Rattle.page_table.specs.declared.Ptw.{Ptw}
 use Rattle.page_table.specs.declared.Ptw.TheVariants.{Null, Out, Here, Leaving}

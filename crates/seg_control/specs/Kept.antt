@@ -1,6 +1,5 @@
 -- What is true of segment control between calls (Bensoussan, Clingen and Daley 1972).
-use Rattle.std.specs.Prelude.{◌≡◌, ◌≢◌, ◌⊎◌, ℕ, ◌≤◌, ◌<◌, ◌==◌, ◌^◌, ◌+◌, if◌then◌else◌, true, List, Option}
-use Rattle.std.specs.Prelude.{None, Some, length, count_by, slice_index_or}
+use Rattle.std.specs.Prelude.{◌≡◌, ◌≢◌, ◌⊎◌, ℕ, ◌≤◌, ◌<◌, ◌==◌, ◌^◌, ◌+◌, if◌then◌else◌, true, List, Option, None, Some, length, count_by, slice_index_or}
 use Rattle.core_map.specs.declared.Frame.TheVariants.{Free}
 use Rattle.core_map.specs.CoreMap.{Core, reads_of, frame_at}
 use Rattle.page_table.specs.declared.Ptw.{Ptw}

@@ -1,7 +1,6 @@
 -- A segment that moves to another volume: the volumes while it does, and what each call of its move changes (Organick
 -- 1972; the steps are own).
-use Rattle.std.specs.Prelude.{◌≡◌, ◌≢◌, ℕ, zero, suc, ◌+◌, ◌-◌, Bool, true, false, List, Option, None, Some}
-use Rattle.std.specs.Prelude.{if◌then◌else◌, IfSome}
+use Rattle.std.specs.Prelude.{◌≡◌, ◌≢◌, ℕ, zero, suc, ◌+◌, ◌-◌, Bool, true, false, List, Option, None, Some, if◌then◌else◌, IfSome}
 use Rattle.vtoc.specs.Vtoc.{Entry}
 use Rattle.volumes.specs.Volumes.{Vols}
 use Rattle.core_map.specs.CoreMap.{Core, reads_of}

@@ -1,13 +1,11 @@
 -- The next segment of a chain of superiors that becomes active (Bensoussan, Clingen and Daley 1972; that the first one
 -- of a chain which is not active comes next, and the least free place of its pool, is own).
-use Rattle.std.specs.Prelude.{◌≡◌, ℕ, suc, zero, ◌+◌, ◌^◌, ◌<◌, ◌≤◌, List, [], ◌∷◌, ◌++◌, Option, None, Some, length}
-use Rattle.std.specs.Prelude.{map, slice_index_or}
+use Rattle.std.specs.Prelude.{◌≡◌, ℕ, suc, zero, ◌+◌, ◌^◌, ◌<◌, ◌≤◌, List, [], ◌∷◌, ◌++◌, Option, None, Some, length, map, slice_index_or}
 use Rattle.page_table.specs.declared.Ptw.{Ptw}
 use Rattle.page_table.specs.declared.Ptw.TheVariants.{Null, Out}
 use Rattle.vtoc.specs.Vtoc.{Entry as VtocEntry}
 use Rattle.active_segs.specs.declared.Entry.{Entry}
-use Rattle.active_segs.specs.Active.{ActiveSegs, superior_at, uid_at, activated, with_table, IsActive, IsLeastFree}
-use Rattle.active_segs.specs.Active.{IsFull}
+use Rattle.active_segs.specs.Active.{ActiveSegs, superior_at, uid_at, activated, with_table, IsActive, IsLeastFree, IsFull}
 use Rattle.active_segs.specs.Victim.{IsVictim, HasOneOffChain, hand_moved}
 use Rattle.page_control.specs.Tied.{map_at, uid_at as uid_homed}
 use Rattle.seg_control.specs.declared.Link.{Link}

@@ -1,7 +1,5 @@
 -- The pages of a segment that moves are copied from its old records to its new ones (own).
-use Rattle.std.specs.Prelude.{◌≡◌, ◌≢◌, ◌⊎◌, ℕ, zero, suc, ◌+◌, ◌-◌, ◌<◌, ◌≤◌, Bool, false, not, ◌&&◌, if◌then◌else◌}
-use Rattle.std.specs.Prelude.{List, [], Option, None, Some, Result, Ok, Err, is_some, length, map, sum_by, slice_get}
-use Rattle.std.specs.Prelude.{slice_index_or, IfOk, OnOk, OnErr, true}
+use Rattle.std.specs.Prelude.{◌≡◌, ◌≢◌, ◌⊎◌, ℕ, zero, suc, ◌+◌, ◌-◌, ◌<◌, ◌≤◌, Bool, false, not, ◌&&◌, if◌then◌else◌, List, [], Option, None, Some, Result, Ok, Err, is_some, length, map, sum_by, slice_get, slice_index_or, IfOk, OnOk, OnErr, true}
 use Rattle.site_io.specs.Faults.{Rose}
 use Rattle.volumes.specs.FailLine.{IsOneMore}
 use Rattle.volumes.specs.Volumes.{Vols, faults_at, with_page}

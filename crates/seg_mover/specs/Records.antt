@@ -1,7 +1,6 @@
 -- Which records a segment takes on a volume, and which it gives back (Organick 1972; that it takes the least ones is
 -- own).
-use Rattle.std.specs.Prelude.{◌≡◌, ◌⊎◌, ℕ, Bool, true, false, List, [], ◌∷◌, length, Option, None, Some, slice_set}
-use Rattle.std.specs.Prelude.{slice_index_or}
+use Rattle.std.specs.Prelude.{◌≡◌, ◌⊎◌, ℕ, Bool, true, false, List, [], ◌∷◌, length, Option, None, Some, slice_set, slice_index_or}
 use Rattle.bitmap.specs.Bitmap.{in_use, least_free}
 
 -- the flags after this record came into use; where there is none, as before

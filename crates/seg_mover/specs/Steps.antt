@@ -1,6 +1,5 @@
 -- The steps of which the calls are made, a page at a time (own).
-use Rattle.std.specs.Prelude.{◌≡◌, ◌<◌, ◌≤◌, ◌+◌, ◌++◌, ℕ, true, false, Option, None, Some, length, count_by, is_some}
-use Rattle.std.specs.Prelude.{IsSome, slice_set, take, drop}
+use Rattle.std.specs.Prelude.{◌≡◌, ◌<◌, ◌≤◌, ◌+◌, ◌++◌, ℕ, true, false, Option, None, Some, length, count_by, is_some, IsSome, slice_set, take, drop}
 use Rattle.vtoc.specs.Vtoc.{with_record, fresh_entry}
 use Rattle.volumes.specs.Volumes.{Vols, records_at, used_at, vtoc_at, with_record_used, with_vtoc}
 use Rattle.seg_mover.specs.Homes.{entry_of, map_at, place_at}

@@ -1,12 +1,10 @@
 -- What reads and writes in a row do to a source's and a sink's bytes.
 use Rattle.std.proofs.lemmas.Grind.{common_steps}
-use Rattle.std.proofs.Common.{◌≡◌, ℕ, ◌+◌, ◌≤◌, List, [], ◌++◌, length, IfSome, Option, Some, None, ◌<◌, sym, ap, ◌∙◌}
-use Rattle.std.proofs.Common.{arith, take, drop}
+use Rattle.std.proofs.Common.{◌≡◌, ℕ, ◌+◌, ◌≤◌, List, [], ◌++◌, length, IfSome, Option, Some, None, ◌<◌, sym, ap, ◌∙◌, arith, take, drop}
 use Rattle.std.specs.Io.KnownBytes.{Appends, Consumes, Keeps}
 use Rattle.std.proofs.KnownBytes.{Appends-trans, Consumes-nil, Consumes-trans, Consumes-kept, Keeps-refl}
 use Rattle.std.proofs.Math.Seq.{take-add}
-use Rattle.std.proofs.lemmas.List.{take_at, drop-drop, take-append-drop, length-append, length-drop, length-take}
-use Rattle.std.proofs.lemmas.List.{length-take-le}
+use Rattle.std.proofs.lemmas.List.{take_at, drop-drop, take-append-drop, length-append, length-drop, length-take, length-take-le}
 use Rattle.site_io.specs.Streams.{ConsumesFront, ConsumesPast}
 
 -- what a read over memory copied into the buffer is the front of what was left

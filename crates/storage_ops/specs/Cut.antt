@@ -1,6 +1,5 @@
 -- What the cutting of a segment and the deletion of a node ask, and what they leave as it is (own).
-use Rattle.std.specs.Prelude.{◌≡◌, ◌≢◌, ◌<◌, ◌≤◌, ℕ, ◌*◌, ◌/◌, ◌%◌, Bool, true, false, ◌&&◌, ◌==◌}
-use Rattle.std.specs.Prelude.{if◌then◌else◌, List, Option, None, Some, Ok}
+use Rattle.std.specs.Prelude.{◌≡◌, ◌≢◌, ◌<◌, ◌≤◌, ℕ, ◌*◌, ◌/◌, ◌%◌, Bool, true, false, ◌&&◌, ◌==◌, if◌then◌else◌, List, Option, None, Some, Ok}
 use Rattle.tree_model.specs.Tree.{Node, with_node}
 use Rattle.accounts.specs.Maps.{AccountMaps, Changes}
 use Rattle.script.specs.Plans.{Plan}

@@ -1,6 +1,5 @@
 -- What the cutting of a segment and the deletion of a node leave of its pages, exactly (Organick 1972).
-use Rattle.std.specs.Prelude.{◌≡◌, ◌≢◌, ℕ, ◌+◌, ◌-◌, ◌/◌, ◌%◌, ◌==◌, Bool, false, if◌then◌else◌, List, [], ◌∷◌}
-use Rattle.std.specs.Prelude.{Some}
+use Rattle.std.specs.Prelude.{◌≡◌, ◌≢◌, ℕ, ◌+◌, ◌-◌, ◌/◌, ◌%◌, ◌==◌, Bool, false, if◌then◌else◌, List, [], ◌∷◌, Some}
 use Rattle.std.specs.List.{list_all, range_with_len}
 use Rattle.accounts.specs.Maps.{AccountMaps, count_of}
 use Rattle.page_table.specs.declared.Ptw.{Ptw}

@@ -1,6 +1,5 @@
 -- What the calls on pages ask and leave: a word is written, a page is stored or is stored no more (Organick 1972).
-use Rattle.std.specs.Prelude.{◌≡◌, ℕ, ◌+◌, ◌-◌, ◌*◌, ◌/◌, ◌<◌, ◌==◌, if◌then◌else◌, List, Some}
-use Rattle.std.specs.Prelude.{Result, Ok, Err, length, replicate, slice_set, true}
+use Rattle.std.specs.Prelude.{◌≡◌, ℕ, ◌+◌, ◌-◌, ◌*◌, ◌/◌, ◌<◌, ◌==◌, if◌then◌else◌, List, Some, Result, Ok, Err, length, replicate, slice_set, true}
 use Rattle.known_segs.specs.Known.{uid_of}
 use Rattle.core_map.specs.declared.Frame.TheVariants.{Free}
 use Rattle.core_map.specs.CoreMap.{frame_at, reads_of}

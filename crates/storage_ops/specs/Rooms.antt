@@ -1,6 +1,5 @@
 -- Which volume has room for so many pages, and when a segment must move there (Organick 1972).
-use Rattle.std.specs.Prelude.{ℕ, ◌-◌, Bool, not, ◌&&◌, ◌==◌, nat_lt, if◌then◌else◌, is_some, count_by, length}
-use Rattle.std.specs.Prelude.{Option, None}
+use Rattle.std.specs.Prelude.{ℕ, ◌-◌, Bool, not, ◌&&◌, ◌==◌, nat_lt, if◌then◌else◌, is_some, count_by, length, Option, None}
 use Rattle.accounts.specs.Maps.{count_of}
 use Rattle.tree_model.specs.Tree.{volume_in}
 use Rattle.flat_model.specs.Rooms.{first_below}

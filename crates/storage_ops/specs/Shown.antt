@@ -1,8 +1,6 @@
 -- What a store has between calls, what is true of it, and which flat store it shows (Bensoussan, Clingen and Daley
 -- 1972; Organick 1972; the picture and the counts from scratch are own).
-use Rattle.std.specs.Prelude.{◌≡◌, ◌≢◌, ℕ, ◌<◌, ◌≤◌, ◌/◌, ◌%◌, Bool, true, false, ◌&&◌, if◌then◌else◌, is_some}
-use Rattle.std.specs.Prelude.{map, replicate, length}
-use Rattle.std.specs.Prelude.{slice_index_or, count_by, List, Option, None, Some, Ok}
+use Rattle.std.specs.Prelude.{◌≡◌, ◌≢◌, ℕ, ◌<◌, ◌≤◌, ◌/◌, ◌%◌, Bool, true, false, ◌&&◌, if◌then◌else◌, is_some, map, replicate, length, slice_index_or, count_by, List, Option, None, Some, Ok}
 use Rattle.mnames.specs.declared.principals.Who.{Who}
 use Rattle.mnames.specs.declared.modes.Mode.{Mode}
 use Rattle.script.specs.Plans.{Plan, nobody}
@@ -18,8 +16,7 @@ use Rattle.flat_model.specs.Pages.{is_stored, IsOnce}
 use Rattle.flat_model.specs.Store.{Store, records_of, entries_of}
 use Rattle.descriptor_seg.specs.declared.Sdw.TheVariants.{Present}
 use Rattle.descriptor_seg.specs.Descriptors.{sdw_at}
-pub use Rattle.tree_commands.specs.Shown.{HasMoved, HasRowSet, IsFound, IsThere, ShowsTree}
-pub use Rattle.tree_commands.specs.Shown.{is_there, pages_in, pages_of}
+pub use Rattle.tree_commands.specs.Shown.{HasMoved, HasRowSet, IsFound, IsThere, ShowsTree, is_there, pages_in, pages_of}
 use Rattle.vtoc.specs.Vtoc.{Entry as VtocEntry, entry_at}
 use Rattle.active_segs.specs.declared.Entry.{Entry}
 use Rattle.active_segs.specs.Active.{ActiveSegs, superior_at, uid_at as uid_in_place}

@@ -1,7 +1,5 @@
 -- A trailer that is in a list has a place there.
-use Rattle.std.proofs.Common.{ℕ, List, refl}
-use Rattle.std.proofs.Common.{Contains, IsSome}
-use Rattle.std.proofs.Common.{ap, ◌∙◌}
+use Rattle.std.proofs.Common.{ℕ, List, refl, Contains, IsSome, ap, ◌∙◌}
 use Rattle.std.proofs.lemmas.Bool.{eq-eqb, and_from}
 use Rattle.trailers.specs.Trailer.{leads_to, place_in}
 use Rattle.laws.proofs.Lists.{position_there}

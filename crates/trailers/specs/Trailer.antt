@@ -1,8 +1,7 @@
 -- What a contract sees of the trailers: for each place of the active segment table the list of the descriptors that
 -- use its page table, in the order in which they were connected (Bensoussan, Clingen and Daley 1972; the order and
 -- the bound of 32 are own).
-use Rattle.std.specs.Prelude.{ℕ, ◌==◌, ◌&&◌, Bool, List, [], ◌∷◌, ◌++◌, Option, Some, None, position, slice_index_or}
-use Rattle.std.specs.Prelude.{slice_set, remove}
+use Rattle.std.specs.Prelude.{ℕ, ◌==◌, ◌&&◌, Bool, List, [], ◌∷◌, ◌++◌, Option, Some, None, position, slice_index_or, slice_set, remove}
 
 -- the descriptors that use the page table of a place, each as a process and its segment number
 abbrev pub trailers_of : List (List (ℕ × ℕ)) → ℕ → List (ℕ × ℕ)

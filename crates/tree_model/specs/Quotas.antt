@@ -1,7 +1,6 @@
 -- Quota that moves between a directory and the one that it lies in, and the accounts that are above their quotas
 -- (Organick 1972).
-use Rattle.std.specs.Prelude.{ℕ, ◌+◌, ◌-◌, Bool, ◌&&◌, ◌||◌, not, ◌==◌, nat_le, nat_lt, if◌then◌else◌, map, List, []}
-use Rattle.std.specs.Prelude.{◌∷◌, Option, Some, None, slice_index}
+use Rattle.std.specs.Prelude.{ℕ, ◌+◌, ◌-◌, Bool, ◌&&◌, ◌||◌, not, ◌==◌, nat_le, nat_lt, if◌then◌else◌, map, List, [], ◌∷◌, Option, Some, None, slice_index}
 use Rattle.tree_model.specs.Tree.{Node, above, has_directory, quota_in, used_by}
 
 -- Between a directory and its superior: down to the directory, or up from it. One gets the quota, the other gives it.

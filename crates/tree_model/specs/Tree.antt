@@ -1,7 +1,6 @@
 -- The directory tree, the accounts in it, and their counts from scratch (Bensoussan, Clingen and
 -- Daley 1972; Organick 1972).
-use Rattle.std.specs.Prelude.{ℕ, Bool, true, false, ◌&&◌, ◌||◌, not, ◌==◌, nat_le, if◌then◌else◌, count_by, map, List}
-use Rattle.std.specs.Prelude.{[], ◌∷◌, Option, Some, None}
+use Rattle.std.specs.Prelude.{ℕ, Bool, true, false, ◌&&◌, ◌||◌, not, ◌==◌, nat_le, if◌then◌else◌, count_by, map, List, [], ◌∷◌, Option, Some, None}
 use Rattle.std.specs.List.{filter}
 use Rattle.std.specs.Str.{bytes_eq}
 use Rattle.tree_model.specs.Access.{Row}

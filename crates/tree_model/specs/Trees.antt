@@ -1,6 +1,5 @@
 -- What holds of every tree, and of what is above its nodes.
-use Rattle.std.specs.Prelude.{◌≡◌, ◌≢◌, ◌==◌, ℕ, ◌<◌, ◌≤◌, Bool, not, if◌then◌else◌, true, false, is_some, List, []}
-use Rattle.std.specs.Prelude.{◌∷◌, length, Option, Some, None}
+use Rattle.std.specs.Prelude.{◌≡◌, ◌≢◌, ◌==◌, ℕ, ◌<◌, ◌≤◌, Bool, not, if◌then◌else◌, true, false, is_some, List, [], ◌∷◌, length, Option, Some, None}
 use Rattle.tree_model.specs.Tree.{Node, above, branch_in, has_directory, node_in}
 
 -- whether a uid is that of a segment

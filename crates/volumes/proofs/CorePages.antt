@@ -1,9 +1,6 @@
 -- What a list of pages in core holds, of which the first are held and the rest are zeros.
-use Rattle.std.proofs.Common.{◌≡◌, ℕ, suc, ◌+◌, ◌-◌, ◌≤◌, ◌<◌, List, [], ◌∷◌, ◌++◌, length, refl, sym, ap, ◌∙◌}
-use Rattle.std.proofs.Common.{arith, get_or, set, replicate}
-use Rattle.std.proofs.lemmas.List.{append_assoc, drop-replicate, get_or-append_right, get_or-replicate, get_or_append_left}
-use Rattle.std.proofs.lemmas.List.{length-append, length-replicate, set-append_left, set-append_right, set_split}
-use Rattle.std.proofs.lemmas.List.{length-set, length_push, replicate_more, take-replicate}
+use Rattle.std.proofs.Common.{◌≡◌, ℕ, suc, ◌+◌, ◌-◌, ◌≤◌, ◌<◌, List, [], ◌∷◌, ◌++◌, length, refl, sym, ap, ◌∙◌, arith, get_or, set, replicate}
+use Rattle.std.proofs.lemmas.List.{append_assoc, drop-replicate, get_or-append_right, get_or-replicate, get_or_append_left, length-append, length-replicate, set-append_left, set-append_right, set_split, length-set, length_push, replicate_more, take-replicate}
 use Rattle.std.proofs.lemmas.List.Elements.{All-append, All-push, All-replicate, All-set}
 use Rattle.volumes.specs.CorePages.{pages_of, AreHeld}
 use Rattle.volumes.specs.FullPages.{HaveFullPages}

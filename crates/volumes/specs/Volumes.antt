@@ -1,6 +1,4 @@
-use Rattle.std.specs.Prelude.{◌≡◌, ◌≢◌, ◌<◌, ◌^◌, ℕ, Bool, false, List, [], length, replicate, map, Option, None}
-use Rattle.std.specs.Prelude.{slice_index_or, slice_set, slice_get}
-use Rattle.std.specs.Prelude.{count_by, All}
+use Rattle.std.specs.Prelude.{◌≡◌, ◌≢◌, ◌<◌, ◌^◌, ℕ, Bool, false, List, [], length, replicate, map, Option, None, slice_index_or, slice_set, slice_get, count_by, All}
 use Rattle.vtoc.specs.Vtoc.{Entry}
 use Rattle.volumes.specs.declared.Part.{Part}
 use Rattle.volumes.specs.declared.drive.FailLine.{FailLine}

@@ -1,5 +1,4 @@
-use Rattle.std.specs.Prelude.{◌++◌, ◌-◌, ◌≤◌, replicate}
-use Rattle.std.specs.Prelude.{◌≡◌, ℕ, ◌<◌, ◌^◌, Bool, List, length, Option, None, Some, map, is_some, slice_index_or}
+use Rattle.std.specs.Prelude.{◌++◌, ◌-◌, ◌≤◌, replicate, ◌≡◌, ℕ, ◌<◌, ◌^◌, Bool, List, length, Option, None, Some, map, is_some, slice_index_or}
 use Rattle.vtoc.specs.FileMap.{no_records}
 use Rattle.vtoc.specs.Vtoc.{Entry}
 use Rattle.vtoc.specs.declared.slots.Slot.{Slot}

@@ -1,5 +1,4 @@
-use Rattle.std.specs.Prelude.{◌≡◌, ℕ, ◌<◌, false, List, length, Option, None, Some, slice_index_or, slice_set, is_none}
-use Rattle.std.specs.Prelude.{position}
+use Rattle.std.specs.Prelude.{◌≡◌, ℕ, ◌<◌, false, List, length, Option, None, Some, slice_index_or, slice_set, is_none, position}
 use Rattle.vtoc.specs.FileMap.{no_records}
 
 -- a used entry: the segment or directory that it describes, and for each of its 256 pages the record that it is on

@@ -1,5 +1,4 @@
-use Rattle.lab_calls.proofs.JudgeLaws.{accepted_told, judged_accepted, judged_refused, judged_script, refused_told}
-use Rattle.lab_calls.proofs.JudgeLaws.{script_told}
+use Rattle.lab_calls.proofs.JudgeLaws.{accepted_told, judged_accepted, judged_refused, judged_script, refused_told, script_told}
 use Rattle.lab_calls.proofs.judging.print_verdict.Goals as goal
 
 pub returns-in-Ok : goal.returns-in-Ok

@@ -1,7 +1,6 @@
 use Rattle.std.proofs.Common.{rules, arith}
 use Rattle.schedule.specs.Inputs.{is_schedule_line}
-use Rattle.text_model.proofs.PartLaws.{end_after, end_before, end_first, end_found, line_passed, stop_after}
-use Rattle.text_model.proofs.PartLaws.{stop_before, stop_first, stop_found}
+use Rattle.text_model.proofs.PartLaws.{end_after, end_before, end_first, end_found, line_passed, stop_after, stop_before, stop_first, stop_found}
 use Rattle.schedule.proofs.inputs.split_input.Goals as goal
 
 pub returns-then-is_schedule-clause-script : goal.returns-then-is_schedule-clause-script

@@ -1,5 +1,4 @@
-use Rattle.flat_store.proofs.Prelude.{ne_eqb, sym, ◌∙◌, delete_asked, delete_done, delete_refused}
-use Rattle.flat_store.proofs.Prelude.{List, ℕ, Result, Node, Reply, Held, ◌≡◌, branch_at}
+use Rattle.flat_store.proofs.Prelude.{ne_eqb, sym, ◌∙◌, delete_asked, delete_done, delete_refused, List, ℕ, Result, Node, Reply, Held, ◌≡◌, branch_at}
 use Rattle.laws.proofs.Bools.{not_both}
 use Rattle.flat_store.proofs.holdings.Holdings.deletable.Goals as goal
 

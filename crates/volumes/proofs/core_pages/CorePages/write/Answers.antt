@@ -1,7 +1,6 @@
 use Rattle.std.proofs.Common.{◌∙◌, arith}
 use Rattle.std.proofs.lemmas.Grind.{common_steps}
-use Rattle.volumes.proofs.CorePages.{below_size, full_pages, held_past_page, write_held_page, write_past_page}
-use Rattle.volumes.proofs.CorePages.{written_held}
+use Rattle.volumes.proofs.CorePages.{below_size, full_pages, held_past_page, write_held_page, write_past_page, written_held}
 use Rattle.volumes.proofs.core_pages.CorePages.write.Goals as goal
 
 pub reach-requires-clause-room : goal.reach-requires-clause-room

@@ -1,8 +1,7 @@
 use Rattle.std.proofs.Common.{arith}
 use Rattle.std.proofs.lemmas.Grind.{common_steps}
 use Rattle.volumes.proofs.Drives.{one_drive}
-use Rattle.volumes.proofs.Parts.{parts_with_drive, length_after_write, same_with, few_with, sum_rose, sum_grows}
-use Rattle.volumes.proofs.Parts.{its_once, its_rose, full_with, keeps_others, told_with}
+use Rattle.volumes.proofs.Parts.{parts_with_drive, length_after_write, same_with, few_with, sum_rose, sum_grows, its_once, its_rose, full_with, keeps_others, told_with}
 use Rattle.volumes.proofs.volumes.Volumes.write_page.Goals as goal
 
 pub invariant_of-self : goal.invariant_of-self
