@@ -45,15 +45,6 @@ impl Bells {
             drops: Bell::new(),
         }
     }
-
-    /// Tells others that a worker went on which had gone on after so many signals; and how many there were by now.
-    pub(crate) fn went_on(&self, answered: u32) -> u32 {
-        let signals = self.signals.rings();
-        if signals != answered {
-            self.drops.ring();
-        }
-        signals
-    }
 }
 
 /// How many turns a worker gives way before it looks again: one at first, each time twice as many, up to a bound.
@@ -69,15 +60,29 @@ impl Pause {
     }
 
     /// Lets other threads go first, so many times, and the next time twice as often, up to `most`. Once a bell is rung
-    /// that was heard so often the rest is over, and the next one has one turn.
-    pub(crate) fn rest(&mut self, bell: &Bell, heard: u32, most: u32) {
+    /// that was heard so often the rest is over, and the next one has one turn. Whether a bell ended it.
+    fn rest(&mut self, bell: &Bell, heard: u32, most: u32) -> bool {
         for _ in 0..self.turns {
             thread::yield_now();
             if bell.rings() != heard {
                 self.turns = 1;
-                return;
+                return true;
             }
         }
         self.turns = self.turns.saturating_mul(2).min(most);
+        false
+    }
+
+    /// Rests until there was another signal, and then tells who signalled that this worker goes on.
+    pub(crate) fn rest_until_signal(&mut self, bells: &Bells, heard: u32, most: u32) {
+        if self.rest(&bells.signals, heard, most) {
+            bells.drops.ring();
+        }
+    }
+
+    /// Rests until another worker goes on after a signal.
+    pub(crate) fn rest_until_drop(&mut self, bells: &Bells, most: u32) {
+        let heard = bells.drops.rings();
+        self.rest(&bells.drops, heard, most);
     }
 }

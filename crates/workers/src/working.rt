@@ -3,7 +3,7 @@
 ghost use Rattle.std.specs.Prelude.{◌<◌};
 
 use crate::locked::{Locked, Run};
-use crate::pausing::{Bell, Bells, Pause};
+use crate::pausing::{Bells, Pause};
 use machine::Turn;
 use site_io::{Gate, Point};
 use std::sync::{Mutex, MutexGuard, Wait};
@@ -26,11 +26,11 @@ const MOST_STEPS: u64 = 100_001_000_000;
 /// Waits for a lock that isn't free: other threads go first, for longer each time, until a signal asks each processor
 /// to drop something; and after some looks the worker waits for it.
 #[inline(never)]
-fn wait_for<'a, T, R: Wait>(rt: &R, lock: &'a Mutex<T>, bell: &Bell) -> MutexGuard<'a, T> {
+fn wait_for<'a, T, R: Wait>(rt: &R, lock: &'a Mutex<T>, bells: &Bells) -> MutexGuard<'a, T> {
     let mut pause = Pause::new();
     for _ in 0..LOOKS {
-        let heard = bell.rings();
-        pause.rest(bell, heard, TURNS_FOR_LOCK);
+        let heard = bells.signals.rings();
+        pause.rest_until_signal(bells, heard, TURNS_FOR_LOCK);
         if let Some(guard) = lock.try_lock() {
             return guard;
         }
@@ -39,10 +39,10 @@ fn wait_for<'a, T, R: Wait>(rt: &R, lock: &'a Mutex<T>, bell: &Bell) -> MutexGua
 }
 
 /// Takes the lock, at once where it is free.
-fn hold<'a, T, R: Wait>(rt: &R, lock: &'a Mutex<T>, bell: &Bell) -> MutexGuard<'a, T> {
+fn hold<'a, T, R: Wait>(rt: &R, lock: &'a Mutex<T>, bells: &Bells) -> MutexGuard<'a, T> {
     match lock.try_lock() {
         Some(guard) => guard,
-        None => wait_for(rt, lock, bell),
+        None => wait_for(rt, lock, bells),
     }
 }
 
@@ -60,27 +60,29 @@ pub(crate) fn work<N: Run, D: Drive, G: Gate, R: Threads + Wait + Sync>(
     requires { cpu < N.cpus }
 {
     let mut pause = Pause::new();
-    let mut answered = bells.signals.rings();
-    let mut bell = &bells.signals;
+    let mut heard = bells.signals.rings();
+    let mut signalled = false;
     for _ in 0..MOST_STEPS {
-        let heard = bell.rings();
-        let Some(turn) = hold(rt, locked, &bells.signals).turn(cpu) else {
+        let Some(turn) = hold(rt, locked, bells).turn(cpu) else {
             break;
         };
         match turn {
             Turn::Moved(point) => {
-                bell = &bells.signals;
-                if matches!(point, Point::Signalled) {
-                    bell.ring();
-                    bell = &bells.drops;
+                signalled = matches!(point, Point::Signalled);
+                if signalled {
+                    bells.signals.ring();
                 }
-                answered = bells.went_on(answered);
                 gate.hold(rt, cpu, point);
                 pause = Pause::new();
             }
             Turn::Waits(_) => {
                 gate.hold(rt, cpu, Point::Other);
-                pause.rest(bell, heard, TURNS_FOR_STEP);
+                if signalled {
+                    pause.rest_until_drop(bells, TURNS_FOR_STEP);
+                } else {
+                    pause.rest_until_signal(bells, heard, TURNS_FOR_STEP);
+                    heard = bells.signals.rings();
+                }
             }
             Turn::Ended | Turn::Stopped => break,
         }
