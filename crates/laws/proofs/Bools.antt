@@ -1,6 +1,5 @@
 -- Laws of booleans.
-use Rattle.std.proofs.Common.{Bool, arith, cond, false, inl, inr, not, refl, sym, true, ◌&&◌, ◌||◌, ◌∙◌, ◌≡◌, ◌≤◌, ◌⊎◌}
-use Rattle.std.specs.Prelude.{◌||◌}
+use Rattle.laws.proofs.Prelude.{Bool, arith, cond, false, inl, inr, not, refl, sym, true, ◌&&◌, ◌||◌, ◌∙◌, ◌≡◌, ◌≤◌, ◌⊎◌}
 
 pub not_both : {b : Bool} → b ≡ true → b ≡ false → ⊥
 not_both t f = let z : true ≡ false = sym t ∙ f in cc

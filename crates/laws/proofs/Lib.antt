@@ -1,3 +1,4 @@
+mod Prelude
 pub mod Bools
 pub mod Lists
 pub mod Numbers

@@ -1,12 +1,5 @@
 -- Laws of lists.
-use Rattle.std.proofs.Common.{Bool, IsSome, List, None, Option, Some, [], add-one, ap, arith, cond, drop, drop-cons, false, filter, get_or, inl, inr, length, map, not, position, refl, replicate, set, suc, sum_by, sym, take, true, zero, ℕ, ◌++◌, ◌+◌, ◌-◌, ◌<◌, ◌∙◌, ◌∷◌, ◌≡◌, ◌≤◌}
-use Rattle.std.proofs.lemmas.Bool.{both_ways, cases_Bool, cases_eq, not-true}
-use Rattle.std.proofs.lemmas.Bool.Decides.{leb_tells}
-use Rattle.std.proofs.lemmas.Grind.{common_steps}
-use Rattle.std.proofs.lemmas.List.{get_or-set_same, get_or_past, set_comm, set_past}
-use Rattle.std.proofs.lemmas.List.Quantifiers.{position-Some}
-use Rattle.std.proofs.lemmas.List.Sums.{prefix_len_passes, sum-map}
-use Rattle.std.specs.List.{find, position_or_len}
+use Rattle.laws.proofs.Prelude.{Bool, IsSome, List, None, Option, Some, [], add-one, ap, arith, cond, drop, drop-cons, false, filter, get_or, inl, inr, length, map, not, position, refl, replicate, set, suc, sum_by, sym, take, true, zero, ℕ, ◌++◌, ◌+◌, ◌-◌, ◌<◌, ◌∙◌, ◌∷◌, ◌≡◌, ◌≤◌, both_ways, cases_Bool, cases_eq, not-true, leb_tells, common_steps, get_or-set_same, get_or_past, set_comm, set_past, position-Some, prefix_len_passes, sum-map, find, position_or_len}
 
 pub all_same : {X : Type 0} (n i : ℕ) (d : X) → get_or (replicate n d) i d ≡ d
 all_same zero i d = refl

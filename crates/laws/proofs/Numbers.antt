@@ -1,7 +1,5 @@
 -- Laws of numbers.
-use Rattle.std.proofs.Common.{arith, eqb, false, inl, inr, ltb, nat_lt, refl, suc, sym, true, ℕ, ◌&&◌, ◌<◌, ◌∙◌, ◌≡◌, ◌≤◌, ◌⊎◌}
-use Rattle.std.proofs.lemmas.Bool.Decides.{Decides-eqb, eqb_tells, leb_tells, nat_tests}
-use Rattle.std.specs.Prelude.{nat_le}
+use Rattle.laws.proofs.Prelude.{arith, eqb, false, inl, inr, ltb, nat_lt, refl, suc, sym, true, ℕ, ◌&&◌, ◌<◌, ◌∙◌, ◌≡◌, ◌≤◌, ◌⊎◌, Decides-eqb, eqb_tells, leb_tells, nat_tests, nat_le}
 
 pub eqb_self : (n : ℕ) → eqb n n ≡ true
 eqb_self n = (Decides-eqb n n).1 refl

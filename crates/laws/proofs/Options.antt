@@ -1,9 +1,5 @@
 -- Laws of options and results.
-use Rattle.std.proofs.Common.{Bool, Err, IsSome, None, Ok, Option, Result, Some, ap, false, is_some, refl, true, ℕ, ◌≡◌, arith, cond, eqb, inl, inr, ◌≤◌}
-use Rattle.std.proofs.lemmas.Option.{same_Some}
-use Rattle.std.specs.Option.{option_map}
-use Rattle.std.specs.Prelude.{IfNone, OnOk}
-use Rattle.std.proofs.lemmas.Bool.Decides.{eqb_tells}
+use Rattle.laws.proofs.Prelude.{Bool, Err, IsSome, None, Ok, Option, Result, Some, ap, false, is_some, refl, true, ℕ, ◌≡◌, arith, cond, eqb, inl, inr, ◌≤◌, same_Some, option_map, IfNone, OnOk, eqb_tells}
 use Rattle.laws.proofs.Bools.{bit_le}
 
 pub some_same : {A : Type 0} (x y : A) → Some x ≡ Some y → x ≡ y

@@ -1,12 +1,5 @@
 -- Laws of one place of a list: whether it is within the list, and what a write of it changes.
-use Rattle.std.proofs.Common.{Bool, IsSome, List, None, Option, Some, [], ap, arith, cond, eqb, false, get_or, inl, inr, length, map, refl, replicate, set, suc, sum, sym, true, zero, ℕ, ◌++◌, ◌+◌, ◌<◌, ◌∙◌, ◌∷◌, ◌≡◌, ◌≢◌}
-use Rattle.std.proofs.lemmas.Bool.{cases_eq, eq-eqb, ne_eqb}
-use Rattle.std.proofs.lemmas.List.{get_or-set_other, get_or-set_same, length-append, length-replicate, set-set}
-use Rattle.std.proofs.lemmas.List.Sums.{sum_by-set}
-use Rattle.std.specs.Prelude.{count_by, slice_get}
-use Rattle.std.specs.Option.{option_map, unwrap_or}
-use Rattle.std.proofs.lemmas.Option.{slice_get-map, unwrap_or-slice_get}
-use Rattle.std.proofs.lemmas.Grind.{common_steps}
+use Rattle.laws.proofs.Prelude.{Bool, IsSome, List, None, Option, Some, [], ap, arith, cond, eqb, false, get_or, inl, inr, length, map, refl, replicate, set, suc, sum, sym, true, zero, ℕ, ◌++◌, ◌+◌, ◌<◌, ◌∙◌, ◌∷◌, ◌≡◌, ◌≢◌, cases_eq, eq-eqb, ne_eqb, get_or-set_other, get_or-set_same, length-append, length-replicate, set-set, sum_by-set, count_by, slice_get, option_map, unwrap_or, slice_get-map, unwrap_or-slice_get, common_steps}
 use Rattle.laws.proofs.Lists.{within_from}
 use Rattle.laws.proofs.Options.{not_none}
 

@@ -1,6 +1,5 @@
 -- Laws of numbers that rise, and of the place of a number in a list.
-use Rattle.std.proofs.Common.{Bool, List, [], arith, eqb, get_or, inl, inr, length, suc, true, false, ℕ, ◌||◌, ◌<◌, ◌∷◌, ◌≡◌}
-use Rattle.std.proofs.lemmas.Bool.{cases_Bool, eqb-true, or_cases}
+use Rattle.laws.proofs.Prelude.{Bool, List, [], arith, eqb, get_or, inl, inr, length, suc, true, false, ℕ, ◌||◌, ◌<◌, ◌∷◌, ◌≡◌, cases_Bool, eqb-true, or_cases}
 
 -- whether a number is one of these
 abbrev pub stands_in : List ℕ → ℕ → Bool

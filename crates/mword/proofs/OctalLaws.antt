@@ -1,17 +1,5 @@
 -- Laws of octal text: what a digit adds, and that twelve digits of a word read back as the word.
-use Rattle.std.proofs.Common.{◌≡◌, ℕ, suc, zero, ◌+◌, ◌-◌, ◌*◌, ◌/◌, ◌%◌, ◌^◌, ◌<◌, ◌≤◌, ◌↔◌, Bool, true, false, nat_le, ◌&&◌, List, [], ◌∷◌, ◌++◌, length, All, IsSome, IfSome, Option, Some, None, refl, sym, ◌∙◌, arith, get_or, take, drop, set, add-one}
-use Rattle.std.specs.List.{list_all}
-use Rattle.std.proofs.lemmas.List.{append_assoc, drop-set, length_push, take_more, take_all}
-use Rattle.std.proofs.lemmas.List.Folds.{list_all_more, list_all_at, list_all-append}
-use Rattle.std.proofs.lemmas.List.Sums.{fold_push}
-use Rattle.std.proofs.lemmas.List.Elements.{All-cons, All-head, All-tail, All-nil}
-use Rattle.std.proofs.lemmas.Grind.{pow_more}
-use Rattle.std.proofs.lemmas.Bool.Decides.{nat_tests}
-use Rattle.std.specs.Str.{IsUtf8, IsAscii}
-use Rattle.std.proofs.lemmas.Str.{IsUtf8-from_ascii, IsAscii-append}
-use Rattle.std.proofs.lemmas.Str.Ascii.{IsAscii-nil}
-use Rattle.std.proofs.Math.Nat.{pow-le-pow_right}
-use Rattle.mword.specs.Octal.{octal_digits, is_octal_digit, octal_number, is_octal, octal_value, IsOctal}
+use Rattle.mword.proofs.Prelude.{◌≡◌, ℕ, suc, zero, ◌+◌, ◌-◌, ◌*◌, ◌/◌, ◌%◌, ◌^◌, ◌<◌, ◌≤◌, ◌↔◌, Bool, true, false, nat_le, ◌&&◌, List, [], ◌∷◌, ◌++◌, length, All, IsSome, IfSome, Option, Some, None, refl, sym, ◌∙◌, arith, get_or, take, drop, set, add-one, list_all, append_assoc, drop-set, length_push, take_more, take_all, list_all_more, list_all_at, list_all-append, fold_push, All-cons, All-head, All-tail, All-nil, pow_more, nat_tests, IsUtf8, IsAscii, IsUtf8-from_ascii, IsAscii-append, IsAscii-nil, pow-le-pow_right, octal_digits, is_octal_digit, octal_number, is_octal, octal_value, IsOctal}
 
 pub octal_number_push : (ds : List ℕ) (d : ℕ) → octal_number (ds ++ d ∷ []) ≡ octal_number ds * 8 + (d - 48)
 unfolding octal_number

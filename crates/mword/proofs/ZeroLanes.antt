@@ -1,16 +1,5 @@
 -- Vectors joined by `|` are zero in each lane exactly where each vector is.
-use Rattle.std.proofs.Common.{◌≡◌, ℕ, ◌+◌, ◌-◌, ◌*◌, ◌≤◌, ◌↔◌, List, [], ◌∷◌, ◌++◌, length, bit_or, IsTrue, nat_eq, refl, sym, ap, subst, ◌∙◌, arith, take, drop}
-use Rattle.std.specs.List.{AllByRecursion}
-use Rattle.std.specs.Int.{bit_at}
-use Rattle.std.specs.Simd.Lanes.{zip2, fold_l, chunk}
-use Rattle.std.specs.Int.Bits.{or_zero_l}
-use Rattle.std.proofs.Math.Seq.{take-add}
-use Rattle.std.proofs.lemmas.Bool.Decides.{nat_tests}
-use Rattle.std.proofs.lemmas.List.{drop-drop, take_all}
-use Rattle.std.proofs.lemmas.List.Elements.{All-append, All-from_recursion, recursion_from_All}
-use Rattle.std.proofs.lemmas.Simd.{length-chunk, length-zip2}
-use Rattle.std.proofs.lemmas.Nat.Bits.{bit_at_or, bit_at-zero, same_from_bits}
-use Rattle.mword.specs.Words.{AreZero}
+use Rattle.mword.proofs.Prelude.{◌≡◌, ℕ, ◌+◌, ◌-◌, ◌*◌, ◌≤◌, ◌↔◌, List, [], ◌∷◌, ◌++◌, length, bit_or, IsTrue, nat_eq, refl, sym, ap, subst, ◌∙◌, arith, take, drop, AllByRecursion, bit_at, zip2, fold_l, chunk, or_zero_l, take-add, nat_tests, drop-drop, take_all, All-append, All-from_recursion, recursion_from_All, length-chunk, length-zip2, bit_at_or, bit_at-zero, same_from_bits, AreZero}
 
 abbrev Zeros : List ℕ → Type 0
 Zeros ws = AllByRecursion (λ w. w ≡ 0) ws

@@ -1,9 +1,5 @@
 -- Laws of the fields of a line (own).
-use Rattle.std.proofs.Common.{◌≡◌, ◌≢◌, ℕ, suc, zero, ◌+◌, ◌-◌, ◌<◌, ◌≤◌, false, eqb, List, [], ◌∷◌, length, refl, sym, ap, ◌∙◌, arith, get_or, take, drop}
-use Rattle.std.proofs.lemmas.Bool.Decides.{nat_tests}
-use Rattle.std.proofs.lemmas.Grind.{common_steps}
-use Rattle.laws.proofs.Lists.{none_left}
-use Rattle.text_model.specs.Lines.{fields_of, onto_field}
+use Rattle.text_model.proofs.Prelude.{◌≡◌, ◌≢◌, ℕ, suc, zero, ◌+◌, ◌-◌, ◌<◌, ◌≤◌, false, eqb, List, [], ◌∷◌, length, refl, sym, ap, ◌∙◌, arith, get_or, take, drop, nat_tests, common_steps, none_left, fields_of, onto_field}
 use Rattle.text_model.proofs.LineSteps.{all_left, drop_at}
 
 -- spaces before a field

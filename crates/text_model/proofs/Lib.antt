@@ -1,3 +1,4 @@
+mod Prelude
 pub mod FieldLaws
 pub mod LineLaws
 pub mod LineSteps

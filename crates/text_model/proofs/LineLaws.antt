@@ -1,7 +1,5 @@
 -- Laws of the first line of a text (own).
-use Rattle.std.proofs.Common.{◌≡◌, ℕ, suc, zero, ◌+◌, ◌-◌, ◌<◌, ◌≤◌, List, [], ◌∷◌, ◌++◌, length, refl, ap, ◌∙◌, arith, get_or, take, drop, add-one}
-use Rattle.laws.proofs.Lists.{length_left, rest_last}
-use Rattle.text_model.specs.Lines.{Closes, lines_of, onto_piece}
+use Rattle.text_model.proofs.Prelude.{◌≡◌, ℕ, suc, zero, ◌+◌, ◌-◌, ◌<◌, ◌≤◌, List, [], ◌∷◌, ◌++◌, length, refl, ap, ◌∙◌, arith, get_or, take, drop, add-one, length_left, rest_last, Closes, lines_of, onto_piece}
 use Rattle.text_model.proofs.LineSteps.{NoFeedBefore, all_left, line_byte, line_feed, line_last}
 
 -- the first line ends before a line feed

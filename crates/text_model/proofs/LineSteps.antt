@@ -1,8 +1,5 @@
 -- Lines byte by byte, for what goes through a text line by line (own).
-use Rattle.std.proofs.Common.{◌≡◌, ◌≢◌, ℕ, suc, ◌+◌, ◌-◌, ◌<◌, false, eqb, List, [], ◌∷◌, length, refl, ap, ◌∙◌, arith, get_or, take, drop, drop-cons, add-one}
-use Rattle.std.proofs.lemmas.Bool.Decides.{nat_tests}
-use Rattle.std.proofs.lemmas.Grind.{common_steps}
-use Rattle.text_model.specs.Lines.{lines_of, onto_piece}
+use Rattle.text_model.proofs.Prelude.{◌≡◌, ◌≢◌, ℕ, suc, ◌+◌, ◌-◌, ◌<◌, false, eqb, List, [], ◌∷◌, length, refl, ap, ◌∙◌, arith, get_or, take, drop, drop-cons, add-one, nat_tests, common_steps, lines_of, onto_piece}
 
 pub drop_at : (xs : List ℕ) (i : ℕ) → i < length xs → drop i xs ≡ get_or xs i 0 ∷ drop (i + 1) xs
 drop_at xs i h = rw (add-one, drop-cons xs i 0) refl

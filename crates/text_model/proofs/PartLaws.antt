@@ -1,11 +1,5 @@
 -- How a reader passes the lines before the one that parts a text (own).
-use Rattle.std.proofs.Common.{◌≡◌, ℕ, ◌+◌, ◌-◌, ◌<◌, ◌≤◌, Bool, true, false, List, [], ◌∷◌, ◌++◌, length, refl, sym, ap, ◌∙◌, arith, take, drop, append-nil}
-use Rattle.std.specs.List.{list_any}
-use Rattle.std.proofs.lemmas.Grind.{common_steps}
-use Rattle.std.proofs.lemmas.List.{append_assoc, length-append, drop-drop}
-use Rattle.std.proofs.Math.Seq.{take-add}
-use Rattle.text_model.specs.Lines.{Closes, lines_of}
-use Rattle.text_model.specs.Parts.{IsAtLine, first_after, lines_after, lines_before}
+use Rattle.text_model.proofs.Prelude.{◌≡◌, ℕ, ◌+◌, ◌-◌, ◌<◌, ◌≤◌, Bool, true, false, List, [], ◌∷◌, ◌++◌, length, refl, sym, ap, ◌∙◌, arith, take, drop, append-nil, list_any, common_steps, append_assoc, length-append, drop-drop, take-add, Closes, lines_of, IsAtLine, first_after, lines_after, lines_before}
 use Rattle.text_model.proofs.LineSteps.{all_left, lines_nil}
 
 -- a line that was read at a place, in the bytes from there on

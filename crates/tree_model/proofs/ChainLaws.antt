@@ -1,10 +1,5 @@
 -- What is above the nodes of a tree is a chain that ends at the root.
-use Rattle.std.proofs.Common.{◌≡◌, ◌≢◌, ℕ, suc, zero, ◌<◌, ◌≤◌, true, false, cond, eqb, List, [], ◌∷◌, Option, Some, None, refl, sym, ap, subst, ◌∙◌, arith, inl, inr, ◌⊎◌, is_some}
-use Rattle.std.specs.List.{find}
-use Rattle.std.specs.Option.{option_and_then}
-use Rattle.std.proofs.lemmas.Bool.{cases_Bool, both_ways}
-use Rattle.tree_model.specs.Tree.{Node as Term, above, has_directory, node_in, step_up}
-use Rattle.tree_model.specs.Trees.{IsTree, AreUnder, IsChain, AreDirectories, EndsAtRoot, HasChains}
+use Rattle.tree_model.proofs.Prelude.{◌≡◌, ◌≢◌, ℕ, suc, zero, ◌<◌, ◌≤◌, true, false, eqb, List, [], ◌∷◌, Option, Some, None, refl, sym, ap, subst, ◌∙◌, arith, inl, inr, ◌⊎◌, is_some, find, option_and_then, cases_Bool, both_ways, Term, above, has_directory, node_in, step_up, IsTree, AreUnder, IsChain, AreDirectories, EndsAtRoot, HasChains}
 use Rattle.tree_model.proofs.TreeLaws.{superior_in, IsUp, superior_up, above_once, root_found}
 
 node_found : (ns : List Term) (u : ℕ) → node_in ns u ≡ find (λ n. eqb n.uid u) ns

@@ -1,9 +1,5 @@
 -- The first node that passes a test, in a list that is mapped or joined.
-use Rattle.std.proofs.Common.{◌≡◌, ◌≢◌, ℕ, Bool, true, false, cond, List, [], ◌∷◌, ◌++◌, map, Option, Some, None, refl, ap, ◌∙◌, ◌⊎◌, inl, inr, is_some}
-use Rattle.std.specs.List.{find, filter, list_any}
-use Rattle.std.specs.Option.{option_map}
-use Rattle.std.proofs.lemmas.Bool.{cases_Bool, true_from_ne_false}
-use Rattle.tree_model.specs.Tree.{Node as Term, branch_in, is_branch}
+use Rattle.tree_model.proofs.Prelude.{◌≡◌, ◌≢◌, ℕ, Bool, true, false, List, [], ◌∷◌, ◌++◌, map, Option, Some, None, refl, ap, ◌∙◌, ◌⊎◌, inl, inr, is_some, find, filter, list_any, option_map, cases_Bool, true_from_ne_false, Term, branch_in, is_branch}
 
 pub find_map : {X Y : Type 0} (p : Y → Bool) (f : X → Y) (xs : List X) → find p (map f xs)
     ≡ option_map f (find (λ x. p (f x)) xs)

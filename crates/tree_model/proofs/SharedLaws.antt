@@ -1,10 +1,5 @@
 -- Laws that several crates cite.
-use Rattle.std.proofs.Common.{Bool, List, None, Option, Some, [], ap, arith, cond, eqb, false, inl, inr, is_some, refl, subst, sym, true, ℕ, ◌<◌, ◌∙◌, ◌∷◌, ◌≡◌, ◌≢◌}
-use Rattle.std.proofs.lemmas.Bool.{cases_Bool}
-use Rattle.std.proofs.lemmas.Bool.Decides.{eqb_tells, nat_tests}
-use Rattle.tree_model.specs.Quotas.{least_where}
-use Rattle.tree_model.specs.Tree.{Node, has_directory, node_in, without_node}
-use Rattle.tree_model.specs.Trees.{AreBelow, Joins}
+use Rattle.tree_model.proofs.Prelude.{Bool, List, None, Option, Some, [], arith, eqb, false, inl, inr, is_some, refl, subst, sym, true, ℕ, ◌<◌, ◌∷◌, ◌≡◌, ◌≢◌, cases_Bool, eqb_tells, nat_tests, least_where, Node, has_directory, node_in, without_node, AreBelow, Joins}
 
 pub older : (ns : List Node) (n : Node) (o : Option ℕ) → Joins ns o n → AreBelow n.uid ns
 older ns n None root = subst (λ (l : List Node). AreBelow n.uid l) (sym root.first) tt

@@ -1,13 +1,5 @@
 -- The laws of a tree: what is above a node, how deep it lies, and what a branch more or less leaves.
-use Rattle.std.proofs.Common.{◌≡◌, ◌≢◌, ℕ, ◌<◌, ◌≤◌, true, false, cond, eqb, not, List, [], ◌∷◌, length, Option, Some, Bool, is_some, map, None, refl, sym, ap, subst, ◌∙◌, arith, inl, inr}
-use Rattle.std.specs.List.{find, filter, list_any}
-use Rattle.std.specs.Str.{bytes_eq}
-use Rattle.std.specs.Option.{option_and_then}
-use Rattle.std.proofs.lemmas.Bool.{cases_Bool, cases_eq, both_ways, eqb-true, eq-eqb, ne_eqb, and_parts, or_parts}
-use Rattle.std.proofs.lemmas.Option.{same_Some}
-use Rattle.std.proofs.lemmas.Slice.Eq.{bytes_eq-Decides}
-use Rattle.tree_model.specs.Tree.{Node as Term, above, branch_in, is_branch, is_inferior, quota_in, node_in, is_superior, step_up, has_directory}
-use Rattle.tree_model.specs.Trees.{AreBelow, IsBranch, Joins, IsTree}
+use Rattle.tree_model.proofs.Prelude.{◌≡◌, ◌≢◌, ℕ, ◌<◌, ◌≤◌, true, false, eqb, not, List, [], ◌∷◌, length, Option, Some, is_some, map, None, refl, sym, ap, subst, ◌∙◌, arith, inl, inr, find, filter, list_any, bytes_eq, option_and_then, cases_Bool, cases_eq, both_ways, eqb-true, eq-eqb, ne_eqb, and_parts, or_parts, same_Some, bytes_eq-Decides, Term, above, branch_in, is_branch, is_inferior, quota_in, node_in, is_superior, step_up, has_directory, AreBelow, IsBranch, Joins, IsTree}
 use Rattle.tree_model.proofs.Finds.{IsMember, branch_found, member_found}
 
 -- the superior of a node

@@ -1,6 +1,4 @@
-use Rattle.std.proofs.Common.{IsTrue, refl, arith}
-use Rattle.std.proofs.lemmas.Grind.{common_steps}
-use Rattle.mword.specs.Words.{AreZero}
+use Rattle.mword.proofs.Prelude.{IsTrue, refl, arith, common_steps, AreZero}
 use Rattle.mword.proofs.ZeroLanes.{zero_blocks_more, zero_blocks_all}
 use Rattle.mword.proofs.page.blocks_are_zero.Goals as goal
 

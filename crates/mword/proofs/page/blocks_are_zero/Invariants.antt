@@ -1,5 +1,4 @@
-use Rattle.std.proofs.Common.{◌*◌, take}
-use Rattle.mword.specs.Words.{AreZero}
+use Rattle.mword.proofs.Prelude.{◌*◌, take, AreZero}
 use Rattle.mword.proofs.page.blocks_are_zero.Given as goal
 
 abbrev pub invariant-loop-block : goal.invariant-loop-block

@@ -1,5 +1,4 @@
-use Rattle.std.proofs.Common.{◌∙◌, length}
-use Rattle.std.proofs.lemmas.List.{take-replicate}
+use Rattle.mword.proofs.Prelude.{◌∙◌, length, take-replicate}
 use Rattle.mword.proofs.page.clear.Goals as goal
 
 -- what is copied are the first of 1024 zeros

@@ -1,5 +1,4 @@
-use Rattle.std.proofs.Common.{arith, sym, subst}
-use Rattle.std.specs.Str.{IsUtf8}
+use Rattle.mword.proofs.Prelude.{arith, sym, subst, IsUtf8}
 use Rattle.mword.proofs.OctalLaws.{octal_digits_end, octal_digits_text}
 use Rattle.mword.proofs.text.digits_of.Goals as goal
 

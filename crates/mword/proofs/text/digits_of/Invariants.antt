@@ -1,5 +1,4 @@
-use Rattle.std.proofs.Common.{◌≡◌, ◌++◌, length, drop}
-use Rattle.mword.specs.Octal.{octal_digits}
+use Rattle.mword.proofs.Prelude.{◌≡◌, ◌++◌, length, drop, octal_digits}
 use Rattle.mword.proofs.text.digits_of.Given as goal
 
 abbrev pub invariant-loop-place : goal.invariant-loop-place

@@ -1,6 +1,4 @@
-use Rattle.std.proofs.Common.{◌+◌, ◌*◌, ◌∙◌, ℕ, refl, sym, ap, arith}
-use Rattle.std.proofs.lemmas.Grind.{common_steps}
-use Rattle.mword.specs.Octal.{octal_number}
+use Rattle.mword.proofs.Prelude.{◌+◌, ◌*◌, ◌∙◌, ℕ, refl, sym, ap, arith, common_steps, octal_number}
 use Rattle.mword.proofs.OctalLaws.{octal_value_stops, octal_more, octal_number_more, octal_bound_more, octal_below, octal_value_read, octal_value_made, octal_exactly}
 use Rattle.mword.proofs.text.read_octal.Goals as goal
 use Rattle.mword.proofs.text.read_octal.Goals.{in_default-via-then-byte-lt48, in_default-via-else-byte-lt48+else-byte-lt56}

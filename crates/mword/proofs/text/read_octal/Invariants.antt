@@ -1,6 +1,4 @@
-use Rattle.std.proofs.Common.{◌≡◌, ◌<◌, ◌^◌, true, take}
-use Rattle.std.specs.List.{list_all}
-use Rattle.mword.specs.Octal.{octal_number, is_octal_digit}
+use Rattle.mword.proofs.Prelude.{◌≡◌, ◌<◌, ◌^◌, true, take, list_all, octal_number, is_octal_digit}
 use Rattle.mword.proofs.text.read_octal.Given as goal
 
 abbrev pub invariant-loop-byte : goal.invariant-loop-byte

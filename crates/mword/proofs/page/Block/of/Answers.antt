@@ -1,5 +1,4 @@
-use Rattle.std.proofs.Common.{length, ap, subst, sym, ◌∙◌}
-use Rattle.mword.specs.Words.{AreWords}
+use Rattle.mword.proofs.Prelude.{length, ap, subst, sym, ◌∙◌, AreWords}
 use Rattle.mword.proofs.page.Block.of.Goals as goal
 
 pub invariant_of-result : goal.invariant_of-result

@@ -1,5 +1,4 @@
-use Rattle.std.proofs.Common.{◌<◌, ◌^◌, arith}
-use Rattle.std.proofs.lemmas.List.Elements.{All-replicate}
+use Rattle.mword.proofs.Prelude.{◌<◌, ◌^◌, arith, All-replicate}
 use Rattle.mword.proofs.page.Block.zero.Goals as goal
 
 pub invariant_of-result : goal.invariant_of-result
