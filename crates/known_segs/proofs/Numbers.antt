@@ -1,13 +1,5 @@
 -- What the number of a uid and the least free number are, place by place.
-use Rattle.std.proofs.Common.{◌≡◌, ◌≢◌, ℕ, suc, zero, ◌+◌, ◌<◌, Bool, true, false, List, [], ◌∷◌, length, Option, Some, None, refl, sym, ap, ◌∙◌, arith, get_or, set, inl, inr, is_some, is_none, IsSome, IsNone, IsTrue}
-use Rattle.std.specs.Prelude.{◌↔◌}
-use Rattle.std.proofs.lemmas.Bool.{eqb-true, eq-eqb, both_ways, cases_eq, cases_lt}
-use Rattle.std.proofs.lemmas.List.{get_or_past, get_or-set_same, get_or-set_other, set-get_or}
-use Rattle.std.proofs.lemmas.List.Sums.{count_by-le-length}
-use Rattle.std.proofs.lemmas.List.Quantifiers.{position-Some}
-use Rattle.std.proofs.lemmas.Grind.{common_steps}
-use Rattle.known_segs.specs.Known.{uid_of, stands_for, number_of, least_free, with_number, known_count, IsUnknown, HasOneNumberEach}
-use Rattle.laws.proofs.Lists.{position_none}
+use Rattle.known_segs.proofs.Prelude.{◌≡◌, ◌≢◌, ℕ, suc, zero, ◌+◌, ◌<◌, Bool, true, false, List, [], ◌∷◌, length, Option, Some, None, refl, sym, ap, ◌∙◌, arith, get_or, set, inl, inr, is_some, is_none, IsSome, IsNone, IsTrue, ◌↔◌, eqb-true, eq-eqb, both_ways, cases_eq, cases_lt, get_or_past, get_or-set_same, get_or-set_other, set-get_or, count_by-le-length, position-Some, common_steps, uid_of, stands_for, number_of, least_free, with_number, known_count, IsUnknown, HasOneNumberEach, position_none}
 
 stands_for_is : (uid : ℕ) (o : Option ℕ) → stands_for uid o ≡ true → o ≡ Some uid
 stands_for_is uid None e = cc

@@ -1,16 +1,6 @@
 -- The 256 places of a table, of which only the first are kept.
-use Rattle.std.proofs.Common.{◌≡◌, ℕ, suc, zero, ◌+◌, ◌-◌, ◌<◌, ◌≤◌, Bool, not, cond, eqb, nat_lt, List, [], ◌∷◌, ◌++◌, length, replicate, Option, Some, None, refl, sym, ap, subst, ◌∙◌, arith, get_or, set, take, inl, inr, is_none, IsSome, append_assoc}
-use Rattle.std.specs.List.{prefix_len}
-use Rattle.std.proofs.lemmas.Bool.{cases_lt}
-use Rattle.std.proofs.lemmas.Bool.Decides.{nat_tests}
-use Rattle.std.proofs.lemmas.Grind.{common_steps}
-use Rattle.std.proofs.lemmas.List.{get_or_past, get_or_append_left, get_or-append_right, set-append_left, get_or_default, set-append_right, length-append, length-replicate, length-set}
-use Rattle.std.proofs.lemmas.List.Folds.{prefix_len-append, prefix_len-replicate}
-use Rattle.std.proofs.lemmas.List.Sums.{prefix_len-le-length}
-use Rattle.std.proofs.lemmas.List.Quantifiers.{position-Some}
-use Rattle.known_segs.specs.Known.{uid_of, stands_for, number_of, least_free, padded, HasOneNumberEach}
+use Rattle.known_segs.proofs.Prelude.{◌≡◌, ℕ, suc, zero, ◌+◌, ◌-◌, ◌<◌, ◌≤◌, Bool, not, cond, eqb, nat_lt, List, [], ◌∷◌, ◌++◌, length, replicate, Option, Some, None, refl, sym, ap, subst, ◌∙◌, arith, get_or, set, take, inl, inr, is_none, IsSome, append_assoc, prefix_len, cases_lt, nat_tests, common_steps, get_or_past, get_or_append_left, get_or-append_right, set-append_left, get_or_default, set-append_right, length-append, length-replicate, length-set, prefix_len-append, prefix_len-replicate, prefix_len-le-length, position-Some, uid_of, stands_for, number_of, least_free, padded, HasOneNumberEach, blank}
 use Rattle.known_segs.proofs.Numbers.{within_since_some}
-use Rattle.laws.proofs.Lists.{blank}
 
 abbrev Table : Type 0
 Table = List (Option ℕ)

@@ -1,2 +1,3 @@
+mod Prelude
 pub mod LineLaws
 pub mod ReportLaws

@@ -1,12 +1,5 @@
 -- Laws of texts that are gone through line by line.
-use Rattle.std.proofs.Common.{◌≡◌, ℕ, Bool, true, false, ◌&&◌, ◌||◌, List, ◌∷◌, ◌++◌, length, refl, sym, ap, ◌∙◌}
-use Rattle.std.proofs.lemmas.Bool.{false≢true, true≢false, or_left}
-use Rattle.std.specs.List.{flat_map, list_all, list_any}
-use Rattle.std.specs.Str.{bytes_eq}
-use Rattle.std.proofs.lemmas.List.{append_assoc, append-nil}
-use Rattle.text_model.specs.Lines.{lines_of}
-use Rattle.outcomes.specs.Reports.{differing_in, differing_line, has_line, is_common}
-use Rattle.text_model.proofs.LineSteps.{no_lines}
+use Rattle.outcomes.proofs.Prelude.{◌≡◌, ℕ, Bool, true, false, ◌&&◌, ◌||◌, List, ◌∷◌, ◌++◌, length, refl, sym, ap, ◌∙◌, false≢true, true≢false, or_left, flat_map, list_all, list_any, bytes_eq, append_assoc, append-nil, lines_of, differing_in, differing_line, has_line, is_common, no_lines}
 
 or_false : (x y : Bool) → x ≡ false → (x || y) ≡ y
 or_false true y e = absurd (true≢false e)

@@ -1,5 +1,4 @@
-use Rattle.std.proofs.Common.{◌∙◌}
-use Rattle.std.proofs.lemmas.List.{length-set}
+use Rattle.known_segs.proofs.Prelude.{◌∙◌, length-set}
 use Rattle.known_segs.proofs.Numbers.{once_forgotten, within_since_some}
 use Rattle.known_segs.proofs.Kst.forget.Goals as goal
 

@@ -1,6 +1,4 @@
-use Rattle.std.proofs.Common.{◌≡◌, subst, sym, ◌∙◌, List, ℕ, Option, Some, None}
-use Rattle.std.proofs.lemmas.List.{length-set}
-use Rattle.known_segs.specs.Known.{number_of, least_free}
+use Rattle.known_segs.proofs.Prelude.{◌≡◌, subst, sym, ◌∙◌, List, ℕ, Option, Some, None, length-set, number_of, least_free}
 use Rattle.known_segs.proofs.Numbers.{known_stays, known_is_some, given_is_some, none_is_full, once_given, free_some, number_none, kept_given}
 use Rattle.known_segs.proofs.Kst.make_known.Goals as goal
 

@@ -1,5 +1,4 @@
-use Rattle.std.proofs.Common.{subst}
-use Rattle.known_segs.specs.Known.{HasOneNumberEach}
+use Rattle.known_segs.proofs.Prelude.{subst, HasOneNumberEach}
 use Rattle.known_segs.proofs.Numbers.{numbered, unknown_is}
 use Rattle.known_segs.proofs.Kst.number_of.Goals as goal
 

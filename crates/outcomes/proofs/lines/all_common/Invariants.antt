@@ -1,7 +1,4 @@
-use Rattle.std.proofs.Common.{◌≡◌, length}
-use Rattle.std.specs.List.{list_all}
-use Rattle.text_model.specs.Lines.{lines_of}
-use Rattle.outcomes.specs.Reports.{is_common}
+use Rattle.outcomes.proofs.Prelude.{◌≡◌, length, list_all, lines_of, is_common}
 use Rattle.outcomes.proofs.lines.all_common.Given as goal
 
 -- all lines are common where those are that are left

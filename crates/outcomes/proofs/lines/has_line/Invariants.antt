@@ -1,5 +1,4 @@
-use Rattle.std.proofs.Common.{◌≡◌, length}
-use Rattle.outcomes.specs.Reports.{has_line}
+use Rattle.outcomes.proofs.Prelude.{◌≡◌, length, has_line}
 use Rattle.outcomes.proofs.lines.has_line.Given as goal
 
 -- the line stands in the text where it does in what is left

@@ -1,5 +1,4 @@
-use Rattle.std.proofs.Common.{arith}
-use Rattle.std.proofs.lemmas.Bool.Decides.{nat_tests}
+use Rattle.outcomes.proofs.Prelude.{arith, nat_tests}
 use Rattle.outcomes.proofs.LineLaws.{lines_written}
 use Rattle.outcomes.proofs.lines.push_differing.Goals as goal
 

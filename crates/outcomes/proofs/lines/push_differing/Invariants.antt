@@ -1,5 +1,4 @@
-use Rattle.std.proofs.Common.{◌≡◌, ◌++◌, length}
-use Rattle.outcomes.specs.Reports.{differing_in}
+use Rattle.outcomes.proofs.Prelude.{◌≡◌, ◌++◌, length, differing_in}
 use Rattle.outcomes.proofs.lines.push_differing.Given as goal
 
 -- the text so far, and that of the lines that are left

@@ -1,5 +1,4 @@
-use Rattle.std.proofs.Common.{◌≡◌, ◌+◌, ◌++◌, drop}
-use Rattle.outcomes.specs.Reports.{accounts_text}
+use Rattle.outcomes.proofs.Prelude.{◌≡◌, ◌+◌, ◌++◌, drop, accounts_text}
 use Rattle.outcomes.proofs.reporting.push_accounts.Given as goal
 
 -- the text so far, and that of the outcomes that are left

@@ -1,6 +1,4 @@
-use Rattle.std.proofs.Common.{◌≡◌, ◌++◌, drop}
-use Rattle.std.specs.List.{flat_map}
-use Rattle.outcomes.specs.Reports.{block_of, blocks_of}
+use Rattle.outcomes.proofs.Prelude.{◌≡◌, ◌++◌, drop, flat_map, block_of, blocks_of}
 use Rattle.outcomes.proofs.reporting.push_blocks.Given as goal
 
 -- the text so far, and that of the accounts that are left

@@ -1,4 +1,4 @@
-use Rattle.std.proofs.Common.{arith}
+use Rattle.known_segs.proofs.Prelude.{arith}
 use Rattle.known_segs.proofs.PlaceLaws.{known_is_kept, last_dropped, cleared_is}
 use Rattle.known_segs.proofs.places.Places.clear.Goals as goal
 

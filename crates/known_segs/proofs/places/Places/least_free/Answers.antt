@@ -1,4 +1,4 @@
-use Rattle.std.proofs.Common.{arith}
+use Rattle.known_segs.proofs.Prelude.{arith}
 use Rattle.known_segs.proofs.PlaceLaws.{free_is_kept, free_is_next, free_is_none, size_is}
 use Rattle.known_segs.proofs.places.Places.least_free.Goals as goal
 

@@ -1,4 +1,4 @@
-use Rattle.std.proofs.Common.{arith, sym, ◌∙◌}
+use Rattle.known_segs.proofs.Prelude.{arith, sym, ◌∙◌}
 use Rattle.known_segs.proofs.PlaceLaws.{number_is, size_is}
 use Rattle.known_segs.proofs.places.Places.number_of.Goals as goal
 

@@ -1,4 +1,4 @@
-use Rattle.std.proofs.Common.{arith}
+use Rattle.known_segs.proofs.Prelude.{arith}
 use Rattle.known_segs.proofs.PlaceLaws.{set_is, push_is}
 use Rattle.known_segs.proofs.places.Places.set.Goals as goal
 
