@@ -1,3 +1,4 @@
+mod Prelude
 mod NameBytes
 mod NamesText
 mod PathGrammar

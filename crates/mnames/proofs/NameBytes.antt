@@ -1,7 +1,5 @@
 -- Which bytes may stand in a name, as bits.
-use Rattle.std.proofs.Common.{◌≡◌, ◌<◌, ◌/◌, ◌^◌, ℕ, Bool, [], ◌∷◌, nat_eq, slice_index_or, bit_and, refl}
-use Rattle.std.proofs.lemmas.Bool.{agree_below_at}
-use Rattle.mnames.specs.Names.{is_name_byte}
+use Rattle.mnames.proofs.Prelude.{◌≡◌, ◌<◌, ◌/◌, ◌^◌, ℕ, Bool, [], ◌∷◌, nat_eq, slice_index_or, bit_and, refl, agree_below_at, is_name_byte}
 
 -- the bit of a byte in these words
 abbrev pub bit_of : ℕ → Bool

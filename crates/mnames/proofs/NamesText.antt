@@ -1,7 +1,5 @@
 -- The text of one name more.
-use Rattle.std.proofs.Common.{◌≡◌, ℕ, ◌<◌, ◌+◌, List, [], ◌∷◌, ◌++◌, length, take, get_or}
-use Rattle.std.proofs.lemmas.List.{flat_map_more, take_more}
-use Rattle.mnames.specs.Names.{names_text}
+use Rattle.mnames.proofs.Prelude.{◌≡◌, ℕ, ◌<◌, ◌+◌, List, [], ◌∷◌, ◌++◌, length, take, get_or, flat_map_more, take_more, names_text}
 
 pub names_text_more : (xs : List (List ℕ)) (i : ℕ) (x : List ℕ) → i < length xs → x ≡ get_or xs i x
     → names_text (take i xs) ++ 62 ∷ x ≡ names_text (take (i + 1) xs)

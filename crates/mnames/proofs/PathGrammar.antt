@@ -1,15 +1,6 @@
 -- Which texts paths begin with.
-use Rattle.std.proofs.Common.{◌≡◌, ◌≢◌, ◌⊎◌, inl, inr, ℕ, zero, suc, ◌+◌, ◌-◌, ◌*◌, ◌<◌, ◌≤◌, true, false, List, [], ◌∷◌, ◌++◌, length, take, drop, get_or, drop-cons, append_assoc, refl, sym, ap, subst, ◌∙◌, arith}
-use Rattle.std.specs.List.{list_all, AllByRecursion}
-use Rattle.std.proofs.lemmas.Bool.{cases_eq}
-use Rattle.std.proofs.lemmas.Bool.Decides.{nat_tests}
-use Rattle.std.proofs.lemmas.Grind.{common_steps}
-use Rattle.std.proofs.lemmas.List.{append-nil, length-append, take_more}
-use Rattle.std.proofs.lemmas.List.Folds.{list_all-append}
-use Rattle.std.proofs.Math.Seq.{take-append-add}
+use Rattle.mnames.proofs.Prelude.{◌≡◌, ◌≢◌, ◌⊎◌, inl, inr, ℕ, zero, suc, ◌+◌, ◌-◌, ◌*◌, ◌<◌, ◌≤◌, true, false, List, [], ◌∷◌, ◌++◌, length, take, drop, get_or, drop-cons, append_assoc, refl, sym, ap, subst, ◌∙◌, arith, list_all, AllByRecursion, cases_eq, nat_tests, common_steps, append-nil, length-append, take_more, list_all-append, take-append-add, is_name, is_name_byte, IsName, IsShort, names_text, path_text, IsPath, BeginsPath, IsLongestStart, IsAtSign, IsRun, IsStuck, IsNoPath}
 use Rattle.mnames.proofs.ShortTexts.{name_is_short}
-use Rattle.mnames.specs.Names.{is_name, is_name_byte, IsName, IsShort, names_text, path_text, IsPath, BeginsPath, IsLongestStart}
-use Rattle.mnames.specs.Reading.{IsAtSign, IsRun, IsStuck, IsNoPath}
 
 name_bytes : (x : List ℕ) → IsName x → list_all is_name_byte x ≡ true
 unfolding is_name

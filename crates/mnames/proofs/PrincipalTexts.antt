@@ -1,20 +1,5 @@
 -- What the texts of principals and of rows are read back as.
-use Rattle.std.proofs.Common.{◌≡◌, ℕ, ◌+◌, ◌<◌, ◌≤◌, Bool, true, false, not, cond, eqb, ltb, List, [], ◌∷◌, ◌++◌, length, Option, Some, None, refl, sym, ap, ◌∙◌, arith}
-use Rattle.std.specs.Prelude.{IfSome}
-use Rattle.std.specs.List.{list_all, position, position_or_len}
-use Rattle.std.specs.Str.{bytes_eq}
-use Rattle.std.proofs.lemmas.Bool.Decides.{nat_tests}
-use Rattle.std.proofs.lemmas.Grind.{common_steps}
-use Rattle.std.proofs.lemmas.List.{take_at}
-use Rattle.std.proofs.Math.Seq.{drop-append-add}
-use Rattle.std.proofs.lemmas.List.Folds.{list_all-append}
-use Rattle.std.proofs.lemmas.Slice.Eq.{bytes_eq-Decides}
-use Rattle.mnames.specs.Names.{is_label, is_label_byte}
-use Rattle.mnames.specs.Principals.{default_project, is_dot, before_dot, after_dot, IsWho, who_of, who_text, parts_text, IsRow, any_text, part_of, row_with, row_of, row_text, row_parts_text}
-use Rattle.mnames.specs.declared.principals.Who.{Who}
-use Rattle.mnames.specs.declared.rows.Row.{Row}
-use Rattle.laws.proofs.Bools.{and_false}
-use Rattle.laws.proofs.Lists.{none_left}
+use Rattle.mnames.proofs.Prelude.{◌≡◌, ℕ, ◌+◌, ◌<◌, ◌≤◌, Bool, true, false, not, cond, eqb, ltb, List, [], ◌∷◌, ◌++◌, length, Option, Some, None, refl, sym, ap, ◌∙◌, arith, IfSome, list_all, position, position_or_len, bytes_eq, nat_tests, common_steps, take_at, drop-append-add, list_all-append, bytes_eq-Decides, is_label, is_label_byte, default_project, is_dot, before_dot, after_dot, IsWho, who_of, who_text, parts_text, IsRow, any_text, part_of, row_with, row_of, row_text, row_parts_text, Who, Row, and_false, none_left}
 
 pub default_is_label : is_label default_project ≡ true
 unfolding is_label

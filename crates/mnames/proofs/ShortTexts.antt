@@ -1,11 +1,5 @@
 -- What the texts of names and labels keep.
-use Rattle.std.proofs.Common.{◌≡◌, ℕ, ◌<◌, ◌≤◌, Bool, true, false, ◌&&◌, nat_le, List, [], ◌∷◌, length, arith, le-leb}
-use Rattle.std.proofs.lemmas.Bool.Decides.{nat_tests}
-use Rattle.std.proofs.lemmas.Str.Ascii.{IsAscii-nil, IsAscii-cons}
-use Rattle.std.specs.Str.{IsAscii, IsUtf8}
-use Rattle.std.proofs.lemmas.Str.{IsUtf8-from_ascii}
-use Rattle.std.specs.List.{list_all}
-use Rattle.mnames.specs.Names.{IsShort, is_name, is_name_byte, is_label, is_label_byte}
+use Rattle.mnames.proofs.Prelude.{◌≡◌, ℕ, ◌<◌, ◌≤◌, Bool, true, false, ◌&&◌, nat_le, List, [], ◌∷◌, length, arith, le-leb, nat_tests, IsAscii-nil, IsAscii-cons, IsAscii, IsUtf8, IsUtf8-from_ascii, list_all, IsShort, is_name, is_name_byte, is_label, is_label_byte}
 
 -- a test that only ASCII bytes pass
 all_ascii : (p : ℕ → Bool) → ((b : ℕ) → p b ≡ true → b < 128) → (bs : List ℕ) → list_all p bs ≡ true → IsAscii bs

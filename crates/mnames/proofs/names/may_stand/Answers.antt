@@ -1,4 +1,4 @@
-use Rattle.std.proofs.Common.{arith}
+use Rattle.mnames.proofs.Prelude.{arith}
 use Rattle.mnames.proofs.NameBytes.{name_bit}
 use Rattle.mnames.proofs.names.may_stand.Goals as goal
 

@@ -1,4 +1,4 @@
-use Rattle.std.proofs.Common.{◌≡◌, take}
+use Rattle.mnames.proofs.Prelude.{◌≡◌, take}
 use Rattle.mnames.proofs.paths.path_of_names.Given as goal
 
 -- the names so far

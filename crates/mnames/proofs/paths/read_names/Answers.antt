@@ -1,5 +1,4 @@
-use Rattle.std.proofs.Common.{◌<◌, ◌≤◌, length, arith}
-use Rattle.std.proofs.lemmas.Bool.Decides.{nat_tests}
+use Rattle.mnames.proofs.Prelude.{◌<◌, ◌≤◌, length, arith, nat_tests}
 use Rattle.mnames.proofs.PathGrammar.{read_more, read_full, read_stuck}
 use Rattle.mnames.proofs.paths.read_names.Goals as goal
 

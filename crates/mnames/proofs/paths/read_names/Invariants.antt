@@ -1,4 +1,4 @@
-use Rattle.std.proofs.Common.{length}
+use Rattle.mnames.proofs.Prelude.{length}
 use Rattle.mnames.proofs.PathGrammar.{HasRead}
 use Rattle.mnames.proofs.paths.read_names.Given as goal
 

@@ -1,4 +1,4 @@
-use Rattle.std.proofs.Common.{Ok, ap}
+use Rattle.mnames.proofs.Prelude.{Ok, ap}
 use Rattle.mnames.proofs.PathGrammar.{path_again}
 use Rattle.mnames.proofs.paths.read_path.Goals as goal
 

@@ -1,6 +1,4 @@
-use Rattle.mnames.specs.Names.{is_name}
-use Rattle.std.proofs.Common.{refl, ◌≡◌, true}
-use Rattle.std.specs.Prelude.{codes}
+use Rattle.mnames.proofs.Prelude.{is_name, refl, ◌≡◌, true, codes}
 use Rattle.mnames.proofs.names.NameDefault.default.Goals as goal
 
 root_is_name : is_name (codes "root") ≡ true

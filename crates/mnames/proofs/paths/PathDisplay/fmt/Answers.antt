@@ -1,5 +1,4 @@
-use Rattle.std.proofs.Common.{refl, arith}
-use Rattle.std.proofs.Output.{has_written_append, has_written_of_eq}
+use Rattle.mnames.proofs.Prelude.{refl, arith, has_written_append, has_written_of_eq}
 use Rattle.mnames.proofs.NamesText.{names_text_more}
 use Rattle.mnames.proofs.paths.PathDisplay.fmt.Goals as goal
 

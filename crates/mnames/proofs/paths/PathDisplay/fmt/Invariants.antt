@@ -1,6 +1,4 @@
-use Rattle.std.proofs.Common.{take}
-use Rattle.std.specs.Fmt.{HasWritten, IsPlainFormatter}
-use Rattle.mnames.specs.Names.{names_text}
+use Rattle.mnames.proofs.Prelude.{take, HasWritten, IsPlainFormatter, names_text}
 use Rattle.mnames.proofs.paths.PathDisplay.fmt.Given as goal
 
 -- the names so far are written
