@@ -1,5 +1,5 @@
 -- The laws of accounts: what a page more, and another quota, do to the loads from scratch.
-use Rattle.quota_cells.proofs.Prelude.{◌≡◌, ◌≢◌, ℕ, ◌+◌, true, false, cond, eqb, not, if◌then◌else◌, List, [], ◌∷◌, refl, sym, arith, inl, inr, cases_Bool, cases_eq, both_ways, eqb-true, eq-eqb, ne_eqb, or_cases, and_parts, or_right, or_left, not-true, not_from_false, account, AreUnder, IsChain, EndsAtRoot, covers, load, is_an_account}
+use Rattle.quota_cells.proofs.Prelude.{common_steps, ◌≡◌, ◌≢◌, ℕ, ◌+◌, true, false, cond, eqb, not, if◌then◌else◌, List, [], ◌∷◌, refl, sym, arith, inl, inr, cases_Bool, cases_eq, both_ways, eqb-true, eq-eqb, ne_eqb, or_cases, and_parts, or_right, or_left, not-true, not_from_false, account, AreUnder, IsChain, EndsAtRoot, covers, load, is_an_account, nat_tests}
 use Rattle.quota_cells.proofs.ColumnLaws.{weigh_same}
 use Rattle.quota_cells.proofs.PlaceLaws.{covers_under, covers_not}
 
@@ -7,10 +7,7 @@ use Rattle.quota_cells.proofs.PlaceLaws.{covers_under, covers_not}
 
 pub account_covers : (q : ℕ → ℕ) (xs : List ℕ) → EndsAtRoot xs → covers q xs (account q xs) ≡ true
 account_covers q [] e = absurd e
-account_covers q (x ∷ []) e = elim (cases_Bool (eqb (q x) 0)) [
-  | inl none ↦ rw none (or_left (eqb x 1) false (eq-eqb x 1 e))
-  | inr some ↦ rw some (or_left (eqb x x) false (eq-eqb x x refl))
-]
+account_covers q (x ∷ []) e = grind (arith, nat_tests, common_steps, or_left)
 account_covers q (x ∷ y ∷ ys) e = elim (cases_Bool (eqb (q x) 0)) [
   | inl none ↦ rw none (or_right (eqb x (account q (y ∷ ys))) (covers q (y ∷ ys) (account q (y ∷ ys)))
       (account_covers q (y ∷ ys) e.1))
@@ -35,10 +32,7 @@ account_through f q (x ∷ xs) e c is = elim (cases_eq x e) [
 pub account_is : (q : ℕ → ℕ) (xs : List ℕ) (a : ℕ) → EndsAtRoot xs → is_an_account q a ≡ true → covers q xs a
     ≡ eqb (account q xs) a
 account_is q [] a e is = absurd e
-account_is q (x ∷ []) a e is = elim (cases_Bool (eqb (q x) 0)) [
-  | inl none ↦ rw (none, e) (elim (cases_Bool (eqb 1 a)) [ inl t ↦ rw t refl | inr f ↦ rw f refl ])
-  | inr some ↦ rw some (elim (cases_Bool (eqb x a)) [ inl t ↦ rw t refl | inr f ↦ rw f refl ])
-]
+account_is q (x ∷ []) a e is = grind (arith, nat_tests, common_steps)
 account_is q (x ∷ y ∷ ys) a e is = elim (cases_Bool (eqb (q x) 0)) [
   | inr some ↦ rw some (elim (cases_Bool (eqb x a)) [ inl t ↦ rw t refl | inr f ↦ rw f refl ])
   | inl none ↦ elim (cases_eq x a) [
@@ -123,9 +117,7 @@ module _ (f : ℕ → List ℕ) (q r : ℕ → ℕ) (x : ℕ) (same : (y : ℕ) 
 
   -- its own load stays
   pub appears_own : ((k : ℕ) → IsChain f (f k)) → (ks ws : List ℕ) → load f r ks ws x ≡ load f q ks ws x
-  appears_own chains ks ws = (let h = appears chains ks ws x in let off : covers q (f x) x ≡ false =
-      covers_not q x (f x) under in let h' = rw off at h in
-      omega arith)
+  appears_own chains ks ws = grind (arith, nat_tests, common_steps, appears, covers_not)
 
 pub load_same : (f : ℕ → List ℕ) (q r : ℕ → ℕ) → ((y : ℕ) → eqb (r y) 0 ≡ eqb (q y) 0) → (ks ws : List ℕ) (e : ℕ)
     → load f r ks ws e ≡ load f q ks ws e

@@ -1,5 +1,5 @@
 -- What a new cell, and a cell less, leave.
-use Rattle.quota_cells.proofs.Prelude.{◌≡◌, ◌≢◌, ℕ, ◌+◌, ◌<◌, ◌≤◌, Bool, true, false, eqb, not, ◌&&◌, if◌then◌else◌, List, [], ◌∷◌, length, refl, sym, ◌∙◌, arith, get_or, inl, inr, insert, remove, sum, cases_Bool, cases_eq, both_ways, eqb-true, eq-eqb, ne_eqb, or_parts, or_cases, and_parts, or_right, or_left, false_from_ne_true, length-map, length-insert, length-remove, sum_by-insert, sum_by-remove, above, Node, is_directory, is_segment, is_in, without, shape, shapes, HasChains, look, has, covers, weigh, load, CellMaps, quota_in, load_in, stored_in, Fits, IsTable, Enters, Leaves, has_cell, without_directory, without_segment, entered, left, IsGap, not_in_directory, not_in_segment, directory_shape, segment_shape, look_absent, on_directories, on_segments, and_false, place_there, ◌||◌, with_beside, without_beside, IsRising}
+use Rattle.quota_cells.proofs.Prelude.{common_steps, ◌≡◌, ◌≢◌, ℕ, ◌+◌, ◌<◌, ◌≤◌, Bool, true, false, eqb, not, ◌&&◌, if◌then◌else◌, List, [], ◌∷◌, length, refl, sym, ◌∙◌, arith, get_or, inl, inr, insert, remove, sum, cases_Bool, cases_eq, both_ways, eqb-true, eq-eqb, ne_eqb, or_parts, or_cases, and_parts, or_right, or_left, false_from_ne_true, length-map, length-insert, length-remove, sum_by-insert, sum_by-remove, above, Node, is_directory, is_segment, is_in, without, shape, shapes, HasChains, look, has, covers, weigh, load, CellMaps, quota_in, load_in, stored_in, Fits, IsTable, Enters, Leaves, has_cell, without_directory, without_segment, entered, left, IsGap, not_in_directory, not_in_segment, directory_shape, segment_shape, look_absent, on_directories, on_segments, and_false, place_there, ◌||◌, with_beside, without_beside, IsRising, nat_tests}
 use Rattle.quota_cells.proofs.ColumnLaws.{weigh_same}
 use Rattle.quota_cells.proofs.PlaceLaws.{look_at}
 use Rattle.quota_cells.proofs.FitLaws.{all_there, covered_there}
@@ -30,10 +30,7 @@ module _ (nodes : List Node) (n : Node) (old new : CellMaps) (fits : Fits nodes 
 
   loads_same : (e : ℕ) → load (above (shapes (n ∷ nodes))) (quota_in new) new.segments new.stored e
       ≡ load (above (shapes nodes)) (quota_in old) old.segments old.stored e
-  loads_same e = enters.counts (λ k. covers (quota_in new) (above (shapes (n ∷ nodes)) k) e)
-      ∙ weigh_same (λ k. covers (quota_in new) (above (shapes (n ∷ nodes)) k) e)
-      (λ k. covers (quota_in old) (above (shapes nodes) k) e) old.segments old.stored
-      (λ k h. rw (quotas, same_up k h) refl)
+  loads_same e = grind (arith, nat_tests, common_steps, weigh_same, quotas, same_up)
 
   -- nothing lies below the new node
   none_below : load (above (shapes nodes)) (quota_in old) old.segments old.stored n.uid ≡ 0
@@ -210,26 +207,8 @@ module _ (c : CellMaps) (table : IsTable c) (uid : ℕ) (absent : has_cell c uid
   no_segment = (or_parts (has c.directories uid) (has c.segments uid) absent).1
 
   pub enters_entered : (dir : Bool) → Enters c (entered c uid dir) uid dir
-  enters_entered true = record {
-    directories = has_more c.directories uid table.rising no_directory;
-    segments = λ u. refl;
-    quotas = look_more c.directories uid table.rising no_directory c.quotas table.quota_count;
-    loads = look_more c.directories uid table.rising no_directory c.loads table.load_count;
-    stored = λ s. refl;
-    counts = λ t. refl;
-    size = (omega (arith, length_more c.directories uid table.rising no_directory c.directories uid refl));
-    total = sum_more c.directories uid table.rising no_directory c.quotas table.quota_count;
-  }
-  enters_entered false = record {
-    directories = λ u. refl;
-    segments = has_more c.segments uid table.segments_rise no_segment;
-    quotas = λ d. refl;
-    loads = λ d. refl;
-    stored = look_more c.segments uid table.segments_rise no_segment c.stored table.stored_count;
-    counts = weigh_more c.segments uid table.segments_rise no_segment c.stored table.stored_count;
-    size = (omega (arith, length_more c.segments uid table.segments_rise no_segment c.segments uid refl));
-    total = refl;
-  }
+  enters_entered true = grind (arith, nat_tests, common_steps, has_more, no_directory, quotas, look_more, length_more, sum_more)
+  enters_entered false = grind (arith, nat_tests, common_steps, has_more, no_segment, quotas, look_more, weigh_more, length_more)
 
   pub table_entered : (dir : Bool) → IsTable (entered c uid dir)
   table_entered true =
@@ -267,36 +246,15 @@ module _ (c : CellMaps) (table : IsTable c) (uid : ℕ) (absent : has_cell c uid
 
 -- a uid that isn't there is left out of no list
 left_out : (ks : List ℕ) (uid u : ℕ) → has ks uid ≡ false → has ks u ≡ (has ks u && not (eqb uid u))
-left_out ks uid u off = elim (cases_eq uid u) [
-  | inl same ↦ (let gone : has ks u ≡ false = rw same at off in rw gone refl)
-  | inr other ↦ rw (ne_eqb uid u other) (elim (cases_Bool (has ks u)) [ inl t ↦ rw t refl | inr f ↦ rw f refl ])
-]
+left_out ks uid u off = grind (arith, nat_tests, common_steps)
 
 module _ (c : CellMaps) (table : IsTable c) (uid : ℕ) (no_quota : quota_in c uid ≡ 0) (no_pages : stored_in c uid ≡ 0)
   where
     leaves_directory : has c.directories uid ≡ true → Leaves c (without_directory c uid) uid
-    leaves_directory dir = record {
-      directories = has_less c.directories uid table.rising dir;
-      segments = λ u. left_out c.segments uid u (table.apart uid dir);
-      quotas = look_all c.directories uid table.rising dir c.quotas table.quota_count no_quota;
-      loads = look_less c.directories uid table.rising dir c.loads table.load_count;
-      stored = λ s. refl;
-      counts = λ t. refl;
-      size = (omega (arith, length_less c.directories uid table.rising dir c.directories refl));
-      total = sum_less c.directories uid table.rising dir c.quotas table.quota_count no_quota;
-    }
+    leaves_directory dir = grind (arith, nat_tests, common_steps, has_less, left_out, apart, quotas, look_all, look_less, length_less, sum_less)
 
     leaves_segment : has c.directories uid ≡ false → has c.segments uid ≡ true → Leaves c (without_segment c uid) uid
-    leaves_segment off seg = record {
-      directories = λ u. left_out c.directories uid u off;
-      segments = has_less c.segments uid table.segments_rise seg;
-      quotas = λ d. refl;
-      loads = λ d other. refl;
-      stored = look_all c.segments uid table.segments_rise seg c.stored table.stored_count no_pages;
-      counts = weigh_less c.segments uid table.segments_rise seg c.stored table.stored_count no_pages;
-      size = (omega (arith, length_less c.segments uid table.segments_rise seg c.segments refl));
-      total = refl;
-    }
+    leaves_segment off seg = grind (arith, nat_tests, common_steps, left_out, has_less, quotas, look_all, weigh_less, length_less)
 
     table_directory : has c.directories uid ≡ true → IsTable (without_directory c uid)
     table_directory dir =

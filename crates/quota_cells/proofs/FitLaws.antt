@@ -1,5 +1,5 @@
 -- What keeps the cells fit for a tree.
-use Rattle.quota_cells.proofs.Prelude.{◌≡◌, ◌≢◌, ℕ, ◌+◌, ◌-◌, ◌<◌, ◌≤◌, ◌^◌, true, eqb, List, [], ◌∷◌, refl, sym, ◌∙◌, arith, inl, inr, Ok, cases_Bool, cases_eq, eqb-true, eq-eqb, ne_eqb, and_parts, above, account, Node, is_segment, shapes, HasChains, IsChain, AreDirectories, EndsAtRoot, has, with_value, covers, load, is_an_account, changed_where, CellMaps, quota_in, load_in, stored_in, Fits, IsTable, charged, credited, charge_fault, CountsUsed, directory_shape, uid_shape, segment_in, segment_not, on_segments, AreThere, IsFalling, directory_in, on_directories}
+use Rattle.quota_cells.proofs.Prelude.{common_steps, ◌≡◌, ◌≢◌, ℕ, ◌+◌, ◌-◌, ◌<◌, ◌≤◌, ◌^◌, true, eqb, List, [], ◌∷◌, refl, sym, ◌∙◌, arith, inl, inr, Ok, cases_Bool, cases_eq, eq-eqb, ne_eqb, and_parts, above, account, Node, is_segment, shapes, HasChains, IsChain, AreDirectories, EndsAtRoot, has, with_value, covers, load, is_an_account, changed_where, CellMaps, quota_in, load_in, stored_in, Fits, IsTable, charged, credited, charge_fault, CountsUsed, directory_shape, uid_shape, segment_in, segment_not, on_segments, AreThere, IsFalling, directory_in, on_directories, nat_tests}
 use Rattle.quota_cells.proofs.ColumnLaws.{look_changed, length_with, length_changed, weigh_with, weigh_same, weigh_le_on, look_le_weigh, look_le_sum}
 use Rattle.quota_cells.proofs.AccountLaws.{account_covers, account_through, account_is, account_of_chain}
 
@@ -107,12 +107,7 @@ module _ {nodes : List Node} {c : CellMaps} (settled : Settled nodes c) where
 
   -- so it has no more than there is quota
   pub load_bound : (s e : ℕ) → EndsAtRoot (f s) → covers q (f s) e ≡ true → load_in c e < 2 ^ 32
-  load_bound s e ends_s covered = omega (
-    arith,
-    load_up s e ends_s covered,
-    account_within s ends_s,
-    look_le_sum c.directories c.quotas (account_of s),
-  )
+  load_bound s e ends_s covered = grind (arith, nat_tests, common_steps, load_up, account_within, look_le_sum)
 
   -- where the account isn't full there is room for a page
   module _ (s : ℕ) (is : is_segment nodes s ≡ true) (ne : load_in c (account q (f s)) ≢ q (account q (f s))) where
@@ -120,53 +115,16 @@ module _ {nodes : List Node} {c : CellMaps} (settled : Settled nodes c) where
     below_quota = (omega (arith, account_within s (ends s is)))
 
     pub room_charged : (e : ℕ) → covers q (f s) e ≡ true → load_in c e + 1 < 2 ^ 32
-    room_charged e covered = omega (
-      arith,
-      load_up s e (ends s is) covered,
-      look_le_sum c.directories c.quotas (account_of s),
-      below_quota,
-      table.total,
-    )
+    room_charged e covered = grind (arith, nat_tests, common_steps, load_up, ends, look_le_sum, below_quota, table)
 
     pub stored_room : stored_in c s + 1 < 2 ^ 32
-    stored_room =
-        let covered = account_covers q (f s) (ends s is) in
-        let le = stored_below s (account_of s) (account_here s (ends s is)) covered in
-        let room = room_charged (account_of s) covered in omega arith
+    stored_room = grind (arith, nat_tests, common_steps, account_covers, ends, stored_below, account_here, room_charged)
 
     pub table_charged : IsTable (charged c (f s) s)
-    table_charged = record {
-      rising = table.rising;
-      segments_rise = table.segments_rise;
-      quota_count = table.quota_count;
-      load_count = cc (length_changed (λ w. w + 1) (covers q (f s)) c.directories c.loads table.load_count);
-      stored_count = cc (length_with c.segments c.stored s (stored_in c s + 1));
-      apart = table.apart;
-      within = λ b here b_is.
-          rw (look_changed (λ w. w + 1) (covers q (f s)) c.directories c.loads b table.load_count here)
-          (elim (cases_Bool (covers q (f s) b)) [
-            | inl t ↦
-                (let own = eqb-true (account q (f s)) b (sym (account_is q (f s) b (ends s is) b_is) ∙ t) in
-                let less : load_in c b < q b = rw own at below_quota in rw t (omega arith))
-            | inr u ↦ rw u (table.within b here b_is)
-          ]);
-      total = table.total;
-    }
+    table_charged = grind (arith, nat_tests, common_steps, table, length_changed, length_with, look_changed, account_is, ends, below_quota)
 
   pub table_credited : (s n : ℕ) → IsTable (credited c (f s) s n)
-  table_credited s n = record {
-    rising = table.rising;
-    segments_rise = table.segments_rise;
-    quota_count = table.quota_count;
-    load_count = cc (length_changed (λ w. w - n) (covers q (f s)) c.directories c.loads table.load_count);
-    stored_count = cc (length_with c.segments c.stored s (stored_in c s - n));
-    apart = table.apart;
-    within = λ b here b_is.
-        rw (look_changed (λ w. w - n) (covers q (f s)) c.directories c.loads b table.load_count here)
-        (let old : load_in c b ≤ q b = table.within b here b_is in elim (cases_Bool (covers q (f s) b))
-        [ inl t ↦ rw t (omega arith) | inr u ↦ rw u old ]);
-    total = table.total;
-  }
+  table_credited s n = grind (arith, nat_tests, common_steps, table, length_changed, length_with, look_changed)
 
   pub room_credited : (s n : ℕ) → n ≤ stored_in c s → (e : ℕ) → covers q (f s) e ≡ true → n ≤ load_in c e
   room_credited s n some e covered =

@@ -1,5 +1,5 @@
 -- Which accounts can be above their quotas once quota has moved.
-use Rattle.quota_cells.proofs.Prelude.{◌≡◌, ◌≢◌, ℕ, suc, ◌+◌, ◌-◌, ◌<◌, ◌≤◌, ◌^◌, Bool, true, false, eqb, ltb, if◌then◌else◌, List, [], ◌∷◌, length, Some, None, refl, sym, ◌∙◌, arith, get_or, inl, inr, ◌⊎◌, sum, find, cases_Bool, cases_eq, cases_lt, both_ways, eqb-true, eq-eqb, ne_eqb, or_cases, and_parts, or_right, or_left, and_from, lt-ltb, ltb-true, false_from_ne_true, above, Node, shapes, has, covers, is_an_account, CellMaps, quota_in, load_in, Fits, IsTable, with_quota, IsRising, is_over, first_over, IsPlaced, CanGive, directories_of}
+use Rattle.quota_cells.proofs.Prelude.{common_steps, ◌≡◌, ◌≢◌, ℕ, suc, ◌+◌, ◌-◌, ◌<◌, ◌≤◌, ◌^◌, Bool, true, false, eqb, ltb, if◌then◌else◌, List, [], ◌∷◌, length, Some, None, refl, sym, ◌∙◌, arith, get_or, inl, inr, ◌⊎◌, sum, find, cases_Bool, cases_eq, both_ways, eqb-true, eq-eqb, ne_eqb, or_cases, and_parts, or_right, or_left, and_from, false_from_ne_true, above, Node, shapes, has, covers, is_an_account, CellMaps, quota_in, load_in, Fits, IsTable, with_quota, IsRising, is_over, first_over, IsPlaced, CanGive, directories_of, nat_tests}
 use Rattle.quota_cells.proofs.AccountLaws.{covers_above}
 use Rattle.quota_cells.proofs.ColumnLaws.{two_le_sum}
 use Rattle.quota_cells.proofs.FitLaws.{Settled, covered_there, ends_at, falls, load_bound, there}
@@ -65,12 +65,7 @@ both_changed nodes c g v n = with_quota (one_changed nodes c g n) (above (shapes
 
 pub changing_of : {nodes : List Node} {c : CellMaps} {d : ℕ} → Settled nodes c → has c.directories d ≡ true
     → Changing nodes c d
-changing_of settled here = record {
-  even = assumption;
-  fits = settled.fits;
-  chains = settled.chains;
-  here = here;
-}
+changing_of settled here = grind (arith, nat_tests, common_steps)
 
 module _ {nodes : List Node} {c : CellMaps} {g v n : ℕ} (moving : Moving nodes c g v n) where
   open moving use {other, here_g, here_v, some, enough, settled.{table, fits, chains}}
@@ -122,11 +117,7 @@ module _ {nodes : List Node} {c : CellMaps} {g v n : ℕ} (moving : Moving nodes
   load1_stays is = load_stays first (q g + n) is (λ e. omega arith)
 
   load1_le : (b : ℕ) → has c.directories b ≡ true → load_in c1 b ≤ load_in c b
-  load1_le b h = elim (cases_eq (q g) 0) [
-    | inl none ↦ rw (load1_falls none b h) (elim (cases_Bool (covers q (f g) b))
-        [ inl t ↦ rw t (omega arith) | inr u ↦ rw u (omega arith) ])
-    | inr is ↦ rw (load1_stays is b h) (omega arith)
-  ]
+  load1_le b h = grind (arith, nat_tests, common_steps, load1_falls, load1_stays)
 
   q1_v : quota_in c1 v ≡ q v
   q1_v = q1_other v (λ e. other (sym e))
@@ -140,10 +131,7 @@ module _ {nodes : List Node} {c : CellMaps} {g v n : ℕ} (moving : Moving nodes
 
   within_still : (b : ℕ) → has c.directories b ≡ true → b ≢ g → b ≢ v → load_in c2 b ≤ load_in c b
       → is_over c2 b ≡ false
-  within_still b h ne_g ne_v le = false_from_ne_true _ (λ over.
-      (let both = and_parts (is_an_account (quota_in c2) b) (ltb (quota_in c2 b) (load_in c2 b)) over in
-      let same = q2_other b ne_g ne_v in
-      omega (arith, ltb-true (quota_in c2 b) (load_in c2 b) both.1, table.within b h (rw same at both.0))))
+  within_still b h ne_g ne_v le = grind (arith, nat_tests, common_steps, false_from_ne_true, and_parts, q2_other)
 
   pub over_who : (b : ℕ) → has c.directories b ≡ true → is_over c2 b ≡ true
       → (b ≡ g) ⊎ ((b ≡ v) ⊎ ((q v ≡ n) × (covers (quota_in c1) (f v) b ≡ true)
@@ -171,20 +159,7 @@ module _ {nodes : List Node} {c : CellMaps} {g v n : ℕ} (moving : Moving nodes
 
   -- where no account is above its quota the cells hold together
   table2 : first_over c2 ≡ None → IsTable c2
-  table2 none = record {
-    rising = table.rising;
-    segments_rise = table.segments_rise;
-    quota_count = even2.quotas;
-    load_count = even2.loads;
-    stored_count = table.stored_count;
-    apart = table.apart;
-    within = λ b h is. elim (cases_lt (quota_in c2 b) (load_in c2 b)) [
-      | inr le ↦ le
-      | inl over ↦ absurd (passes (is_over c2) c.directories b h
-          (and_from (is_an_account (quota_in c2) b) (ltb (quota_in c2 b) (load_in c2 b)) is (lt-ltb _ _ over)) none)
-    ];
-    total = rw conserved table.total;
-  }
+  table2 none = grind (arith, nat_tests, common_steps, even2, passes, and_from, conserved)
 
   -- where the giver is an account no more, its load fits above
   room2 : first_over c2 ≡ None → q v ≡ n → (e : ℕ) → covers (quota_in c1) (f v) e ≡ true

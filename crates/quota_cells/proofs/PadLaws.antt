@@ -1,5 +1,5 @@
 -- A number for each uid, of which the first are held and all others are 0.
-use Rattle.quota_cells.proofs.Prelude.{◌≡◌, ℕ, suc, zero, ◌+◌, ◌-◌, ◌<◌, ◌≤◌, List, [], ◌∷◌, ◌++◌, length, replicate, get_or, set, refl, sym, ap, ◌∙◌, arith, append_assoc, replicate-append-replicate, length-append, length-replicate, length-set, padded}
+use Rattle.quota_cells.proofs.Prelude.{common_steps, ◌≡◌, ℕ, suc, zero, ◌+◌, ◌-◌, ◌<◌, ◌≤◌, List, [], ◌∷◌, ◌++◌, length, replicate, get_or, set, refl, sym, arith, append_assoc, replicate-append-replicate, length-append, length-replicate, length-set, padded, nat_tests}
 
 -- ---- blanks
 
@@ -7,12 +7,7 @@ use Rattle.quota_cells.proofs.Prelude.{◌≡◌, ℕ, suc, zero, ◌+◌, ◌-�
 pub blanks_next : {X : Type 0} (xs ys : List X) (n : ℕ) (blank : X)
     → ys ≡ xs ++ replicate (n - length xs) blank → length xs ≤ n
     → ys ++ blank ∷ [] ≡ xs ++ replicate (n + 1 - length xs) blank
-blanks_next {X} xs ys n blank is le =
-    let one : (n - length xs) + 1 ≡ n + 1 - length xs = omega arith in
-    cc (
-      append_assoc xs (replicate (n - length xs) blank) (blank ∷ []),
-      replicate-append-replicate (n - length xs) 1 blank,
-    )
+blanks_next {X} xs ys n blank is le = grind (arith, nat_tests, common_steps, append_assoc, replicate-append-replicate)
 
 -- ---- zeros
 
@@ -60,12 +55,7 @@ padded_read held i = past_zeros held (100003 - length held) i
 
 pub padded_more : (held : List ℕ) (k : ℕ) → length held + k ≤ 100003 → padded (held ++ zeros k) ≡ padded held
 unfolding padded
-padded_more held k le = append_assoc held (zeros k) (zeros (100003 - length (held ++ zeros k)))
-    ∙ ap (λ (xs : List ℕ). held ++ xs) (replicate-append-replicate k (100003 - length (held ++ zeros k)) 0
-    ∙ ap (λ (n : ℕ). zeros n) count)
-  where
-    count : k + (100003 - length (held ++ zeros k)) ≡ 100003 - length held
-    count = rw (length-append held (zeros k), many_zeros k) (omega arith)
+padded_more held k le = grind (arith, nat_tests, common_steps, append_assoc, replicate-append-replicate, length-append, many_zeros)
 
 -- a number that is held
 pub padded_set : (held : List ℕ) (i v : ℕ) → i < length held → padded (set held i v) ≡ set (padded held) i v

@@ -1,6 +1,7 @@
 -- The names that the proofs of this crate take from elsewhere.
 pub use Rattle.std.proofs.Common.{Bool, Err, List, None, Ok, Option, Result, Some, [], ap, arith, cond, drop, eqb, false, get_or, if◌then◌else◌, inl, inr, leb, length, ltb, map, not, refl, replicate, rules, set, subst, suc, sym, true, vec_capacity, w32, zero, ℕ, ◌&&◌, ◌++◌, ◌+◌, ◌-◌, ◌<◌, ◌^◌, ◌||◌, ◌∙◌, ◌∷◌, ◌≡◌, ◌≢◌, ◌≤◌, ◌⊎◌}
 pub use Rattle.std.proofs.lemmas.Bool.{and_from, and_parts, both_ways, cases_Bool, cases_eq, cases_lt, cases_order, eq-eqb, eqb-false, eqb-true, false_from_ne_true, le-leb, le-ltb, lt-leb, lt-ltb, ltb-true, ne_eqb, not-true, not_from_false, or_cases, or_left, or_parts, or_right, true_from_ne_false}
+pub use Rattle.std.proofs.lemmas.Bool.Decides.{nat_tests}
 pub use Rattle.std.proofs.lemmas.Grind.{common_steps}
 pub use Rattle.std.proofs.lemmas.Int.{to_z-of_z}
 pub use Rattle.std.proofs.lemmas.List.{append_assoc, drop_all, drop_more, ext_get_or, get_or-set_other, get_or-set_same, get_or_past, get_or_read, length-append, length-map, length-replicate, length-set, replicate-append-replicate}
@@ -33,6 +34,6 @@ pub use Rattle.quota_cells.specs.Moves.{LiesIn, cell_in, is_account_over, is_giv
 pub use Rattle.quota_cells.specs.Scratch.{HoldCounts, charge_answer, scratch_answer}
 unfoldable pub use Rattle.quota_cells.specs.Tables.{padded}
 pub use Rattle.quota_cells.specs.declared.Full.{Full}
-pub use Rattle.quota_cells.specs.declared.MoveFault.{MoveFault}
+pub use Rattle.quota_cells.specs.declared.MoveFault.{MoveFault, MoveFault as fault}
 pub use Rattle.quota_cells.specs.declared.directories.Cell.{Cell}
 pub use Rattle.quota_cells.specs.declared.directories.Pages.{Pages}

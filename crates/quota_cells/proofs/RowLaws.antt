@@ -1,5 +1,5 @@
 -- Columns of numbers in the order of uids: one more and one less, and a walk up a chain.
-use Rattle.quota_cells.proofs.Prelude.{◌≡◌, ◌≢◌, ℕ, suc, zero, ◌+◌, ◌<◌, ◌≤◌, true, false, List, [], ◌∷◌, length, drop, refl, sym, ap, ◌∙◌, arith, get_or, set, inl, inr, insert, remove, drop_more, cases_order, eq-eqb, ne_eqb, lt-ltb, le-ltb, has, with_value, with_beside, without_beside, covers, changed_where, CellMaps, IsRising, quota_in, load_in, with_loads, IsGap, place_there, rest_rises}
+use Rattle.quota_cells.proofs.Prelude.{common_steps, ◌≡◌, ◌≢◌, ℕ, suc, zero, ◌+◌, ◌<◌, ◌≤◌, true, false, List, [], ◌∷◌, length, drop, refl, sym, ap, ◌∙◌, arith, get_or, set, inl, inr, insert, remove, drop_more, cases_order, eq-eqb, ne_eqb, lt-ltb, le-ltb, has, with_value, with_beside, without_beside, covers, changed_where, CellMaps, IsRising, quota_in, load_in, with_loads, IsGap, place_there, rest_rises, nat_tests}
 use Rattle.quota_cells.proofs.PlaceLaws.{Going, going_here, going_next, going_ends, changed_none, look_at, set_there}
 
 -- ---- one more, and one less
@@ -36,10 +36,7 @@ remove_beside (k ∷ ks) (w ∷ vs) (suc i) len up lt =
 
 -- a uid that isn't there has a gap, and one that is there has a place
 pub gap_of : (ks : List ℕ) (u : ℕ) → IsRising ks → has ks u ≡ false → (i : ℕ) × IsGap ks u i
-gap_of [] u up off = (
-  0,
-  record { within = omega arith; below = λ j lt. absurd (omega arith); above = λ j le lt. absurd (omega arith) },
-)
+gap_of [] u up off = grind (arith, nat_tests, common_steps)
 gap_of (k ∷ ks) u up off = elim (cases_order u k) [
   | inl same ↦ cc (rw (eq-eqb k u (sym same)) at off)
   | inr differ ↦ elim differ [

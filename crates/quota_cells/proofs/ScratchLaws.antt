@@ -1,5 +1,5 @@
 -- The counts that the cells keep are the counts from scratch over the stored pages.
-use Rattle.quota_cells.proofs.Prelude.{◌≡◌, ◌≢◌, ℕ, suc, ◌+◌, ◌-◌, ◌<◌, ◌≤◌, Bool, true, false, cond, eqb, leb, ◌&&◌, if◌then◌else◌, List, [], ◌∷◌, length, map, Option, Some, None, Result, Ok, Err, refl, sym, ap, ◌∙◌, arith, get_or, inl, inr, count_by, OnOk, OnErr, find, sum, cases_Bool, cases_eq, cases_lt, both_ways, eqb-true, eq-eqb, ne_eqb, or_cases, and_parts, or_right, or_left, and_from, le-leb, lt-leb, lt-ltb, le-ltb, true_from_ne_false, false_from_ne_true, sum_by-cons, Term, above, account, account_of, quota_at, used_by, superior_of, getter_of, giver_of, with_quota_of, with_moved, tree_moved, is_over_at, lesser, least_where, over_in, Node, as_term, with_quotas, is_directory, is_segment, shapes, shape, HasChains, Full, MoveFault, look, has, with_value, weigh, charged_to, is_an_account, CellMaps, quota_in, load_in, stored_in, used_in, Fits, IsRising, charge_fault, moved, is_over, first_over, over_answer, move_answer, HoldCounts, charge_answer, scratch_answer, above_any, directory_shape, not_in_directory, segment_in, segment_not, uid_shape, look_absent, on_directories, on_segments, least_none, directory_mapped, quota_mapped}
+use Rattle.quota_cells.proofs.Prelude.{common_steps, ◌≡◌, ◌≢◌, ℕ, suc, ◌+◌, ◌-◌, ◌<◌, ◌≤◌, Bool, true, false, cond, eqb, ◌&&◌, if◌then◌else◌, List, [], ◌∷◌, length, map, Option, Some, None, Result, Ok, Err, refl, sym, ap, ◌∙◌, arith, get_or, inl, inr, count_by, OnOk, OnErr, find, sum, cases_Bool, cases_eq, cases_lt, both_ways, eqb-true, eq-eqb, ne_eqb, or_cases, and_parts, or_right, or_left, and_from, le-leb, lt-leb, lt-ltb, le-ltb, true_from_ne_false, false_from_ne_true, sum_by-cons, Term, above, account, account_of, quota_at, used_by, superior_of, getter_of, giver_of, with_quota_of, with_moved, tree_moved, is_over_at, lesser, least_where, over_in, Node, as_term, with_quotas, is_directory, is_segment, shapes, shape, HasChains, Full, MoveFault, look, has, with_value, weigh, charged_to, is_an_account, CellMaps, quota_in, load_in, stored_in, used_in, Fits, IsRising, charge_fault, moved, is_over, first_over, over_answer, move_answer, HoldCounts, charge_answer, scratch_answer, above_any, directory_shape, not_in_directory, segment_in, segment_not, uid_shape, look_absent, on_directories, on_segments, least_none, directory_mapped, quota_mapped, nat_tests}
 use Rattle.quota_cells.proofs.ColumnLaws.{look_with, length_with, weigh_with}
 use Rattle.quota_cells.proofs.PlaceLaws.{look_at}
 use Rattle.quota_cells.proofs.AccountLaws.{account_of_chain}
@@ -140,10 +140,7 @@ lesser_same a (Some v) le = rw (le-leb a v (le v refl)) refl
 lesser_passes : (t : ℕ → Bool) (u v : ℕ) (o : Option ℕ) → t u ≡ true → ((w : ℕ) → o ≡ Some w → t w ≡ true)
     → Some (lesser u o) ≡ Some v → t v ≡ true
 lesser_passes t u v None here rest e = cc
-lesser_passes t u v (Some w) here rest e = elim (cases_Bool (leb u w)) [
-  | inl le ↦ (let z : Some u ≡ Some v = rw le at e in cc)
-  | inr gt ↦ (let z : Some w ≡ Some v = rw gt at e in let passed = rest w refl in cc)
-]
+lesser_passes t u v (Some w) here rest e = grind (arith, nat_tests, common_steps)
 
 least_passes : (t : ℕ → Bool) (us : List ℕ) (v : ℕ) → least_where t us ≡ Some v → t v ≡ true
 least_passes t [] v e = cc
@@ -214,13 +211,7 @@ uids_there r (n ∷ ns) u e = elim (cases_Bool (eqb n.uid u)) [
 
 moved_node : (r q : ℕ → ℕ) (g v n : ℕ) → g ≢ v → r g ≡ q g + n → r v ≡ q v - n → ((b : ℕ) → b ≢ g → b ≢ v → r b ≡ q b)
     → (m : Node) → as_term r m ≡ with_quota_of v (λ x. x - n) (with_quota_of g (λ x. x + n) (as_term q m))
-moved_node r q g v n other to from rest m = elim (cases_eq m.uid g) [
-  | inl is_g ↦ rw (eq-eqb m.uid g is_g, ne_eqb m.uid v (λ e. other (cc)), is_g, to) refl
-  | inr far ↦ elim (cases_eq m.uid v) [
-    | inl is_v ↦ rw (ne_eqb m.uid g far, eq-eqb m.uid v is_v, is_v, from) refl
-    | inr away ↦ rw (ne_eqb m.uid g far, ne_eqb m.uid v away, rest m.uid far away) refl
-  ]
-]
+moved_node r q g v n other to from rest m = grind (arith, nat_tests, common_steps)
 
 moved_nodes : (r q : ℕ → ℕ) (g v n : ℕ) → g ≢ v → r g ≡ q g + n → r v ≡ q v - n → ((b : ℕ) → b ≢ g → b ≢ v → r b ≡ q b)
     → (ns : List Node) → with_quotas r ns ≡ with_moved (with_quotas q ns) v g n

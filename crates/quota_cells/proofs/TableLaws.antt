@@ -1,5 +1,5 @@
 -- Tables by uid: the uids that are there, and what stands beside them.
-use Rattle.quota_cells.proofs.Prelude.{◌≡◌, ℕ, suc, zero, ◌+◌, ◌-◌, ◌<◌, ◌≤◌, Bool, true, false, eqb, List, [], ◌∷◌, ◌++◌, length, length-append, length-replicate, replicate, refl, sym, ap, ◌∙◌, arith, get_or, set, inl, inr, cases_Bool, cases_eq, cases_lt, eq-eqb, ne_eqb, lt-ltb, le-ltb, false_from_ne_true, get_or-set_same, get_or-set_other, look, has, with_value, with_beside, without_beside, IsRising, NumberMap, beside, no_numbers, numbers_of, uids_from, with_uid, without_uid}
+use Rattle.quota_cells.proofs.Prelude.{common_steps, ◌≡◌, ℕ, suc, zero, ◌+◌, ◌-◌, ◌<◌, ◌≤◌, Bool, true, false, eqb, List, [], ◌∷◌, ◌++◌, length, length-append, length-replicate, replicate, refl, sym, ◌∙◌, arith, get_or, set, inl, inr, cases_Bool, cases_eq, cases_lt, eq-eqb, ne_eqb, lt-ltb, le-ltb, false_from_ne_true, get_or-set_same, get_or-set_other, look, has, with_value, with_beside, without_beside, IsRising, NumberMap, beside, no_numbers, numbers_of, uids_from, with_uid, without_uid, nat_tests}
 use Rattle.quota_cells.proofs.PadLaws.{blanks_next, set_end}
 
 -- ---- uids in order, none below this one
@@ -53,12 +53,7 @@ is_there bs u = there_from 0 u u bs (omega arith)
 
 -- what is there stands in the table
 pub there_within : (bs : List Bool) (u : ℕ) → has (uids_from 0 bs) u ≡ true → u < length bs
-there_within bs u is = within bs u (sym (is_there bs u) ∙ is)
-  where
-    within : (bs : List Bool) (u : ℕ) → get_or bs u false ≡ true → u < length bs
-    within [] u e = cc
-    within (b ∷ bs) zero e = omega arith
-    within (b ∷ bs) (suc u) e = (omega (arith, within bs u e))
+there_within bs u is = grind (arith, nat_tests, common_steps, is_there)
 
 pub past_absent : (bs : List Bool) (u : ℕ) → length bs ≤ u → has (uids_from 0 bs) u ≡ false
 past_absent bs u le = false_from_ne_true (has (uids_from 0 bs) u) (λ is. (omega (arith, there_within bs u is)))
@@ -83,9 +78,7 @@ entered_from f u x [] e lt off = absurd (omega arith)
 entered_from f zero x (true ∷ bs) e lt off = cc
 entered_from f (suc u) x (true ∷ bs) e lt off =
     rw (le-ltb x f (omega arith), entered_from (f + 1) u x bs (omega arith) (omega arith) off) refl
-entered_from f zero x (false ∷ bs) e lt off =
-    let same : f ≡ x = omega arith in
-    rw (← first_beside (f + 1) x (uids_from (f + 1) bs) (rises (f + 1) bs) (omega arith), same) refl
+entered_from f zero x (false ∷ bs) e lt off = grind (arith, nat_tests, common_steps, first_beside, rises)
 entered_from f (suc u) x (false ∷ bs) e lt off = entered_from (f + 1) u x bs (omega arith) (omega arith) off
 
 left_from : (f u x : ℕ) (bs : List Bool) → x ≡ f + u → get_or bs u false ≡ true
@@ -229,11 +222,7 @@ module _ (bs : List Bool) (values : List ℕ) (now : NumberMap) (view : numbers_
       wide = front ++ false ∷ []
 
       long : length front ≡ u
-      long = omega (
-        arith,
-        ap length is ∙ length-append bs (replicate (u - length bs) false),
-        length-replicate (u - length bs) false,
-      )
+      long = grind (arith, nat_tests, common_steps, length-append, length-replicate)
 
       in_wide : u < length wide
       in_wide = omega (arith, length-append front (false ∷ []), long)

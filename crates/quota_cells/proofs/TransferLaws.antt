@@ -1,6 +1,5 @@
 -- The first account above its quota once quota has moved down to a directory, or up from it.
-use Rattle.quota_cells.proofs.Prelude.{◌≡◌, ◌≢◌, ℕ, ◌+◌, ◌-◌, ◌<◌, ◌≤◌, Bool, true, false, eqb, ltb, not, ◌&&◌, ◌||◌, if◌then◌else◌, List, [], ◌∷◌, length, Option, Some, None, Result, Ok, Err, refl, sym, ap, ◌∙◌, arith, get_or, inl, inr, cases_Bool, cases_eq, cases_lt, both_ways, eqb-true, eq-eqb, ne_eqb, and_parts, or_left, false_from_ne_true, le-ltb, lt-ltb, above, account, Node, is_directory, shapes, HasChains, AreUnder, IsChain, EndsAtRoot, AreDirectories, has, covers, CellMaps, quota_in, load_in, is_over, first_over, move_answer, over_answer, moved, superior_of, giver_of, MoveFault, uid_shape, directory_in, directory_shape, under_more, Fits, IsTable, on_directories, LiesIn}
-use Rattle.quota_cells.specs.declared.MoveFault.TheVariants as fault
+use Rattle.quota_cells.proofs.Prelude.{common_steps, ◌≡◌, ◌≢◌, ℕ, ◌+◌, ◌-◌, ◌<◌, ◌≤◌, Bool, true, false, eqb, ltb, not, ◌&&◌, ◌||◌, if◌then◌else◌, List, [], ◌∷◌, length, Option, Some, None, Result, Ok, refl, sym, ap, ◌∙◌, arith, get_or, inl, inr, cases_Bool, cases_eq, both_ways, eqb-true, eq-eqb, ne_eqb, and_parts, or_left, false_from_ne_true, le-ltb, above, account, Node, is_directory, shapes, HasChains, AreUnder, IsChain, EndsAtRoot, AreDirectories, has, covers, CellMaps, quota_in, load_in, is_over, first_over, move_answer, over_answer, moved, superior_of, giver_of, MoveFault, uid_shape, directory_in, directory_shape, under_more, Fits, IsTable, on_directories, LiesIn, nat_tests}
 use Rattle.quota_cells.proofs.PlaceLaws.{covers_under, covers_not}
 use Rattle.quota_cells.proofs.AccountLaws.{account_is, account_covers, account_of_chain}
 use Rattle.quota_cells.proofs.FitLaws.{Settled, account_here, ends_at}
@@ -105,31 +104,19 @@ module _ {nodes : List Node} {c : CellMaps} {d s n : ℕ} (between : Between nod
   down_is is = rw is (rw (le-ltb (q s) n enough) refl)
 
   load1_s : load_in m1 s ≡ left
-  load1_s = elim (cases_eq (q d) 0) [
-    | inl none ↦ rw (load1_falls moving none s here_s, top_covers nodes q d s up, eq-eqb (q d) 0 none) refl
-    | inr is ↦ rw (load1_stays moving is s here_s, ne_eqb (q d) 0 is) refl
-  ]
+  load1_s = grind (arith, nat_tests, common_steps, load1_falls, moving, here_s, top_covers, up, load1_stays)
 
   load1_d : load_in m1 d ≡ load_in c d
-  load1_d = elim (cases_eq (q d) 0) [
-    | inl none ↦ rw (load1_falls moving none d here_d, covers_not q d (f d) (chains.under d)) refl
-    | inr is ↦ load1_stays moving is d here_d
-  ]
+  load1_d = grind (arith, nat_tests, common_steps, load1_falls, moving, here_d, covers_not, load1_stays)
 
   load_s : load_in m2 s ≡ left
-  load_s = elim (cases_eq (q s) n) [
-    | inl all ↦ rw (load2_rises moving all s here_s, covers_not (quota_in m1) s (f s) (chains.under s)) load1_s
-    | inr part ↦ load2_stays moving part s here_s ∙ load1_s
-  ]
+  load_s = grind (arith, nat_tests, common_steps, load2_rises, moving, here_s, covers_not, load1_s, load2_stays)
 
   not_above : covers (quota_in m1) (f s) d ≡ false
   not_above = false_from_ne_true _ (λ is. (omega (arith, covers_under (quota_in m1) s (f s) d (chains.under s) is)))
 
   load_d : load_in m2 d ≡ load_in c d
-  load_d = elim (cases_eq (q s) n) [
-    | inl all ↦ rw (load2_rises moving all d here_d, not_above) load1_d
-    | inr part ↦ load2_stays moving part d here_d ∙ load1_d
-  ]
+  load_d = grind (arith, nat_tests, common_steps, load2_rises, moving, here_d, not_above, load1_d, load2_stays)
 
   -- the account above
   abbrev x : ℕ
@@ -139,13 +126,7 @@ module _ {nodes : List Node} {c : CellMaps} {d s n : ℕ} (between : Between nod
   x_is = account_above q (quota_in m1) d (f s) (q1_other moving) (under_more d s (f s) below (chains.under s))
 
   load1_above : (b : ℕ) → has c.directories b ≡ true → b < s → load_in m1 b ≡ load_in c b
-  load1_above b h lt = elim (cases_eq (q d) 0) [
-    | inr is ↦ load1_stays moving is b h
-    | inl none ↦
-        (let off : covers q (f d) b ≡ false =
-        rw (up, ne_eqb s b (λ e. omega arith), ne_eqb (q s) 0 (λ e. omega arith)) refl in
-        rw (load1_falls moving none b h, off) refl)
-  ]
+  load1_above b h lt = grind (arith, nat_tests, common_steps, load1_stays, moving, up, load1_falls)
 
   x_covers : s ≢ 1 → covers (quota_in m1) (f s) x ≡ true
   x_covers ne = rw x_is at (account_covers (quota_in m1) (f s) (ends_at between.settled s here_s ne))
@@ -157,12 +138,7 @@ module _ {nodes : List Node} {c : CellMaps} {d s n : ℕ} (between : Between nod
   x_there ne = account_here between.settled s (ends_at between.settled s here_s ne)
 
   load_x : q s ≡ n → s ≢ 1 → load_in m2 x ≡ load_in c x + left
-  load_x all ne = rw (
-    load2_rises moving all x (x_there ne),
-    x_covers ne,
-    load1_above x (x_there ne) (x_below ne),
-    load1_s,
-  ) refl
+  load_x all ne = grind (arith, nat_tests, common_steps, load2_rises, moving, x_there, x_covers, load1_above, x_below, load1_s)
 
   over_x : q s ≡ n → s ≢ 1 → is_over m2 x ≡ ltb (q x) (load_in c x + left)
   over_x all ne =
@@ -193,10 +169,7 @@ module _ {nodes : List Node} {c : CellMaps} {d s n : ℕ} (between : Between nod
   ])
 
   first_is_x : q s ≡ n → s ≢ 1 → is_over m2 x ≡ true → first_over m2 ≡ Some x
-  first_is_x all ne over =
-      let l : x < s = x_below ne in
-      first_passes (is_over m2) c.directories x table.rising (x_there ne) over (λ b h lt. who b h
-      (λ e. absurd (omega arith)) (λ e. absurd (omega arith)) (λ _ _ e. absurd (omega arith)))
+  first_is_x all ne over = grind (arith, nat_tests, common_steps, x_below, first_passes, x_there, who)
 
   pub first_is_s : (q s ≡ n → s ≢ 1 → is_over m2 x ≡ false) → is_over m2 s ≡ true → first_over m2 ≡ Some s
   first_is_s not_x over = first_passes (is_over m2) c.directories s table.rising here_s over (λ b h lt. who b h
@@ -217,12 +190,7 @@ module _ {nodes : List Node} {c : CellMaps} {d s n : ℕ} (between : Between nod
   above_test = eqb (q s - n) 0 && (not (eqb s 1) && ltb (q x) (load_in c x + left))
 
   pub above_yes : above_test ≡ true → first_over m2 ≡ Some x
-  above_yes e =
-      let a = and_parts (eqb (q s - n) 0) (not (eqb s 1) && ltb (q x) (load_in c x + left)) e in
-      let b = and_parts (not (eqb s 1)) (ltb (q x) (load_in c x + left)) a.1 in
-      let all : q s ≡ n = omega (arith, eqb-true (q s - n) 0 a.0) in
-      let ne : s ≢ 1 = λ z. both_ways (not (eqb s 1)) (rw (eq-eqb s 1 z) refl) b.0 in
-      first_is_x all ne (over_x all ne ∙ b.1)
+  above_yes e = grind (arith, nat_tests, common_steps, and_parts, both_ways, first_is_x, over_x)
 
   pub above_no : above_test ≡ false → q s ≡ n → s ≢ 1 → is_over m2 x ≡ false
   above_no e all ne = over_x all ne ∙ (rw (eq-eqb (q s - n) 0 (omega arith), ne_eqb s 1 ne) at e)
@@ -259,10 +227,7 @@ module _ {nodes : List Node} {c : CellMaps} {d s n : ℕ} (between : Between nod
   up_is is = rw is (rw (le-ltb (r d) n enough) refl)
 
   up1_s : load_in u1 s ≡ load_in c s
-  up1_s = elim (cases_eq (r s) 0) [
-    | inl none ↦ rw (load1_falls rising none s here_s, covers_not r s (g s) (chains.under s)) refl
-    | inr is ↦ load1_stays rising is s here_s
-  ]
+  up1_s = grind (arith, nat_tests, common_steps, load1_falls, rising, here_s, covers_not, load1_stays)
 
   up1_d : load_in u1 d ≡ load_in c d
   up1_d = elim (cases_eq (r s) 0) [
@@ -276,22 +241,10 @@ module _ {nodes : List Node} {c : CellMaps} {d s n : ℕ} (between : Between nod
   more = if eqb (r d - n) 0 then load_in c s + load_in c d else load_in c s
 
   up_load_s : load_in u2 s ≡ more
-  up_load_s = elim (cases_eq (r d) n) [
-    | inl all ↦ rw (
-      load2_rises rising all s here_s,
-      top_covers nodes (quota_in u1) d s up,
-      up1_s,
-      up1_d,
-      eq-eqb (r d - n) 0 (omega arith),
-    ) refl
-    | inr part ↦ rw (load2_stays rising part s here_s, up1_s, ne_eqb (r d - n) 0 (λ e. part (omega arith))) refl
-  ]
+  up_load_s = grind (arith, nat_tests, common_steps, load2_rises, rising, here_s, top_covers, up, up1_s, up1_d, load2_stays)
 
   up_load_d : load_in u2 d ≡ load_in c d
-  up_load_d = elim (cases_eq (r d) n) [
-    | inl all ↦ rw (load2_rises rising all d here_d, covers_not (quota_in u1) d (g d) (chains.under d)) up1_d
-    | inr part ↦ load2_stays rising part d here_d ∙ up1_d
-  ]
+  up_load_d = grind (arith, nat_tests, common_steps, load2_rises, rising, here_d, covers_not, up1_d, load2_stays)
 
   pub up_over_s : is_over u2 s ≡ ltb (r s + n) more
   up_over_s = rw (q2_g rising, up_load_s, ne_eqb (r s + n) 0 (λ e. omega arith))
@@ -334,10 +287,7 @@ none_over (Some a) e = cc
 
 pub answer_ok : (c : CellMaps) (up : ℕ → List ℕ) (d : ℕ) (b : Bool) (n : ℕ) → move_answer c up d b n ≡ Ok tt
     → (n ≤ quota_in c (giver_of up d b)) × (first_over (moved c up d b n) ≡ None)
-answer_ok c up d b n e = elim (cases_lt (quota_in c (giver_of up d b)) n) [
-  | inl lt ↦ (let z : Err fault.TooLittle ≡ Ok tt = rw (lt-ltb (quota_in c (giver_of up d b)) n lt) at e in cc)
-  | inr le ↦ (le, none_over (first_over (moved c up d b n)) (rw (le-ltb (quota_in c (giver_of up d b)) n le) at e))
-]
+answer_ok c up d b n e = grind (arith, nat_tests, common_steps, none_over, le-ltb)
 
 -- the same of what a call answered, and of the numbers that it was asked with
 pub may_go : (c : CellMaps) (up : ℕ → List ℕ) (d n : ℕ) (down : Bool) {r : Result (Unit {0}) MoveFault} → r

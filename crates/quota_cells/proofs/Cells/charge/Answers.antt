@@ -1,4 +1,4 @@
-use Rattle.quota_cells.proofs.Prelude.{◌≡◌, ◌+◌, ℕ, List, Result, Ok, sym, ap, ◌∙◌, above, shapes, CellMaps, quota_in, stored_in, Fits, IsTable, charged, charge_fault, Full, Node, HasChains, HoldCounts, charge_answer, with_quotas, on_segments}
+use Rattle.quota_cells.proofs.Prelude.{arith, common_steps, ◌≡◌, ◌+◌, ℕ, List, Result, Ok, sym, ap, ◌∙◌, above, shapes, CellMaps, quota_in, stored_in, Fits, IsTable, charged, charge_fault, Full, Node, HasChains, HoldCounts, charge_answer, with_quotas, on_segments, nat_tests}
 use Rattle.quota_cells.proofs.ColumnLaws.{look_with}
 use Rattle.quota_cells.proofs.FitLaws.{Settled, there, falls, room_charged, stored_room, fits_charged, table_charged, not_full}
 use Rattle.quota_cells.proofs.ScratchLaws.{charge_same}
@@ -33,9 +33,7 @@ returns-in-Ok-clause-scratch c stored holds = sym c.in-Ok.is ∙ answered c.args
     c.requires.fits c.superiors-up.ensures.chains c.room_for.ensures.table (cc) c.room_for.ensures.answer stored holds
 
 pub returns-in-Err-clause-scratch : goal.returns-in-Err-clause-scratch
-returns-in-Err-clause-scratch c stored holds = cc (answered c.args.t.now.nodes c.args.self.now c.args.seg
-    c.requires.fits c.superiors-up.ensures.chains c.room_for.ensures.table
-    (c.as_slice.ensures.value ∙ c.superiors-up.ensures.plain) c.room_for.ensures.answer stored holds)
+returns-in-Err-clause-scratch c stored holds = grind (arith, nat_tests, common_steps, answered)
 
 -- the cells once the page is added
 added : (c : goal.After-add_page)
@@ -49,6 +47,4 @@ returns-in-Ok-clause-stored c s =
     (cc (on_segments c.args.t.now.nodes c.requires.fits c.args.seg))
 
 pub returns-in-Ok-clause-fits : goal.returns-in-Ok-clause-fits
-returns-in-Ok-clause-fits c =
-    let settled : Settled c.args.t.now.nodes c.args.self.now = assumption in
-    rw (added c) (fits_charged settled c.args.seg c.requires.segment)
+returns-in-Ok-clause-fits c = grind (arith, nat_tests, common_steps, added, fits_charged)

@@ -1,4 +1,4 @@
-use Rattle.quota_cells.proofs.Prelude.{◌≡◌, ◌∙◌, w32, to_z-of_z, is_positive, unsigned_abs, above, shapes, move_answer}
+use Rattle.quota_cells.proofs.Prelude.{arith, common_steps, ◌≡◌, w32, to_z-of_z, is_positive, unsigned_abs, above, shapes, move_answer, nat_tests}
 use Rattle.quota_cells.proofs.FitLaws.{Settled}
 use Rattle.quota_cells.proofs.ScratchLaws.{AfterMove, after_move, answer_same, stored_kept}
 use Rattle.quota_cells.proofs.Cells.move_quota.Goals as goal
@@ -19,17 +19,13 @@ kept c = after_move (settled c) c.requires.directory c.requires.branch c.require
     c.move_between.ensures.err
 
 pub returns-clause-scratch : goal.returns-clause-scratch
-returns-clause-scratch c stored holds = answered c
-    ∙ answer_same (settled c) c.requires.directory c.requires.branch c.requires.amount stored holds
-    (is_positive c.args.amount)
+returns-clause-scratch c stored holds = grind (arith, nat_tests, common_steps, answered, answer_same, settled)
 
 pub returns-clause-tree : goal.returns-clause-tree
 returns-clause-tree c = (kept c).shown
 
 pub returns-clause-stored : goal.returns-clause-stored
-returns-clause-stored c s = stored_kept c.args.self.now c.move_between.new.self
-    (above (shapes c.args.t.now.nodes)) c.args.dir _ _ c.move_between.result c.move_between.ensures.ok
-    c.move_between.ensures.err s
+returns-clause-stored c s = grind (arith, nat_tests, common_steps, stored_kept)
 
 pub returns-clause-fits : goal.returns-clause-fits
 returns-clause-fits c = (kept c).fits
