@@ -1,5 +1,5 @@
 -- What a new branch leaves of the tables behind a tree.
-use Rattle.dir_tree.proofs.Prelude.{◌≡◌, ◌≢◌, ℕ, ◌+◌, ◌-◌, ◌<◌, ◌≤◌, true, eqb, if◌then◌else◌, List, [], ◌∷◌, ◌++◌, length, take, Option, Some, None, refl, sym, ap, ◌∙◌, arith, get_or, inl, inr, ◌⊎◌, ◌↔◌, cases_eq, cases_lt, eq-eqb, ne_eqb, length-map, length_push, get_or_append_left, get_or_push, get_or-take, length-take-le, Node, Entry, Places, HasPlace, IsOrdered, AreWithin, key_of, key_at, node_at, is_directory, add_fault_of, shape, shapes, IsBranch, no_entry, entry_at, newest, place_for, IsNamed, IsPlace, IsKept, directory_shape, branch_in, subst, Joins}
+use Rattle.dir_tree.proofs.Prelude.{common_steps, ◌≡◌, ◌≢◌, ℕ, ◌+◌, ◌-◌, ◌<◌, ◌≤◌, true, eqb, if◌then◌else◌, List, [], ◌∷◌, ◌++◌, length, take, Option, Some, None, refl, sym, ap, ◌∙◌, arith, get_or, inl, inr, ◌⊎◌, ◌↔◌, length-map, length_push, get_or_append_left, get_or_push, get_or-take, length-take-le, Node, Entry, Places, HasPlace, IsOrdered, AreWithin, key_of, key_at, node_at, is_directory, add_fault_of, shape, shapes, IsBranch, no_entry, entry_at, newest, place_for, IsNamed, IsPlace, IsKept, directory_shape, branch_in, subst, Joins, nat_tests}
 use Rattle.dir_tree.proofs.EditLemmas.{each_pushed}
 use Rattle.dir_tree.proofs.NewestLemmas.{node_of_entry, newest_same, newest_push, length_newest}
 use Rattle.dir_tree.proofs.KeptLemmas.{MayAdd, no_fault, below_newest, no_place, places_within}
@@ -11,25 +11,16 @@ data Placed (nodes : List Node) (free : List ℕ) (place : ℕ) : Type 0 where
   Reused : 0 < length free → place ≡ get_or free (length free - 1) 0 → Placed nodes free place
 
 placed : (nodes : List Node) (free : List ℕ) (place : ℕ) → place ≡ place_for nodes free → Placed nodes free place
-placed nodes free place is = elim (cases_eq (length free) 0) [
-  | inl none ↦ Behind none (rw (eq-eqb (length free) 0 none) at is)
-  | inr some ↦ Reused (omega arith) (rw (ne_eqb (length free) 0 some) at is)
-]
+placed nodes free place is = grind (arith, nat_tests, common_steps)
 
 module _ {nodes : List Node} {es : List Entry} {free : List ℕ} {index : Places} {next : ℕ}
     (k : IsKept nodes es free index next) (place : ℕ) (is_place : place ≡ place_for nodes free) where
   -- the place of a new node is no entry's
   pub place_unused : (j : ℕ) → j < length es → (entry_at es j).place ≢ place
-  place_unused j lt e = elim (placed nodes free place is_place) [
-    | Behind none at_end ↦ (let within = k.within j lt in omega arith)
-    | Reused some last ↦ k.unused (length free - 1) j (omega arith) lt (sym (e ∙ last))
-  ]
+  place_unused j lt e = grind (arith, nat_tests, common_steps, placed)
 
   pub place_room : length es < 4097 → place < 4097
-  place_room room = elim (placed nodes free place is_place) [
-    | Behind none at_end ↦ omega (arith, k.count)
-    | Reused some last ↦ omega (arith, k.free_within (length free - 1) (omega arith), k.few)
-  ]
+  place_room room = grind (arith, nat_tests, common_steps, placed)
 
   pub no_place_yet : HasPlace index.places place → ⊥
   no_place_yet there = (let p = k.places place there in place_unused p.i p.within p.place_is)
@@ -42,16 +33,10 @@ module _ {nodes : List Node} {es : List Entry} {free : List ℕ} {index : Places
         (λ e. no_place_yet (record { at = i; within = lt; is = e })))
 
     longer : length nodes ≤ length nodes'
-    longer = elim (cases_eq (length free) 0) [
-      | inl none ↦ (let g = rw (eq-eqb (length free) 0 none) at grown in omega arith)
-      | inr some ↦ (let g = rw (ne_eqb (length free) 0 some) at grown in omega arith)
-    ]
+    longer = grind (arith, nat_tests, common_steps)
 
     new_within : place < length nodes'
-    new_within = elim (placed nodes free place is_place) [
-      | Behind none at_end ↦ (let g = rw (eq-eqb (length free) 0 none) at grown in omega arith)
-      | Reused some last ↦ (let l = longer in let within = k.free_within (length free - 1) (omega arith) in omega arith)
-    ]
+    new_within = grind (arith, nat_tests, common_steps, placed, longer)
 
     pub asked : IsOrdered nodes' index.places index.hashes × AreWithin nodes' index.places × (place < length nodes')
     asked = (
@@ -133,38 +118,20 @@ module _ {nodes : List Node} {es : List Entry} {free : List ℕ} {index : Places
   new_entry i le lt = (let m = size in get_or_push es entry no_entry i (omega arith))
 
   rising' : (i j : ℕ) → i < j → j < length es' → (entry_at es' i).uid < (entry_at es' j).uid
-  rising' i j lt within = (let m = size in elim (cases_lt j (length es)) [
-    | inl old ↦ rw (old_entry i (omega arith), old_entry j old) (k.rising i j lt old)
-    | inr new ↦ rw (old_entry i (omega arith), new_entry j new within) (k.below i (omega arith))
-  ])
+  rising' i j lt within = grind (arith, nat_tests, common_steps, size, old_entry, new_entry)
 
   free_apart' : (i j : ℕ) → i < j → j < length free' → get_or free' i 0 ≢ get_or free' j 0
   free_apart' i j lt within e = (let m = size_free in k.free_apart i j lt (omega arith)
       (sym (old_free i (omega arith)) ∙ e ∙ old_free j within))
 
   place_not_free : (i : ℕ) → i < length free' → get_or free' i 0 ≢ place
-  place_not_free i lt e = (let m = size_free in elim (placed nodes free place is_place) [
-    | Behind none at_end ↦ omega arith
-    | Reused some last ↦ k.free_apart i (length free - 1) (omega arith) (omega arith) (sym (old_free i lt) ∙ e ∙ last)
-  ])
+  place_not_free i lt e = grind (arith, nat_tests, common_steps, size_free, placed, old_free)
 
   unused' : (i j : ℕ) → i < length free' → j < length es' → get_or free' i 0 ≢ (entry_at es' j).place
-  unused' i j lt within e = elim (cases_lt j (length es)) [
-    | inl old ↦ (let m = size_free in k.unused i j (omega arith) old
-        (sym (old_free i lt) ∙ e ∙ ap (λ (d : Entry). d.place) (old_entry j old)))
-    | inr new ↦ place_not_free i lt (e ∙ ap (λ (d : Entry). d.place) (new_entry j new within))
-  ]
+  unused' i j lt within e = grind (arith, nat_tests, common_steps, size_free, unused, old_free, old_entry, place_not_free, new_entry)
 
   counts : (length nodes' ≡ length es' + length free') × (length nodes' ≤ 4097)
-  counts =
-      let m = size in
-      let f = size_free in
-      let few = few_es in
-      let n : length nodes ≤ 4097 = k.few in
-      let c : length nodes ≡ length es + length free = k.count in elim (cases_eq (length free) 0) [
-        | inl none ↦ (let g = rw (eq-eqb (length free) 0 none) at grown in (omega arith, omega arith))
-        | inr some ↦ (let g = rw (ne_eqb (length free) 0 some) at grown in (omega arith, omega arith))
-      ]
+  counts = grind (arith, nat_tests, common_steps, size, size_free, few_es)
 
   still_named : (o : Option ℕ) (p : ℕ) → p ≢ place → IsNamed index.places o p → IsNamed index'.places o p
   still_named None p ne none = λ there. elim ((places p).0 there) [ inl old ↦ none old | inr new ↦ ne new ]

@@ -1,5 +1,5 @@
 -- What a change of a node, which keeps its shape, leaves of the tables behind a tree.
-use Rattle.dir_tree.proofs.Prelude.{◌≡◌, ◌≢◌, ℕ, suc, ◌<◌, true, false, [], ◌∷◌, arith, eqb, if◌then◌else◌, List, length, refl, sym, ap, ◌∙◌, get_or, set, inl, inr, cases_Bool, cases_eq, eq-eqb, ne_eqb, get_or-set_same, get_or-set_other, length-set, map-append, get_or_read, Term, Node, Entry, Places, Key, HasPlace, key_at, key_of, key_hash, node_at, no_node, Branches, added, is_in, with_acl, with_changed, node_of, acl_of, NewNode, Row, shape, entry_at, newest, IsKept, HasEntry, shapes}
+use Rattle.dir_tree.proofs.Prelude.{common_steps, ◌≡◌, ◌≢◌, ℕ, suc, ◌<◌, true, false, [], ◌∷◌, arith, eqb, if◌then◌else◌, List, length, refl, sym, ap, ◌∙◌, get_or, set, inl, inr, cases_Bool, cases_eq, eq-eqb, ne_eqb, get_or-set_same, get_or-set_other, length-set, map-append, get_or_read, Term, Node, Entry, Places, Key, HasPlace, key_at, key_of, key_hash, node_at, no_node, Branches, added, is_in, with_acl, with_changed, node_of, acl_of, NewNode, Row, shape, entry_at, newest, IsKept, HasEntry, shapes, nat_tests}
 use Rattle.dir_tree.proofs.NewestLemmas.{node_of_entry, newest_changed}
 use Rattle.dir_tree.proofs.KeptLemmas.{apart_places, not_of, node_read}
 
@@ -30,10 +30,7 @@ module _ {nodes : List Node} {es : List Entry} {free : List ℕ} {index : Places
       (apart_places k i j within lt ne)
 
   same_shape : (j : ℕ) → j < length es → shape (node_of_entry nodes' es j) ≡ shape (node_of_entry nodes es j)
-  same_shape j lt = elim (cases_eq j i) [
-    | inl same ↦ rw same (ap shape here ∙ keeps)
-    | inr other ↦ ap shape (there j lt other)
-  ]
+  same_shape j lt = grind (arith, nat_tests, common_steps, here, there)
 
   same_key_of : (place : ℕ) → HasPlace index.places place → key_of (node_at nodes' place) ≡ key_of (node_at nodes place)
   same_key_of place at = (let p = k.places place at in rw p.place_is at (ap shape_key (same_shape p.i p.within)))

@@ -1,5 +1,5 @@
 -- How many nodes lie in each directory.
-use Rattle.dir_tree.proofs.Prelude.{◌≡◌, ◌≢◌, ℕ, suc, ◌+◌, ◌-◌, ◌<◌, ◌≤◌, Bool, true, false, eqb, if◌then◌else◌, List, [], ◌∷◌, ◌++◌, length, Option, Some, None, refl, sym, ap, ◌∙◌, arith, get_or, set, inl, inr, count_by, ◌^◌, ◌↔◌, remove, cases_Bool, cases_eq, eq-eqb, ne_eqb, false_from_ne_true, ext_get_or, get_or-map, get_or-set_same, get_or-set_other, get_or_append_left, length-map, length-set, length_push, sum_by-cons, sum_by_push, sum_by-remove, count_by-le-length, same_Some, Node, Entry, Places, node_at, is_directory, shapes, no_entry, entry_at, newest, lies_in, recount, recounted, HasEntry, IsAscending, IsCounted, IsKept, IsNamed, directory_in, directory_shape, superior_up, superior_is, is_superior_of}
+use Rattle.dir_tree.proofs.Prelude.{common_steps, ◌≡◌, ◌≢◌, ℕ, suc, ◌+◌, ◌-◌, ◌<◌, ◌≤◌, Bool, true, false, eqb, if◌then◌else◌, List, [], ◌∷◌, ◌++◌, length, Some, refl, sym, ap, ◌∙◌, arith, get_or, set, inl, inr, count_by, ◌^◌, ◌↔◌, remove, cases_Bool, cases_eq, eq-eqb, ne_eqb, false_from_ne_true, ext_get_or, get_or-map, get_or-set_same, get_or-set_other, get_or_append_left, length-map, length-set, length_push, sum_by-cons, sum_by_push, sum_by-remove, count_by-le-length, same_Some, Node, Entry, Places, node_at, is_directory, shapes, no_entry, entry_at, newest, lies_in, recount, recounted, HasEntry, IsAscending, IsCounted, IsKept, IsNamed, directory_in, directory_shape, superior_up, superior_is, is_superior_of, nat_tests}
 use Rattle.dir_tree.proofs.EditLemmas.{each_pushed, each_left, was, was_up, was_within, now, was_now, now_within, at_was}
 use Rattle.dir_tree.proofs.KeptLemmas.{entry_present, superior_read}
 
@@ -12,11 +12,7 @@ lies_of : (u : ℕ) (e : Entry) → lies_in u e ≡ true → e.superior ≡ Some
 lies_of u e is = is_superior_of u e.superior is
 
 lies_eq : (u s : ℕ) (e : Entry) → e.superior ≡ Some s → lies_in u e ≡ eqb s u
-lies_eq u s e is = up e.superior is
-  where
-    up : (o : Option ℕ) → o ≡ Some s → lies_in u (record e { superior = o }) ≡ eqb s u
-    up None is = cc
-    up (Some v) is = cc (same_Some v s is)
+lies_eq u s e is = grind (arith, nat_tests, common_steps, same_Some)
 
 abbrev one_if : Bool → ℕ
 one_if b = if b then 1 else 0
@@ -118,12 +114,7 @@ module _ (v : ℕ) (g : ℕ → ℕ) where
       other j lt ne same = grind (arith, rising i j, rising j i)
 
       at : (j : ℕ) → j < length es → entry_at (set es i e) j ≡ entry_at (recounted v g es) j
-      at j lt = elim (cases_eq j i) [
-        | inl here ↦ rw here (get_or-set_same es i e no_entry within ∙ e_is ∙ sym (entry_recounted es i within))
-        | inr there ↦
-            (let kept : recount v g (entry_at es j) ≡ entry_at es j = rw (ne_eqb _ _ (other j lt there)) refl in
-            cc (get_or-set_other es i j e no_entry there, entry_recounted es j lt))
-      ]
+      at j lt = grind (arith, nat_tests, common_steps, get_or-set_same, entry_recounted, other, get_or-set_other)
 
 -- where its count of inferiors alone is another
 pub count_set : (uid : ℕ) (g : ℕ → ℕ) (es : List Entry) → IsAscending es → (i : ℕ) → i < length es
@@ -157,13 +148,7 @@ module _ (es : List Entry) (counted : IsCounted es) (e : Entry) (s : ℕ) (up : 
 
       at : (d : Entry) → d.inferiors ≡ count_by (lies_in d.uid) es
           → (recount s (λ n. n + 1) d).inferiors ≡ count_by (lies_in d.uid) (recounted s (λ n. n + 1) (es ++ e ∷ []))
-      at d is = (let same = count_recounted s (λ n. n + 1) d.uid (es ++ e ∷ []) in
-          let more = count_pushed d.uid in
-          elim (cases_eq d.uid s) [
-            | inl here ↦ rw (eq-eqb d.uid s here) (let m = rw (eq-eqb s d.uid (sym here)) at more in omega arith)
-            | inr there ↦ rw (ne_eqb d.uid s there)
-                (let m = rw (ne_eqb s d.uid (λ q. there (sym q))) at more in omega arith)
-          ])
+      at d is = grind (arith, nat_tests, common_steps, count_recounted, count_pushed)
 
 module _ (es : List Entry) (counted : IsCounted es) (i : ℕ) (within : i < length es) (s : ℕ)
     (up : (entry_at es i).superior ≡ Some s) where

@@ -1,49 +1,30 @@
 -- What holds of each element of a list after one more at its end, or one less.
-use Rattle.dir_tree.proofs.Prelude.{◌≡◌, ◌≢◌, ℕ, ◌+◌, ◌-◌, ◌<◌, List, [], ◌∷◌, ◌++◌, length, refl, sym, subst, arith, get_or, inl, inr, leb, if◌then◌else◌, remove, cases_lt, le-leb, lt-leb, get_or_append_left, get_or_push, length_push, length-remove, get_or-remove_below, get_or-remove_above, before}
+use Rattle.dir_tree.proofs.Prelude.{common_steps, ◌≡◌, ◌≢◌, ℕ, ◌+◌, ◌-◌, ◌<◌, List, [], ◌∷◌, ◌++◌, length, sym, subst, arith, get_or, inl, inr, leb, if◌then◌else◌, remove, cases_lt, le-leb, lt-leb, get_or_append_left, get_or_push, length_push, length-remove, get_or-remove_below, get_or-remove_above, nat_tests}
 
 pub each_pushed : {X : Type 0} (xs : List X) (y d : X) (P : X → Type 0) → ((i : ℕ) → i < length xs → P (get_or xs i d))
     → P y → (i : ℕ) → i < length (xs ++ y ∷ []) → P (get_or (xs ++ y ∷ []) i d)
-each_pushed xs y d P old new i lt =
-    elim (cases_lt i (length xs)) [
-      | inl before ↦ rw (get_or_append_left xs (y ∷ []) d i before) (old i before)
-      | inr last ↦ rw (get_or_push xs y d i (omega (arith, length_push xs y))) new
-    ]
+each_pushed xs y d P old new i lt = grind (arith, nat_tests, common_steps, get_or_append_left, get_or_push, length_push)
 
 -- the place in the longer list of what stands k-th once the i-th is out
 abbrev pub was : ℕ → ℕ → ℕ
 was i k = if leb i k then k + 1 else k
 
 pub was_other : (i k : ℕ) → was i k ≢ i
-was_other i k e = elim (cases_lt k i) [
-  | inl before ↦ (let z : k ≡ i = rw (lt-leb i k before) at e in omega arith)
-  | inr after ↦ (let z : k + 1 ≡ i = rw (le-leb i k after) at e in omega arith)
-]
+was_other i k e = grind (arith, nat_tests, common_steps)
 
 pub was_up : (i a b : ℕ) → a < b → was i a < was i b
-was_up i a b lt = elim (cases_lt a i) [
-  | inl x ↦ elim (cases_lt b i) [
-    | inl y ↦ rw (lt-leb i a x, lt-leb i b y) lt
-    | inr y ↦ rw (lt-leb i a x, le-leb i b y) (omega arith)
-  ]
-  | inr x ↦ rw (le-leb i a x, le-leb i b (omega arith)) (omega arith)
-]
+was_up i a b lt = grind (arith, nat_tests, common_steps)
 
 -- and where it stands then
 abbrev pub now : ℕ → ℕ → ℕ
 now i j = if leb i j then j - 1 else j
 
 pub was_now : (i j : ℕ) → j ≢ i → was i (now i j) ≡ j
-was_now i j ne = elim (cases_lt j i) [
-  | inl x ↦ rw (lt-leb i j x, lt-leb i j x) refl
-  | inr x ↦ rw (le-leb i j x, le-leb i (j - 1) (omega arith)) (omega arith)
-]
+was_now i j ne = grind (arith, nat_tests, common_steps)
 
 module _ {X : Type 0} (xs : List X) (i : ℕ) (within : i < length xs) where
   pub at_was : (k : ℕ) (d : X) → get_or (remove xs i) k d ≡ get_or xs (was i k) d
-  at_was k d = elim (cases_lt k i) [
-    | inl before ↦ rw (lt-leb i k before) (get_or-remove_below xs i d k before within)
-    | inr after ↦ rw (le-leb i k after) (get_or-remove_above xs i d k after within)
-  ]
+  at_was k d = grind (arith, nat_tests, common_steps, get_or-remove_below, get_or-remove_above)
 
   pub fewer : length (remove xs i) + 1 ≡ length xs
   fewer = length-remove xs i within

@@ -1,5 +1,5 @@
 -- What the order of keys tells, and what an edit of the index leaves.
-use Rattle.dir_tree.proofs.Prelude.{◌≡◌, ◌≢◌, ℕ, ◌+◌, ◌-◌, ◌<◌, ◌≤◌, true, List, length, Option, Some, None, refl, sym, ap, subst, ◌∙◌, arith, get_or, set, inl, inr, ◌⊎◌, ◌↔◌, bytes_eq, insert, remove, Ordering, Less, Equal, Greater, nat_cmp, ordering_then, is_eq, MatchOrdering, option_cmp, IsTotalOrder, nat_cmp_is, slice_cmp, options_total, tied_itself, then_total, on_total, nat_cmp_total, nat_list_cmp_total, ranked, is_eq-slice_cmp, bytes_eq-Decides, cases_lt, cases_eq, cases_order, and_from, get_or_read, get_or-set_same, get_or-set_other, length-set, length-insert, get_or-insert_below, get_or-insert_at, get_or-insert_above, get_or-remove_below, get_or-remove_above, is_branch, is_inferior, Node, shape, Key, HasPlace, IsSorted, IsOrdered, no_node, node_at, key_of, key_at, key_cmp, key_hash, hash_at, AreRising, lies, is_below, Where, Before, Here, After, where_is, above, before}
+use Rattle.dir_tree.proofs.Prelude.{common_steps, ◌≡◌, ◌≢◌, ℕ, ◌+◌, ◌-◌, ◌<◌, ◌≤◌, true, List, length, Option, Some, None, refl, sym, ap, subst, ◌∙◌, arith, get_or, set, inl, inr, ◌⊎◌, ◌↔◌, insert, remove, Ordering, Less, Equal, Greater, nat_cmp, ordering_then, is_eq, option_cmp, IsTotalOrder, slice_cmp, options_total, tied_itself, then_total, on_total, nat_cmp_total, nat_list_cmp_total, ranked, is_eq-slice_cmp, bytes_eq-Decides, cases_lt, cases_eq, cases_order, and_from, get_or_read, get_or-set_same, get_or-set_other, length-set, length-insert, get_or-insert_below, get_or-insert_at, get_or-insert_above, get_or-remove_below, get_or-remove_above, is_branch, Node, shape, Key, HasPlace, IsSorted, IsOrdered, no_node, node_at, key_of, key_at, key_cmp, key_hash, hash_at, AreRising, lies, is_below, Where, Before, Here, After, where_is, before, nat_tests}
 use Rattle.dir_tree.proofs.EditLemmas.{was, was_other, was_up, at_was, fewer, was_within}
 
 -- ---- the order of keys
@@ -26,9 +26,7 @@ superiors_tied : (a b : Option ℕ) → option_cmp nat_cmp a b ≡ Equal → a �
 superiors_tied None None e = refl
 superiors_tied None (Some y) e = cc
 superiors_tied (Some x) None e = cc
-superiors_tied (Some x) (Some y) e = (let same : x ≡ y =
-    subst (λ o. MatchOrdering o (x < y) (x ≡ y) (y < x)) e (ranked x y (nat_cmp x y) refl) in
-    cc)
+superiors_tied (Some x) (Some y) e = grind (arith, nat_tests, common_steps, ranked)
 
 names_tied : (a b : List ℕ) → slice_cmp nat_cmp a b ≡ Equal → a ≡ b
 names_tied a b e = (bytes_eq-Decides a b).0 (sym (is_eq-slice_cmp a b) ∙ ap is_eq e)
@@ -60,11 +58,7 @@ pub branch_key : (d : ℕ) (name : List ℕ) (n : Node) → is_branch d name (sh
 branch_key d name n is = (let h : (n.superior ≡ Some d) × (n.name ≡ name) = lies d name (shape n) is in cc)
 
 pub key_branch : (d : ℕ) (name : List ℕ) (n : Node) → key_of n ≡ (Some d, name) → is_branch d name (shape n) ≡ true
-key_branch d name n e =
-    let up : n.superior ≡ Some d = ap (λ (k : Key). k.0) e in
-    let same : n.name ≡ name = ap (λ (k : Key). k.1) e in
-    and_from (is_inferior d (shape n)) (bytes_eq n.name name) (is_below d (shape n) up)
-    ((bytes_eq-Decides n.name name).1 same)
+key_branch d name n e = grind (arith, nat_tests, common_steps, and_from, is_below, bytes_eq-Decides)
 
 -- ---- one place more
 
@@ -180,28 +174,10 @@ module _ (nodes : List Node) (ps : List ℕ) (i : ℕ) (within : i < length ps) 
       ]
 
   no_longer : (k : ℕ) → k < length shorter → get_or shorter k 0 ≢ get_or ps i 0
-  no_longer k lt e =
-      let same : get_or ps (was i k) 0 ≡ get_or ps i 0 = sym (at_was ps i within k 0) ∙ e in
-      elim (cases_order (was i k) i) [
-        | inl z ↦ was_other i k z
-        | inr differ ↦ elim differ [
-          | inl below ↦ apart (was i k) i below within same
-          | inr above ↦ apart i (was i k) above (was_within ps i within k lt) (sym same)
-        ]
-      ]
+  no_longer k lt e = grind (arith, nat_tests, common_steps, at_was, was_other, apart, was_within)
 
   pub place_removed : (place p : ℕ) → get_or ps i 0 ≡ place → HasPlace (remove ps i) p ↔ (HasPlace ps p × (p ≢ place))
-  place_removed place p is = (
-    λ x. (
-      record {
-        at = was i x.at;
-        within = was_within ps i within x.at x.within;
-        is = sym (at_was ps i within x.at 0) ∙ x.is;
-      },
-      λ e. no_longer x.at x.within (cc),
-    ),
-    λ y. still_left p y.0 (λ e. y.1 (e ∙ is)),
-  )
+  place_removed place p is = grind (arith, nat_tests, common_steps, was_within, at_was, no_longer, still_left)
 
 pub ordered_less : (nodes : List Node) (ps hashes : List ℕ) (i : ℕ) → i < length ps → IsOrdered nodes ps hashes
     → IsOrdered nodes (remove ps i) hashes
@@ -232,9 +208,7 @@ hash_most x y less = at_most (key_hash x) (key_hash y) (nat_cmp (key_hash x) (ke
 -- and a key whose hash is below another's is before it
 pub hash_less : (x y : Key) → key_hash x < key_hash y → key_cmp x y ≡ Less
 unfolding key_cmp
-hash_less x y lt =
-    let is : nat_cmp (key_hash x) (key_hash y) ≡ Less = sym (nat_cmp_is (key_hash x) (key_hash y) Less lt) in
-    rw is refl
+hash_less x y lt = grind (arith, nat_tests, common_steps)
 
 pub hash_is : {nodes : List Node} {ps hashes : List ℕ} → IsOrdered nodes ps hashes → (k : ℕ) → k < length ps
     → hash_at ps hashes k ≡ key_hash (key_at nodes ps k)

@@ -1,6 +1,5 @@
 -- What a new branch, a branch less, and a change of a node leave of the tables behind a tree.
-use Rattle.dir_tree.proofs.Prelude.{◌≡◌, ◌≢◌, ℕ, suc, ◌<◌, Bool, true, false, eqb, leb, ◌&&◌, List, [], ◌∷◌, ◌++◌, length, Option, Some, None, refl, sym, ap, subst, ◌∙◌, arith, get_or, inl, inr, is_some, IfSome, list_any, option_map, cases_Bool, cases_lt, cases_order, both_ways, le-leb, eq-eqb, ne_eqb, eqb-true, leb-false, and_from, map-append, get_or_read, Term, above, branch_in, is_branch, is_inferior, Node, Entry, Places, HasPlace, AreWithin, node_at, no_node, Branches, node_of, is_in, is_segment, add_fault_of, shape, shapes, AreBelow, directory_shape, directory_in, segment_in, entry_at, newest, IsNamed, IsKept, HasEntry, IsMember, member_parts, member_map, member_found, branch_found, any_member, any_found, find_map, found_member, superior_in, lies, only_branch, is_below, not_below, IsUp, find_passes}
-use Rattle.dir_tree.specs.declared.node.AddFault.TheVariants as add_fault
+use Rattle.dir_tree.proofs.Prelude.{common_steps, ◌≡◌, ◌≢◌, ℕ, suc, ◌<◌, Bool, true, false, eqb, List, [], ◌∷◌, ◌++◌, length, Option, Some, None, refl, sym, ap, subst, ◌∙◌, arith, get_or, inl, inr, is_some, IfSome, list_any, option_map, cases_order, both_ways, eq-eqb, ne_eqb, eqb-true, and_from, map-append, get_or_read, Term, above, branch_in, is_branch, is_inferior, Node, Entry, Places, HasPlace, AreWithin, node_at, no_node, Branches, node_of, is_in, is_segment, add_fault_of, shape, shapes, AreBelow, directory_shape, directory_in, segment_in, entry_at, newest, IsNamed, IsKept, HasEntry, IsMember, member_parts, member_map, member_found, branch_found, any_member, any_found, find_map, found_member, superior_in, lies, only_branch, is_below, not_below, IsUp, find_passes, nat_tests}
 use Rattle.dir_tree.proofs.NewestLemmas.{node_of_entry, none_newest, find_newest, member_newest}
 
 -- ---- nodes and their shapes
@@ -24,27 +23,8 @@ pub record MayAdd (ns : List Term) (s : ℕ) (name : List ℕ) (dir : Bool) : Ty
 
 no_fault_at : (ns : List Term) (s : ℕ) (name : List ℕ) (dir : Bool) → add_fault_of ns s name dir ≡ None
     → (o : Option Term) → branch_in ns s name ≡ o → MayAdd ns s name dir
-no_fault_at ns s name dir e (Some n) is =
-    (let z : is_some (branch_in ns s name) ≡ true = ap is_some is in let y : Some add_fault.Exists ≡ None =
-    rw z at e in cc)
-no_fault_at ns s name dir e None is =
-    let z : is_some (branch_in ns s name) ≡ false = ap is_some is in
-    elim (cases_Bool (dir && leb 8 (length (above ns s)))) [
-      | inl deep ↦ (let y : Some add_fault.Deep ≡ None = rw (z, deep) at e in cc)
-      | inr isnt ↦ elim (cases_Bool (leb 4097 (length ns))) [
-        | inl full ↦ (let y : Some add_fault.Room ≡ None = rw (z, isnt, full) at e in cc)
-        | inr room ↦ record {
-          new = is;
-          shallow = λ d. elim (cases_lt (length (above ns s)) 8) [
-            | inl lt ↦ lt
-            | inr le ↦
-                absurd (both_ways _ isnt (and_from dir (leb 8 (length (above ns s))) d
-                (le-leb 8 (length (above ns s)) le)))
-          ];
-          room = leb-false 4097 (length ns) room;
-        }
-      ]
-    ]
+no_fault_at ns s name dir e (Some n) is = grind (arith, nat_tests, common_steps)
+no_fault_at ns s name dir e None is = grind (arith, nat_tests, common_steps, both_ways, and_from)
 
 pub no_fault : (ns : List Term) (s : ℕ) (name : List ℕ) (dir : Bool) → add_fault_of ns s name dir ≡ None
     → MayAdd ns s name dir
@@ -70,10 +50,7 @@ up_in ns u (Some s) up = (up.0, directory_in ns s (sym (directory_shape ns s) �
 
 no_branch : (n : Node) (d : ℕ) (name : List ℕ) (places : List ℕ) (place : ℕ) → IsNamed places n.superior place
     → (HasPlace places place → is_branch d name (shape n) ≡ false) → is_branch d name (shape n) ≡ false
-no_branch n d name places place named none = elim (cases_Bool (is_branch d name (shape n))) [
-  | inr isnt ↦ isnt
-  | inl is ↦ none (subst (λ o. IsNamed places o place) (lies d name (shape n) is).0 named)
-]
+no_branch n d name places place named none = grind (arith, nat_tests, common_steps, lies)
 
 -- ---- an entry and its node
 
@@ -126,10 +103,7 @@ module _ {nodes : List Node} {es : List Entry} {free : List ℕ} {index : Places
 
   pub node_read : (uid : ℕ) (e : Entry)
       → HasEntry es uid e → (x : Node) → x ≡ get_or nodes e.place x → node_of (newest nodes es) uid ≡ Some x
-  node_read uid e h x read =
-      let within : e.place < length nodes = rw (← h.entry_is) (k.within h.i h.within) in
-      let node : x ≡ node_at nodes e.place = get_or_read nodes e.place x within read no_node in
-      cc (node_found uid h.i h.within (ap (λ (d : Entry). d.uid) h.entry_is ∙ h.uid_is))
+  node_read uid e h x read = grind (arith, nat_tests, common_steps, get_or_read, node_found)
 
   -- the superior of a node is its entry's
   pub superior_read : (uid : ℕ) (e : Entry) → HasEntry es uid e
@@ -170,9 +144,7 @@ module _ {nodes : List Node} {es : List Entry} {free : List ℕ} {index : Places
   -- where no branch of a name is there, no place of the index is that of one
   pub no_place : (d : ℕ) (name : List ℕ) → branch_in (shapes (newest nodes es)) d name ≡ None
       → (place : ℕ) → HasPlace index.places place → is_branch d name (shape (node_at nodes place)) ≡ true → ⊥
-  no_place d name none place there is =
-      let no : None ≡ Some (shape (node_at nodes place)) = sym none ∙ branch_read d name place there is in
-      cc
+  no_place d name none place there is = grind (arith, nat_tests, common_steps, branch_read)
 
   pub places_within : AreWithin nodes index.places
   places_within i lt = (let p = k.places (get_or index.places i 0) (record { at = i; within = lt; is = refl }) in
@@ -187,10 +159,7 @@ module _ {nodes : List Node} {es : List Entry} {free : List ℕ} {index : Places
 
   -- what stands in the index is a node of the tree
   pub place_there : (place : ℕ) → HasPlace index.places place → is_in (newest nodes es) (node_at nodes place).uid ≡ true
-  place_there place there =
-      let p = k.places place there in
-      rw p.place_is at (ap is_some (node_found (node_of_entry nodes es p.i).uid p.i p.within
-      (sym (k.uids p.i p.within))))
+  place_there place there = grind (arith, nat_tests, common_steps, node_found, node_of_entry)
 
   -- a node has an inferior where an entry has it as superior
   pub inferior_since : (u i : ℕ)
@@ -202,9 +171,4 @@ module _ {nodes : List Node} {es : List Entry} {free : List ℕ} {index : Places
 
   pub no_inferior : (u : ℕ) → ((i : ℕ) → i < length es → (entry_at es i).superior ≢ Some u)
       → list_any (is_inferior u) (shapes (newest nodes es)) ≡ false
-  no_inferior u none = cc (
-    any_found (is_inferior u) (shapes (newest nodes es)),
-    find_map (is_inferior u) shape (newest nodes es),
-    none_newest (λ n. is_inferior u (shape n)) nodes es (λ j lt. not_below u
-        (shape (node_of_entry nodes es j)) (λ e. none j lt (sym (k.superiors j lt) ∙ e))),
-  )
+  no_inferior u none = grind (arith, nat_tests, common_steps, any_found, find_map, none_newest, not_below, node_of_entry)

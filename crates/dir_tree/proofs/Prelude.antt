@@ -1,6 +1,7 @@
 -- The names that the proofs of this crate take from elsewhere.
 pub use Rattle.std.proofs.Common.{Bool, List, None, Ok, Option, Some, [], ap, arith, cond, drop, eqb, false, get_or, if◌then◌else◌, inl, inr, is_some, leb, length, map, nat_le, not, refl, replicate, rules, set, subst, suc, sym, take, true, vec_capacity, zero, ℕ, ◌&&◌, ◌++◌, ◌+◌, ◌-◌, ◌<◌, ◌||◌, ◌∙◌, ◌∷◌, ◌≡◌, ◌≢◌, ◌≤◌, ◌⊎◌}
 pub use Rattle.std.proofs.lemmas.Bool.{and_from, both_ways, cases_Bool, cases_eq, cases_lt, cases_order, eq-eqb, eqb-true, false_from_ne_true, le-leb, leb-false, lt-leb, lt-ltb, ltb-true, ne_eqb, not_from_false, not_from_true}
+pub use Rattle.std.proofs.lemmas.Bool.Decides.{nat_tests}
 pub use Rattle.std.proofs.lemmas.Cmp.{nat_cmp_total, nat_list_cmp_total, on_total, ranked, then_total, tied_itself}
 pub use Rattle.std.proofs.lemmas.Grind.{common_steps}
 pub use Rattle.std.proofs.lemmas.List.{append-nil, append_assoc, at_drop_all, at_drop_more, ext_get_or, get_or-append-add, get_or-map, get_or-replicate, get_or-set_other, get_or-set_same, get_or-take, get_or_append_left, get_or_push, get_or_read, length-append, length-map, length-replicate, length-set, length-take-le, length_push, map-append, replicate-append-replicate}
@@ -35,6 +36,6 @@ pub use Rattle.dir_tree.specs.Shape.{shape, shapes}
 pub use Rattle.dir_tree.specs.Uids.{IsRemoved, IsTabled}
 unfoldable pub use Rattle.dir_tree.specs.Uids.{taken}
 pub use Rattle.dir_tree.specs.declared.entries.Entry.{Entry}
-pub use Rattle.dir_tree.specs.declared.node.AddFault.{AddFault}
+pub use Rattle.dir_tree.specs.declared.node.AddFault.{AddFault, AddFault as add_fault}
 pub use Rattle.dir_tree.specs.declared.node.NewNode.{NewNode}
 pub use Rattle.dir_tree.specs.declared.node.Node.{Node}

@@ -1,7 +1,7 @@
 -- Where a path leads, what is above a node and what keeps a branch from being added don't depend on quotas, nor on
+use Rattle.dir_tree.proofs.Prelude.{common_steps, ◌≡◌, ℕ, ◌+◌, Bool, true, false, eqb, List, [], ◌∷◌, length, Option, Some, None, Ok, refl, ap, ◌∙◌, is_some, get_or, drop, ◌<◌, ◌≤◌, ◌&&◌, nat_le, cond, arith, inl, inr, find, option_map, cases_Bool, length-map, at_drop_more, at_drop_all, Term, Walk, LeadsTo, node_in, branch_in, is_branch, onward, above, walk_from, walk_in, Node, above_any, as_term, node_of, with_quotas, add_fault_of, has_inferior, unless, shape, shapes, IsTree, superior_in, find_map, branch_found, none_mapped, nat_tests, add_fault}
+
 -- anything but uids, superiors, names and kinds.
-use Rattle.dir_tree.proofs.Prelude.{◌≡◌, ℕ, ◌+◌, Bool, true, false, eqb, List, [], ◌∷◌, length, Option, Some, None, Ok, refl, ap, ◌∙◌, is_some, get_or, drop, ◌<◌, ◌≤◌, ◌&&◌, nat_le, cond, arith, inl, inr, find, option_map, cases_Bool, eq-eqb, length-map, at_drop_more, at_drop_all, Term, Walk, LeadsTo, node_in, branch_in, is_branch, onward, above, walk_from, walk_in, Node, above_any, as_term, node_of, with_quotas, add_fault_of, has_inferior, unless, shape, shapes, IsTree, Joins, superior_in, find_map, branch_found, none_mapped}
-use Rattle.dir_tree.specs.declared.node.AddFault.TheVariants as add_fault
 
 pub node_any : (q : ℕ → ℕ) (ns : List Node) (u : ℕ) → node_in (with_quotas q ns) u
     ≡ option_map (as_term q) (node_of ns u)
@@ -15,11 +15,7 @@ superior_is ns u n e = cc (find_map (λ n. eqb n.uid u) shape ns)
 -- the root is in each tree that has a node
 pub root_there : (ns : List Node) → IsTree (shapes ns) → 0 < length ns → is_some (node_of ns 1) ≡ true
 root_there [] t some = absurd (omega arith)
-root_there (n ∷ []) t some = first n.superior t.0
-  where
-    first : (o : Option ℕ) → Joins [] o (shape n) → is_some (node_of (n ∷ []) 1) ≡ true
-    first None root = rw (eq-eqb n.uid 1 root.one) refl
-    first (Some s) branch = (let no : false ≡ true = branch.below in cc)
+root_there (n ∷ []) t some = grind (arith, nat_tests, common_steps)
 root_there (n ∷ m ∷ ms) t some = elim (cases_Bool (eqb n.uid 1))
     [ inl is ↦ rw is refl | inr isnt ↦ rw isnt (root_there (m ∷ ms) t.1 (omega arith)) ]
 
@@ -51,12 +47,7 @@ walk_any q ns path = walk_any_from q ns 1 true path
 
 pub named_any : (q : ℕ → ℕ) (ns : List Node) (d : ℕ) (name : List ℕ) → is_some (branch_in (with_quotas q ns) d name)
     ≡ is_some (branch_in (shapes ns) d name)
-named_any q ns d name = cc (
-  branch_any q ns d name,
-  none_mapped (as_term q) (find (λ n. is_branch d name (shape n)) ns),
-  branch_shape ns d name,
-  none_mapped shape (find (λ n. is_branch d name (shape n)) ns),
-)
+named_any q ns d name = grind (arith, nat_tests, common_steps, branch_any, none_mapped, branch_shape)
 
 pub fault_any : (q : ℕ → ℕ) (ns : List Node) (d : ℕ) (name : List ℕ) (b : Bool)
     → add_fault_of (with_quotas q ns) d name b ≡ add_fault_of (shapes ns) d name b

@@ -1,5 +1,5 @@
 -- The shelves of the index, and the list of all places on them.
-use Rattle.dir_tree.proofs.Prelude.{◌≡◌, ◌≢◌, ℕ, zero, suc, ◌+◌, ◌-◌, ◌<◌, ◌≤◌, false, List, [], ◌∷◌, length, Option, Some, None, refl, sym, ap, ◌∙◌, arith, get_or, set, inl, inr, ◌⊎◌, ◌↔◌, IfSome, IfNone, concat, insert, remove, Less, cases_eq, cases_lt, cases_order, false_from_ne_true, get_or_append_left, get_or-append-add, get_or_read, get_or-set_same, get_or-set_other, length-set, length-append, length-insert, insert-append_left, insert-append_right, remove-append_left, remove-append_right, is_branch, Node, shape, Key, HasPlace, IsOrdered, AreWithin, AreShelved, node_at, key_of, key_at, key_cmp, key_hash, before, shelf_at, shelf_of}
+use Rattle.dir_tree.proofs.Prelude.{common_steps, ◌≡◌, ◌≢◌, ℕ, zero, suc, ◌+◌, ◌-◌, ◌<◌, ◌≤◌, false, List, [], ◌∷◌, length, Option, Some, None, refl, sym, ap, ◌∙◌, arith, get_or, set, inl, inr, ◌⊎◌, ◌↔◌, IfSome, IfNone, concat, insert, remove, Less, cases_eq, cases_lt, cases_order, false_from_ne_true, get_or_append_left, get_or-append-add, get_or_read, get_or-set_same, get_or-set_other, length-set, length-append, length-insert, insert-append_left, insert-append_right, remove-append_left, remove-append_right, is_branch, Node, shape, Key, HasPlace, IsOrdered, AreWithin, AreShelved, node_at, key_of, key_at, key_cmp, key_hash, before, shelf_at, shelf_of, nat_tests}
 use Rattle.dir_tree.proofs.IndexLemmas.{after_other, branch_key, hash_is, hash_less, inserted_sorted, place_inserted, place_removed, ordered_more, ordered_less}
 use Rattle.dir_tree.proofs.EditLemmas.{fewer}
 
@@ -8,9 +8,7 @@ use Rattle.dir_tree.proofs.EditLemmas.{fewer}
 pub on_shelf : (xs : List (List ℕ)) (m k : ℕ) → k < length (shelf_at xs m)
     → (before xs m + k < length (concat xs)) × (get_or (concat xs) (before xs m + k) 0 ≡ get_or (shelf_at xs m) k 0)
 on_shelf [] m k lt = absurd (omega arith)
-on_shelf (x ∷ xs) zero k lt =
-    let n = length-append x (concat xs) in
-    let z : 0 + k ≡ k = omega arith in (omega arith, rw z (get_or_append_left x (concat xs) 0 k lt))
+on_shelf (x ∷ xs) zero k lt = grind (arith, nat_tests, common_steps, length-append, get_or_append_left)
 on_shelf (x ∷ xs) (suc m) k lt =
     let r = on_shelf xs m k lt in
     let n = length-append x (concat xs) in
@@ -336,10 +334,7 @@ none_then None A B none then = then none
 -- empty shelves
 pub none_shelved : (xs : List (List ℕ)) (hashes : List ℕ) → length xs ≡ 64 → ((m : ℕ) → shelf_at xs m ≡ [])
     → AreShelved xs hashes
-none_shelved xs hashes count empty = record {
-  count = count;
-  shelved = λ m place there. (let none = rw (empty m) at there.within in absurd (omega arith));
-}
+none_shelved xs hashes count empty = grind (arith, nat_tests, common_steps)
 
 pub none_placed : (xs : List (List ℕ)) → ((m : ℕ) → shelf_at xs m ≡ []) → concat xs ≡ []
 none_placed [] empty = refl

@@ -1,5 +1,5 @@
 -- Entries that stand in the slots of their places.
-use Rattle.dir_tree.proofs.Prelude.{◌≡◌, ◌≢◌, ℕ, ◌+◌, ◌<◌, List, [], ◌∷◌, ◌++◌, length, set, get_or, sym, ◌∙◌, arith, inl, inr, remove, cases_eq, cases_lt, ext_get_or, get_or-map, get_or-set_same, get_or-set_other, get_or_append_left, get_or_push, length-map, length-set, length_push, map-append, Entry, no_entry, entry_at, listed, IsListed, refl}
+use Rattle.dir_tree.proofs.Prelude.{common_steps, ◌≡◌, ◌≢◌, ℕ, ◌+◌, ◌<◌, List, [], ◌∷◌, ◌++◌, length, set, get_or, sym, ◌∙◌, arith, inl, inr, remove, cases_lt, ext_get_or, get_or-map, get_or-set_same, get_or-set_other, get_or_append_left, get_or_push, length-map, length-set, length_push, map-append, Entry, no_entry, entry_at, listed, IsListed, refl, nat_tests}
 use Rattle.dir_tree.proofs.EditLemmas.{was, was_up, was_within, at_was, each_left, each_pushed, fewer}
 
 pub listed_at : (slots : List Entry) (order : List ℕ) (i : ℕ) → i < length order → entry_at (listed slots order) i
@@ -34,25 +34,10 @@ module _ {slots : List Entry} {order : List ℕ} (l : IsListed slots order) (i :
     where
       at : (j : ℕ) → j < length order → entry_at (listed (set slots p e) order) j
           ≡ entry_at (set (listed slots order) i e) j
-      at j in_j = elim (cases_eq j i) [
-        | inl here ↦
-            rw here (listed_at (set slots p e) order i lt ∙ get_or-set_same slots p e no_entry slot
-            ∙ sym (get_or-set_same (listed slots order) i e no_entry (omega (arith, length_listed slots order))))
-        | inr there ↦
-            listed_at (set slots p e) order j in_j ∙ elsewhere j in_j there ∙ sym (listed_at slots order j in_j)
-            ∙ sym (get_or-set_other (listed slots order) i j e no_entry there)
-      ]
+      at j in_j = grind (arith, nat_tests, common_steps, listed_at, get_or-set_same, slot, length_listed, elsewhere, get_or-set_other)
 
   pub still_listed : IsListed (set slots p e) order
-  still_listed = record {
-    size = length-set slots p e ∙ l.size;
-    within = l.within;
-    places = λ j in_j. elim (cases_eq j i) [
-      | inl here ↦ rw (here, get_or-set_same slots p e no_entry slot) place
-      | inr there ↦ rw (elsewhere j in_j there) (l.places j in_j)
-    ];
-    apart = l.apart;
-  }
+  still_listed = grind (arith, nat_tests, common_steps, length-set, get_or-set_same, slot, elsewhere)
 
 -- one entry more, in a place that no other has
 module _ {slots : List Entry} {order : List ℕ} (l : IsListed slots order) (e : Entry) (room : e.place < 4097)
@@ -116,13 +101,7 @@ module _ {slots : List Entry} {order : List ℕ} (l : IsListed slots order) (i :
     where
       at : (j : ℕ) → j < length (remove order i) → entry_at (listed slots (remove order i)) j
           ≡ entry_at (remove (listed slots order) i) j
-      at j in_j = (let n = length_listed slots order in
-          cc (
-            listed_at slots (remove order i) j in_j,
-            at_was order i lt j 0,
-            listed_at slots order (was i j) (was_within order i lt j in_j),
-            at_was (listed slots order) i (omega arith) j no_entry,
-          ))
+      at j in_j = grind (arith, nat_tests, common_steps, length_listed, listed_at, at_was, was_within)
 
   pub less_listed : IsListed slots (remove order i)
   less_listed = record {
@@ -134,7 +113,4 @@ module _ {slots : List Entry} {order : List ℕ} (l : IsListed slots order) (i :
   }
     where
       was_apart : (a b : ℕ) → a ≢ b → was i a ≢ was i b
-      was_apart a b ne same = elim (cases_lt a b) [
-        | inl up ↦ (let u = was_up i a b up in omega arith)
-        | inr down ↦ (let u = was_up i b a (omega arith) in omega arith)
-      ]
+      was_apart a b ne same = grind (arith, nat_tests, common_steps, was_up)

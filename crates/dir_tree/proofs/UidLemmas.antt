@@ -1,5 +1,5 @@
 -- The table of places by uid, and the places that stand in it.
-use Rattle.dir_tree.proofs.Prelude.{◌≡◌, ◌≢◌, ℕ, zero, suc, ◌+◌, ◌-◌, ◌<◌, ◌≤◌, eqb, true, false, List, [], ◌∷◌, ◌++◌, length, set, get_or, replicate, refl, sym, ap, ◌∙◌, arith, inl, inr, ◌⊎◌, remove, cases_eq, eq-eqb, ne_eqb, cases_lt, get_or_append_left, get_or-set_same, get_or-set_other, length-set, get_or_read, append_assoc, replicate-append-replicate, get_or-replicate, length-append, length-replicate, length_push, Entry, no_entry, entry_at, listed, recounted, IsAscending, IsListed, taken, IsTabled, IsRemoved}
+use Rattle.dir_tree.proofs.Prelude.{common_steps, ◌≡◌, ◌≢◌, ℕ, zero, suc, ◌+◌, ◌-◌, ◌<◌, ◌≤◌, eqb, true, false, List, [], ◌∷◌, ◌++◌, length, set, get_or, replicate, refl, sym, ap, ◌∙◌, arith, inl, inr, remove, cases_eq, eq-eqb, ne_eqb, get_or_append_left, get_or-set_same, get_or-set_other, length-set, get_or_read, append_assoc, replicate-append-replicate, get_or-replicate, length-append, length-replicate, length_push, Entry, no_entry, entry_at, listed, recounted, IsAscending, IsListed, taken, IsTabled, IsRemoved, nat_tests}
 use Rattle.dir_tree.proofs.SlotLemmas.{listed_at, length_listed, place_listed, remove_listed, set_listed, still_listed, more_listed, push_listed, less_listed}
 use Rattle.dir_tree.proofs.EditLemmas.{fewer}
 use Rattle.dir_tree.proofs.CountLemmas.{count_set}
@@ -102,38 +102,16 @@ module _ {slots : List Entry} {table : List ℕ} (l : IsListed slots (taken tabl
   -- an entry more, of a place that no other has
   pub tabled_more : (e : Entry) → e.place < length slots → ((i : ℕ) → i < length es → (entry_at es i).place ≢ e.place)
       → e.uid < length table → IsTabled (set slots e.place e) (set table e.uid e.place)
-  tabled_more e room new in_table = record {
-    uids = λ u lt some. elim (cases_eq u e.uid) [
-      | inl here ↦
-          rw (here, get_or-set_same table e.uid e.place 0 in_table, get_or-set_same slots e.place e no_entry room) refl
-      | inr there ↦
-          (let m = length-set table e.uid e.place in
-          let same = get_or-set_other table e.uid u e.place 0 there in
-          let is : get_or table u 0 ≢ 65535 = λ z. some (same ∙ z) in
-          let x = place_found u (omega arith) is in
-          rw (same, get_or-set_other slots e.place (get_or table u 0) e no_entry (λ z. new x.0 x.1 (x.3 ∙ z)))
-          (t.uids u (omega arith) is))
-    ];
-  }
+  tabled_more e room new in_table = grind (arith, nat_tests, common_steps, get_or-set_same, length-set, get_or-set_other, place_found)
 
   -- no place stands where all uids are lower
   pub none_later : (uid : ℕ) → ((i : ℕ) → i < length es → (entry_at es i).uid < uid)
       → (v : ℕ) → uid ≤ v → v < length table → get_or table v 0 ≡ 65535
-  none_later uid later v le lt = elim (cases_eq (get_or table v 0) 65535) [
-    | inl none ↦ none
-    | inr some ↦ (let x = place_found v lt some in let less = later x.0 x.1 in let is = x.2 in absurd (omega arith))
-  ]
+  none_later uid later v le lt = grind (arith, nat_tests, common_steps, place_found)
 
   -- an entry less
   pub tabled_less : (uid : ℕ) → uid < length table → IsTabled slots (set table uid 65535)
-  tabled_less uid in_table = record {
-    uids = λ u lt some. elim (cases_eq u uid) [
-      | inl here ↦ absurd (some (rw here (get_or-set_same table uid 65535 0 in_table)))
-      | inr there ↦
-          (let same = get_or-set_other table uid u 65535 0 there in
-          rw same (t.uids u (omega (arith, length-set table uid 65535)) (λ z. some (same ∙ z))))
-    ];
-  }
+  tabled_less uid in_table = grind (arith, nat_tests, common_steps, get_or-set_same, get_or-set_other, length-set)
 
   pub removed_entry : (uid : ℕ) → uid < length table → get_or table uid 0 ≢ 65535 → (x : Entry)
       → x ≡ entry_at slots (get_or table uid 0) → IsRemoved es uid x (listed slots (taken (set table uid 65535)))
@@ -153,12 +131,7 @@ module _ {slots : List Entry} {table : List ℕ} (l : IsListed slots (taken tabl
   -- an entry changed, but for its uid
   pub tabled_set : (p : ℕ) (e : Entry) → p < length slots → e.uid ≡ (entry_at slots p).uid
       → IsTabled (set slots p e) table
-  tabled_set p e room same = record {
-    uids = λ u lt some. elim (cases_eq (get_or table u 0) p) [
-      | inl here ↦ rw (here, get_or-set_same slots p e no_entry room) (same ∙ (rw here at (t.uids u lt some)))
-      | inr there ↦ rw (get_or-set_other slots p (get_or table u 0) e no_entry there) (t.uids u lt some)
-    ];
-  }
+  tabled_set p e room same = grind (arith, nat_tests, common_steps, get_or-set_same, get_or-set_other)
 
   -- the place of a uid that an entry has stands in the table
   pub place_stands : (uid i : ℕ) → i < length es → (entry_at es i).uid ≡ uid → (uid < length table)
@@ -214,19 +187,12 @@ module _ {slots : List Entry} {table : List ℕ} (l : IsListed slots (taken tabl
 -- a uid more that is nowhere
 pub nowhere_next : (xs ys : List ℕ) (n : ℕ) → ys ≡ xs ++ replicate (n - length xs) 65535 → length xs ≤ n
     → ys ++ 65535 ∷ [] ≡ xs ++ replicate (n + 1 - length xs) 65535
-nowhere_next xs ys n is le =
-    let one : (n - length xs) + 1 ≡ n + 1 - length xs = omega arith in
-    rw (is, append_assoc xs (replicate (n - length xs) 65535) (65535 ∷ []), ← one)
-    (ap (λ (zs : List ℕ). xs ++ zs) (replicate-append-replicate (n - length xs) 1 65535))
+nowhere_next xs ys n is le = grind (arith, nat_tests, common_steps, append_assoc, replicate-append-replicate)
 
 -- how many uids the table holds by then
 pub reached : (table wide : List ℕ) (uid : ℕ) → wide ≡ table ++ replicate (uid + 1 - length table) 65535
     → length wide ≡ length table + (uid + 1 - length table)
-reached table wide uid is = omega (
-  arith,
-  ap length is ∙ length-append table (replicate (uid + 1 - length table) 65535),
-  length-replicate {A = ℕ} (uid + 1 - length table) 65535,
-)
+reached table wide uid is = grind (arith, nat_tests, common_steps, length-append, length-replicate)
 
 pub blank_taken : (table : List ℕ) → table ≡ [] → taken table ≡ []
 unfolding taken
@@ -234,12 +200,7 @@ blank_taken table is = ap taken is
 
 pub blank_listed : (slots : List Entry) (table : List ℕ) → length slots ≡ 4097 → table ≡ []
     → IsListed slots (taken table)
-blank_listed slots table size is = rw (blank_taken table is) (record {
-  size = size;
-  within = λ i lt. absurd (omega arith);
-  places = λ i lt. absurd (omega arith);
-  apart = λ i j lt in_j. absurd (omega arith);
-})
+blank_listed slots table size is = grind (arith, nat_tests, common_steps, blank_taken)
 
 pub blank_tabled : (slots : List Entry) (table : List ℕ) → table ≡ [] → IsTabled slots table
 blank_tabled slots table is = rw is (record { uids = λ u lt some. absurd (omega arith) })
@@ -247,25 +208,7 @@ blank_tabled slots table is = rw is (record { uids = λ u lt some. absurd (omega
 -- the uids that the table holds from then on are nowhere
 past_tabled : (slots : List Entry) (table : List ℕ) (n : ℕ) → IsTabled slots table
     → IsTabled slots (table ++ replicate n 65535)
-past_tabled slots table n t = record { uids = λ u lt some. held u lt some (cases_lt u (length table)) }
-  where
-    blanks : List ℕ
-    blanks = replicate n 65535
-
-    blank_at : (m u none : ℕ) → u < length (replicate m none) → get_or (replicate m none) u 0 ≡ none
-    blank_at m u none lt = (let l = length-replicate m none in get_or-replicate m u none 0 (omega arith))
-
-    nowhere : (ps : List ℕ) (u : ℕ) → length ps ≤ u → u < length (ps ++ blanks) → get_or (ps ++ blanks) u 0 ≡ 65535
-    nowhere [] u past lt = blank_at n u 65535 lt
-    nowhere (p ∷ ps) zero past lt = absurd (omega arith)
-    nowhere (p ∷ ps) (suc u) past lt = nowhere ps u (omega arith) (omega arith)
-
-    held : (u : ℕ) → u < length (table ++ blanks) → get_or (table ++ blanks) u 0 ≢ 65535
-        → (u < length table) ⊎ (length table ≤ u) → (entry_at slots (get_or (table ++ blanks) u 0)).uid ≡ u
-    held u lt some (inl within) =
-        let same : get_or (table ++ blanks) u 0 ≡ get_or table u 0 = get_or_append_left table blanks 0 u within in
-        rw same (t.uids u within (λ z. some (same ∙ z)))
-    held u lt some (inr past) = absurd (some (nowhere table u past lt))
+past_tabled slots table n t = grind (arith, nat_tests, common_steps, length-replicate, get_or-replicate, get_or_append_left)
 
 module _ {slots : List Entry} {table : List ℕ} (l : IsListed slots (taken table)) (t : IsTabled slots table)
     (now : List Entry) (view : listed slots (taken table) ≡ now) where

@@ -1,4 +1,4 @@
-use Rattle.dir_tree.proofs.Prelude.{◌≡◌, [], sym, ap, ◌∙◌, arith, Branches, newest, has_chains, shape, shapes, length-map}
+use Rattle.dir_tree.proofs.Prelude.{common_steps, sym, ◌∙◌, arith, newest, has_chains, shape, shapes, length-map, nat_tests}
 use Rattle.dir_tree.proofs.ChangedLemmas.{rows_added}
 use Rattle.dir_tree.proofs.KeptLemmas.{next_missing, no_fault}
 use Rattle.dir_tree.proofs.QuotaLemmas.{fault_any, unless_none}
@@ -26,16 +26,11 @@ returns-clause-room c =
     )
 
 pub returns-in_err-may_add-clause-chains : goal.returns-in_err-may_add-clause-chains
-returns-in_err-may_add-clause-chains c =
-    rw (← c.self.view_is) (has_chains (shapes (newest c.self.inside.nodes.items c.self.inside.entries))
-    c.self.invariant.0.tree)
+returns-in_err-may_add-clause-chains c = grind (arith, nat_tests, common_steps, has_chains)
 
 pub returns-clause-chains : goal.returns-clause-chains
 returns-clause-chains c = rw (← c.self.view_is) (has_chains
     (shapes (newest c.self.inside.nodes.items c.self.inside.entries)) c.self.invariant.0.tree)
 
 pub returns-clause-ok : goal.returns-clause-ok
-returns-clause-ok c =
-    let next : c.self.inside.next ≡ c.args.self.now.next = ap (λ (t : Branches). t.next) c.self.view_is in
-    cc (rows_added c.args.self.now c.args.superior c.args.new [] (rw (← c.self.view_is)
-    (next_missing c.self.invariant.0)))
+returns-clause-ok c = grind (arith, nat_tests, common_steps, rows_added, next_missing)

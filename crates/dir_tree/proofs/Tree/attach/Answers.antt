@@ -1,4 +1,4 @@
-use Rattle.dir_tree.proofs.Prelude.{◌≡◌, ◌+◌, ◌<◌, ℕ, List, [], ◌∷◌, ◌++◌, Bool, length, None, Some, refl, ap, ◌∙◌, arith, length-map, Node, Entry, Branches, add_fault_of, node_of_new, as_node, IsOrdered, AreWithin, shape, shapes, newest, IsKept, has_chains, Places}
+use Rattle.dir_tree.proofs.Prelude.{common_steps, ◌≡◌, ◌+◌, ◌<◌, ℕ, List, [], ◌∷◌, ◌++◌, Bool, length, None, Some, refl, arith, length-map, Node, Entry, Branches, add_fault_of, node_of_new, as_node, IsOrdered, AreWithin, shapes, newest, IsKept, has_chains, Places, nat_tests}
 use Rattle.dir_tree.proofs.AddedLemmas.{place_unused, place_room, asked, new_key, added}
 use Rattle.dir_tree.proofs.CountLemmas.{superior_there, pushed_few, counted_with, newest_recounted, kept_recounted}
 use Rattle.dir_tree.proofs.KeptLemmas.{next_missing, no_fault}
@@ -11,9 +11,7 @@ new_entry next superior place = record { uid = next; superior = Some superior; p
 few : {nodes : List Node} {es : List Entry} {free : List ℕ} {index : Places} {next : ℕ} {t : Branches} (s : ℕ)
     (name : List ℕ) (dir : Bool) → IsKept nodes es free index next → record { nodes = newest nodes es; next = next } ≡ t
     → add_fault_of (shapes t.nodes) s name dir ≡ None → length es < 4097
-few {nodes} {es} s name dir k seen e =
-    let m = no_fault (shapes (newest nodes es)) s name dir (rw (← seen) at e) in
-    rw (length-map (newest nodes es) shape, length_newest nodes es) at m.room
+few {nodes} {es} s name dir k seen e = grind (arith, nat_tests, common_steps, no_fault, length-map, length_newest)
 
 pub store-place-requires-clause-room : goal.store-place-requires-clause-room
 store-place-requires-clause-room c none =
@@ -78,9 +76,7 @@ gain-requires-clause-there c = rw c.push.ensures (superior_there c.self.invarian
     (rw (← c.self.view_is) at c.requires.directory) _)
 
 pub gain-requires-clause-room : goal.gain-requires-clause-room
-gain-requires-clause-room c =
-    let lt = few _ _ _ c.self.invariant.0 c.self.view_is c.requires.may in
-    rw c.push.ensures (pushed_few c.self.inside.entries _ c.self.invariant.3 (omega (arith, lt)) refl)
+gain-requires-clause-room c = grind (arith, nat_tests, common_steps, few, pushed_few)
 
 -- the tables with the new branch are those of the tree with it
 added_to : (c : goal.After-self-1) → IsKept c.store-place.new.nodes.items
@@ -109,11 +105,7 @@ invariant_of-self c =
     )
 
 pub returns-clause-tree : goal.returns-clause-tree
-returns-clause-tree c =
-    let more = c.self.inside.entries ++ new_entry c.self.inside.next c.args.superior c.store-place.result ∷ [] in
-    let gained = rw c.push.ensures at c.gain.ensures in
-    rw (← c.self.view_is) (ap (λ (ns : List Node). record { nodes = ns; next = c.self.inside.next + 1 })
-    (rw gained (newest_recounted c.args.superior (λ n. n + 1) c.store-place.new.nodes.items more ∙ (added_to c).1)))
+returns-clause-tree c = grind (arith, nat_tests, common_steps, newest_recounted, added_to)
 
 pub returns-clause-fresh : goal.returns-clause-fresh
 returns-clause-fresh c = rw (← c.self.view_is) (next_missing c.self.invariant.0)

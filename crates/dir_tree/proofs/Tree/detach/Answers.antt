@@ -1,4 +1,4 @@
-use Rattle.dir_tree.proofs.Prelude.{◌≡◌, ◌+◌, ◌-◌, List, [], ◌∷◌, ◌++◌, length, sym, ap, ◌∙◌, arith, Node, Entry, newest, recounted, IsKept, remove, without, length-remove}
+use Rattle.dir_tree.proofs.Prelude.{common_steps, ◌≡◌, ◌-◌, List, [], ◌∷◌, ◌++◌, sym, ap, ◌∙◌, arith, Entry, newest, recounted, IsKept, remove, without, length-remove, nat_tests}
 use Rattle.dir_tree.proofs.KeptLemmas.{entry_present, places_within}
 use Rattle.dir_tree.proofs.CountLemmas.{removed_rising, superior_left, some_left, counted_removed, length_recounted, newest_recounted, kept_recounted}
 use Rattle.dir_tree.proofs.NewestLemmas.{length_newest}
@@ -28,10 +28,7 @@ lose-requires-clause-there c =
     c.remove-superior.ensures.within up)
 
 pub lose-requires-clause-some : goal.lose-requires-clause-some
-lose-requires-clause-some c =
-    let up = ap (λ (e : Entry). e.superior) (sym c.remove-superior.ensures.entry_is) ∙ c.in-Some.is in
-    rw c.remove-superior.ensures.rest (some_left c.self.inside.entries c.self.invariant.3 c.remove-superior.ensures.at
-    c.remove-superior.ensures.within c.in-Some.superior up)
+lose-requires-clause-some c = grind (arith, nat_tests, common_steps, some_left)
 
 -- the tables without the branch are those of the tree without it
 left_by : (c : goal.After-push_reserved)
@@ -59,12 +56,7 @@ invariant_of-self c =
     )
 
 pub returns-clause-tree : goal.returns-clause-tree
-returns-clause-tree c =
-    let fewer : List Entry = remove c.self.inside.entries c.remove-superior.ensures.at in
-    let lost : c.lose.new.self ≡ recounted c.in-Some.superior (λ n. n - 1) fewer =
-    rw c.remove-superior.ensures.rest at c.lose.ensures in
-    rw (← c.self.view_is) (ap (λ (ns : List Node). record { nodes = ns; next = c.self.inside.next })
-    (rw lost (newest_recounted c.in-Some.superior (λ n. n - 1) c.self.inside.nodes.items fewer ∙ (left_by c).1)))
+returns-clause-tree c = grind (arith, nat_tests, common_steps, newest_recounted, left_by)
 
 pub remove-requires : goal.remove-requires
 remove-requires c =
@@ -73,13 +65,4 @@ remove-requires c =
     rw c.deref.ensures.value (assumption (places_within c.self.invariant.0))
 
 pub returns-clause-count : goal.returns-clause-count
-returns-clause-count c =
-    let fewer : List Entry = remove c.self.inside.entries c.remove-superior.ensures.at in
-    let lost : c.lose.new.self ≡ recounted c.in-Some.superior (λ n. n - 1) fewer =
-    rw c.remove-superior.ensures.rest at c.lose.ensures in
-    let less : length fewer + 1 ≡ length c.self.inside.entries =
-    length-remove c.self.inside.entries c.remove-superior.ensures.at c.remove-superior.ensures.within in
-    let same = length_recounted c.in-Some.superior (λ n. n - 1) fewer in
-    let new = length_newest c.self.inside.nodes.items (recounted c.in-Some.superior (λ n. n - 1) fewer) in
-    let old = length_newest c.self.inside.nodes.items c.self.inside.entries in
-    rw (← c.self.view_is) (rw lost (omega arith))
+returns-clause-count c = grind (arith, nat_tests, common_steps, length-remove, length_recounted, length_newest)

@@ -1,4 +1,4 @@
-use Rattle.dir_tree.proofs.Prelude.{◌≡◌, ◌++◌, ◌+◌, length, [], ℕ, List, sym, ap, ◌∙◌, arith, length-append, append-nil, above, shapes, has_chains, above_any, depth}
+use Rattle.dir_tree.proofs.Prelude.{common_steps, ◌≡◌, ◌++◌, ◌+◌, length, [], ap, ◌∙◌, arith, length-append, append-nil, above, shapes, has_chains, above_any, depth, nat_tests}
 use Rattle.dir_tree.proofs.Tree.superiors.Goals as goal
 
 pub push-requires : goal.push-requires
@@ -20,12 +20,7 @@ returns-clause-above c quota =
     cc (append-nil c.loop-superior.up.items, above_any quota c.args.self.now.nodes c.args.uid)
 
 pub returns-clause-most : goal.returns-clause-most
-returns-clause-most c =
-    let ns = shapes c.args.self.now.nodes in
-    let is : c.loop-superior.up.items ≡ above ns c.args.uid = sym (append-nil c.loop-superior.up.items)
-    ∙ ap (λ (xs : List ℕ). c.loop-superior.up.items ++ xs) (sym (rw c.in_default.is at c.superior.ensures.above))
-    ∙ c.loop-superior.invariant.so_far in
-    rw is (depth ns c.superior.ensures.tree c.args.uid)
+returns-clause-most c = grind (arith, nat_tests, common_steps, append-nil, depth)
 
 pub returns-clause-chains : goal.returns-clause-chains
 returns-clause-chains c = has_chains (shapes c.args.self.now.nodes) c.superior.ensures.tree

@@ -1,4 +1,4 @@
-use Rattle.dir_tree.proofs.Prelude.{◌≡◌, ◌≢◌, ◌<◌, ℕ, Some, length, get_or, refl, sym, ◌∙◌, arith, false_from_ne_true, Less, Greater, Key, key_at, key_cmp, key_hash, hash_at, node_at}
+use Rattle.dir_tree.proofs.Prelude.{common_steps, ◌≡◌, ◌≢◌, ◌<◌, ℕ, Some, length, sym, ◌∙◌, arith, false_from_ne_true, Less, Greater, Key, key_at, key_cmp, key_hash, hash_at, node_at, nat_tests}
 use Rattle.dir_tree.proofs.IndexLemmas.{are_rising, before_hash, branch_key, compared, first_place, halved_above, key_branch, not_after, tied_same}
 use Rattle.dir_tree.proofs.index.find.Goals as goal
 
@@ -13,15 +13,7 @@ loop-at-init c =
     assumption (before_hash c.requires.order c.from_hash-at.result key c.from_hash-at.ensures.within below)
 
 pub returns-in-Equal-clause-some : goal.returns-in-Equal-clause-some
-returns-in-Equal-clause-some c =
-    let key : Key = (Some c.args.superior, c.args.name.now) in
-    let at = c.loop-at.at in
-    let within : at < length c.args.places.now = omega arith in
-    let same = tied_same (key_at c.args.nodes.now c.args.places.now at) key (compared c.args.nodes.now c.args.places.now
-    at key (c.requires.within at within) c.index-nodes-place.is c.compare.ensures ∙ c.in-Equal.is) in (
-      record { at = at; within = within; is = refl },
-      key_branch c.args.superior c.args.name.now (node_at c.args.nodes.now (get_or c.args.places.now at 0)) same,
-    )
+returns-in-Equal-clause-some c = grind (arith, nat_tests, common_steps, tied_same, compared, key_branch)
 
 pub returns-in-Greater-clause-none : goal.returns-in-Greater-clause-none
 returns-in-Greater-clause-none c place there = false_from_ne_true _ (λ is.

@@ -1,4 +1,4 @@
-use Rattle.dir_tree.proofs.Prelude.{◌+◌, ap, arith, Entry}
+use Rattle.dir_tree.proofs.Prelude.{common_steps, ◌+◌, ap, arith, Entry, nat_tests}
 use Rattle.dir_tree.proofs.UidLemmas.{slot_there, entry_there, inferiors_changed}
 use Rattle.dir_tree.proofs.entries.Entries.gain.Goals as goal
 
@@ -17,11 +17,7 @@ overflow_add-index_mut c =
     omega (arith, c.requires.room at.0 at.1)
 
 pub invariant_of-self : goal.invariant_of-self
-invariant_of-self c =
-    let left = inferiors_changed c.self.invariant.0 c.self.invariant.1 c.args.self.now c.self.view_is c.requires.rising
-    c.args.uid c.place_of-place.result c.place_of-place.ensures (λ n. n + 1) c.index_mut.result.now
-    c.index_mut.ensures.value in
-    (left.0, left.1, c.self.invariant.2, c.self.invariant.3, c.self.invariant.4)
+invariant_of-self c = grind (arith, nat_tests, common_steps, inferiors_changed)
 
 pub returns : goal.returns
 returns c =

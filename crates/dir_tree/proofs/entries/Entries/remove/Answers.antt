@@ -1,4 +1,4 @@
-use Rattle.dir_tree.proofs.Prelude.{rules, arith}
+use Rattle.dir_tree.proofs.Prelude.{common_steps, rules, arith, nat_tests}
 use Rattle.dir_tree.proofs.UidLemmas.{in_table, left_listed, left_removed, left_tabled, left_taken, slot_there, some_taken}
 use Rattle.dir_tree.proofs.entries.Entries.remove.Goals as goal
 
@@ -10,11 +10,7 @@ index_mut-requires c = omega (
 )
 
 pub overflow_sub-self : goal.overflow_sub-self
-overflow_sub-self c = omega (
-  arith,
-  some_taken c.self.invariant.0 c.self.invariant.1 c.args.self.now c.self.view_is c.args.uid
-      c.place_of-place.result c.place_of-place.ensures,
-)
+overflow_sub-self c = grind (arith, nat_tests, common_steps, some_taken)
 
 pub index-requires : goal.index-requires
 index-requires c = omega (
