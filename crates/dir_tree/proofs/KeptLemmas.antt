@@ -171,4 +171,5 @@ module _ {nodes : List Node} {es : List Entry} {free : List ℕ} {index : Places
 
   pub no_inferior : (u : ℕ) → ((i : ℕ) → i < length es → (entry_at es i).superior ≢ Some u)
       → list_any (is_inferior u) (shapes (newest nodes es)) ≡ false
-  no_inferior u none = grind (arith, nat_tests, common_steps, any_found, find_map, none_newest, not_below, node_of_entry)
+  no_inferior u none =
+      grind (arith, nat_tests, common_steps, any_found, find_map, none_newest, not_below, node_of_entry)

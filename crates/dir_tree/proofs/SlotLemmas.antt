@@ -34,7 +34,7 @@ module _ {slots : List Entry} {order : List ℕ} (l : IsListed slots order) (i :
     where
       at : (j : ℕ) → j < length order → entry_at (listed (set slots p e) order) j
           ≡ entry_at (set (listed slots order) i e) j
-      at j in_j = grind (arith, nat_tests, common_steps, listed_at, get_or-set_same, slot, length_listed, elsewhere, get_or-set_other)
+      at j in_j = grind (arith, nat_tests, common_steps, listed_at, slot, length_listed, elsewhere)
 
   pub still_listed : IsListed (set slots p e) order
   still_listed = grind (arith, nat_tests, common_steps, length-set, get_or-set_same, slot, elsewhere)

@@ -102,7 +102,8 @@ module _ {slots : List Entry} {table : List ℕ} (l : IsListed slots (taken tabl
   -- an entry more, of a place that no other has
   pub tabled_more : (e : Entry) → e.place < length slots → ((i : ℕ) → i < length es → (entry_at es i).place ≢ e.place)
       → e.uid < length table → IsTabled (set slots e.place e) (set table e.uid e.place)
-  tabled_more e room new in_table = grind (arith, nat_tests, common_steps, get_or-set_same, length-set, get_or-set_other, place_found)
+  tabled_more e room new in_table =
+      grind (arith, nat_tests, common_steps, get_or-set_same, length-set, get_or-set_other, place_found)
 
   -- no place stands where all uids are lower
   pub none_later : (uid : ℕ) → ((i : ℕ) → i < length es → (entry_at es i).uid < uid)
@@ -208,7 +209,8 @@ blank_tabled slots table is = rw is (record { uids = λ u lt some. absurd (omega
 -- the uids that the table holds from then on are nowhere
 past_tabled : (slots : List Entry) (table : List ℕ) (n : ℕ) → IsTabled slots table
     → IsTabled slots (table ++ replicate n 65535)
-past_tabled slots table n t = grind (arith, nat_tests, common_steps, length-replicate, get_or-replicate, get_or_append_left)
+past_tabled slots table n t =
+    grind (arith, nat_tests, common_steps, length-replicate, get_or-replicate, get_or_append_left)
 
 module _ {slots : List Entry} {table : List ℕ} (l : IsListed slots (taken table)) (t : IsTabled slots table)
     (now : List Entry) (view : listed slots (taken table) ≡ now) where

@@ -207,8 +207,10 @@ module _ (c : CellMaps) (table : IsTable c) (uid : ℕ) (absent : has_cell c uid
   no_segment = (or_parts (has c.directories uid) (has c.segments uid) absent).1
 
   pub enters_entered : (dir : Bool) → Enters c (entered c uid dir) uid dir
-  enters_entered true = grind (arith, nat_tests, common_steps, has_more, no_directory, quotas, look_more, length_more, sum_more)
-  enters_entered false = grind (arith, nat_tests, common_steps, has_more, no_segment, quotas, look_more, weigh_more, length_more)
+  enters_entered true =
+      grind (arith, nat_tests, common_steps, has_more, no_directory, quotas, look_more, length_more, sum_more)
+  enters_entered false =
+      grind (arith, nat_tests, common_steps, has_more, no_segment, quotas, look_more, weigh_more, length_more)
 
   pub table_entered : (dir : Bool) → IsTable (entered c uid dir)
   table_entered true =
@@ -251,10 +253,12 @@ left_out ks uid u off = grind (arith, nat_tests, common_steps)
 module _ (c : CellMaps) (table : IsTable c) (uid : ℕ) (no_quota : quota_in c uid ≡ 0) (no_pages : stored_in c uid ≡ 0)
   where
     leaves_directory : has c.directories uid ≡ true → Leaves c (without_directory c uid) uid
-    leaves_directory dir = grind (arith, nat_tests, common_steps, has_less, left_out, apart, quotas, look_all, look_less, length_less, sum_less)
+    leaves_directory dir =
+        grind (arith, nat_tests, common_steps, has_less, left_out, quotas, look_all, look_less, length_less, sum_less)
 
     leaves_segment : has c.directories uid ≡ false → has c.segments uid ≡ true → Leaves c (without_segment c uid) uid
-    leaves_segment off seg = grind (arith, nat_tests, common_steps, left_out, has_less, quotas, look_all, weigh_less, length_less)
+    leaves_segment off seg =
+        grind (arith, nat_tests, common_steps, left_out, has_less, quotas, look_all, weigh_less, length_less)
 
     table_directory : has c.directories uid ≡ true → IsTable (without_directory c uid)
     table_directory dir =

@@ -121,7 +121,19 @@ module _ {nodes : List Node} {c : CellMaps} (settled : Settled nodes c) where
     stored_room = grind (arith, nat_tests, common_steps, account_covers, ends, stored_below, account_here, room_charged)
 
     pub table_charged : IsTable (charged c (f s) s)
-    table_charged = grind (arith, nat_tests, common_steps, table, length_changed, length_with, look_changed, account_is, ends, below_quota)
+    table_charged =
+        grind (
+          arith,
+          nat_tests,
+          common_steps,
+          table,
+          length_changed,
+          length_with,
+          look_changed,
+          account_is,
+          ends,
+          below_quota,
+        )
 
   pub table_credited : (s n : ℕ) → IsTable (credited c (f s) s n)
   table_credited s n = grind (arith, nat_tests, common_steps, table, length_changed, length_with, look_changed)

@@ -55,7 +55,8 @@ padded_read held i = past_zeros held (100003 - length held) i
 
 pub padded_more : (held : List ℕ) (k : ℕ) → length held + k ≤ 100003 → padded (held ++ zeros k) ≡ padded held
 unfolding padded
-padded_more held k le = grind (arith, nat_tests, common_steps, append_assoc, replicate-append-replicate, length-append, many_zeros)
+padded_more held k le =
+    grind (arith, nat_tests, common_steps, append_assoc, replicate-append-replicate, length-append, many_zeros)
 
 -- a number that is held
 pub padded_set : (held : List ℕ) (i v : ℕ) → i < length held → padded (set held i v) ≡ set (padded held) i v

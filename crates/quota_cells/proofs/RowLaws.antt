@@ -36,7 +36,10 @@ remove_beside (k ∷ ks) (w ∷ vs) (suc i) len up lt =
 
 -- a uid that isn't there has a gap, and one that is there has a place
 pub gap_of : (ks : List ℕ) (u : ℕ) → IsRising ks → has ks u ≡ false → (i : ℕ) × IsGap ks u i
-gap_of [] u up off = grind (arith, nat_tests, common_steps)
+gap_of [] u up off = (
+  0,
+  record { within = omega arith; below = λ j lt. absurd (omega arith); above = λ j le lt. absurd (omega arith) },
+)
 gap_of (k ∷ ks) u up off = elim (cases_order u k) [
   | inl same ↦ cc (rw (eq-eqb k u (sym same)) at off)
   | inr differ ↦ elim differ [

@@ -138,7 +138,8 @@ module _ {nodes : List Node} {c : CellMaps} {d s n : ℕ} (between : Between nod
   x_there ne = account_here between.settled s (ends_at between.settled s here_s ne)
 
   load_x : q s ≡ n → s ≢ 1 → load_in m2 x ≡ load_in c x + left
-  load_x all ne = grind (arith, nat_tests, common_steps, load2_rises, moving, x_there, x_covers, load1_above, x_below, load1_s)
+  load_x all ne =
+      grind (arith, nat_tests, common_steps, load2_rises, moving, x_there, x_covers, load1_above, x_below, load1_s)
 
   over_x : q s ≡ n → s ≢ 1 → is_over m2 x ≡ ltb (q x) (load_in c x + left)
   over_x all ne =
@@ -241,7 +242,8 @@ module _ {nodes : List Node} {c : CellMaps} {d s n : ℕ} (between : Between nod
   more = if eqb (r d - n) 0 then load_in c s + load_in c d else load_in c s
 
   up_load_s : load_in u2 s ≡ more
-  up_load_s = grind (arith, nat_tests, common_steps, load2_rises, rising, here_s, top_covers, up, up1_s, up1_d, load2_stays)
+  up_load_s =
+      grind (arith, nat_tests, common_steps, load2_rises, rising, here_s, top_covers, up, up1_s, up1_d, load2_stays)
 
   up_load_d : load_in u2 d ≡ load_in c d
   up_load_d = grind (arith, nat_tests, common_steps, load2_rises, rising, here_d, covers_not, up1_d, load2_stays)
