@@ -1,5 +1,5 @@
 -- One more entry: what it does to a legal book, to the store after it, and to a process's part.
-use Rattle.flat_model.proofs.Prelude.{◌≡◌, ℕ, suc, zero, ◌+◌, true, false, List, [], ◌∷◌, ◌++◌, take, length, get_or, ◌<◌, Some, refl, sym, ap, subst, ◌∙◌, arith, filter, slice_get, filter-append, Plan, Entry, Store, boot, IsLawful, IsLegalFrom, IsLegal, store_from, store_after, after_entry, part, is_part, last_of}
+use Rattle.flat_model.proofs.Prelude.{common_steps, nat_tests, ◌≡◌, ℕ, suc, zero, ◌+◌, true, false, List, [], ◌∷◌, ◌++◌, take, length, get_or, ◌<◌, Some, refl, sym, ap, subst, ◌∙◌, arith, slice_get, filter-append, Plan, Entry, Store, boot, IsLawful, IsLegalFrom, IsLegal, store_from, store_after, after_entry, part, is_part, last_of}
 
 store_from-push : (p : Plan) (s : Store) (es : List Entry) (e : Entry) → store_from p s (es ++ e ∷ [])
     ≡ after_entry p (store_from p s es) e
@@ -37,11 +37,7 @@ part-push k es e h = filter-append (is_part k) es (e ∷ []) ∙ rw h refl
 
 pub part-skip : (k : ℕ) (es : List Entry) (e : Entry) → is_part k e ≡ false → part k (es ++ e ∷ []) ≡ part k es
 unfolding part
-part-skip k es e h = filter-append (is_part k) es (e ∷ []) ∙ rw h (nil_after (filter (is_part k) es))
-  where
-    nil_after : (xs : List Entry) → xs ++ [] ≡ xs
-    nil_after [] = refl
-    nil_after (x ∷ xs) = ap (λ t. x ∷ t) (nil_after xs)
+part-skip k es e h = grind (arith, nat_tests, common_steps, filter-append)
 
 pub last_of-push : (es : List Entry) (e : Entry) → last_of (es ++ e ∷ []) ≡ Some e
 last_of-push [] e = refl

@@ -1,7 +1,5 @@
 -- How many stored pages pass a test, once one is stored or is stored no more.
-use Rattle.flat_model.proofs.Prelude.{cases_Bool, ◌≡◌, ℕ, ◌+◌, ◌-◌, ◌≤◌, Bool, true, false, cond, eqb, List, [], ◌∷◌, refl, ap, ◌∙◌, arith, inl, inr, count_by, cases_eq, nat_tests, sum_by-cons, Node, volume_in, taken_on, is_page, is_stored, with_stored, without_stored, IsOnce}
-use Rattle.laws.proofs.Bools.{second_false}
-use Rattle.laws.proofs.Numbers.{and_both}
+use Rattle.flat_model.proofs.Prelude.{cases_Bool, ◌≡◌, ℕ, ◌+◌, ◌-◌, ◌≤◌, Bool, true, false, cond, eqb, List, [], ◌∷◌, refl, ap, ◌∙◌, arith, inl, inr, count_by, cases_eq, nat_tests, sum_by-cons, Node, volume_in, taken_on, is_page, is_stored, with_stored, without_stored, IsOnce, second_false, and_both}
 use Rattle.flat_model.proofs.PageLaws.{without_absent, without_first}
 
 pub count-cons : {X : Type 0} (test : X → Bool) (x : X) (xs : List X)

@@ -1,7 +1,5 @@
 -- Words that are cut off from an offset on.
-use Rattle.flat_model.proofs.Prelude.{cases_Bool, and_parts, ◌≡◌, ◌≢◌, ℕ, suc, zero, ◌+◌, ◌-◌, ◌*◌, ◌/◌, ◌%◌, ◌<◌, ◌≤◌, Bool, true, false, not, cond, eqb, ◌&&◌, ◌||◌, ◌++◌, List, [], ◌∷◌, length, take, replicate, get_or, Ok, Err, All, IsTrue, ◌↔◌, refl, sym, ap, ◌∙◌, arith, inl, inr, nat_le, nat_lt, cases_eq, cases_lt, nat_tests, get_or_past, length-append, length-replicate, length-take, Reply, Node, segment_at, cleared, cut_at, cut_once, without_pages, Words, is_stored, is_zero_page, without_stored, without_words, after_truncate, cut_off, is_lost, truncated, Store, get_or_default_zero, zeros_read}
-use Rattle.laws.proofs.Bools.{or_true}
-use Rattle.laws.proofs.Numbers.{and_both, from_first}
+use Rattle.flat_model.proofs.Prelude.{common_steps, cases_Bool, and_parts, ◌≡◌, ◌≢◌, ℕ, suc, zero, ◌+◌, ◌-◌, ◌*◌, ◌/◌, ◌%◌, ◌<◌, ◌≤◌, Bool, true, false, not, cond, eqb, ◌&&◌, ◌||◌, ◌++◌, List, [], ◌∷◌, length, take, replicate, get_or, Ok, Err, All, IsTrue, ◌↔◌, refl, sym, ap, ◌∙◌, arith, inl, inr, nat_le, nat_lt, cases_eq, nat_tests, get_or_past, length-append, length-replicate, length-take, Reply, Node, segment_at, cleared, cut_at, cut_once, without_pages, Words, is_stored, is_zero_page, without_stored, without_words, after_truncate, cut_off, is_lost, truncated, Store, get_or_default_zero, zeros_read, or_true, and_both, from_first}
 use Rattle.flat_model.proofs.DropLaws.{stored_fused, stored_same}
 use Rattle.flat_model.proofs.PageLaws.{is_stored-without}
 use Rattle.flat_model.proofs.ZeroLaws.{words_zero, zero_words}
@@ -11,11 +9,7 @@ pub get_cut : (at i n : ℕ) (ws : List ℕ)
     → get_or (take at ws ++ replicate n 0) i 0 ≡ cond (nat_le at i) 0 (get_or ws i 0)
 get_cut zero i n [] = rw (from_first i) (zeros_read n i)
 get_cut zero i n (w ∷ ws) = rw (from_first i) (zeros_read n i)
-get_cut (suc at) i n [] = zeros_read n i ∙ either (nat_le (suc at) i)
-  where
-    either : (z : Bool) → ◌≡◌ {A = ℕ} 0 (cond z 0 0)
-    either true = refl
-    either false = refl
+get_cut (suc at) i n [] = grind (arith, nat_tests, common_steps, zeros_read)
 get_cut (suc at) zero n (w ∷ ws) = let off : nat_le (suc at) 0 ≡ false = grind (arith, nat_tests) in rw off refl
 get_cut (suc at) (suc i) n (w ∷ ws) =
     let same : nat_le (suc at) (suc i) ≡ nat_le at i = grind (arith, nat_tests) in rw same (get_cut at i n ws)
@@ -31,13 +25,7 @@ pub zero_words_told : (words : Words) (u q : ℕ) (ws : List ℕ) (r : Bool) →
 zero_words_told words u q ws r size word told = agree r (is_zero_page words u q) forth back
   where
     forth : r ≡ true → is_zero_page words u q ≡ true
-    forth is = words_zero words u q (λ i lt. word i lt ∙ each i)
-      where
-        each : (i : ℕ) → get_or ws i 0 ≡ 0
-        each i = elim (cases_lt i (length ws)) [
-          | inl lt ↦ told.0 is i 0 lt
-          | inr past ↦ get_or_past ws i 0 past
-        ]
+    forth is = grind (arith, nat_tests, common_steps, words_zero, get_or_past)
 
     back : is_zero_page words u q ≡ true → r ≡ true
     back is = told.1 (λ k d lt. get_or_default_zero ws k d lt ∙ sym (word k (omega (arith, lt, size)))
@@ -89,14 +77,7 @@ module _ (s : Store) (u from : ℕ) where
 
   words_same : (v o : ℕ) → cond (eqb v u && (eqb (o / 1024) page && nat_le (from % 1024) (o % 1024))) 0
       (cond (eqb v u && later_page (o / 1024)) 0 (s.words v o)) ≡ without_words s.words u from v o
-  words_same v o = both (eqb v u) (eqb (o / 1024) page && nat_le (from % 1024) (o % 1024)) (later_page (o / 1024))
-      (nat_le from o) (past_page from o)
-    where
-      both : (a b c d : Bool) → (b || c) ≡ d
-          → cond (a && b) 0 (cond (a && c) 0 (s.words v o)) ≡ cond (a && d) 0 (s.words v o)
-      both true true c d e = rw (← e) refl
-      both true false c d e = rw (← e) refl
-      both false b c d e = refl
+  words_same v o = grind (arith, nat_tests, common_steps, past_page)
 
   zero_past : from ≤ 1024 * page → is_zero_page (without_words s.words u from) u page ≡ true
   zero_past le = words_zero (without_words s.words u from) u page each
@@ -113,12 +94,7 @@ module _ (s : Store) (u from : ℕ) where
 
   below : (q : ℕ) → q < page → lost q ≡ false
   unfolding lost
-  below q lt =
-      let first : nat_le from (1024 * q) ≡ false = (let ne : 1024 * q < from = omega (arith, lt) in
-      grind (arith, nat_tests)) in
-      let second : nat_lt from (1024 * q + 1024) ≡ false = (let ne : 1024 * q + 1024 ≤ from = omega (arith, lt) in
-      grind (arith, nat_tests)) in
-      rw (first, second) refl
+  below q lt = grind (arith, nat_tests, common_steps)
 
   beyond : (q : ℕ) → page < q → lost q ≡ true
   unfolding lost
@@ -127,15 +103,7 @@ module _ (s : Store) (u from : ℕ) where
 
   at_page : lost page ≡ is_zero_page (without_words s.words u from) u page
   unfolding lost
-  at_page =
-      let second : nat_lt from (1024 * page + 1024) ≡ true = (let lt : from < 1024 * page + 1024 = omega arith in
-      grind (arith, nat_tests)) in
-      rw second (start (nat_le from (1024 * page)) refl)
-    where
-      start : (z : Bool) → nat_le from (1024 * page) ≡ z → (z || is_zero_page (without_words s.words u from) u page)
-          ≡ is_zero_page (without_words s.words u from) u page
-      start true e = sym (zero_past (grind (arith, nat_tests)))
-      start false e = refl
+  at_page = grind (arith, nat_tests, common_steps, zero_past)
 
   -- pages other than the cut one
   side : (q : ℕ) → q ≢ page → later_page q ≡ lost q

@@ -1,6 +1,5 @@
 -- Pages of a segment that are stored no more.
-use Rattle.flat_model.proofs.Prelude.{◌≡◌, ℕ, ◌+◌, ◌/◌, ◌<◌, ◌≤◌, Bool, true, false, not, cond, eqb, ◌&&◌, ◌||◌, List, [], ◌∷◌, filter, refl, sym, ap, ◌∙◌, arith, inl, inr, nat_le, nat_lt, cases_eq, nat_tests, without_pages, Words, is_page, is_stored, without_stored, Store}
-use Rattle.laws.proofs.Numbers.{eqb_turned}
+use Rattle.flat_model.proofs.Prelude.{common_steps, ◌≡◌, ℕ, ◌+◌, ◌/◌, ◌<◌, ◌≤◌, Bool, true, false, not, cond, eqb, ◌&&◌, ◌||◌, List, [], ◌∷◌, filter, refl, sym, ap, ◌∙◌, arith, inl, inr, nat_le, nat_lt, cases_eq, nat_tests, without_pages, Words, is_page, is_stored, without_stored, Store, eqb_turned}
 
 -- two tests for the same page
 pub flip_page : (u q v r : ℕ) → is_page v r (u, q) ≡ (eqb v u && eqb r q)
@@ -9,12 +8,7 @@ flip_page u q v r = rw (eqb_turned u v, eqb_turned q r) refl
 same_store : (s : Store) (u : ℕ) (t r : ℕ → Bool)
     → ((v o : ℕ) → cond (eqb v u && t (o / 1024)) 0 (s.words v o) ≡ cond (eqb v u && r (o / 1024)) 0 (s.words v o))
     → without_stored s.stored u t ≡ without_stored s.stored u r → without_pages s u t ≡ without_pages s u r
-same_store s u t r words stored =
-    ap (λ (w : Words). record s { words = w; stored = without_stored s.stored u t }) (λ i. λ v. λ o. words v o i)
-    ∙ ap (λ (xs : List (ℕ × ℕ)). record s {
-      words = λ v o. cond (eqb v u && r (o / 1024)) 0 (s.words v o);
-      stored = xs;
-    }) stored
+same_store s u t r words stored = grind (arith, nat_tests, common_steps)
 
 -- the same pages are listed where two tests agree on what is stored
 pub stored_same : (xs : List (ℕ × ℕ)) (u : ℕ) (t r : ℕ → Bool) → ((q : ℕ) → is_stored xs u q ≡ true → t q ≡ r q)
@@ -31,10 +25,7 @@ stored_same (x ∷ xs) u t r agree = ap (λ (z : Bool). cond (not z) (x ∷ filt
     later false b h = h
 
     here : (z : Bool) → eqb x.0 u ≡ z → (z && t x.1) ≡ (z && r x.1)
-    here true e = agree x.1 (first (eqb x.0 u) (eqb x.1 x.1) e (grind (arith, nat_tests)))
-      where
-        first : (a b : Bool) → a ≡ true → b ≡ true → ((a && b) || is_stored xs u x.1) ≡ true
-        first a b f g = rw (f, g) refl
+    here true e = grind (arith, nat_tests, common_steps)
     here false e = refl
 
 -- the words of pages that aren't stored are 0
@@ -82,17 +73,7 @@ stored_fused (x ∷ xs) u t r = fused_step u t r (eqb x.0 u) (t x.1) (r x.1) x (
 
 pub fused : (s : Store) (u : ℕ) (t r : ℕ → Bool)
     → without_pages (without_pages s u t) u r ≡ without_pages s u (λ q. t q || r q)
-fused s u t r = ap (λ (w : Words). record s { words = w; stored = without_stored (without_stored s.stored u t) u r })
-    (λ i. λ v. λ o. words (eqb v u) (t (o / 1024)) (r (o / 1024)) (s.words v o) i) ∙ ap (λ (xs : List (ℕ × ℕ)). record s
-    { words = λ v o. cond (eqb v u && (t (o / 1024) || r (o / 1024))) 0 (s.words v o); stored = xs })
-    (stored_fused s.stored u t r)
-  where
-    words : (a b c : Bool) (w : ℕ) → cond (a && c) 0 (cond (a && b) 0 w) ≡ cond (a && (b || c)) 0 w
-    words true true true w = refl
-    words true true false w = refl
-    words true false true w = refl
-    words true false false w = refl
-    words false b c w = refl
+fused s u t r = grind (arith, nat_tests, common_steps, stored_fused)
 
 all_stay : (xs : List (ℕ × ℕ)) (u : ℕ) → without_stored xs u (λ q. false) ≡ xs
 unfolding without_stored
@@ -122,14 +103,7 @@ none_removed s u t blank off = agreed s u t (λ q. false) blank off ∙ whole
 -- a page that isn't stored
 pub none_missing : (s : Store) (u q : ℕ) → IsBlank s → is_stored s.stored u q ≡ false
     → without_pages s u (λ r. eqb r q) ≡ s
-none_missing s u q blank off = none_removed s u (λ r. eqb r q) blank only
-  where
-    only : (r : ℕ) → is_stored s.stored u r ≡ true → eqb r q ≡ false
-    only r on = elim (cases_eq r q) [
-      | inl same ↦ (let here : is_stored s.stored u q ≡ true = ap (is_stored s.stored u) (sym same) ∙ on in
-          let clash : true ≡ false = sym here ∙ off in cc)
-      | inr other ↦ grind (arith, nat_tests)
-    ]
+none_missing s u q blank off = grind (arith, nat_tests, common_steps, none_removed)
 
 -- ---- the pages from one on, one after the other
 
@@ -150,11 +124,4 @@ more_between s u from page le = fused s u (between from page) (λ q. eqb q page)
 
 pub all_between : (s : Store) (u from page : ℕ) → IsBlank s → ((q : ℕ) → is_stored s.stored u q ≡ true → q < page)
     → without_pages s u (between from page) ≡ without_pages s u (λ q. nat_le from q)
-all_between s u from page blank within = agreed s u (between from page) (λ q. nat_le from q) blank same
-  where
-    same : (q : ℕ) → is_stored s.stored u q ≡ true → between from page q ≡ nat_le from q
-    same q on = below (nat_le from q) (nat_lt q page) (let far : q < page = within q on in grind (arith, nat_tests))
-      where
-        below : (a b : Bool) → b ≡ true → (a && b) ≡ a
-        below true b e = e
-        below false b e = refl
+all_between s u from page blank within = grind (arith, nat_tests, common_steps, agreed)

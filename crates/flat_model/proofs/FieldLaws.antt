@@ -1,5 +1,5 @@
 -- What is read of the node that has a uid: it is found, and it stays where other nodes go and where changes keep it.
-use Rattle.flat_model.proofs.Prelude.{◌≡◌, ◌≢◌, ℕ, ◌+◌, Bool, false, cond, eqb, List, [], ◌∷◌, map, Some, None, true, refl, sym, ap, ◌∙◌, arith, inl, inr, cases_Bool, ne_eqb, nat_tests, count_by, sum_by-cons, Node, entries_on, node_in, without_node}
+use Rattle.flat_model.proofs.Prelude.{common_steps, ◌≡◌, ◌≢◌, ℕ, Bool, false, cond, eqb, List, [], ◌∷◌, map, Some, None, refl, sym, ap, ◌∙◌, arith, inl, inr, cases_Bool, ne_eqb, nat_tests, sum_by-cons, Node, entries_on, node_in, without_node}
 
 -- it reads a field of the first node that has the uid
 abbrev pub Reads : {X : Type 0} → (List Node → X) → (Node → X) → ℕ → Type 0
@@ -45,19 +45,11 @@ module _ {X : Type 0} (read : List Node → X) (field : Node → X) (u : ℕ) (r
 -- a field that a change keeps, where the change is of the nodes of one uid
 pub field_kept : {X : Type 0} (field : Node → X) (change : Node → Node) (u : ℕ)
     → ((n : Node) → field (change n) ≡ field n) → (n : Node) → field (cond (eqb n.uid u) (change n) n) ≡ field n
-field_kept field change u keeps n = by (eqb n.uid u)
-  where
-    by : (z : Bool) → field (cond z (change n) n) ≡ field n
-    by true = keeps n
-    by false = refl
+field_kept field change u keeps n = grind (arith, nat_tests, common_steps)
 
 -- how many nodes lie on a volume, where each stays on its own
 pub entries_mapped : (change : Node → Node) → ((n : Node) → (change n).volume ≡ n.volume) → (ns : List Node) (v : ℕ)
     → entries_on (map change ns) v ≡ entries_on ns v
 unfolding entries_on
 entries_mapped change volume [] v = refl
-entries_mapped change volume (n ∷ ns) v =
-    sum_by-cons (λ (x : Node). cond (eqb x.volume v) 1 0) (change n) (map change ns)
-    ∙ ap (λ (x : ℕ). cond {A = ℕ} (eqb x v) 1 0 + count_by (λ y. eqb y.volume v) (map change ns)) (volume n)
-    ∙ ap (λ (x : ℕ). cond {A = ℕ} (eqb n.volume v) 1 0 + x) (entries_mapped change volume ns v)
-    ∙ sym (sum_by-cons (λ (x : Node). cond (eqb x.volume v) 1 0) n ns)
+entries_mapped change volume (n ∷ ns) v = grind (arith, nat_tests, common_steps, sum_by-cons)

@@ -1,7 +1,5 @@
 -- Which replies are held back until a segment has moved.
-use Rattle.flat_model.proofs.Prelude.{◌≡◌, ℕ, ◌*◌, Bool, true, false, not, ◌&&◌, cond, Option, Some, None, is_some, refl, sym, ap, ◌∙◌, is_none, nat_le, Plan, who_of, permits, reference_of, Command, Reference, RefKind, Reply, access_of, Node, node_in, reply_by, reply_to_command, takes_effect, is_held_at, is_held_back, is_held_by, is_held_in, is_held_of, is_used_up, is_volume_full, reply_at, reply_in, reply_of, reply_to_reference, stores_page, word_reply, room_for, Store, known_uid}
-use Rattle.script.specs.declared.commands.RefKind.TheVariants as kind
-use Rattle.book.specs.declared.replies.Reply.TheVariants as reply
+use Rattle.flat_model.proofs.Prelude.{arith, common_steps, nat_tests, ◌≡◌, ℕ, ◌*◌, Bool, true, false, not, ◌&&◌, cond, Option, Some, None, is_some, refl, ap, is_none, nat_le, Plan, who_of, permits, reference_of, Command, Reference, RefKind, Reply, access_of, Node, node_in, reply_by, reply_to_command, takes_effect, is_held_at, is_held_back, is_held_by, is_held_in, is_held_of, is_used_up, is_volume_full, reply_at, reply_in, reply_of, reply_to_reference, stores_page, word_reply, room_for, Store, known_uid, kind, reply}
 
 module _ (p : Plan) (s : Store) (k : ℕ) where
   -- ---- by the command, by what its number stands for, and by the node of that
@@ -39,9 +37,7 @@ module _ (p : Plan) (s : Store) (k : ℕ) where
       → (permits (access_of (who_of p k) n.rows) how ≡ true) × (nat_le (1024 * n.pages) offset ≡ false)
       × (stores_page s n.uid offset how ≡ true) × (is_used_up s n.uid ≡ false) × (is_volume_full p s n.volume ≡ true)
       × (is_some (room_for p s n.uid) ≡ true)
-  held_parts offset how n h = parts (permits (access_of (who_of p k) n.rows) how) (nat_le (1024 * n.pages) offset)
-      (stores_page s n.uid offset how) (is_used_up s n.uid) (is_volume_full p s n.volume)
-      (is_some (room_for p s n.uid)) h
+  held_parts offset how n h = grind (arith, nat_tests, common_steps, parts)
 
   -- ---- a reply that is held back is no refusal
 
@@ -62,9 +58,7 @@ module _ (p : Plan) (s : Store) (k : ℕ) where
 
   in_takes : (offset : ℕ) (how : RefKind) (n : Node) → is_held_in p s k offset how n ≡ true
       → takes_effect (reply_in p s k offset how n) ≡ true
-  in_takes offset how n = chosen (permits (access_of (who_of p k) n.rows) how) (nat_le (1024 * n.pages) offset)
-      (stores_page s n.uid offset how) (is_used_up s n.uid) (is_volume_full p s n.volume) (room_for p s n.uid)
-      (word_reply (s.words n.uid offset) how) (takes_word (s.words n.uid offset) how)
+  in_takes offset how n = grind (arith, nat_tests, common_steps, chosen, takes_word)
 
   at_takes : (offset : ℕ) (how : RefKind) (o : Option Node) → is_held_at p s k offset how o ≡ true
       → takes_effect (reply_at p s k offset how o) ≡ true
@@ -87,8 +81,4 @@ module _ (p : Plan) (s : Store) (k : ℕ) where
 
   -- so a refusal isn't held back
   pub refused_free : (c : Command) → takes_effect (reply_to_command p s k c) ≡ false → is_held_back p s k c ≡ false
-  refused_free c refused = by (is_held_back p s k c) refl
-    where
-      by : (z : Bool) → is_held_back p s k c ≡ z → z ≡ false
-      by true held = sym (held_takes c held) ∙ refused
-      by false held = refl
+  refused_free c refused = grind (arith, nat_tests, common_steps, held_takes)

@@ -1,6 +1,5 @@
 -- What no command changes but its own.
-use Rattle.flat_model.proofs.Prelude.{◌≡◌, ℕ, ℤ, ◌+◌, ◌≤◌, Bool, true, false, cond, List, Option, Some, None, Result, Ok, Err, refl, arith, Mode, Named, Plan, Command, RefKind, Reference, reference_of, Reply, Row, Node, branch_at, changed, directory_at, node_at, parts_of, segment_at, effect_by, effect_of, effect_of_tree_command, after_delete, after_make, deleted, made_at, made_of, after_initiate, after_terminate, initiated, alters, new_word, after_reference, written, written_by, after_acl, after_move, moved, after_length, after_truncate, truncated, Store, known_uid}
-use Rattle.script.specs.declared.commands.Command.TheVariants as command
+use Rattle.flat_model.proofs.Prelude.{common_steps, nat_tests, ◌≡◌, ℕ, ℤ, ◌+◌, ◌≤◌, Bool, true, false, List, Option, Some, None, Result, Ok, Err, refl, arith, Mode, Named, Plan, Command, RefKind, Reference, reference_of, Reply, Row, Node, branch_at, changed, directory_at, node_at, parts_of, segment_at, effect_by, effect_of, effect_of_tree_command, after_delete, after_make, deleted, made_at, made_of, after_initiate, after_terminate, initiated, after_reference, written_by, after_acl, after_move, moved, after_length, after_truncate, truncated, Store, known_uid, command}
 
 -- what numbers stand for, and how far processes have come, stay; at most one uid is given
 pub record KeepsOthers (s t : Store) : Type 0 where
@@ -61,11 +60,7 @@ move_keeps s path amount = by_result s (moved s amount)
 
 pub written_keeps : (s : Store) (offset : ℕ) (how : RefKind) (o : Option ℕ) → KeepsOthers s (written_by s offset how o)
 written_keeps s offset how None = kept s
-written_keeps s offset how (Some uid) = here (alters how)
-  where
-    here : (z : Bool) → KeepsOthers s (cond z (written s uid offset (new_word (s.words uid offset) how)) s)
-    here true = record { known = refl; processes = refl; next = omega arith }
-    here false = kept s
+written_keeps s offset how (Some uid) = grind (arith, nat_tests, common_steps, kept)
 
 -- ---- of each command
 

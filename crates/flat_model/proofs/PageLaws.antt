@@ -1,25 +1,14 @@
 -- Laws of the stored pages: which are there once one is stored, or once some of a segment are stored no more.
-use Rattle.flat_model.proofs.Prelude.{inl, inr, cases_Bool, and_parts, ◌≡◌, ℕ, Bool, true, false, not, cond, eqb, ◌&&◌, ◌||◌, List, [], ◌∷◌, refl, sym, ap, ◌∙◌, arith, nat_le, nat_tests, is_page, is_stored, is_stored_from, with_stored, without_stored, IsOnce, and_false}
-use Rattle.laws.proofs.Bools.{or_true, second_false}
-use Rattle.laws.proofs.Numbers.{and_both, eqb_self}
+use Rattle.flat_model.proofs.Prelude.{common_steps, inl, inr, cases_Bool, and_parts, ◌≡◌, ℕ, Bool, true, false, not, cond, eqb, ◌&&◌, ◌||◌, List, [], ◌∷◌, refl, sym, ap, ◌∙◌, arith, nat_le, nat_tests, is_page, is_stored, is_stored_from, with_stored, without_stored, IsOnce, and_false, or_true, second_false, and_both, eqb_self}
 
 pub is_stored-with : (xs : List (ℕ × ℕ)) (u p v q : ℕ) → is_stored (with_stored xs u p) v q
     ≡ (is_page v q (u, p) || is_stored xs v q)
 unfolding with_stored
-is_stored-with xs u p v q = elim (cases_Bool (is_stored xs u p)) [
-  | inl on ↦ rw on (elim (cases_Bool (is_page v q (u, p))) [
-    | inl is ↦ (let same = and_both u p v q is in rw (is, ← same.0, ← same.1) on)
-    | inr off ↦ rw off refl
-  ])
-  | inr off ↦ rw off refl
-]
+is_stored-with xs u p v q = grind (arith, nat_tests, common_steps, and_both)
 
 pub once_with : (xs : List (ℕ × ℕ)) (u p : ℕ) → IsOnce xs → IsOnce (with_stored xs u p)
 unfolding with_stored
-once_with xs u p once = elim (cases_Bool (is_stored xs u p)) [
-  | inl on ↦ rw on once
-  | inr off ↦ rw off (off, once)
-]
+once_with xs u p once = grind (arith, nat_tests, common_steps)
 
 pub with_old : (xs : List (ℕ × ℕ)) (u p : ℕ) → is_stored xs u p ≡ true → with_stored xs u p ≡ xs
 unfolding with_stored

@@ -1,15 +1,10 @@
 -- What refuses a path: a test of replies that says the same of each refusal says it of what refuses a path.
-use Rattle.flat_model.proofs.Prelude.{◌≡◌, ℕ, Bool, true, false, cond, List, [], ◌∷◌, Option, Some, None, Result, Ok, Err, ap, refl, sym, ◌∙◌, Reply, Node, Walk, LeadsTo, Missing, InSegment, node_in, walk_in, branch_at, directory_at, node_at, only_directory, only_segment, segment_at, there_or, walked, takes_effect}
-use Rattle.book.specs.declared.replies.Reply.TheVariants as reply
+use Rattle.flat_model.proofs.Prelude.{arith, common_steps, nat_tests, ◌≡◌, ℕ, false, List, [], ◌∷◌, Err, ap, refl, sym, ◌∙◌, Reply, Node, Walk, LeadsTo, Missing, InSegment, walk_in, branch_at, directory_at, node_at, segment_at, walked, takes_effect, reply}
 
 module _ {X : Type 0} (says : Reply → X) (x : X) (missing : says reply.NoPath ≡ x) (in_segment : says reply.NotDir ≡ x)
   where
     walk_says : (nodes : List Node) (w : Walk) (r : Reply) → walked nodes w ≡ Err r → says r ≡ x
-    walk_says nodes (LeadsTo u) r e = there (node_in nodes u) e
-      where
-        there : (o : Option Node) → there_or o ≡ Err r → says r ≡ x
-        there None e = (let is : reply.NoPath ≡ r = cc in ap says (sym is) ∙ missing)
-        there (Some n) e = cc
+    walk_says nodes (LeadsTo u) r e = grind (arith, nat_tests, common_steps)
     walk_says nodes Missing r e = (let is : reply.NoPath ≡ r = cc in ap says (sym is) ∙ missing)
     walk_says nodes InSegment r e = (let is : reply.NotDir ≡ r = cc in ap says (sym is) ∙ in_segment)
 
@@ -19,15 +14,7 @@ module _ {X : Type 0} (says : Reply → X) (x : X) (missing : says reply.NoPath 
 
     pub segment_says : says reply.IsDir ≡ x → (nodes : List Node) (path : List (List ℕ)) (r : Reply)
         → segment_at nodes path ≡ Err r → says r ≡ x
-    segment_says dir nodes path r e = by (node_at nodes path) refl e
-      where
-        kind : (z : Bool) (n : Node) → cond z (Err reply.IsDir) (Ok n) ≡ Err r → says r ≡ x
-        kind true n e = (let is : reply.IsDir ≡ r = cc in ap says (sym is) ∙ dir)
-        kind false n e = cc
-
-        by : (o : Result Node Reply) → node_at nodes path ≡ o → only_segment o ≡ Err r → says r ≡ x
-        by (Ok n) at e = kind n.directory n e
-        by (Err q) at e = (let is : q ≡ r = cc in node_says nodes path r (at ∙ ap Err is))
+    segment_says dir nodes path r e = grind (arith, nat_tests, common_steps, node_says)
 
     pub branch_says : says reply.Root ≡ x → (nodes : List Node) (path : List (List ℕ)) (r : Reply)
         → branch_at nodes path ≡ Err r → says r ≡ x
@@ -50,13 +37,4 @@ branch_refuses = branch_says takes_effect false refl refl refl
 
 pub directory_refuses : (nodes : List Node) (path : List (List ℕ)) (r : Reply) → directory_at nodes path ≡ Err r
     → takes_effect r ≡ false
-directory_refuses nodes path r e = by (branch_at nodes path) refl e
-  where
-    kind : (z : Bool) (n : Node) → cond z (Ok n) (Err reply.IsSeg) ≡ Err r → takes_effect r ≡ false
-    kind true n e = cc
-    kind false n e = (let is : reply.IsSeg ≡ r = cc in ap takes_effect (sym is))
-
-    by : (o : Result Node Reply) → branch_at nodes path ≡ o → only_directory reply.IsSeg o ≡ Err r
-        → takes_effect r ≡ false
-    by (Ok n) at e = kind n.directory n e
-    by (Err q) at e = (let is : q ≡ r = cc in branch_refuses nodes path r (at ∙ ap Err is))
+directory_refuses nodes path r e = grind (arith, nat_tests, common_steps, branch_refuses)

@@ -1,6 +1,5 @@
 -- How far a process may come: to one of its commands, of which a script has few.
-use Rattle.flat_model.proofs.Prelude.{◌≡◌, ℕ, suc, zero, ◌+◌, ◌<◌, ◌≤◌, ◌^◌, true, List, [], ◌∷◌, length, get_or, Some, arith, sum_by, slice_get, list_all, and_parts, nat_tests, sum_by-cons, IsPlan, is_command, is_process, weight, weight_of, Plan, ProcessPlan, command_at, commands_of, nobody, Command}
-use Rattle.script.specs.declared.commands.Command.TheVariants as command
+use Rattle.flat_model.proofs.Prelude.{common_steps, ◌≡◌, ℕ, suc, zero, ◌+◌, ◌<◌, ◌≤◌, ◌^◌, true, List, [], ◌∷◌, length, get_or, Some, arith, sum_by, slice_get, list_all, and_parts, nat_tests, sum_by-cons, IsPlan, is_command, is_process, weight, weight_of, Plan, ProcessPlan, command_at, commands_of, nobody, Command, command}
 
 pub heavy : (volumes : ℕ) (c : Command) → is_command volumes c ≡ true → 1 ≤ weight c
 unfolding is_command
@@ -33,17 +32,11 @@ place_within p k place c at = command_there (commands_of p k) place c at
 place_small : (volumes : ℕ) (xs : List ProcessPlan) (k : ℕ) → list_all (is_process volumes) xs ≡ true
     → length (get_or xs k (record { who = nobody; commands = [] })).commands ≤ sum_by weight_of xs
 place_small volumes [] k are = omega arith
-place_small volumes (x ∷ xs) zero are =
-    let parts = and_parts (is_process volumes x) (list_all (is_process volumes) xs) are in
-    let one : length x.commands ≤ weight_of x = process_weighs volumes x parts.0 in
-    omega (arith, one, sum_by-cons weight_of x xs)
+place_small volumes (x ∷ xs) zero are = grind (arith, nat_tests, common_steps, and_parts, process_weighs, sum_by-cons)
 place_small volumes (x ∷ xs) (suc k) are =
     let parts = and_parts (is_process volumes x) (list_all (is_process volumes) xs) are in
     let rest = place_small volumes xs k parts.1 in
     omega (arith, rest, sum_by-cons weight_of x xs)
 
 pub place_fits : (p : Plan) (k place : ℕ) → IsPlan p → place < length (commands_of p k) → place + 1 < 2 ^ 32
-place_fits p k place plan lt =
-    let few = place_small (length p.volumes) p.processes k plan.each in
-    let most : sum_by weight_of p.processes ≤ 100000 = plan.commands in
-    omega (arith, lt, few, most)
+place_fits p k place plan lt = grind (arith, nat_tests, common_steps, place_small)

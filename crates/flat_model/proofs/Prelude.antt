@@ -17,21 +17,21 @@ pub use Rattle.std.specs.Ordering.{is_eq, is_gt, nat_cmp, ordering_then}
 pub use Rattle.std.specs.Prelude.{count_by, is_none, nat_le, nat_lt, slice_get, slice_index, sum_by}
 pub use Rattle.std.specs.declared.cmp.Ordering.{Ordering}
 pub use Rattle.std.specs.declared.cmp.Ordering.TheVariants.{Equal, Greater, Less}
-pub use Rattle.laws.proofs.Bools.{and_false, not_both, or_true}
+pub use Rattle.laws.proofs.Bools.{and_false, not_both, or_true, second_false}
 pub use Rattle.laws.proofs.Lists.{zeros_read}
-pub use Rattle.laws.proofs.Numbers.{from_first}
+pub use Rattle.laws.proofs.Numbers.{and_both, eqb_self, eqb_turned, from_first}
 pub use Rattle.mnames.specs.declared.modes.Mode.{Mode}
 pub use Rattle.mnames.specs.declared.rows.Row.{Row as Named}
 pub use Rattle.script.specs.Forms.{ArePools, IsPlan, weight}
 unfoldable pub use Rattle.script.specs.Forms.{is_command, is_process, is_volume, weight_of}
 pub use Rattle.script.specs.Plans.{Plan, ProcessPlan, command_at, commands_of, nobody, who_of}
 pub use Rattle.script.specs.References.{alters, new_word, permits, reference_of}
-pub use Rattle.script.specs.declared.commands.Command.{Command}
-pub use Rattle.script.specs.declared.commands.RefKind.{RefKind}
+pub use Rattle.script.specs.declared.commands.Command.{Command, Command as command}
+pub use Rattle.script.specs.declared.commands.RefKind.{RefKind, RefKind as kind}
 pub use Rattle.script.specs.declared.commands.Reference.{Reference}
 pub use Rattle.script.specs.declared.plan.VolumeLine.{VolumeLine}
-pub use Rattle.book.specs.declared.entries.Entry.{Entry}
-pub use Rattle.book.specs.declared.replies.Reply.{Reply}
+pub use Rattle.book.specs.declared.entries.Entry.{Entry, Entry as entry}
+pub use Rattle.book.specs.declared.replies.Reply.{Reply, Reply as reply}
 pub use Rattle.tree_model.proofs.ChainLaws.{has_chains}
 pub use Rattle.tree_model.proofs.Finds.{IsMember}
 pub use Rattle.tree_model.proofs.SharedLaws.{directory_there, found_uid, least_none, older, without_absent}

@@ -1,13 +1,8 @@
 -- No quota is moved.
-use Rattle.flat_model.proofs.Prelude.{◌≡◌, ℕ, ℤ, pos, ◌+◌, ◌-◌, ◌≤◌, Bool, true, false, cond, eqb, not, ◌&&◌, ◌||◌, List, [], ◌∷◌, map, None, Ok, refl, sym, ap, ◌∙◌, arith, nat_lt, is_positive, nat_tests, getter_of, giver_of, is_over, over_in, tree_moved, with_moved, with_quota_of, Node, above, has_directory, quota_in, used_by, directory_at, done_or_over, move_reply, Store, least_none}
-use Rattle.book.specs.declared.replies.Reply.TheVariants as reply
+use Rattle.flat_model.proofs.Prelude.{common_steps, ◌≡◌, ℕ, ℤ, pos, ◌+◌, ◌-◌, ◌≤◌, Bool, true, false, eqb, not, ◌&&◌, ◌||◌, List, [], ◌∷◌, map, None, Ok, refl, ap, ◌∙◌, arith, nat_lt, nat_tests, getter_of, giver_of, is_over, over_in, tree_moved, with_moved, with_quota_of, Node, above, has_directory, quota_in, used_by, directory_at, move_reply, Store, least_none, reply}
 
 quota_same : (u : ℕ) (change : ℕ → ℕ) (n : Node) → ((q : ℕ) → change q ≡ q) → with_quota_of u change n ≡ n
-quota_same u change n same = here (eqb n.uid u)
-  where
-    here : (z : Bool) → cond z (record n { quota = change n.quota }) n ≡ n
-    here true = ap (λ (q : ℕ). record n { quota = q }) (same n.quota)
-    here false = refl
+quota_same u change n same = grind (arith, nat_tests, common_steps)
 
 nodes_same : (ns : List Node) (giver getter : ℕ) → with_moved ns giver getter 0 ≡ ns
 nodes_same [] giver getter = refl
@@ -40,14 +35,4 @@ pub move_of_none : (s : Store) (nodes : List Node) (path : List (List ℕ)) (n :
     → ((a : ℕ) → used_by s.nodes s.stored a ≤ quota_in s.nodes a) → reply.Done ≡ move_reply s path amount
 unfolding move_reply
 move_of_none s nodes path n amount same found none within =
-    let there = ap (λ (ns : List Node). directory_at ns path) same ∙ found in
-    sym (rw (none, there) (first (nat_lt (quota_in s.nodes (giver_of (above s.nodes) n.uid (is_positive (pos 0)))) 0)
-    (grind (arith, nat_tests))
-    ∙ ap (λ (ns : List Node). done_or_over (over_in ns s.stored)) (nothing_moved s.nodes n.uid (is_positive (pos 0)))
-    ∙ ap done_or_over (none_over s.nodes s.stored within)))
-  where
-    first : (z : Bool) → z ≡ false
-        → cond z reply.TooLittle (done_or_over (over_in (tree_moved s.nodes n.uid (is_positive (pos 0)) 0) s.stored))
-        ≡ done_or_over (over_in (tree_moved s.nodes n.uid (is_positive (pos 0)) 0) s.stored)
-    first true e = cc
-    first false e = refl
+    grind (arith, nat_tests, common_steps, nothing_moved, none_over)

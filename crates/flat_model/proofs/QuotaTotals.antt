@@ -1,12 +1,9 @@
 -- The quotas of the tree sum to the same whatever entry is lawful, and what each account is charged for is within its
 -- quota where the counts say so.
-use Rattle.flat_model.proofs.Prelude.{nat_tests, ◌≡◌, ◌≢◌, ◌≤◌, ◌<◌, ℕ, suc, ◌+◌, ◌-◌, Bool, true, false, not, cond, eqb, is_some, List, [], ◌∷◌, map, sum, length, Option, Some, None, inl, inr, refl, sym, ap, ◌∙◌, arith, ◌||◌, nat_lt, Result, Ok, Err, ℤ, slice_index, is_positive, unsigned_abs, list_all, list_any, eqb_tells, leb_tells, sum_by-cons, Plan, who_of, Command, Reply, giver_of, tree_moved, with_moved, with_quota_of, Row, Node, Walk, LeadsTo, Missing, InSegment, above, is_inferior, node_in, is_account, quota_in, used_by, walk_in, with_node, without_node, AreBelow, AreDirectories, AreUnder, EndsAtRoot, HasChains, IsTree, Joins, has_chains, IsMember, branch_at, changed, directory_at, node_at, only_directory, only_segment, parts_of, segment_at, there_or, walked, effect_of_tree_command, reply_to_tree_command, takes_effect, after_delete, after_make, delete_of, delete_reply, deleted, made_at, made_of, made_in, owner_row, after_initiate, after_terminate, initiated, after_acl, after_move, move_of, move_reply, moved, after_length, after_truncate, truncated, Store, boot, known_uid, root_of, Entry, alters, new_word, reference_of, command_at, Reference, after_command, effect_by, effect_of, reply_by, reply_to_command, IsAnswer, IsLawful, after_do, after_entry, after_fault, is_within, after_reference, written, written_by, directory_there, found_uid, or_true}
-use Rattle.script.specs.declared.commands.Command.TheVariants as command
-use Rattle.book.specs.declared.replies.Reply.TheVariants as reply
+use Rattle.flat_model.proofs.Prelude.{common_steps, nat_tests, ◌≡◌, ◌≢◌, ◌≤◌, ◌<◌, ℕ, ◌+◌, ◌-◌, Bool, true, false, cond, eqb, is_some, List, [], ◌∷◌, map, sum, length, Option, Some, None, inl, inr, refl, sym, ap, ◌∙◌, arith, nat_lt, Result, Ok, Err, ℤ, slice_index, list_all, eqb_tells, leb_tells, sum_by-cons, Plan, who_of, Command, Reply, giver_of, tree_moved, with_moved, with_quota_of, Row, Node, Walk, LeadsTo, Missing, InSegment, above, node_in, quota_in, used_by, walk_in, with_node, without_node, AreBelow, AreDirectories, AreUnder, EndsAtRoot, HasChains, IsTree, Joins, has_chains, IsMember, branch_at, changed, directory_at, node_at, only_segment, parts_of, segment_at, there_or, walked, effect_of_tree_command, reply_to_tree_command, takes_effect, after_delete, after_make, delete_of, delete_reply, deleted, made_at, made_of, made_in, owner_row, after_initiate, after_terminate, initiated, after_acl, after_move, move_of, move_reply, moved, after_length, after_truncate, truncated, Store, boot, root_of, Entry, command_at, Reference, after_command, effect_of, reply_to_command, IsAnswer, IsLawful, after_do, after_entry, after_fault, is_within, after_reference, directory_there, found_uid, or_true, command, entry}
 use Rattle.flat_model.proofs.FieldLaws.{field_found}
 use Rattle.flat_model.proofs.RemoveLaws.{deletion_asked}
 use Rattle.flat_model.proofs.TreeLaws.{path_apart}
-use Rattle.book.specs.declared.entries.Entry.TheVariants as entry
 
 -- ---- the nodes of a tree
 
@@ -22,10 +19,7 @@ older n m ms (Some s) j h = below ms j.later h
 -- the quota of a node of a tree
 pub quota_of_member : (ns : List Node) (n : Node) → IsTree ns → IsMember n ns → quota_in ns n.uid ≡ n.quota
 quota_of_member [] n t h = absurd h
-quota_of_member (m ∷ ms) n t (inl e) = elim (eqb_tells m.uid n.uid) [
-  | inl same ↦ rw same.0 (ap (λ (x : Node). x.quota) (sym e))
-  | inr other ↦ absurd (other.1 (ap (λ (x : Node). x.uid) (sym e)))
-]
+quota_of_member (m ∷ ms) n t (inl e) = grind (arith, nat_tests, common_steps, eqb_tells)
 quota_of_member (m ∷ ms) n t (inr h) = elim (eqb_tells m.uid n.uid) [
   | inl same ↦ (let later = older n m ms m.superior t.0 h in let is = same.1 in absurd (omega (arith, later, is)))
   | inr other ↦ rw other.0 (quota_of_member ms n t.1 h)
@@ -41,11 +35,7 @@ not_less a b h = grind (arith, nat_tests)
 -- each account is within its quota
 pub all_within : (t : Store) → IsTree t.nodes → ((a : ℕ) → used_by t.nodes t.stored a ≤ quota_in t.nodes a)
     → list_all (is_within t) t.nodes ≡ true
-all_within t tree within = all_members (is_within t) t.nodes (λ n h. ap (λ (b : Bool). not (is_account n) || not b)
-    (not_less n.quota (used_by t.nodes t.stored n.uid) (few n h)) ∙ or_true (not (is_account n)))
-  where
-    few : (n : Node) → IsMember n t.nodes → used_by t.nodes t.stored n.uid ≤ n.quota
-    few n h = let its = quota_of_member t.nodes n tree h in let all = within n.uid in omega (arith, its, all)
+all_within t tree within = grind (arith, nat_tests, common_steps, all_members, not_less, or_true, quota_of_member)
 
 -- ---- what quotas sum to
 
@@ -61,12 +51,7 @@ total_cons n ns = sum_by-cons (λ x. x) n.quota (map (λ m. m.quota) ns)
 changed_total : (ns : List Node) (u : ℕ) (change : Node → Node) → ((n : Node) → (change n).quota ≡ n.quota)
     → total (with_node ns u change) ≡ total ns
 changed_total [] u change same = refl
-changed_total (n ∷ ns) u change same = total_cons (cond (eqb n.uid u) (change n) n) (with_node ns u change)
-    ∙ ((λ i. by (eqb n.uid u) i + changed_total ns u change same i) ∙ sym (total_cons n ns))
-  where
-    by : (b : Bool) → (cond b (change n) n).quota ≡ n.quota
-    by true = same n
-    by false = refl
+changed_total (n ∷ ns) u change same = grind (arith, nat_tests, common_steps, total_cons)
 
 -- nodes of no quota are left out
 left_total : (ns : List Node) (u : ℕ) → ((n : Node) → IsMember n ns → n.uid ≡ u → n.quota ≡ 0)
@@ -139,37 +124,15 @@ moved_total (n ∷ ns) giver getter pages t other enough = elim (eqb_tells n.uid
 
     giving : (eqb n.uid giver ≡ true) × (n.uid ≡ giver) → Holds giver getter pages ns
         → Holds giver getter pages (n ∷ ns)
-    giving e rest =
-        let off : eqb n.uid getter ≡ false = elim (eqb_tells n.uid getter) [
-          | inl x ↦ absurd (other (sym e.1 ∙ x.1))
-          | inr m ↦ m.0
-        ] in
-        let quota : now.quota ≡ n.quota - pages = rw (off, e.0) refl in
-        let its : quota_in (n ∷ ns) giver ≡ n.quota = rw e.0 refl in
-        omega (
-          arith,
-          quota,
-          its,
-          enough (rw e.0 refl),
-          rest,
-          cons,
-          was,
-          here giver e.0,
-          past getter off,
-          gone giver e.1,
-        )
+    giving e rest = grind (arith, nat_tests, common_steps, eqb_tells, cons, was, here, past, gone)
 
     getting : (eqb n.uid giver ≡ false) × (n.uid ≢ giver) → (eqb n.uid getter ≡ true) × (n.uid ≡ getter)
         → Holds giver getter pages ns → Holds giver getter pages (n ∷ ns)
-    getting m e rest =
-        let quota : now.quota ≡ n.quota + pages = rw (e.0, m.0) refl in
-        omega (arith, quota, rest, cons, was, past giver m.0, here getter e.0, gone getter e.1)
+    getting m e rest = grind (arith, nat_tests, common_steps, cons, was, past, here, gone)
 
     neither : (eqb n.uid giver ≡ false) × (n.uid ≢ giver) → (eqb n.uid getter ≡ false) × (n.uid ≢ getter)
         → Holds giver getter pages ns → Holds giver getter pages (n ∷ ns)
-    neither m o rest =
-        let quota : now.quota ≡ n.quota = rw (o.0, m.0) refl in
-        omega (arith, quota, rest, cons, was, past giver m.0, past getter o.0)
+    neither m o rest = grind (arith, nat_tests, common_steps, cons, was, past)
 
 module _ (ns : List Node) (t : IsTree ns) (d : ℕ) (there : is_some (node_in ns d) ≡ true) (branch : d ≢ 1) where
   chains : HasChains ns
@@ -198,12 +161,10 @@ module _ (ns : List Node) (t : IsTree ns) (d : ℕ) (there : is_some (node_in ns
 
   tree_total : (down : Bool) (pages : ℕ) → pages ≤ quota_in ns (giver_of (above ns) d down)
       → total (tree_moved ns d down pages) ≡ total ns
-  tree_total true pages enough = let all = moved_total ns superior d pages t other_one (λ h. enough) in
-      let a = whole_share superior pages above_first.is_there in let b = whole_share d pages there in
-      omega (arith, all, a, b)
-  tree_total false pages enough = let all = moved_total ns d superior pages t (λ e. other_one (sym e)) (λ h. enough) in
-      let a = whole_share superior pages above_first.is_there in let b = whole_share d pages there in
-      omega (arith, all, a, b)
+  tree_total true pages enough =
+      grind (arith, nat_tests, common_steps, moved_total, other_one, whole_share, above_first)
+  tree_total false pages enough =
+      grind (arith, nat_tests, common_steps, moved_total, other_one, whole_share, above_first)
 
 -- ---- what a path leads to
 
@@ -223,12 +184,7 @@ node_found ns path n h = walked_found ns (walk_in ns path) n h
 
 pub only_found : (r : Result Node Reply) (n : Node) → only_segment r ≡ Ok n → (r ≡ Ok n) × (n.directory ≡ false)
 only_found (Err e) n h = cc
-only_found (Ok m) n h = by m.directory refl h
-  where
-    by : (b : Bool) → m.directory ≡ b → cond b (Err reply.IsDir) (Ok m) ≡ Ok n
-        → (◌≡◌ {A = Result Node Reply} (Ok m) (Ok n)) × (n.directory ≡ false)
-    by true e i = cc
-    by false e i = let same : m ≡ n = cc in (i, ap (λ (x : Node). x.directory) (sym same) ∙ e)
+only_found (Ok m) n h = grind (arith, nat_tests, common_steps)
 
 pub segment_found : (ns : List Node) (path : List (List ℕ)) (n : Node) → segment_at ns path ≡ Ok n
     → (node_in ns n.uid ≡ Some n) × (n.directory ≡ false)
@@ -295,41 +251,13 @@ module _ (t : Store) where
         found = node_found t.nodes path n (branch_found t.nodes path n at).0
 
         none : n.quota ≡ 0
-        none = elim (eqb_tells n.quota 0) [
-          | inl e ↦ e.1
-          | inr m ↦ absurd (let free = (deletion_asked (list_any (is_inferior n.uid) t.nodes) (eqb n.quota 0) h).1 in
-              let no : false ≡ true = sym m.0 ∙ free in cc)
-        ]
+        none = grind (arith, nat_tests, common_steps, eqb_tells, deletion_asked)
 
     move_total : (path : List (List ℕ)) (amount : ℤ) (r : Result Node Reply) → directory_at t.nodes path ≡ r
         → takes_effect (move_of t amount r) ≡ true → total (moved t amount r).nodes ≡ total t.nodes
     move_total path amount (Err r) at h = refl
-    move_total path amount (Ok n) at h = tree_total t.nodes tree n.uid there apart (is_positive amount)
-        (unsigned_abs amount) enough
-      where
-        branch : (branch_at t.nodes path ≡ Ok n)
-        branch = by (branch_at t.nodes path) refl at
-          where
-            by : (r : Result Node Reply) → branch_at t.nodes path ≡ r → only_directory reply.IsSeg r ≡ Ok n → r ≡ Ok n
-            by (Err e) i g = cc
-            by (Ok m) i g = dir m.directory g
-              where
-                dir : (b : Bool) → cond b (Ok m) (Err reply.IsSeg) ≡ Ok n → ◌≡◌ {A = Result Node Reply} (Ok m) (Ok n)
-                dir true j = j
-                dir false j = cc
-
-        there : is_some (node_in t.nodes n.uid) ≡ true
-        there = rw (node_found t.nodes path n (branch_found t.nodes path n branch).0) refl
-
-        apart : n.uid ≢ 1
-        apart = let both = branch_found t.nodes path n branch in path_apart t.nodes path n tree both.1 both.0
-
-        enough : unsigned_abs amount ≤ quota_in t.nodes (giver_of (above t.nodes) n.uid (is_positive amount))
-        enough = elim (leb_tells (suc (quota_in t.nodes (giver_of (above t.nodes) n.uid (is_positive amount))))
-            (unsigned_abs amount)) [
-              | inl e ↦ absurd (let no : true ≡ false = sym e.0 ∙ first_of _ reply.TooLittle _ refl h in cc)
-              | inr m ↦ (let le = m.1 in omega (arith, le))
-            ]
+    move_total path amount (Ok n) at h =
+        grind (arith, nat_tests, common_steps, tree_total, node_found, branch_found, path_apart, leb_tells, first_of)
 
 -- What takes effect moves quota at most.
 pub effect_total : (p : Plan) (t : Store) (k : ℕ) (c : Command) → IsTree t.nodes
@@ -349,41 +277,17 @@ effect_total p t k _ tree h = refl
 
 reference_total : (t : Store) (k : ℕ) (r : Reference) → total (after_reference t k r).nodes ≡ total t.nodes
 unfolding after_reference
-reference_total t k r = each (known_uid t k r.number)
-  where
-    here : (uid : ℕ) (z : Bool) → total
-        (cond z (written t uid r.offset (new_word (t.words uid r.offset) r.kind)) t).nodes ≡ total t.nodes
-    here uid true = refl
-    here uid false = refl
-
-    each : (o : Option ℕ) → total (written_by t r.offset r.kind o).nodes ≡ total t.nodes
-    each None = refl
-    each (Some uid) = here uid (alters r.kind)
+reference_total t k r = grind (arith, nat_tests, common_steps)
 
 -- a command whose answer takes effect
 done_total : (p : Plan) (t : Store) (k : ℕ) (c : Command) → IsTree t.nodes
     → takes_effect (reply_to_command p t k c) ≡ true → total (effect_of p t k c).nodes ≡ total t.nodes
-done_total p t k c tree = by (reference_of c)
-  where
-    by : (o : Option Reference) → takes_effect (reply_by p t k c o) ≡ true → total (effect_by p t k c o).nodes
-        ≡ total t.nodes
-    by (Some r) h = reference_total t k r
-    by None h = effect_total p t k c tree h
+done_total p t k c tree = grind (arith, nat_tests, common_steps, reference_total, effect_total)
 
 command_total : (p : Plan) (t : Store) (k : ℕ) (c : Command) (r : Reply) → IsTree t.nodes
     → IsAnswer p t k (Some c) r → total (after_command p t k c r).nodes ≡ total t.nodes
 unfolding after_command
-command_total p t k c r tree answer = by (takes_effect r) refl
-  where
-    own : takes_effect r ≡ true → takes_effect (reply_to_command p t k c) ≡ true
-    own h = elim answer [
-      | inl due ↦ ap takes_effect (sym due.own) ∙ h
-      | inr other ↦ absurd (let no : false ≡ true = ap takes_effect (sym other.device) ∙ h in cc)
-    ]
-
-    by : (z : Bool) → takes_effect r ≡ z → total (cond z (effect_of p t k c) t).nodes ≡ total t.nodes
-    by true e = done_total p t k c tree (own e)
-    by false e = refl
+command_total p t k c r tree answer = grind (arith, nat_tests, common_steps, done_total)
 
 answer_total : (p : Plan) (t : Store) (k : ℕ) (c : Option Command) (r : Reply) → IsTree t.nodes → IsAnswer p t k c r
     → total (after_do p t k c r).nodes ≡ total t.nodes

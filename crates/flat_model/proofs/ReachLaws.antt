@@ -1,7 +1,5 @@
 -- Which stores the commands of a script may come to.
-use Rattle.flat_model.proofs.Prelude.{◌≡◌, ℕ, suc, zero, ◌+◌, ◌<◌, ◌≤◌, Bool, true, false, cond, List, [], ◌∷◌, length, set, get_or, replicate, Option, Some, None, refl, arith, sum_by, list_all, and_parts, sum_by-cons, sum_by-set, IsPlan, is_process, weight_of, Plan, ProcessPlan, command_at, commands_of, nobody, Command, Reply, after_command, effect_of, gone_on, takes_effect, tries_on, after_reference, written_by, Progress, Store, at_first, boot, known_uid, progress_of, with_progress, ArePlaces, IsReached, answered}
-use Rattle.script.specs.declared.commands.Command.TheVariants as command
-use Rattle.script.specs.declared.commands.RefKind.TheVariants as kind
+use Rattle.flat_model.proofs.Prelude.{common_steps, nat_tests, ◌≡◌, ℕ, suc, zero, ◌+◌, ◌<◌, ◌≤◌, Bool, true, false, cond, List, [], ◌∷◌, length, set, get_or, replicate, Option, Some, None, refl, arith, sum_by, list_all, and_parts, sum_by-cons, sum_by-set, IsPlan, is_process, weight_of, Plan, ProcessPlan, command_at, commands_of, nobody, Command, Reply, after_command, effect_of, gone_on, tries_on, after_reference, written_by, Progress, Store, at_first, boot, known_uid, progress_of, with_progress, ArePlaces, IsReached, answered, command, kind}
 use Rattle.flat_model.proofs.PlaceLaws.{place_within, process_weighs}
 use Rattle.flat_model.proofs.OtherLaws.{Advances, effect_advances}
 use Rattle.flat_model.proofs.SharedLaws.{going_within}
@@ -20,10 +18,7 @@ places_weigh volumes (q ∷ qs) (x ∷ xs) places are =
 
 -- a script has too few commands for many uids
 pub few_uids : (p : Plan) (s : Store) → IsReached p s → s.next < 100003
-few_uids p s r =
-    let less = places_weigh (length p.volumes) s.processes p.processes r.places r.plan.each in
-    let most : sum_by weight_of p.processes ≤ 100000 = r.plan.commands in
-    omega (arith, r.uids, less, most)
+few_uids p s r = grind (arith, nat_tests, common_steps, places_weigh)
 
 -- ---- places
 
@@ -51,11 +46,7 @@ abbrev pub place_sum : List Progress → ℕ
 place_sum qs = sum_by (λ q. q.place) qs
 
 pub answered_advances : (p : Plan) (s : Store) (k : ℕ) (c : Command) (r : Reply) → Advances s (answered p s k c r)
-answered_advances p s k c r = here (takes_effect r) (effect_advances p s k c)
-  where
-    here : (z : Bool) → Advances s (effect_of p s k c) → Advances s (cond z (effect_of p s k c) s)
-    here true a = a
-    here false a = record { processes = refl; next = omega arith }
+answered_advances p s k c r = grind (arith, nat_tests, common_steps, effect_advances)
 
 pub reached_on : (p : Plan) (s : Store) (k place : ℕ) (c : Command) (r : Reply) → IsReached p s
     → (progress_of s k).ended ≡ false → (progress_of s k).place ≡ place → command_at p k place ≡ Some c
@@ -75,15 +66,7 @@ reached_on p s k place c r h going at there = record { plan = h.plan; places = p
     by_tries false e = rw e refl
 
     places : ArePlaces (set (answered p s k c r).processes k (gone_on (progress_of s k) c r)) p.processes
-    places = rw (answered_advances p s k c r).processes
-        (places_set s.processes p.processes k (gone_on (progress_of s k) c r) h.places
-        (bound (tries_on (progress_of s k) c r) (by_tries (tries_on (progress_of s k) c r) refl)))
-      where
-        bound : (z : Bool) → (gone_on (progress_of s k) c r).place
-            ≡ cond z (progress_of s k).place ((progress_of s k).place + 1)
-            → (gone_on (progress_of s k) c r).place ≤ length (commands_of p k)
-        bound true e = omega (arith, e, at, lt)
-        bound false e = omega (arith, e, at, lt)
+    places = grind (arith, nat_tests, common_steps, answered_advances, places_set, by_tries, lt)
 
     total : place_sum (set s.processes k (gone_on (progress_of s k) c r)) + (progress_of s k).place
         ≡ place_sum s.processes + (gone_on (progress_of s k) c r).place
@@ -92,21 +75,7 @@ reached_on p s k place c r h going at there = record { plan = h.plan; places = p
 
     uids : (answered p s k c r).next
         ≤ 2 + place_sum (set (answered p s k c r).processes k (gone_on (progress_of s k) c r))
-    uids = rw (answered_advances p s k c r).processes
-        (bound (tries_on (progress_of s k) c r) refl (by_tries (tries_on (progress_of s k) c r) refl))
-      where
-        stay : tries_on (progress_of s k) c r ≡ true → (answered p s k c r).next ≡ s.next
-        stay e = either (takes_effect r) (tries_stay p s k (progress_of s k) c r e)
-          where
-            either : (z : Bool) → (effect_of p s k c).next ≡ s.next → (cond z (effect_of p s k c) s).next ≡ s.next
-            either true f = f
-            either false f = refl
-
-        bound : (z : Bool) → tries_on (progress_of s k) c r ≡ z
-            → (gone_on (progress_of s k) c r).place ≡ cond z (progress_of s k).place ((progress_of s k).place + 1)
-            → (answered p s k c r).next ≤ 2 + place_sum (set s.processes k (gone_on (progress_of s k) c r))
-        bound true f e = omega (arith, e, stay f, total, h.uids)
-        bound false f e = omega (arith, e, (answered_advances p s k c r).next, total, h.uids)
+    uids = grind (arith, nat_tests, common_steps, answered_advances, by_tries, tries_stay, total)
 
 -- ---- a failure is told
 

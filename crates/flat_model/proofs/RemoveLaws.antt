@@ -1,8 +1,6 @@
 -- A directory or a segment is taken out.
-use Rattle.flat_model.proofs.Prelude.{deletion_of, ◌≡◌, ◌≢◌, ℕ, ◌/◌, Bool, true, false, cond, eqb, not, ◌&&◌, List, [], ◌∷◌, Some, None, Ok, Err, refl, sym, ap, ◌∙◌, arith, inl, inr, count_by, nat_le, list_any, cases_Bool, or_parts, nat_tests, sum_by-cons, Reply, Node, has_directory, is_inferior, node_in, taken_on, volume_in, without_node, has_segment, branch_at, takes_effect, without_branch, without_pages, after_delete, delete_reply, deleted, Words, is_page, is_stored, without_stored, Store, from_first}
-use Rattle.book.specs.declared.replies.Reply.TheVariants as reply
+use Rattle.flat_model.proofs.Prelude.{common_steps, deletion_of, ◌≡◌, ◌≢◌, ℕ, Bool, true, false, cond, eqb, not, ◌&&◌, List, [], ◌∷◌, Some, None, Ok, Err, refl, ap, ◌∙◌, arith, inl, inr, count_by, nat_le, list_any, cases_Bool, or_parts, nat_tests, sum_by-cons, Reply, Node, has_directory, is_inferior, node_in, taken_on, volume_in, without_node, has_segment, branch_at, takes_effect, without_branch, without_pages, after_delete, delete_reply, deleted, is_page, is_stored, Store, from_first}
 use Rattle.flat_model.proofs.FieldLaws.{field_none, field_left}
-use Rattle.flat_model.proofs.TreeReplies.{not_first}
 use Rattle.flat_model.proofs.CountLaws.{count-cons}
 
 -- ---- what is left of the nodes
@@ -57,16 +55,7 @@ none_counted (x ∷ xs) u none =
 
 pub deleted_is : (s : Store) (u : ℕ)
     → record (without_pages s u (λ q. nat_le 0 q)) { nodes = without_node s.nodes u } ≡ without_branch s (Some u)
-deleted_is s u = ap (λ (w : Words). record s {
-  nodes = without_node s.nodes u;
-  words = w;
-  stored = without_stored s.stored u (λ q. nat_le 0 q);
-}) (λ i. λ v. λ o. ap (λ (z : Bool). cond (eqb v u && z) 0 (s.words v o)) (from_first (o / 1024)
-    ∙ sym (from_first o)) i) ∙ ap (λ (t : ℕ → Bool). record s {
-      nodes = without_node s.nodes u;
-      words = λ v o. cond (eqb v u && nat_le 0 o) 0 (s.words v o);
-      stored = without_stored s.stored u t;
-    }) (λ i. λ q. from_first q i)
+deleted_is s u = grind (arith, nat_tests, common_steps, from_first)
 
 pub delete_refused : (s : Store) (path : List (List ℕ)) (r : Reply) → branch_at s.nodes path ≡ Err r
     → after_delete s path ≡ s

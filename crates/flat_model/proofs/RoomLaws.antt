@@ -1,5 +1,5 @@
 -- The least number that passes a test, and the volumes that have room.
-use Rattle.flat_model.proofs.Prelude.{◌≡◌, ◌<◌, ◌≤◌, ℕ, zero, suc, Bool, true, false, not, eqb, Some, None, refl, sym, ap, subst, ◌∙◌, arith, inl, inr, length, ◌-◌, nat_lt, cases_eq, leb_tells, slice_get_past, Plan, first_below, has_room, pages_stored, room_for, Store, records_in, records_of, taken_on, and_false}
+use Rattle.flat_model.proofs.Prelude.{common_steps, nat_tests, ◌≡◌, ◌<◌, ◌≤◌, ℕ, zero, suc, Bool, true, false, not, eqb, Some, None, refl, sym, ap, subst, ◌∙◌, arith, inl, inr, length, ◌-◌, nat_lt, cases_eq, leb_tells, slice_get_past, Plan, first_below, has_room, pages_stored, room_for, Store, records_in, records_of, taken_on, and_false}
 
 -- ---- the least number that passes a test
 
@@ -23,10 +23,7 @@ first_is test (suc n) v lt passes fails = elim (cases_eq v n) [
 -- ---- volumes
 
 less_none : (n m : ℕ) → nat_lt n (0 - m) ≡ false
-less_none n m = elim (leb_tells (suc n) (0 - m)) [
-  | inl is ↦ (let less = is.1 in absurd (omega (arith, less)))
-  | inr isnt ↦ isnt.0
-]
+less_none n m = grind (arith, nat_tests, common_steps, leb_tells)
 
 -- a volume without records has no room
 pub no_room : (p : Plan) (s : Store) (uid volume : ℕ) → records_of p volume ≡ 0 → has_room p s uid volume ≡ false
@@ -49,10 +46,4 @@ room_is p s uid volume has none = elim (leb_tells (suc volume) (length p.volumes
 -- none has room where none that the tables have has
 pub room_none : (p : Plan) (s : Store) (uid count : ℕ) → ((v : ℕ) → v < count → has_room p s uid v ≡ false)
     → ((v : ℕ) → count ≤ v → records_of p v ≡ 0) → None ≡ room_for p s uid
-room_none p s uid count none past = sym (first_none (has_room p s uid) (length p.volumes) (λ v lt. each v))
-  where
-    each : (v : ℕ) → has_room p s uid v ≡ false
-    each v = elim (leb_tells (suc v) count) [
-      | inl is ↦ (let lt = is.1 in none v (omega (arith, lt)))
-      | inr isnt ↦ (let out = isnt.1 in no_room p s uid v (past v (omega (arith, out))))
-    ]
+room_none p s uid count none past = grind (arith, nat_tests, common_steps, first_none, leb_tells, no_room)

@@ -1,6 +1,5 @@
 -- What each script promises of its segments and of its first volume.
-use Rattle.flat_model.proofs.Prelude.{◌≡◌, ℕ, suc, zero, ◌≤◌, true, List, [], ◌∷◌, length, get_or, Some, arith, slice_get, list_all, and_parts, nat_tests, Plan, ProcessPlan, nobody, command_at, IsPlan, is_command, is_process, is_volume, VolumeLine, Command, entries_in, entries_of}
-use Rattle.script.specs.declared.commands.Command.TheVariants as command
+use Rattle.flat_model.proofs.Prelude.{◌≡◌, ℕ, suc, zero, ◌≤◌, true, List, [], ◌∷◌, length, get_or, Some, arith, slice_get, list_all, and_parts, nat_tests, Plan, ProcessPlan, nobody, command_at, IsPlan, is_command, is_process, is_volume, VolumeLine, Command, entries_in, entries_of, command}
 
 entries_some : (v : VolumeLine) → is_volume v ≡ true → 1 ≤ v.entries
 unfolding is_volume

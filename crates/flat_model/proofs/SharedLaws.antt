@@ -1,13 +1,8 @@
 -- Laws that several crates cite.
-use Rattle.flat_model.proofs.Prelude.{List, [], ap, arith, drop, eqb, false, inl, inr, length, refl, sum, sym, true, ℕ, ◌++◌, ◌+◌, ◌<◌, ◌∙◌, ◌∷◌, ◌≡◌, ◌≤◌, leb_tells, common_steps, get_or_past, Entry, Progress, Store, progress_of, ArePools, alters, new_word, RefKind}
-use Rattle.script.specs.declared.commands.RefKind.TheVariants as kind
+use Rattle.flat_model.proofs.Prelude.{nat_tests, List, [], arith, drop, eqb, false, length, refl, sum, true, ℕ, ◌++◌, ◌+◌, ◌<◌, ◌∷◌, ◌≡◌, ◌≤◌, leb_tells, common_steps, get_or_past, Entry, Store, progress_of, ArePools, alters, new_word, RefKind, kind}
 
 pub going_within : (t : Store) (k : ℕ) → (progress_of t k).ended ≡ false → k < length t.processes
-going_within t k h = elim (leb_tells (length t.processes) k) [
-  | inl e ↦ absurd (let none : true ≡ false = sym (ap (λ (q : Progress). q.ended) (get_or_past t.processes k _ e.1))
-      ∙ h in cc)
-  | inr n ↦ n.1
-]
+going_within t k h = grind (arith, nat_tests, common_steps, leb_tells, get_or_past)
 
 pub pools_few : (pools : List ℕ) → ArePools pools → sum pools ≤ 1024
 pools_few [] h = absurd h

@@ -1,14 +1,10 @@
 -- What holds of a tree: no path with a name leads to the root, and a uid is that of one node.
-use Rattle.flat_model.proofs.Prelude.{◌≡◌, ◌≢◌, ℕ, ◌+◌, ◌<◌, Bool, true, false, cond, eqb, List, [], ◌∷◌, length, Option, Some, None, Result, Ok, Err, IfOk, refl, sym, ap, subst, ◌∙◌, arith, inl, inr, cases_Bool, nat_tests, Reply, Node, Walk, LeadsTo, Missing, InSegment, branch_in, entries_on, is_branch, node_in, onward, walk_from, walk_in, without_node, AreBelow, IsBranch, IsTree, Joins, lies, node_at, walked, there_or, without_absent, older, found_uid, Row, made_in, new_branch, Store}
+use Rattle.flat_model.proofs.Prelude.{common_steps, ◌≡◌, ◌≢◌, ℕ, ◌+◌, ◌<◌, Bool, true, false, cond, eqb, List, [], ◌∷◌, length, Option, Some, None, Result, Ok, Err, IfOk, refl, sym, ap, subst, ◌∙◌, arith, inl, inr, cases_Bool, nat_tests, Reply, Node, Walk, LeadsTo, Missing, InSegment, branch_in, entries_on, is_branch, node_in, onward, walk_from, walk_in, without_node, AreBelow, IsBranch, IsTree, Joins, lies, node_at, walked, there_or, without_absent, older, found_uid, Row, made_in, new_branch, Store}
 use Rattle.flat_model.proofs.CountLaws.{count-cons}
 
 -- the oldest node is the root
 above_one : (m : Node) (ms : List Node) (u : ℕ) → IsTree (m ∷ ms) → AreBelow u (m ∷ ms) → 1 < u
-above_one m [] u t b = first m.superior t.0
-  where
-    first : (o : Option ℕ) → Joins [] o m → 1 < u
-    first None root = (let one : m.uid ≡ 1 = root.one in omega (arith, one, b.0))
-    first (Some s) branch = (let no : false ≡ true = branch.below in cc)
+above_one m [] u t b = grind (arith, nat_tests, common_steps)
 above_one m (n ∷ ns) u t b = above_one n ns u t.1 b.1
 
 -- a node below another isn't the root
@@ -47,9 +43,7 @@ walk_apart ns u dir (name ∷ names) v t apart e =
 
 names_apart : (ns : List Node) (name : List ℕ) (names : List (List ℕ)) (v : ℕ) → IsTree ns
     → walk_in ns (name ∷ names) ≡ LeadsTo v → v ≢ 1
-names_apart ns name names v t e =
-    onward_apart ns (branch_in ns 1 name) true names v (λ m found. branch_apart ns 1 name m t found)
-    (λ m ne step. walk_apart ns m.uid m.directory names v t ne step) e
+names_apart ns name names v t e = grind (arith, nat_tests, common_steps, onward_apart, branch_apart, walk_apart)
 
 found_apart : (ns : List Node) (w : Walk) (n : Node) → ((v : ℕ) → w ≡ LeadsTo v → v ≢ 1) → walked ns w ≡ Ok n
     → n.uid ≢ 1
@@ -101,7 +95,5 @@ pub branch_made : {volume pages : ℕ} {directory : Bool} {rows : List Row} {nam
     (next superior : ℕ) → s.next ≡ next → d.uid ≡ superior
     → record s { nodes = new_branch next superior name directory volume pages rows ∷ s.nodes; next = s.next + 1 }
     ≡ made_in s volume directory pages rows name d
-branch_made {volume} {pages} {directory} {rows} {name} s d next superior at below = ap (λ (u : ℕ).
-    record s { nodes = new_branch u superior name directory volume pages rows ∷ s.nodes; next = s.next + 1 }) (sym at)
-    ∙ ap (λ (u : ℕ).
-    record s { nodes = new_branch s.next u name directory volume pages rows ∷ s.nodes; next = s.next + 1 }) (sym below)
+branch_made {volume} {pages} {directory} {rows} {name} s d next superior at below =
+    grind (arith, nat_tests, common_steps)

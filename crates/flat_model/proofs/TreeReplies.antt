@@ -1,6 +1,5 @@
 -- What tree commands are answered, by what the path leads to.
-use Rattle.flat_model.proofs.Prelude.{deletion_of, ◌≡◌, ℕ, ℤ, Bool, true, false, cond, eqb, List, [], ◌∷◌, ◌++◌, Some, Ok, Err, refl, sym, ap, ◌∙◌, count_by, nat_lt, is_positive, unsigned_abs, list_any, Named, Plan, Reply, takes_row, giver_of, over_in, tree_moved, Node, above, is_inferior, quota_in, used_by, takes_effect, branch_at, directory_at, node_at, parts_of, before_parts, segment_at, delete_reply, make_in, make_reply, status_reply, is_stored_from, acl_reply, done_or_over, move_reply, length_reply, truncate_reply, Store}
-use Rattle.book.specs.declared.replies.Reply.TheVariants as reply
+use Rattle.flat_model.proofs.Prelude.{deletion_of, ◌≡◌, ℕ, ℤ, Bool, true, false, cond, eqb, List, [], ◌∷◌, ◌++◌, Some, Ok, Err, refl, sym, ap, ◌∙◌, count_by, nat_lt, is_positive, unsigned_abs, list_any, Named, Plan, Reply, takes_row, giver_of, over_in, tree_moved, Node, above, is_inferior, quota_in, used_by, takes_effect, branch_at, directory_at, node_at, parts_of, before_parts, segment_at, delete_reply, make_in, make_reply, status_reply, is_stored_from, acl_reply, done_or_over, move_reply, length_reply, truncate_reply, Store, reply}
 
 -- a command that takes effect wasn't refused
 pub not_first : (b : Bool) (x y : Reply) → takes_effect x ≡ false → takes_effect (cond b x y) ≡ true
