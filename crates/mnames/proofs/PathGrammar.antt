@@ -52,9 +52,7 @@ goes_past [] [] [] b s hx hc ne h = absurd (cc)
 goes_past [] [] (y ∷ ys) b s hx hc ne h = absurd (ne (cc))
 goes_past [] (c ∷ cs) [] b s hx hc ne h = absurd (cc)
 goes_past [] (c ∷ cs) (y ∷ ys) b s hx hc ne h = absurd (sign_is_none c (cc) (first_byte c cs hc))
-goes_past (x ∷ xs) [] ys b s hx hc ne h =
-    let heads : x ≡ b = cc in
-    (rw (← heads) (first_byte x xs hx), omega arith)
+goes_past (x ∷ xs) [] ys b s hx hc ne h = grind (arith, nat_tests, common_steps, first_byte)
 goes_past (x ∷ xs) (c ∷ cs) ys b s hx hc ne h =
     let both = goes_past xs cs ys b s (later_bytes x xs hx) (later_bytes c cs hc) ne (cc) in
     (both.0, omega arith)
@@ -93,19 +91,7 @@ record Longest (m : ℕ) (text : List ℕ) (k : ℕ) : Type 0 where
   longest : (n : ℕ) → k < n → n ≤ length text → Begins m (take n text) → ⊥
 
 none_more : (text : List ℕ) → Longest 0 (62 ∷ text) 0
-none_more text = record {
-  within = omega arith;
-  begins = ([], [], omega arith, tt, refl);
-  longest = over;
-}
-  where
-    none : (s : List ℕ) → Begins 0 (62 ∷ s) → ⊥
-    none s ([], more, few, each, e) = cc
-    none s (x ∷ xs, more, few, each, e) = omega arith
-
-    over : (n : ℕ) → 0 < n → n ≤ length (62 ∷ text) → Begins 0 (take n (62 ∷ text)) → ⊥
-    over zero lt le b = omega arith
-    over (suc n) lt le b = none (take n text) b
+none_more text = grind (arith, nat_tests, common_steps)
 
 -- the byte at a place of a longer front
 cut : (text : List ℕ) (n k : ℕ) → n < k → k ≤ length text → (rest : List ℕ)
@@ -128,11 +114,7 @@ stuck_name text n k x xs more h lt le name e = chosen (cases_eq n 0)
     bytes = cc ((cut text n k lt le).1, append_assoc (take n text) (get_or text n 0 ∷ after) more)
 
     chosen : (n ≡ 0) ⊎ (n ≡ 0 → ⊥) → ⊥
-    chosen (inl z) =
-        let front : take n text ≡ [] = ap (λ (i : ℕ). take i text) z in
-        let first = begins_name x xs (get_or text n 0) (after ++ more) name (bytes
-        ∙ ap (λ (t : List ℕ). t ++ (get_or text n 0 ∷ (after ++ more))) front) in
-        cc (h.run.stop (omega arith) (omega arith))
+    chosen (inl z) = grind (arith, nat_tests, common_steps, begins_name, after, bytes)
     chosen (inr nz) =
         let past = goes_past x (take n text) xs (get_or text n 0) (after ++ more) (name_bytes x name) h.run.each
         (h.other nz) bytes in
@@ -350,34 +332,7 @@ stuck_is_no_path xs text after n path room more same h =
 
 -- a text that doesn't begin with the sign
 pub unsigned_is_no_path : (text : List ℕ) → (0 < length text → get_or text 0 0 ≢ 62) → IsNoPath text 0
-unsigned_is_no_path text h = assumption (start text h, never text h)
-  where
-    first : (b : ℕ) (bs : List ℕ) → b ≢ 62 → BeginsPath (b ∷ bs) → ⊥
-    first b bs ne ([], more, path, e) = ne (cc)
-    first b bs ne (x ∷ xs, more, path, e) = ne (cc)
-
-    start : (text : List ℕ) → (0 < length text → get_or text 0 0 ≢ 62) → IsLongestStart text 0
-    start [] h = record {
-      within = omega arith;
-      begins = ([], 62 ∷ [], record { few = omega arith; each = tt }, refl);
-      longest = λ n lt le b. omega arith;
-    }
-    start (b ∷ bs) h = record {
-      within = omega arith;
-      begins = ([], 62 ∷ [], record { few = omega arith; each = tt }, refl);
-      longest = over;
-    }
-      where
-        over : (n : ℕ) → 0 < n → n ≤ length (b ∷ bs) → BeginsPath (take n (b ∷ bs)) → ⊥
-        over zero lt le p = omega arith
-        over (suc n) lt le p = first b (take n bs) (h (omega arith)) p
-
-    never : (text : List ℕ) → (0 < length text → get_or text 0 0 ≢ 62) → (names : List (List ℕ)) → IsPath names
-        → text ≢ path_text names
-    never [] h [] p e = cc
-    never [] h (x ∷ xs) p e = cc
-    never (b ∷ bs) h [] p e = h (omega arith) (cc)
-    never (b ∷ bs) h (x ∷ xs) p e = h (omega arith) (cc)
+unsigned_is_no_path text h = grind (arith, nat_tests, common_steps)
 
 -- ---- what the reading keeps
 
@@ -388,10 +343,7 @@ pub record IsRunSoFar (text : List ℕ) (i : ℕ) : Type 0 where
 
 pub run_more : (text : List ℕ) (i : ℕ) → IsRunSoFar text i → i < length text → i ≢ 32 → is_name_byte (get_or text i 0)
     ≡ true → IsRunSoFar text (i + 1)
-run_more text i h lt ne byte = record {
-  short = omega arith;
-  each = rw (take_more text i 0 lt, list_all-append, h.each, byte) refl;
-}
+run_more text i h lt ne byte = grind (arith, nat_tests, common_steps, take_more, list_all-append)
 
 pub run_whole : (text : List ℕ) (i : ℕ) → IsRunSoFar text i → i ≤ length text
     → (i < length text → i < 32 → is_name_byte (get_or text i 0) ≡ false) → IsRun text i
@@ -448,16 +400,8 @@ read_start (b ∷ bs) e = record { whole = refl; path = record { few = omega ari
 pub read_more : (text : List ℕ) (names : List (List ℕ)) (rest after behind name : List ℕ) (b : ℕ)
     → HasRead text names rest → rest ≡ b ∷ after → length names < 9 → IsName name → after ≡ name ++ behind
     → IsAtSign behind → HasRead text (names ++ name ∷ []) behind
-read_more text names rest after behind name b h split room is_one parts sign = record {
-  whole =
-      let at : b ≡ 62 = subst IsAtSign split h.sign in
-      cc (append_assoc (names_text names) (62 ∷ name) behind, names_text_one_more names name);
-  path = record {
-    few = omega (arith, length-append names (name ∷ []));
-    each = each_one_more names name h.path.each is_one;
-  };
-  sign = sign;
-}
+read_more text names rest after behind name b h split room is_one parts sign =
+    grind (arith, nat_tests, common_steps, append_assoc, names_text_one_more, length-append, each_one_more)
 
 -- where the bytes before what is left end
 pub read_length : (text : List ℕ) (names : List (List ℕ)) (rest : List ℕ) → HasRead text names rest

@@ -57,17 +57,11 @@ who_dotted : (a b : List ℕ) → is_label a ≡ true → is_label b ≡ true �
     ≡ Some (record { person = a; project = b })
 unfolding who_of
 who_dotted a b ha hb =
-    let clear : lacks_dots a ≡ true = label_lacks_dots a ha in
-    rw (dotted_is_no_label a b, before_dotted a b clear, after_dotted a b clear, ha, hb) refl
+    grind (arith, nat_tests, common_steps, label_lacks_dots, dotted_is_no_label, before_dotted, after_dotted)
 
 who_parts : (a b : List ℕ) → is_label a ≡ true → is_label b ≡ true → who_of (parts_text a b)
     ≡ Some (record { person = a; project = b })
-who_parts a b ha hb = chosen (bytes_eq b default_project) refl
-  where
-    chosen : (z : Bool) → bytes_eq b default_project ≡ z → who_of (cond z a (a ++ (46 ∷ b)))
-        ≡ Some (record { person = a; project = b })
-    chosen true e = cc (who_alone a ha, (bytes_eq-Decides b default_project).0 e)
-    chosen false e = who_dotted a b ha hb
+who_parts a b ha hb = grind (arith, nat_tests, common_steps, who_alone, bytes_eq-Decides, who_dotted)
 
 pub who_again : (text : List ℕ) (read : Option Who) → read ≡ who_of text → (who : Who) → IsWho who → text
     ≡ who_text who → read ≡ Some who
@@ -86,14 +80,7 @@ part_nothing = refl
 
 label_not_any : (text : List ℕ) → is_label text ≡ true → bytes_eq text any_text ≡ false
 unfolding is_label
-label_not_any text h = chosen (bytes_eq text any_text) refl
-  where
-    chosen : (z : Bool) → bytes_eq text any_text ≡ z → z ≡ false
-    chosen true e =
-        let same : text ≡ any_text = (bytes_eq-Decides text any_text).0 e in
-        let never : is_label any_text ≡ true = ap is_label (sym same) ∙ h in
-        sym never
-    chosen false e = refl
+label_not_any text h = grind (arith, nat_tests, common_steps, bytes_eq-Decides)
 
 part_label : (text : List ℕ) → is_label text ≡ true → part_of text ≡ Some (Some text)
 unfolding part_of
