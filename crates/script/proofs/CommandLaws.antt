@@ -1,8 +1,7 @@
 -- What a line says as a command is in its ranges (own).
-use Rattle.script.proofs.Prelude.{◌≡◌, ℕ, zero, suc, ◌+◌, ◌-◌, ◌*◌, ◌^◌, ◌<◌, ◌≤◌, Bool, true, false, ◌&&◌, nat_le, nat_lt, cond, eqb, List, [], ◌∷◌, length, fold, Option, Some, None, Result, Ok, Err, codes, ℤ, pos, neg_ℤ, refl, sym, subst, arith, nat_tests, bytes_eq-Decides, unsigned_abs, list_all, bytes_eq, Row, octal_below, octal_bound_more, is_octal, is_octal_digit, octal_number, octal_value, path_alone, path_and_number, place_in, place_and_word, mkdir_of, mkseg_of, initiate_of, terminate_of, read_of, write_of, add_of, await_of, acl_of, length_of, truncate_of, delete_of, move_of, status_of, end_of, other_command_of, reference_or, command_of, decimal_value, path_of, has_name, is_command, is_end, is_from, is_path, is_place, is_row, is_word, ◌>>=◌, found_or, only_if, in_range, number_in, word_in, row_in, path_in, number_from, volume_in, amount_in, Command, VolumeLine, Cause, and_from, and_parts}
+use Rattle.script.proofs.Prelude.{common_steps, ◌≡◌, ℕ, zero, suc, ◌+◌, ◌-◌, ◌*◌, ◌^◌, ◌<◌, ◌≤◌, Bool, true, false, ◌&&◌, nat_le, nat_lt, cond, eqb, List, [], ◌∷◌, length, fold, Option, Some, None, Result, Ok, Err, codes, ℤ, pos, neg_ℤ, refl, sym, subst, arith, nat_tests, bytes_eq-Decides, unsigned_abs, list_all, bytes_eq, Row, octal_below, octal_bound_more, is_octal, is_octal_digit, octal_number, octal_value, path_alone, path_and_number, place_in, place_and_word, mkdir_of, mkseg_of, initiate_of, terminate_of, read_of, write_of, add_of, await_of, acl_of, length_of, truncate_of, delete_of, move_of, status_of, end_of, other_command_of, reference_or, command_of, path_of, has_name, is_command, is_end, is_from, is_path, is_place, is_row, is_word, ◌>>=◌, found_or, number_in, word_in, row_in, path_in, number_from, volume_in, amount_in, Command, VolumeLine, Cause, and_from, and_parts, cause}
 use Rattle.script.proofs.PathLaws.{path_only}
 use Rattle.script.proofs.PrincipalLaws.{row_read}
-use Rattle.script.specs.declared.refusals.Cause.TheVariants as cause
 
 -- ---- a rule that holds of what is read
 
@@ -42,15 +41,7 @@ From low high n = is_from low high n ≡ true
 
 number_keeps : (low high : ℕ) (text : List ℕ) → Keeps (From low high) (number_in low high text)
 unfolding number_in
-number_keeps low high text = at (decimal_value text)
-  where
-    test : (n : ℕ) (b : Bool) → is_from low high n ≡ b → Keeps (From low high) (only_if cause.Number b n)
-    test n true h = keeps_ok h
-    test n false h = keeps_err
-
-    at : (o : Option ℕ) → Keeps (From low high) (in_range low high o)
-    at None = keeps_err
-    at (Some n) = test n (is_from low high n) refl
+number_keeps low high text = grind (arith, nat_tests, common_steps, keeps_ok, keeps_err)
 
 up_to_most : (most n : ℕ) → is_from 0 most n ≡ true → nat_le n most ≡ true
 up_to_most most n h = (and_parts (nat_le 0 n) (nat_le n most) h).1

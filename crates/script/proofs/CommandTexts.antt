@@ -1,10 +1,9 @@
 -- The text of each command is a line of fields, which is read back as the command (own).
-use Rattle.script.proofs.Prelude.{◌≡◌, ℕ, ◌<◌, ◌≤◌, true, false, List, [], ◌∷◌, ◌++◌, length, Ok, refl, arith, nat_tests, decimal, is_negative, unsigned_abs, path_text, row_text, octal_digits, acl_of, add_of, await_of, command_of, delete_of, end_of, initiate_of, length_of, mkdir_of, mkseg_of, move_of, other_command_of, read_of, reference_or, status_of, path_alone, path_and_number, place_and_word, place_in, terminate_of, truncate_of, write_of, is_command, is_from, is_path, is_place, is_row, is_comment, four_fields, next_field, no_fields, one_field, three_fields, two_fields, arguments_text, command_text, mode_text, path_fields_text, reference_text, sign_text, volume_name, word_text, Command, VolumeLine}
+use Rattle.script.proofs.Prelude.{◌≡◌, ℕ, ◌<◌, ◌≤◌, true, false, List, [], ◌∷◌, ◌++◌, length, Ok, refl, arith, nat_tests, decimal, is_negative, unsigned_abs, path_text, row_text, octal_digits, acl_of, add_of, await_of, command_of, delete_of, end_of, initiate_of, length_of, mkdir_of, mkseg_of, move_of, other_command_of, read_of, reference_or, status_of, path_alone, path_and_number, place_and_word, place_in, terminate_of, truncate_of, write_of, is_command, is_from, is_path, is_place, is_row, is_comment, four_fields, next_field, no_fields, one_field, three_fields, two_fields, arguments_text, command_text, mode_text, path_fields_text, reference_text, sign_text, volume_name, word_text, Command, VolumeLine, command}
 use Rattle.script.proofs.FieldTexts.{IsField, HasFields, front_field, last_field}
 use Rattle.script.proofs.PrincipalLaws.{row_field, row_in_again}
 use Rattle.script.proofs.ValueTexts.{decimal_field, number_again, path_field, path_in_again, word_again, word_field}
 use Rattle.script.proofs.VolumeTexts.{AreVolumes, amount_again, amount_field, mode_again, mode_field, volume_again, volume_field}
-use Rattle.script.specs.declared.commands.Command.TheVariants as command
 
 -- the fields of a command's text, after its word
 abbrev pub fields_text : List VolumeLine → Command → List (List ℕ)

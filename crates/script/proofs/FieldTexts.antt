@@ -1,5 +1,5 @@
 -- Texts of fields with a space between them, and of lines with a line feed after each, read back (own).
-use Rattle.script.proofs.Prelude.{◌≡◌, ◌≢◌, ℕ, ◌≤◌, Bool, true, false, ◌&&◌, nat_le, eqb, List, [], ◌∷◌, ◌++◌, length, refl, ap, ◌∙◌, arith, nat_tests, list_all-append, list_all, line_byte, line_feed, lines_of, onto_piece, fields_of, onto_field, is_printable, is_printable_byte, and_from, and_parts, fields_nil}
+use Rattle.script.proofs.Prelude.{common_steps, ◌≡◌, ◌≢◌, ℕ, ◌≤◌, Bool, true, false, ◌&&◌, nat_le, eqb, List, [], ◌∷◌, ◌++◌, length, refl, ap, ◌∙◌, arith, nat_tests, list_all-append, list_all, line_byte, line_feed, lines_of, onto_piece, fields_of, onto_field, is_printable, is_printable_byte, and_from, and_parts, fields_nil}
 
 -- a printable byte that isn't a space
 abbrev pub is_field_byte : ℕ → Bool
@@ -73,8 +73,7 @@ onto_byte b c cs f fs z = rw z refl
 before_space : (b : ℕ) (bs rest : List ℕ) → list_all is_field_byte (b ∷ bs) ≡ true
     → fields_of ((b ∷ bs) ++ (32 ∷ rest)) ≡ (b ∷ bs) ∷ fields_of rest
 before_space b [] rest h =
-    let byte = fields_byte b (32 ∷ rest) (byte_is_no_space b (grind (arith, nat_tests))) in
-    cc (onto_space b rest (fields_of (32 ∷ rest)), fields_space rest)
+    grind (arith, nat_tests, common_steps, fields_byte, byte_is_no_space, onto_space, fields_space)
 before_space b (c ∷ cs) rest h =
     let parts = and_parts (is_field_byte b) (list_all is_field_byte (c ∷ cs)) h in
     let next = and_parts (is_field_byte c) (list_all is_field_byte cs) parts.1 in
@@ -109,16 +108,9 @@ pub record HasFields (line : List ℕ) (fields : List (List ℕ)) : Type 0 where
 
 pub last_field : {w : List ℕ} → IsField w → HasFields w (w ∷ [])
 unfolding is_printable
-last_field {w} h = record {
-  printable = all_from is_field_byte is_printable_byte byte_is_printable w h.bytes;
-  split = only_of w h.some h.bytes;
-}
+last_field {w} h = grind (arith, nat_tests, common_steps, all_from, byte_is_printable, only_of)
 
 pub front_field : {w rest : List ℕ} {fields : List (List ℕ)} → IsField w → HasFields rest fields
     → HasFields (w ++ (32 ∷ rest)) (w ∷ fields)
 unfolding is_printable
-front_field {w} {rest} h r = record {
-  printable = all_both is_printable_byte w (32 ∷ rest)
-      (all_from is_field_byte is_printable_byte byte_is_printable w h.bytes) r.printable;
-  split = cc (first_of w rest h.some h.bytes, r.split);
-}
+front_field {w} {rest} h r = grind (arith, nat_tests, common_steps, all_both, all_from, byte_is_printable, first_of)

@@ -1,14 +1,11 @@
 -- The text of what stands before the processes is read back (own).
-use Rattle.script.proofs.Prelude.{◌≡◌, ℕ, ◌+◌, ◌<◌, ◌≤◌, Bool, true, false, nat_le, nat_lt, List, [], ◌∷◌, ◌++◌, length, map, flat_map, sum_by, Ok, codes, refl, ap, ◌∙◌, arith, append_assoc, nat_tests, length-append, sum_by-append, sum_by-cons, decimal, list_all, list_any, AllByRecursion, is_name, DraftPlan, blank, reach, ArePools, has_name, have_own_names, have_own_volumes, is_bulk, is_fail, is_from, is_volume, IsPlan, records_of, later_at, line_at, fail_in, new_volume_in, pools_in, four_fields, next_field, no_fields, one_field, print_in, six_fields, three_fields, two_fields, Plan, bulk_text, ended, fail_text, head_text, machine_text, numbers_text, print_text, quota_text, volume_text, Stage, Bulk, Fail, Print, VolumeLine, and_false, and_parts}
+use Rattle.script.proofs.Prelude.{common_steps, ◌≡◌, ℕ, ◌+◌, ◌<◌, ◌≤◌, Bool, true, false, nat_le, nat_lt, List, [], ◌∷◌, ◌++◌, length, map, flat_map, sum_by, Ok, codes, refl, ap, ◌∙◌, arith, append_assoc, nat_tests, length-append, sum_by-append, sum_by-cons, decimal, list_all, list_any, AllByRecursion, is_name, DraftPlan, blank, reach, ArePools, has_name, have_own_names, have_own_volumes, is_bulk, is_fail, is_from, is_volume, IsPlan, records_of, later_at, line_at, fail_in, new_volume_in, pools_in, four_fields, next_field, no_fields, one_field, print_in, six_fields, three_fields, two_fields, Plan, bulk_text, ended, fail_text, head_text, machine_text, numbers_text, print_text, quota_text, volume_text, Stage, Bulk, Fail, Print, VolumeLine, and_false, and_parts, stage, print, MOST_PROCESSORS}
 use Rattle.script.proofs.FieldTexts.{IsField, HasFields, front_field, last_field}
 use Rattle.script.proofs.PushLaws.{other_volumes, others_before}
 use Rattle.script.proofs.Reaching.{Reaches, reaches_both, reaches_line, reaches_nothing}
 use Rattle.script.proofs.ValueTexts.{decimal_field, name_field, number_again}
 use Rattle.script.proofs.VolumeTexts.{AreVolumes, call_again, call_field, new_name_again, volume_again, volume_field, write_again, write_field}
 use Rattle.script.proofs.SmallLaws.{nil_after, outside}
-use Rattle.script.specs.declared.drafts.Stage.TheVariants as stage
-use Rattle.script.specs.declared.plan.Print.TheVariants as print
-use Rattle.script.specs.declared.plan.TheConstants.{MOST_PROCESSORS}
 
 -- ---- the machine
 
@@ -100,12 +97,7 @@ record FitVolumes (done vs : List VolumeLine) : Type 0 where
 fit_next : (done : List VolumeLine) (v : VolumeLine) (vs : List VolumeLine) → FitVolumes done (v ∷ vs)
     → FitVolumes (done ++ v ∷ []) vs
 fit_next done v vs h =
-    record {
-      each = (and_parts (is_volume v) (list_all is_volume vs) h.each).1;
-      own = ap have_own_names (append_assoc done (v ∷ []) vs) ∙ h.own;
-      few = omega (arith, length-append done (v ∷ []), h.few);
-      sum = omega (arith, sum_by-append records_of done (v ∷ []), sum_by-cons records_of v vs, h.sum);
-    }
+    grind (arith, nat_tests, common_steps, and_parts, append_assoc, length-append, sum_by-append, sum_by-cons)
 
 -- the lines of volumes, each on its own line
 abbrev pub volumes_text : List VolumeLine → List ℕ

@@ -1,7 +1,5 @@
 -- The printable front of a text, sixteen bytes at a time.
-use Rattle.script.proofs.Prelude.{◌≡◌, ◌≢◌, ℕ, ◌+◌, ◌%◌, ◌^◌, ◌<◌, ◌≤◌, Bool, true, false, List, [], ◌∷◌, zero, suc, length, take, get_or, map, not, Fits, w8, refl, sym, ap, subst, ◌∙◌, arith, inl, inr, ◌⊎◌, agree_below, agree_below_at, cases_lt, not-false, not-true, nat_tests, length-map, leading_from_mask_l, length-chunk, map-map, mask_l-mod, run_in_chunk_fails, run_in_chunk_le, run_in_chunk_stops, take_all, trailing_mask_l, prefix_len, NoFeedBefore, IsFront, IsPrintableTo, is_printable, is_printable_byte}
-use lib.Count.{count_trailing_zeros}
-use lib.Lanes.{chunk, mask_l, top}
+use Rattle.script.proofs.Prelude.{common_steps, ◌≡◌, ◌≢◌, ℕ, ◌+◌, ◌%◌, ◌^◌, ◌<◌, ◌≤◌, Bool, true, false, List, [], ◌∷◌, zero, suc, length, take, get_or, map, not, Fits, w8, refl, sym, ap, subst, ◌∙◌, arith, inl, inr, ◌⊎◌, agree_below, agree_below_at, cases_lt, not-false, not-true, nat_tests, length-map, leading_from_mask_l, length-chunk, map-map, mask_l-mod, run_in_chunk_fails, run_in_chunk_le, run_in_chunk_stops, take_all, trailing_mask_l, prefix_len, NoFeedBefore, IsFront, IsPrintableTo, is_printable, is_printable_byte, count_trailing_zeros, chunk, mask_l, top}
 
 -- the bytes before a place are a printable line
 pub front_whole : (bs : List ℕ) (n : ℕ) → n ≤ length bs → IsPrintableTo bs n → is_printable (take n bs) ≡ true
@@ -38,11 +36,7 @@ front_ends bs n out = grind (arith, nat_tests)
 
 -- the front of a block more
 pub front_lanes : (bs : List ℕ) (at n run : ℕ) → IsPrintableTo bs at → IsFront bs at n run → IsPrintableTo bs (at + run)
-front_lanes bs at n run front lanes = λ k lt. each k lt (cases_lt k at)
-  where
-    each : (k : ℕ) → k < at + run → (k < at) ⊎ (at ≤ k) → is_printable_byte (get_or bs k 0) ≡ true
-    each k lt (inl below) = front k below
-    each k lt (inr from) = lanes.front k from lt
+front_lanes bs at n run front lanes = grind (arith, nat_tests, common_steps)
 
 -- ---- lanes
 

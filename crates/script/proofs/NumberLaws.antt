@@ -1,6 +1,5 @@
 -- Laws of decimal numbers.
-use Rattle.script.proofs.Prelude.{◌≡◌, ℕ, ◌+◌, ◌-◌, ◌*◌, ◌^◌, ◌<◌, ◌≤◌, Bool, true, false, ◌&&◌, nat_le, cond, List, [], length, Option, Some, None, refl, sym, ap, ◌∙◌, arith, get_or, drop, nat_tests, common_steps, pow-add, is_ascii_digit, decimal_value, decimal_value_from, drop_at}
-use Rattle.std.proofs.Math.Nat.{pow-le-pow_right}
+use Rattle.script.proofs.Prelude.{◌≡◌, ℕ, ◌+◌, ◌-◌, ◌*◌, ◌^◌, ◌<◌, ◌≤◌, Bool, true, false, ◌&&◌, nat_le, cond, List, [], length, Option, Some, None, refl, sym, ap, ◌∙◌, arith, get_or, drop, nat_tests, common_steps, pow-add, is_ascii_digit, decimal_value, decimal_value_from, drop_at, pow-le-pow_right}
 
 pub nil_step : (before : ℕ) → decimal_value_from before [] ≡ Some before
 unfolding decimal_value_from

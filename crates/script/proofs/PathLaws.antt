@@ -1,6 +1,5 @@
 -- Laws of the texts of paths (own).
-use Rattle.script.proofs.Prelude.{◌≡◌, ℕ, ◌≤◌, Bool, true, false, cond, eqb, List, [], ◌∷◌, ◌++◌, length, Option, Some, None, Ok, Err, refl, sym, ap, ◌∙◌, arith, nat_tests, common_steps, list_all, AllByRecursion, is_name, is_name_byte, names_text, path_text, IsName, IsPath, onto_piece, path_of, pieces_of, if_path, is_path, path_in, and_from, and_parts}
-use Rattle.script.specs.declared.refusals.Cause.TheVariants as cause
+use Rattle.script.proofs.Prelude.{◌≡◌, ℕ, ◌≤◌, Bool, true, false, cond, eqb, List, [], ◌∷◌, ◌++◌, length, Option, Some, None, Ok, Err, refl, sym, ap, ◌∙◌, arith, nat_tests, common_steps, list_all, AllByRecursion, is_name, is_name_byte, names_text, path_text, IsName, IsPath, onto_piece, path_of, pieces_of, if_path, is_path, path_in, and_from, and_parts, cause}
 
 pieces_nil : pieces_of [] ≡ [] ∷ []
 unfolding pieces_of

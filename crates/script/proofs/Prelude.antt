@@ -1,5 +1,8 @@
 -- The names that the proofs of this crate take from elsewhere.
+pub use lib.Count.{count_trailing_zeros}
+pub use lib.Lanes.{chunk, mask_l, top}
 pub use Rattle.std.proofs.Common.{Bool, Err, Fits, List, None, Ok, Option, Result, Some, [], add-one, ap, append_assoc, arith, codes, cond, drop, drop-cons, eqb, false, flat_map, fold, get_or, inl, inr, length, ltb, map, nat_le, nat_lt, neg_ℤ, negsuc, not, pos, refl, slice_index_or, string_bytes, subst, suc, sum_by, sym, take, true, w8, zero, ℕ, ℤ, ◌%◌, ◌&&◌, ◌*◌, ◌++◌, ◌+◌, ◌-◌, ◌/◌, ◌<◌, ◌^◌, ◌∙◌, ◌∷◌, ◌≡◌, ◌≢◌, ◌≤◌, ◌⊎◌}
+pub use Rattle.std.proofs.Math.Nat.{pow-le-pow_right}
 pub use Rattle.std.proofs.lemmas.Bool.{agree_below, agree_below_at, and_from, cases_lt, false_from_ne_true, not-false, not-true, or_from, or_parts}
 pub use Rattle.std.proofs.lemmas.Bool.Decides.{nat_tests}
 pub use Rattle.std.proofs.lemmas.Fmt.{decimal_by_steps, decimal_nonempty, length-decimal-le}
@@ -17,7 +20,7 @@ pub use Rattle.std.specs.Int.RustNames.{unsigned_abs}
 pub use Rattle.std.specs.List.{AllByRecursion, list_all, list_any, prefix_len}
 pub use Rattle.std.specs.Prelude.{IfSome}
 pub use Rattle.std.specs.Str.{bytes_eq}
-pub use Rattle.laws.proofs.Bools.{and_false, and_parts, first_false, not_true, not_true as is_false, second_false}
+pub use Rattle.laws.proofs.Bools.{and_false, and_parts, first_false, not_true as is_false, not_true, second_false}
 pub use Rattle.laws.proofs.Lists.{length_push}
 pub use Rattle.laws.proofs.Numbers.{lt_from}
 pub use Rattle.mword.proofs.OctalLaws.{length-octal_digits, octal_below, octal_bound_more, octal_digits_all, octal_reads_back}
@@ -28,7 +31,7 @@ pub use Rattle.mnames.specs.Names.{IsLabel, IsName, IsPath, is_label_byte, is_na
 unfoldable pub use Rattle.mnames.specs.Names.{is_label, is_name}
 pub use Rattle.mnames.specs.Principals.{IsRow, IsWho, after_dot, any_text, before_dot, default_project, parts_text, row_alone, row_or, row_parts_text, row_with}
 unfoldable pub use Rattle.mnames.specs.Principals.{part_of, row_of, row_text, who_of, who_text}
-pub use Rattle.mnames.specs.declared.modes.Mode.{Mode}
+pub use Rattle.mnames.specs.declared.modes.Mode.{Mode, Mode as mode}
 pub use Rattle.mnames.specs.declared.principals.Who.{Who}
 pub use Rattle.mnames.specs.declared.rows.Row.{Row}
 pub use Rattle.text_model.proofs.FieldLaws.{NoSpaceBefore, field_last, fields_nil}
@@ -55,12 +58,13 @@ pub use Rattle.script.specs.Scripts.{call_text, ended, numbers_text, onward_text
 unfoldable pub use Rattle.script.specs.Scripts.{begin_text, bulk_text, commands_text, fail_text, head_text, machine_text, print_text, process_text, processes_text, quota_text, script_text, volume_text}
 pub use Rattle.script.specs.Texts.{volume_name}
 unfoldable pub use Rattle.script.specs.Texts.{arguments_text, command_text, mode_text, path_fields_text, reference_text, sign_text, word_text}
-pub use Rattle.script.specs.declared.commands.Command.{Command}
-pub use Rattle.script.specs.declared.drafts.LineFault.{LineFault}
-pub use Rattle.script.specs.declared.drafts.Stage.{Stage}
+pub use Rattle.script.specs.declared.commands.Command.{Command, Command as command}
+pub use Rattle.script.specs.declared.drafts.LineFault.{LineFault, LineFault as fault}
+pub use Rattle.script.specs.declared.drafts.Stage.{Stage, Stage as stage}
 pub use Rattle.script.specs.declared.plan.Bulk.{Bulk}
 pub use Rattle.script.specs.declared.plan.Fail.{Fail}
-pub use Rattle.script.specs.declared.plan.Print.{Print}
+pub use Rattle.script.specs.declared.plan.Print.{Print, Print as print}
+pub use Rattle.script.specs.declared.plan.TheConstants.{MOST_PROCESSORS}
 pub use Rattle.script.specs.declared.plan.VolumeLine.{VolumeLine}
-pub use Rattle.script.specs.declared.refusals.Cause.{Cause}
+pub use Rattle.script.specs.declared.refusals.Cause.{Cause, Cause as cause}
 pub use Rattle.script.specs.declared.refusals.Refusal.{Refusal}

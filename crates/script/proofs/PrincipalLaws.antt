@@ -1,5 +1,5 @@
 -- The texts of principals and of rows are fields, and are read back as what they are the texts of (own).
-use Rattle.script.proofs.Prelude.{◌≡◌, ℕ, Bool, true, false, cond, List, ◌∷◌, ◌++◌, length-append, Option, Some, None, Ok, refl, sym, ap, subst, ◌∙◌, arith, IfSome, list_all, bytes_eq, nat_tests, who_again, row_again, is_label, is_label_byte, IsLabel, default_project, before_dot, after_dot, IsWho, who_of, who_text, parts_text, IsRow, any_text, part_of, row_alone, row_of, row_or, row_parts_text, row_text, row_with, Who, Row, is_who, is_part, is_row, who_in, row_in, and_from, and_parts}
+use Rattle.script.proofs.Prelude.{common_steps, ◌≡◌, ℕ, Bool, true, false, cond, List, ◌∷◌, ◌++◌, length-append, Option, Some, None, Ok, refl, arith, IfSome, list_all, bytes_eq, nat_tests, who_again, row_again, is_label, is_label_byte, IsLabel, default_project, IsWho, who_of, who_text, parts_text, IsRow, any_text, part_of, row_alone, row_of, row_parts_text, row_text, row_with, Who, Row, is_who, is_part, is_row, who_in, row_in, and_from, and_parts}
 use Rattle.script.proofs.FieldTexts.{is_field_byte, IsField, all_both, short_field}
 
 -- ---- labels
@@ -19,10 +19,7 @@ who_in_again who h =
     rw (who_again (who_text who) (who_of (who_text who)) refl who whole refl) refl
 
 dotted_field : (xs ys : List ℕ) → IsField xs → list_all is_field_byte ys ≡ true → IsField (xs ++ (46 ∷ ys))
-dotted_field xs ys x y = record {
-  some = omega (arith, x.some, length-append xs (46 ∷ ys));
-  bytes = all_both is_field_byte xs (46 ∷ ys) x.bytes y;
-}
+dotted_field xs ys x y = grind (arith, nat_tests, common_steps, length-append, all_both, is_field_byte)
 
 parts_field : (a b : List ℕ) → is_label a ≡ true → is_label b ≡ true → IsField (parts_text a b)
 parts_field a b ha hb = chosen (bytes_eq b default_project)
@@ -63,13 +60,7 @@ row_field row h = row_parts_field row.person row.project (grind (arith, nat_test
 
 part_read : (text : List ℕ) (part : Option (List ℕ)) → part_of text ≡ Some part → is_part part ≡ true
 unfolding part_of
-part_read text part e = chosen (bytes_eq text any_text) (is_label text) refl e
-  where
-    chosen : (y z : Bool) → is_label text ≡ z → cond y (Some None) (cond z (Some (Some text)) None) ≡ Some part
-        → is_part part ≡ true
-    chosen true z l e = let same : None ≡ part = cc in ap is_part (sym same)
-    chosen false true l e = let same : Some text ≡ part = cc in ap is_part (sym same) ∙ l
-    chosen false false l e = absurd (cc)
+part_read text part e = grind (arith, nat_tests, common_steps)
 
 default_part : is_part (Some default_project) ≡ true
 unfolding is_label
@@ -80,9 +71,7 @@ parts_read : (a b : Option (Option (List ℕ))) (row : Row)
     → ((part : Option (List ℕ)) → b ≡ Some part → is_part part ≡ true) → row_with a b ≡ Some row → is_row row ≡ true
 parts_read None b row ha hb e = absurd (cc)
 parts_read (Some x) None row ha hb e = absurd (cc)
-parts_read (Some x) (Some y) row ha hb e =
-    let same : record { person = x; project = y } ≡ row = cc in
-    subst (λ (r : Row). is_row r ≡ true) same (and_from (is_part x) (is_part y) (ha x refl) (hb y refl))
+parts_read (Some x) (Some y) row ha hb e = grind (arith, nat_tests, common_steps, and_from)
 
 alone_read : (part : Option (List ℕ)) → is_part part ≡ true → is_row (row_alone part) ≡ true
 alone_read None h = refl
@@ -90,12 +79,4 @@ alone_read (Some person) h = and_from (is_label person) (is_part (Some default_p
 
 pub row_read : (text : List ℕ) (row : Row) → Some row ≡ row_of text → is_row row ≡ true
 unfolding row_of
-row_read text row e = chosen (part_of text) refl e
-  where
-    chosen : (o : Option (Option (List ℕ))) → part_of text ≡ o → Some row
-        ≡ row_or o (row_with (part_of (before_dot text)) (part_of (after_dot text))) → is_row row ≡ true
-    chosen None n e = parts_read (part_of (before_dot text)) (part_of (after_dot text)) row
-        (part_read (before_dot text)) (part_read (after_dot text)) (sym e)
-    chosen (Some part) n e =
-        let same : row_alone part ≡ row = cc in
-        subst (λ (r : Row). is_row r ≡ true) same (alone_read part (part_read text part n))
+row_read text row e = grind (arith, nat_tests, common_steps, parts_read, part_read, alone_read)

@@ -1,5 +1,5 @@
 -- A text of lines takes a draft to another (own).
-use Rattle.script.proofs.Prelude.{◌≡◌, ℕ, ◌+◌, false, List, [], ◌∷◌, ◌++◌, fold, Result, Ok, refl, ap, ◌∙◌, append_assoc, DraftPlan, lines_of, finished, is_comment, line_after, numbered, text_after, line_at, Plan, ended, Refusal}
+use Rattle.script.proofs.Prelude.{arith, common_steps, nat_tests, ◌≡◌, ℕ, ◌+◌, false, List, [], ◌∷◌, ◌++◌, fold, Result, Ok, refl, ap, ◌∙◌, append_assoc, DraftPlan, lines_of, finished, is_comment, line_after, numbered, text_after, line_at, Plan, ended, Refusal}
 use Rattle.script.proofs.FieldTexts.{HasFields, line_first}
 
 -- the script of a text from its line of that number on, after a draft
@@ -28,10 +28,7 @@ line_read n d e line word fields h comment at = rw (h.printable, h.split, commen
 line_step : (n : ℕ) (d e : DraftPlan) (line word : List ℕ) (fields : List (List ℕ)) (rest : List ℕ)
     → HasFields line (word ∷ fields) → is_comment word ≡ false → line_at d.stage d word fields ≡ Ok e
     → read_from n d (line ++ (10 ∷ rest)) ≡ read_from (n + 1) e rest
-line_step n d e line word fields rest h comment at =
-    ap (λ (ls : List (List ℕ)). finished (fold numbered (Ok (n, d)) ls)) (line_first line rest h.printable)
-    ∙ ap (λ (r : Result (ℕ × DraftPlan) Refusal). finished (fold numbered r (lines_of rest)))
-    (line_read n d e line word fields h comment at)
+line_step n d e line word fields rest h comment at = grind (arith, nat_tests, common_steps, line_first, line_read)
 
 -- one line
 pub reaches_line : {d e : DraftPlan} {line word : List ℕ} {fields : List (List ℕ)} → HasFields line (word ∷ fields)

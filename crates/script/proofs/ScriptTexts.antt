@@ -1,5 +1,5 @@
 -- The text of a script is read back as the script (own).
-use Rattle.script.proofs.Prelude.{◌≡◌, ℕ, ◌+◌, ◌<◌, ◌≤◌, Bool, true, false, nat_le, nat_lt, List, [], ◌∷◌, ◌++◌, length, sum_by, Ok, codes, refl, sym, ap, ◌∙◌, arith, append_assoc, nat_tests, length-append, sum_by-cons, list_all, Who, DraftPlan, has_volume, initializer_who, is_inside, lines_of, BeginsWithInitializer, ends_once, IsPlan, is_command, is_end, is_process, is_who, weight, weight_of, finished, is_whole, script_of, command_line, later_at, line_at, next_field, no_fields, one_field, Plan, ProcessPlan, Fail, begin_text, commands_text, ended, process_text, processes_text, script_text, command_text, Command, Stage, and_false}
+use Rattle.script.proofs.Prelude.{common_steps, ◌≡◌, ℕ, ◌+◌, ◌<◌, ◌≤◌, Bool, true, false, nat_le, nat_lt, List, [], ◌∷◌, ◌++◌, length, sum_by, Ok, codes, refl, sym, ap, ◌∙◌, arith, append_assoc, nat_tests, length-append, sum_by-cons, list_all, Who, DraftPlan, has_volume, initializer_who, is_inside, lines_of, BeginsWithInitializer, ends_once, IsPlan, is_command, is_end, is_process, is_who, weight, weight_of, finished, is_whole, script_of, command_line, later_at, line_at, next_field, no_fields, one_field, Plan, ProcessPlan, Fail, begin_text, commands_text, ended, process_text, processes_text, script_text, command_text, Command, Stage, and_false, stage}
 use Rattle.script.proofs.CommandTexts.{command_again, word_is_no_comment}
 use Rattle.script.proofs.FieldTexts.{front_field, last_field}
 use Rattle.script.proofs.HeadTexts.{after_head, are_volumes, head_reaches, stage_after_fails, takes_after_fails, takes_fail}
@@ -7,7 +7,6 @@ use Rattle.script.proofs.PrincipalLaws.{who_field, who_in_again}
 use Rattle.script.proofs.Reaching.{Reaches, read_from, reaches_both, reaches_line, reaches_nothing}
 use Rattle.script.proofs.VolumeTexts.{AreVolumes}
 use Rattle.script.proofs.SmallLaws.{nil_after, outside}
-use Rattle.script.specs.declared.drafts.Stage.TheVariants as stage
 
 -- ---- the commands of a process
 
@@ -120,9 +119,7 @@ processes_read : (base : DraftPlan) (s : Stage) (done : List ProcessPlan) (befor
     → u + sum_by weight_of xs ≤ 100000 → read_from n (between base s done before u)
     (processes_text base.plan.volumes false xs) ≡ Ok (record base.plan { processes = done ++ xs })
 unfolding processes_text
-processes_read base s done before u [] n may a h room le =
-    end_read n (between base s done before u) may
-    ∙ ap (λ (t : List ProcessPlan). Ok (record base.plan { processes = t })) (sym (nil_after done))
+processes_read base s done before u [] n may a h room le = grind (arith, nat_tests, common_steps, end_read, nil_after)
 processes_read base s done before u (x ∷ xs) n may a h room le =
     let step = (process_reaches base s done before u x may a (grind (arith, nat_tests)) (omega (arith, room))
     (omega (arith, le, sum_by-cons weight_of x xs))).reads n (processes_text base.plan.volumes false xs) in

@@ -1,5 +1,5 @@
 -- The texts of values: each is a field, and is read back as the value (own).
-use Rattle.script.proofs.Prelude.{◌≡◌, ℕ, ◌+◌, ◌-◌, ◌*◌, ◌/◌, ◌%◌, ◌^◌, ◌<◌, ◌≤◌, true, ◌&&◌, nat_le, List, [], ◌∷◌, ◌++◌, length, Some, Ok, refl, sym, ap, ◌∙◌, arith, nat_tests, decimal_by_steps, decimal_nonempty, length-decimal-le, is_ascii_digit, decimal, list_all, is_name, is_name_byte, names_text, path_text, octal_digits, is_octal_digit, octal_digits_all, length-octal_digits, octal_reads_back, decimal_value, decimal_value_from, is_path, number_in, word_in, path_in, and_from, and_parts}
+use Rattle.script.proofs.Prelude.{common_steps, ◌≡◌, ℕ, ◌+◌, ◌-◌, ◌*◌, ◌/◌, ◌%◌, ◌^◌, ◌<◌, ◌≤◌, true, ◌&&◌, nat_le, List, [], ◌∷◌, ◌++◌, length, Some, Ok, refl, sym, ap, ◌∙◌, arith, nat_tests, decimal_by_steps, decimal_nonempty, length-decimal-le, is_ascii_digit, decimal, list_all, is_name, is_name_byte, names_text, path_text, octal_digits, is_octal_digit, octal_digits_all, length-octal_digits, octal_reads_back, decimal_value, decimal_value_from, is_path, number_in, word_in, path_in, and_from, and_parts}
 use Rattle.script.proofs.FieldTexts.{is_field_byte, IsField, all_from, all_both, short_field}
 use Rattle.script.proofs.PathLaws.{path_again}
 use Rattle.script.proofs.NumberLaws.{nil_step}
@@ -13,9 +13,7 @@ value_digit before d ds z = rw z refl
 
 digits_push : (before : ℕ) (ds : List ℕ) (d n : ℕ) → list_all is_ascii_digit ds ≡ true → is_ascii_digit d ≡ true
     → decimal_value_from before ds ≡ Some n → decimal_value_from before (ds ++ d ∷ []) ≡ Some (n * 10 + (d - 48))
-digits_push before [] d n all z h =
-    let same : before ≡ n = cc (nil_step before, h) in
-    value_digit before d [] z ∙ nil_step (before * 10 + (d - 48)) ∙ ap (λ (m : ℕ). Some (m * 10 + (d - 48))) same
+digits_push before [] d n all z h = grind (arith, nat_tests, common_steps, nil_step, value_digit)
 digits_push before (x ∷ xs) d n all z h =
     let parts = and_parts (is_ascii_digit x) (list_all is_ascii_digit xs) all in
     value_digit before x (xs ++ d ∷ []) parts.0 ∙ digits_push (before * 10 + (x - 48)) xs d n parts.1 z

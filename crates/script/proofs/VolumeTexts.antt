@@ -1,7 +1,6 @@
 -- The names of volumes, modes, amounts and calls that fail: each is a field, and is read back (own).
-use Rattle.script.proofs.Prelude.{◌≡◌, ℕ, suc, zero, ◌+◌, ◌-◌, ◌<◌, ◌≤◌, Bool, true, false, eqb, List, [], ◌∷◌, ◌++◌, length, take, Some, Ok, refl, sym, ap, subst, ◌∙◌, arith, get_or, ℤ, pos, negsuc, nat_tests, take_at, bytes_eq-Decides, is_ascii_digit, decimal, is_negative, unsigned_abs, list_all, list_any, bytes_eq, is_name, Mode, has_name, have_own_names, is_from, is_volume, amount_in, call_in, ends_with_plus, is_write_in, mode_in, new_name_in, number_from, volume_in, call_text, onward_text, mode_text, sign_text, volume_name, VolumeLine, first_false, second_false}
+use Rattle.script.proofs.Prelude.{common_steps, ◌≡◌, ℕ, suc, zero, ◌+◌, ◌-◌, ◌<◌, ◌≤◌, Bool, true, false, eqb, List, [], ◌∷◌, ◌++◌, length, take, Some, Ok, refl, sym, ap, subst, ◌∙◌, arith, get_or, ℤ, pos, negsuc, nat_tests, take_at, bytes_eq-Decides, is_ascii_digit, decimal, is_negative, unsigned_abs, list_all, list_any, bytes_eq, is_name, Mode, has_name, have_own_names, is_from, is_volume, amount_in, call_in, ends_with_plus, is_write_in, mode_in, new_name_in, number_from, volume_in, call_text, onward_text, mode_text, sign_text, volume_name, VolumeLine, first_false, second_false, mode}
 use Rattle.std.proofs.lemmas.List.{length_push}
-use Rattle.mnames.specs.declared.modes.Mode.TheVariants as mode
 use Rattle.script.proofs.FieldTexts.{is_field_byte, IsField, all_both}
 use Rattle.script.proofs.PushLaws.{apart_parts, names_apart}
 use Rattle.script.proofs.ValueTexts.{decimal_digits, decimal_field, name_field, number_again}
@@ -53,9 +52,7 @@ volume_field vs k lt h = name_field (volume_name vs k) (name_of_volume vs k lt h
 pub volume_again : (vs : List VolumeLine) (k : ℕ) → k < length vs → list_all is_volume vs ≡ true → have_own_names vs
     ≡ true → volume_in vs (volume_name vs k) ≡ Ok k
 unfolding volume_in
-volume_again vs k lt each own =
-    let same : 0 + k ≡ k = omega arith in
-    rw (name_of_volume vs k lt each, number_again_from 0 vs k lt own, same) refl
+volume_again vs k lt each own = grind (arith, nat_tests, common_steps, name_of_volume, number_again_from)
 
 -- a name that no volume so far has
 pub new_name_again : (vs : List VolumeLine) (name : List ℕ) → is_name name ≡ true → list_any (has_name name) vs ≡ false
@@ -136,29 +133,14 @@ digit_is_no_plus : (b : ℕ) → is_ascii_digit b ≡ true → eqb b 43 ≡ fals
 digit_is_no_plus b h = grind (arith, nat_tests)
 
 no_plus : (n : ℕ) → n ≤ 1000000 → ends_with_plus (decimal n) ≡ false
-no_plus n h =
-    digit_is_no_plus (get_or (decimal n) (length (decimal n) - 1) 0)
-    (digit_at (decimal n) (length (decimal n) - 1) (omega (arith, (decimal_field n h).some)) (decimal_digits n h))
+no_plus n h = grind (arith, nat_tests, common_steps, digit_is_no_plus, digit_at, decimal_field, decimal_digits)
 
 pub call_field : (n : ℕ) (onward : Bool) → n ≤ 1000000 → IsField (decimal n ++ onward_text onward)
-call_field n true h =
-    let f = decimal_field n h in
-    record {
-      some = omega (arith, length_push (decimal n) 43);
-      bytes = all_both is_field_byte (decimal n) (43 ∷ []) f.bytes refl;
-    }
+call_field n true h = grind (arith, nat_tests, common_steps, decimal_field, length_push, all_both, is_field_byte)
 call_field n false h = subst IsField (sym (nil_after (decimal n))) (decimal_field n h)
 
 pub call_again : (n : ℕ) (onward : Bool) → 1 ≤ n → n ≤ 1000000 → call_in (decimal n ++ onward_text onward)
     ≡ Ok (n, onward)
 unfolding call_in
-call_again n true low high = rw (
-  last_plus (decimal n),
-  cut_plus (decimal n),
-  number_again 1 1000000 n (omega arith) low high,
-) refl
-call_again n false low high = rw (
-  nil_after (decimal n),
-  no_plus n high,
-  number_again 1 1000000 n (omega arith) low high,
-) refl
+call_again n true low high = grind (arith, nat_tests, common_steps, last_plus, cut_plus, number_again)
+call_again n false low high = grind (arith, nat_tests, common_steps, nil_after, no_plus, number_again)

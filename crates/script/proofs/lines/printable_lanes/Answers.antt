@@ -1,5 +1,4 @@
-use Rattle.script.proofs.Prelude.{ℕ, cond, ltb, refl, length-chunk, zip2_of_maps, zip2_splat, zip2_splat_left}
-use lib.Lanes.{chunk}
+use Rattle.script.proofs.Prelude.{ℕ, cond, ltb, refl, length-chunk, zip2_of_maps, zip2_splat, zip2_splat_left, chunk}
 use Rattle.script.proofs.LaneLaws.{first_set, none_set}
 use Rattle.script.proofs.lines.printable_lanes.Goals as goal
 
