@@ -1,5 +1,5 @@
 -- Pages of a segment that are stored no more.
-use Rattle.flat_model.proofs.Prelude.{common_steps, ◌≡◌, ℕ, ◌+◌, ◌/◌, ◌<◌, ◌≤◌, Bool, true, false, not, cond, eqb, ◌&&◌, ◌||◌, List, [], ◌∷◌, filter, refl, sym, ap, ◌∙◌, arith, inl, inr, nat_le, nat_lt, cases_eq, nat_tests, without_pages, Words, is_page, is_stored, without_stored, Store, eqb_turned}
+use Rattle.flat_model.proofs.Prelude.{common_steps, ◌≡◌, ℕ, ◌+◌, ◌/◌, ◌<◌, ◌≤◌, Bool, true, false, not, cond, eqb, ◌&&◌, ◌||◌, List, [], ◌∷◌, filter, refl, sym, ap, ◌∙◌, arith, inl, inr, nat_le, nat_lt, cases_eq, nat_tests, without_pages, is_page, is_stored, without_stored, Store, eqb_turned}
 
 -- two tests for the same page
 pub flip_page : (u q v r : ℕ) → is_page v r (u, q) ≡ (eqb v u && eqb r q)
@@ -78,27 +78,12 @@ fused s u t r = grind (arith, nat_tests, common_steps, stored_fused)
 all_stay : (xs : List (ℕ × ℕ)) (u : ℕ) → without_stored xs u (λ q. false) ≡ xs
 unfolding without_stored
 all_stay [] u = refl
-all_stay (x ∷ xs) u = stays (eqb x.0 u) (all_stay xs u)
-  where
-    stays : (z : Bool) → filter (λ y. not (eqb y.0 u && false)) xs ≡ xs
-        → cond (not (z && false)) (x ∷ filter (λ y. not (eqb y.0 u && false)) xs)
-        (filter (λ y. not (eqb y.0 u && false)) xs) ≡ x ∷ xs
-    stays true ih = ap (λ (l : List (ℕ × ℕ)). x ∷ l) ih
-    stays false ih = ap (λ (l : List (ℕ × ℕ)). x ∷ l) ih
+all_stay (x ∷ xs) u = grind (arith, nat_tests, common_steps, all_stay xs u)
 
 -- nothing is removed
 pub none_removed : (s : Store) (u : ℕ) (t : ℕ → Bool) → IsBlank s
     → ((q : ℕ) → is_stored s.stored u q ≡ true → t q ≡ false) → without_pages s u t ≡ s
-none_removed s u t blank off = agreed s u t (λ q. false) blank off ∙ whole
-  where
-    nothing : (z : Bool) (w : ℕ) → cond (z && false) 0 w ≡ w
-    nothing true w = refl
-    nothing false w = refl
-
-    whole : without_pages s u (λ q. false) ≡ s
-    whole = ap (λ (w : Words). record s { words = w; stored = without_stored s.stored u (λ q. false) })
-        (λ i. λ v. λ o. nothing (eqb v u) (s.words v o) i)
-        ∙ ap (λ (xs : List (ℕ × ℕ)). record s { stored = xs }) (all_stay s.stored u)
+none_removed s u t blank off = grind (arith, nat_tests, common_steps, agreed, all_stay s.stored u)
 
 -- a page that isn't stored
 pub none_missing : (s : Store) (u q : ℕ) → IsBlank s → is_stored s.stored u q ≡ false

@@ -37,10 +37,7 @@ module _ {X : Type 0} (read : List Node → X) (field : Node → X) (u : ℕ) (r
   pub field_mapped : (change : Node → Node) → ((n : Node) → (change n).uid ≡ n.uid)
       → ((n : Node) → field (change n) ≡ field n) → (ns : List Node) → read (map change ns) ≡ read ns
   field_mapped change uid same [] = refl
-  field_mapped change uid same (n ∷ ns) = reads (change n) (map change ns)
-      ∙ ap (λ (x : ℕ). cond (eqb x u) (field (change n)) (read (map change ns))) (uid n)
-      ∙ ap (λ (x : X). cond (eqb n.uid u) x (read (map change ns))) (same n)
-      ∙ ap (cond (eqb n.uid u) (field n)) (field_mapped change uid same ns) ∙ sym (reads n ns)
+  field_mapped change uid same (n ∷ ns) = grind (arith, nat_tests, common_steps, field_mapped change uid same ns)
 
 -- a field that a change keeps, where the change is of the nodes of one uid
 pub field_kept : {X : Type 0} (field : Node → X) (change : Node → Node) (u : ℕ)

@@ -1,15 +1,12 @@
 -- No quota is moved.
-use Rattle.flat_model.proofs.Prelude.{common_steps, ◌≡◌, ℕ, ℤ, pos, ◌+◌, ◌-◌, ◌≤◌, Bool, true, false, eqb, not, ◌&&◌, ◌||◌, List, [], ◌∷◌, map, None, Ok, refl, ap, ◌∙◌, arith, nat_lt, nat_tests, getter_of, giver_of, is_over, over_in, tree_moved, with_moved, with_quota_of, Node, above, has_directory, quota_in, used_by, directory_at, move_reply, Store, least_none, reply}
+use Rattle.flat_model.proofs.Prelude.{common_steps, ◌≡◌, ℕ, ℤ, pos, ◌≤◌, Bool, true, false, eqb, not, ◌&&◌, ◌||◌, List, [], ◌∷◌, map, None, Ok, refl, ap, ◌∙◌, arith, nat_lt, nat_tests, getter_of, giver_of, is_over, over_in, tree_moved, with_moved, with_quota_of, Node, above, has_directory, quota_in, used_by, directory_at, move_reply, Store, least_none, reply}
 
 quota_same : (u : ℕ) (change : ℕ → ℕ) (n : Node) → ((q : ℕ) → change q ≡ q) → with_quota_of u change n ≡ n
 quota_same u change n same = grind (arith, nat_tests, common_steps)
 
 nodes_same : (ns : List Node) (giver getter : ℕ) → with_moved ns giver getter 0 ≡ ns
 nodes_same [] giver getter = refl
-nodes_same (n ∷ ns) giver getter = ap (λ (x : Node). x ∷ with_moved ns giver getter 0)
-    (quota_same giver (λ q. q - 0) (with_quota_of getter (λ q. q + 0) n) (λ q. omega arith)
-    ∙ quota_same getter (λ q. q + 0) n (λ q. omega arith))
-    ∙ ap (λ (xs : List Node). n ∷ xs) (nodes_same ns giver getter)
+nodes_same (n ∷ ns) giver getter = grind (arith, nat_tests, common_steps, quota_same, nodes_same ns giver getter)
 
 pub nothing_moved : (ns : List Node) (d : ℕ) (down : Bool) → tree_moved ns d down 0 ≡ ns
 nothing_moved ns d down = nodes_same ns (giver_of (above ns) d down) (getter_of (above ns) d down)

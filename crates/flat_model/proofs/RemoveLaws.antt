@@ -1,5 +1,5 @@
 -- A directory or a segment is taken out.
-use Rattle.flat_model.proofs.Prelude.{common_steps, deletion_of, ◌≡◌, ◌≢◌, ℕ, Bool, true, false, cond, eqb, not, ◌&&◌, List, [], ◌∷◌, Some, None, Ok, Err, refl, ap, ◌∙◌, arith, inl, inr, count_by, nat_le, list_any, cases_Bool, or_parts, nat_tests, sum_by-cons, Reply, Node, has_directory, is_inferior, node_in, taken_on, volume_in, without_node, has_segment, branch_at, takes_effect, without_branch, without_pages, after_delete, delete_reply, deleted, is_page, is_stored, Store, from_first}
+use Rattle.flat_model.proofs.Prelude.{common_steps, deletion_of, ◌≡◌, ◌≢◌, ℕ, Bool, true, false, cond, eqb, not, ◌&&◌, List, [], ◌∷◌, Some, None, Ok, Err, refl, ap, ◌∙◌, arith, count_by, nat_le, list_any, or_parts, nat_tests, sum_by-cons, Reply, Node, has_directory, is_inferior, node_in, taken_on, volume_in, without_node, has_segment, branch_at, takes_effect, without_branch, without_pages, after_delete, delete_reply, deleted, is_page, is_stored, Store, from_first}
 use Rattle.flat_model.proofs.FieldLaws.{field_none, field_left}
 use Rattle.flat_model.proofs.CountLaws.{count-cons}
 
@@ -7,10 +7,7 @@ use Rattle.flat_model.proofs.CountLaws.{count-cons}
 
 pub node_gone : (ns : List Node) (u : ℕ) → node_in (without_node ns u) u ≡ None
 node_gone [] u = refl
-node_gone (n ∷ ns) u = elim (cases_Bool (eqb n.uid u)) [
-  | inl here ↦ rw here (node_gone ns u)
-  | inr there ↦ rw there (rw there (node_gone ns u))
-]
+node_gone (n ∷ ns) u = grind (arith, nat_tests, common_steps, node_gone ns u)
 
 pub segment_left : (ns : List Node) (u v : ℕ) → v ≢ u → has_segment (without_node ns u) v ≡ has_segment ns v
 segment_left ns u v = field_left (λ (xs : List Node). has_segment xs v) (λ (x : Node). not x.directory) v
