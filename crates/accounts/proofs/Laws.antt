@@ -1,5 +1,5 @@
 -- What the tree and its cells show, said of the nodes with their quotas.
-use Rattle.accounts.proofs.Prelude.{◌≡◌, ◌≢◌, ◌≤◌, ℕ, true, false, cond, eqb, not, List, [], ◌∷◌, map, Option, Some, None, Result, Ok, Err, refl, sym, ap, subst, get_or, ◌∙◌, arith, inl, inr, is_some, if◌then◌else◌, ◌<◌, IfSome, IfNone, IfOk, OnOk, OnErr, cases_Bool, cases_eq, eq-eqb, ne_eqb, length-map, Row, with_row, Term, has_directory, node_in, quota_at, with_node, without_node, has_segment, HasChains, IsTree, AreBelow, Node, NewNode, Branches, as_term, with_quotas, node_of, is_in, is_directory, is_segment, added, removed, without, unless, with_length, with_changed, with_acl, with_home, acl_of, shape, shapes, look, has, is_an_account, with_value, CellMaps, IsTable, quota_in, stored_in, used_in, AreWithin, Fits, Enters, Leaves, kind_of_directory, kind_of_segment, uid_shown, segment_in, not_in_directory, no_node, look_absent, on_directories, on_segments, AccountMaps, HasColumns, accounts_of, count_of, entry_of, branch_of, Recounts, Changes, Gains, Loses, Rehomes, rehomed, rows_in, with_row_in, joined_below, quota_mapped, none_there}
+use Rattle.accounts.proofs.Prelude.{◌≡◌, ◌≢◌, ◌≤◌, ℕ, true, false, cond, eqb, not, List, [], ◌∷◌, map, Option, Some, None, Result, Ok, Err, refl, sym, ap, subst, get_or, ◌∙◌, arith, inl, inr, is_some, if◌then◌else◌, ◌<◌, IfSome, IfNone, IfOk, OnOk, OnErr, cases_Bool, cases_eq, eq-eqb, ne_eqb, length-map, Row, with_row, Term, has_directory, node_in, quota_at, with_node, without_node, has_segment, HasChains, IsTree, AreBelow, Node, NewNode, Branches, as_term, with_quotas, node_of, is_in, is_directory, is_segment, added, removed, without, unless, with_length, with_changed, with_acl, with_home, acl_of, shape, shapes, look, has, is_an_account, with_value, CellMaps, IsTable, quota_in, stored_in, used_in, AreWithin, Fits, Enters, Leaves, kind_of_directory, kind_of_segment, uid_shown, segment_in, not_in_directory, no_node, look_absent, on_directories, on_segments, AccountMaps, HasColumns, accounts_of, count_of, entry_of, branch_of, Recounts, Changes, Gains, Loses, Rehomes, rehomed, rows_in, with_row_in, joined_below, quota_mapped, none_there, nat_tests, common_steps}
 
 -- ---- uids of the tree
 
@@ -48,10 +48,7 @@ module _ (t : Branches) (c : CellMaps) {a : AccountMaps} (shown : accounts_of t 
 
 no_segment : (ns : List Node) (u : ℕ) → node_of ns u ≡ None → is_segment ns u ≡ true → ⊥
 no_segment [] u none seg = cc
-no_segment (n ∷ ns) u none seg = elim (cases_Bool (eqb n.uid u)) [
-  | inl is ↦ (let z : Some n ≡ None = rw is at none in cc)
-  | inr isnt ↦ no_segment ns u (rw isnt at none) (rw isnt at seg)
-]
+no_segment (n ∷ ns) u none seg = grind (arith, nat_tests, common_steps)
 
 pub segment_found : {X : Type 0} (ns : List Node) (u : ℕ) (r : Option X) → is_some r ≡ false
     → IfNone r (node_of ns u ≡ None) → is_segment ns u ≡ true → ⊥
@@ -134,10 +131,7 @@ used_within t c fits within a = rw (quota_shown t c fits a) (elim (cases_Bool (i
 
 -- no uid is both a directory's and a segment's
 never_both : {c : CellMaps} → IsTable c → (u : ℕ) → has c.segments u ≡ true → has c.directories u ≡ false
-never_both {c} table u seg = elim (cases_Bool (has c.directories u)) [
-  | inl dir ↦ (let no : true ≡ false = sym seg ∙ table.apart u dir in cc)
-  | inr isnt ↦ isnt
-]
+never_both {c} table u seg = grind (arith, nat_tests, common_steps)
 
 -- a segment has no quota, and a directory no stored page
 module _ (t : Branches) (c : CellMaps) {a : AccountMaps} (shown : accounts_of t c ≡ a) (fits : Fits t.nodes c)

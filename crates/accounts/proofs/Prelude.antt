@@ -1,6 +1,8 @@
 -- The names that the proofs of this crate take from elsewhere.
 pub use Rattle.std.proofs.Common.{Bool, Err, List, None, Ok, Option, Result, Some, [], ap, arith, cond, eqb, false, get_or, if◌then◌else◌, inl, inr, is_some, length, map, not, refl, subst, sym, true, w32, ℕ, ◌+◌, ◌-◌, ◌<◌, ◌∙◌, ◌∷◌, ◌≡◌, ◌≢◌, ◌≤◌}
 pub use Rattle.std.proofs.lemmas.Bool.{cases_Bool, cases_eq, eq-eqb, ne_eqb}
+pub use Rattle.std.proofs.lemmas.Bool.Decides.{nat_tests}
+pub use Rattle.std.proofs.lemmas.Grind.{common_steps}
 pub use Rattle.std.proofs.lemmas.Int.{to_z-of_z}
 pub use Rattle.std.proofs.lemmas.List.{length-map}
 pub use Rattle.std.specs.Int.{is_positive}
@@ -15,7 +17,7 @@ unfoldable pub use Rattle.tree_model.specs.Tree.{used_by}
 pub use Rattle.tree_model.specs.Trees.{AreBelow, HasChains, IsTree, Joins, has_segment}
 pub use Rattle.dir_tree.proofs.QuotaLemmas.{fault_any}
 pub use Rattle.dir_tree.specs.Index.{no_node}
-pub use Rattle.dir_tree.specs.Laws.{directory_shown as kind_of_directory, not_in_directory, segment_in, segment_shown as kind_of_segment, uid_shown}
+pub use Rattle.dir_tree.specs.Laws.{directory_shown as kind_of_directory, segment_shown as kind_of_segment, not_in_directory, segment_in, uid_shown}
 pub use Rattle.dir_tree.specs.Nodes.{Branches, acl_of, add_fault_of, added, as_node, as_term, is_directory, is_in, is_segment, node_of, removed, unless, with_acl, with_changed, with_home, with_length, with_quotas, without}
 pub use Rattle.dir_tree.specs.Shape.{shape, shapes}
 pub use Rattle.dir_tree.specs.declared.node.NewNode.{NewNode}

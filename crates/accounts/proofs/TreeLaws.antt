@@ -1,5 +1,5 @@
 -- The nodes with their quotas are a tree, as they are without.
-use Rattle.accounts.proofs.Prelude.{◌≡◌, ℕ, ◌<◌, Bool, true, false, cond, eqb, List, [], ◌∷◌, length, Option, Some, None, refl, sym, ap, subst, ◌∙◌, Term, above, branch_in, is_branch, step_up, AreBelow, IsTree, Joins, Node, as_term, with_quotas, shape, shapes, directory_mapped}
+use Rattle.accounts.proofs.Prelude.{◌≡◌, ℕ, Bool, true, false, cond, eqb, List, [], ◌∷◌, Option, Some, None, refl, ap, Term, above, branch_in, is_branch, step_up, AreBelow, IsTree, Joins, Node, as_term, with_quotas, shape, shapes, directory_mapped}
 
 above_any : (q : ℕ → ℕ) (ns : List Node) (u : ℕ) → above (with_quotas q ns) u ≡ above (shapes ns) u
 above_any q [] u = refl

@@ -1,4 +1,4 @@
-use Rattle.accounts.proofs.Prelude.{◌≡◌, false, subst, sym, ap, ◌∙◌, arith, is_in, on_nodes, AccountMaps, Gains, accounts_of, branch_of}
+use Rattle.accounts.proofs.Prelude.{◌≡◌, ◌∙◌, arith, on_nodes, nat_tests, common_steps}
 use Rattle.accounts.proofs.Laws.{directory_of, unless_ok, enters_fit, gained}
 use Rattle.accounts.proofs.Accounts.add.Goals as goal
 
@@ -7,10 +7,7 @@ add_branch-requires-clause-directory c = directory_of c.self.inside.tree c.self.
     c.self.view_is c.args.superior c.requires.directory
 
 pub enter-requires-clause-bound : goal.enter-requires-clause-bound
-enter-requires-clause-bound c =
-    let next : c.in_ok-uid.uid ≡ c.self.inside.tree.next = unless_ok _ (c.in_ok-uid.ensures.answer (λ u. 0)) in
-    let same : c.self.inside.tree.next ≡ c.args.self.now.next = ap (λ (a : AccountMaps). a.next) c.self.view_is in
-    omega arith
+enter-requires-clause-bound c = grind (arith, nat_tests, common_steps, unless_ok)
 
 pub enter-requires-clause-absent : goal.enter-requires-clause-absent
 enter-requires-clause-absent c =

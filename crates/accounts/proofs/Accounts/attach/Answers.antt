@@ -1,4 +1,4 @@
-use Rattle.accounts.proofs.Prelude.{◌≡◌, None, false, subst, sym, ap, ◌∙◌, arith, add_fault_of, as_node, is_in, fault_any, quota_in, on_nodes, AccountMaps, Gains, accounts_of, branch_of}
+use Rattle.accounts.proofs.Prelude.{◌∙◌, arith, as_node, fault_any, on_nodes, nat_tests, common_steps}
 use Rattle.accounts.proofs.Laws.{directory_of, enters_fit, gained}
 use Rattle.accounts.proofs.Accounts.attach.Goals as goal
 
@@ -7,16 +7,10 @@ attach-uid-requires-clause-directory c = directory_of c.self.inside.tree c.self.
     c.self.view_is c.args.superior c.requires.directory
 
 pub attach-uid-requires-clause-may : goal.attach-uid-requires-clause-may
-attach-uid-requires-clause-may c =
-    sym (fault_any (quota_in c.self.inside.cells) c.self.inside.tree.nodes c.args.superior c.args.new.name
-    c.args.new.dir)
-    ∙ subst (λ (a : AccountMaps). add_fault_of a.nodes c.args.superior c.args.new.name c.args.new.dir ≡ None)
-    (sym c.self.view_is) c.requires.may
+attach-uid-requires-clause-may c = grind (arith, nat_tests, common_steps, fault_any)
 
 pub enter-requires-clause-bound : goal.enter-requires-clause-bound
-enter-requires-clause-bound c =
-    let same : c.self.inside.tree.next ≡ c.args.self.now.next = ap (λ (a : AccountMaps). a.next) c.self.view_is in
-    omega arith
+enter-requires-clause-bound c = grind (arith, nat_tests, common_steps)
 
 pub enter-requires-clause-absent : goal.enter-requires-clause-absent
 enter-requires-clause-absent c = on_nodes c.self.inside.tree.nodes c.self.invariant c.attach-uid.result

@@ -1,4 +1,4 @@
-use Rattle.accounts.proofs.Prelude.{◌≡◌, ◌+◌, ℕ, List, subst, OnOk, stored_in, charge_answer, AccountMaps, Counts, Recounts, accounts_of, count_of}
+use Rattle.accounts.proofs.Prelude.{◌+◌, stored_in}
 use Rattle.accounts.proofs.Laws.{segment_of, charged_shown}
 use Rattle.accounts.proofs.Accounts.charge.Goals as goal
 

@@ -1,4 +1,3 @@
-use Rattle.accounts.proofs.Prelude.{◌-◌, subst, stored_in, AccountMaps, Recounts, accounts_of, count_of}
 use Rattle.accounts.proofs.Laws.{segment_of, recounted}
 use Rattle.accounts.proofs.Accounts.credit.Goals as goal
 

@@ -1,4 +1,3 @@
-use Rattle.accounts.proofs.Prelude.{◌≡◌, ℕ, List, subst, charge_answer, AccountMaps, Counts}
 use Rattle.accounts.proofs.Laws.{segment_of}
 use Rattle.accounts.proofs.Accounts.may_charge.Goals as goal
 

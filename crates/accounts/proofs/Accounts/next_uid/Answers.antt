@@ -1,4 +1,4 @@
-use Rattle.accounts.proofs.Prelude.{subst, quota_in, AreBelow, AccountMaps}
+use Rattle.accounts.proofs.Prelude.{quota_in}
 use Rattle.accounts.proofs.Laws.{fresh_of}
 use Rattle.accounts.proofs.TreeLaws.{later_any}
 use Rattle.accounts.proofs.Accounts.next_uid.Goals as goal

@@ -1,4 +1,4 @@
-use Rattle.accounts.proofs.Prelude.{◌≡◌, Some, subst, not, IfSome, has_directory, node_in, quota_at, has_segment, as_term, quota_in, AccountMaps, entry_of}
+use Rattle.accounts.proofs.Prelude.{quota_in}
 use Rattle.accounts.proofs.Laws.{node_shown, entry_shown, directory_shown, segment_shown}
 use Rattle.accounts.proofs.Accounts.node.Goals as goal
 

@@ -1,4 +1,4 @@
-use Rattle.accounts.proofs.Prelude.{◌≤◌, ℕ, List, ap, subst, used_by, quota_at, AreBelow, quota_in, used_same, AccountMaps, Counts, accounts_of}
+use Rattle.accounts.proofs.Prelude.{◌≤◌, subst, quota_at, quota_in, used_same, accounts_of}
 use Rattle.accounts.proofs.Laws.{columns, no_pages, no_quota, used_within}
 use Rattle.accounts.proofs.TreeLaws.{later_any, tree_shown}
 use Rattle.accounts.proofs.Accounts.promise.Goals as goal

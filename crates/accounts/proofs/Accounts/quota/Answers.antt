@@ -1,4 +1,4 @@
-use Rattle.accounts.proofs.Prelude.{◌≡◌, sym, ◌∙◌, subst, quota_at, AccountMaps}
+use Rattle.accounts.proofs.Prelude.{sym, ◌∙◌}
 use Rattle.accounts.proofs.Laws.{directory_cell, quota_shown}
 use Rattle.accounts.proofs.Accounts.quota.Goals as goal
 

@@ -1,4 +1,4 @@
-use Rattle.accounts.proofs.Prelude.{◌≡◌, sym, ◌∙◌, subst, quota_at, AccountMaps, Loses, accounts_of, on_nodes}
+use Rattle.accounts.proofs.Prelude.{◌≡◌, sym, ◌∙◌, subst, quota_at, AccountMaps, on_nodes}
 use Rattle.accounts.proofs.Laws.{there_of, quota_shown, lost}
 use Rattle.accounts.proofs.Accounts.remove.Goals as goal
 

@@ -1,4 +1,3 @@
-use Rattle.accounts.proofs.Prelude.{◌≡◌, subst, AccountMaps, Rehomes, accounts_of, rehomed}
 use Rattle.accounts.proofs.Laws.{home_exact, home_shown, segment_of}
 use Rattle.accounts.proofs.Accounts.set_home.Goals as goal
 

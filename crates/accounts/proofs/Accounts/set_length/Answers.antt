@@ -1,4 +1,3 @@
-use Rattle.accounts.proofs.Prelude.{subst, with_node, AccountMaps, Changes, accounts_of}
 use Rattle.accounts.proofs.Laws.{segment_of, length_shown}
 use Rattle.accounts.proofs.Accounts.set_length.Goals as goal
 

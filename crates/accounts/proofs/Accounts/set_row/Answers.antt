@@ -1,4 +1,4 @@
-use Rattle.accounts.proofs.Prelude.{◌≡◌, sym, subst, ap, ◌∙◌, ◌↔◌, IsOk, IsTrue, OnOk, OnErr, List, Row, takes_row, with_acl, AccountMaps, Changes, accounts_of, rows_in, with_row_in}
+use Rattle.accounts.proofs.Prelude.{arith, nat_tests, common_steps}
 use Rattle.accounts.proofs.Laws.{segment_of, segment_found, rows_shown, row_set, row_refused}
 use Rattle.accounts.proofs.Accounts.set_row.Goals as goal
 
@@ -10,9 +10,7 @@ prove-unreachable-requires c = segment_found c.self.inside.tree.nodes c.args.seg
     (segment_of c.self.inside.tree c.self.inside.cells c.self.view_is c.args.seg c.requires)
 
 pub returns-clause-full : goal.returns-clause-full
-returns-clause-full c =
-    rw (← (c.acl_mut.ensures.value ∙ sym (rows_shown c.self.inside.tree c.self.inside.cells c.args.seg)
-    ∙ ap (λ (a : AccountMaps). rows_in a.nodes c.args.seg) c.self.view_is)) c.set.ensures.full
+returns-clause-full c = grind (arith, nat_tests, common_steps, rows_shown)
 
 pub returns-clause-ok : goal.returns-clause-ok
 returns-clause-ok c = rw (← c.self.view_is) (row_set c.self.inside.tree c.self.inside.cells c.node.ensures.tree
@@ -20,6 +18,4 @@ returns-clause-ok c = rw (← c.self.view_is) (row_set c.self.inside.tree c.self
     c.set.result c.acl_mut.ensures.value c.set.ensures.ok)
 
 pub returns-clause-err : goal.returns-clause-err
-returns-clause-err c =
-    rw (← c.self.view_is) (row_refused c.self.inside.tree c.self.inside.cells c.node.ensures.tree c.args.seg
-    c.set.new.self c.set.result c.acl_mut.ensures.value c.set.ensures.err)
+returns-clause-err c = grind (arith, nat_tests, common_steps, row_refused)

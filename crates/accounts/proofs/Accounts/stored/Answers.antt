@@ -1,4 +1,4 @@
-use Rattle.accounts.proofs.Prelude.{◌≡◌, ◌∙◌, subst, quota_at, AccountMaps}
+use Rattle.accounts.proofs.Prelude.{◌∙◌}
 use Rattle.accounts.proofs.Laws.{segment_cell, quota_shown}
 use Rattle.accounts.proofs.Accounts.stored.Goals as goal
 

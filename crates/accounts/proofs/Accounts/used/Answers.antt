@@ -1,4 +1,3 @@
-use Rattle.accounts.proofs.Prelude.{◌≡◌, ◌≤◌, ℕ, List, sym, subst, used_by, quota_at, AccountMaps, Counts, accounts_of}
 use Rattle.accounts.proofs.Laws.{used_within}
 use Rattle.accounts.proofs.Accounts.used.Goals as goal
 
