@@ -126,7 +126,4 @@ load_same f q r same ks ws e = weigh_same (λ k. covers r (f k) e) (λ k. covers
 
 pub account_of_chain : (q : ℕ → ℕ) (xs : List ℕ) → is_an_account q (account q xs) ≡ true
 account_of_chain q [] = refl
-account_of_chain q (x ∷ xs) = elim (cases_Bool (eqb (q x) 0)) [
-  | inl none ↦ rw none (account_of_chain q xs)
-  | inr some ↦ rw some (or_right (eqb x 1) (not (eqb (q x) 0)) (not_from_false (eqb (q x) 0) some))
-]
+account_of_chain q (x ∷ xs) = grind (arith, nat_tests, common_steps, account_of_chain q xs, or_right, not_from_false)

@@ -1,5 +1,5 @@
 -- Values beside uids: one set, all of some changed, one more and one less.
-use Rattle.quota_cells.proofs.Prelude.{◌≡◌, ◌≢◌, ℕ, suc, zero, ◌+◌, ◌<◌, ◌≤◌, Bool, true, eqb, if◌then◌else◌, List, [], ◌∷◌, length, refl, ap, arith, get_or, inl, inr, sum, cases_Bool, cases_eq, eq-eqb, ne_eqb, or_right, or_left, sum_by-cons, look, has, with_value, weigh, changed_where}
+use Rattle.quota_cells.proofs.Prelude.{common_steps, nat_tests, ◌≡◌, ◌≢◌, ℕ, suc, zero, ◌+◌, ◌<◌, ◌≤◌, Bool, true, eqb, if◌then◌else◌, List, [], ◌∷◌, length, refl, ap, arith, get_or, inl, inr, sum, cases_Bool, cases_eq, eq-eqb, ne_eqb, or_right, or_left, sum_by-cons, look, has, with_value, weigh, changed_where}
 
 -- one value set
 pub look_with : (ks vs : List ℕ) (u v w : ℕ) → length vs ≡ length ks → has ks u ≡ true
@@ -25,13 +25,7 @@ look_with (k ∷ ks) (x ∷ vs) u v w len e = elim (cases_eq k u) [
 pub look_with_other : (ks vs : List ℕ) (u v w : ℕ) → u ≢ w → look ks (with_value ks vs u v) w ≡ look ks vs w
 look_with_other [] vs u v w ne = refl
 look_with_other (k ∷ ks) [] u v w ne = refl
-look_with_other (k ∷ ks) (x ∷ vs) u v w ne = elim (cases_eq k u) [
-  | inl same ↦ rw (eq-eqb k u same, ne_eqb k w (λ q. ne (omega arith))) refl
-  | inr other ↦ rw (ne_eqb k u other) (elim (cases_eq k w) [
-    | inl here ↦ rw (eq-eqb k w here) refl
-    | inr there ↦ rw (ne_eqb k w there) (look_with_other ks vs u v w ne)
-  ])
-]
+look_with_other (k ∷ ks) (x ∷ vs) u v w ne = grind (arith, nat_tests, common_steps, look_with_other ks vs u v w ne)
 
 pub length_with : (ks vs : List ℕ) (u v : ℕ) → length (with_value ks vs u v) ≡ length vs
 length_with [] vs u v = refl
@@ -54,10 +48,7 @@ sum_with (k ∷ ks) (x ∷ vs) u v len e = elim (cases_Bool (eqb k u)) [
 pub look_le_sum : (ks vs : List ℕ) (u : ℕ) → look ks vs u ≤ sum vs
 look_le_sum [] vs u = omega arith
 look_le_sum (k ∷ ks) [] u = omega arith
-look_le_sum (k ∷ ks) (x ∷ vs) u = (let b = sum_by-cons (λ (y : ℕ). y) x vs in elim (cases_Bool (eqb k u)) [
-  | inl is ↦ rw is (omega arith)
-  | inr isnt ↦ rw isnt (omega (arith, look_le_sum ks vs u))
-])
+look_le_sum (k ∷ ks) (x ∷ vs) u = grind (arith, nat_tests, common_steps, sum_by-cons, look_le_sum ks vs u)
 
 pub two_le_sum : (ks vs : List ℕ) (u w : ℕ) → u ≢ w → look ks vs u + look ks vs w ≤ sum vs
 two_le_sum [] vs u w ne = omega arith
@@ -118,10 +109,7 @@ weigh_same s t (k ∷ ks) (w ∷ ws) same = rw (
 pub look_le_weigh : (t : ℕ → Bool) (ks ws : List ℕ) (u : ℕ) → t u ≡ true → look ks ws u ≤ weigh t ks ws
 look_le_weigh t [] ws u is = omega arith
 look_le_weigh t (k ∷ ks) [] u is = omega arith
-look_le_weigh t (k ∷ ks) (w ∷ ws) u is = elim (cases_eq k u) [
-  | inl same ↦ (let here : t k ≡ true = rw same is in rw (eq-eqb k u same, here) (omega arith))
-  | inr other ↦ rw (ne_eqb k u other) (omega (arith, look_le_weigh t ks ws u is))
-]
+look_le_weigh t (k ∷ ks) (w ∷ ws) u is = grind (arith, nat_tests, common_steps, look_le_weigh t ks ws u is)
 
 pub weigh_le_on : (s t : ℕ → Bool) (ks ws : List ℕ) → ((k : ℕ) → has ks k ≡ true → s k ≡ true → t k ≡ true)
     → weigh s ks ws ≤ weigh t ks ws

@@ -1,13 +1,10 @@
 -- One more value beside a uid, 0, and one less.
-use Rattle.quota_cells.proofs.Prelude.{◌≡◌, ◌≢◌, ℕ, suc, zero, ◌+◌, ◌<◌, ◌≤◌, Bool, true, false, eqb, not, ◌&&◌, ◌||◌, List, [], ◌∷◌, length, refl, sym, ◌∙◌, arith, get_or, inl, inr, insert, remove, cases_Bool, cases_eq, cases_lt, eq-eqb, ne_eqb, length-insert, get_or-insert_below, get_or-insert_at, get_or-insert_above, length-remove, get_or-remove_below, get_or-remove_above, look, has, weigh, IsRising, IsGap, look_absent, Where, Before, Here, After, where_is, first_once, rest_rises}
+use Rattle.quota_cells.proofs.Prelude.{common_steps, nat_tests, ◌≡◌, ◌≢◌, ℕ, suc, zero, ◌+◌, ◌<◌, ◌≤◌, Bool, true, false, eqb, not, ◌&&◌, ◌||◌, List, [], ◌∷◌, length, refl, sym, ◌∙◌, arith, get_or, inl, inr, insert, remove, cases_Bool, cases_eq, cases_lt, eq-eqb, ne_eqb, length-insert, get_or-insert_below, get_or-insert_at, get_or-insert_above, length-remove, get_or-remove_below, get_or-remove_above, look, has, weigh, IsRising, IsGap, look_absent, Where, Before, Here, After, where_is, first_once, rest_rises}
 
 pub has_insert : (ks : List ℕ) (i u v : ℕ) → has (insert ks i u) v ≡ (eqb u v || has ks v)
 has_insert ks zero u v = refl
 has_insert [] (suc i) u v = refl
-has_insert (k ∷ ks) (suc i) u v = elim (cases_Bool (eqb k v)) [
-  | inl is ↦ rw is (elim (cases_Bool (eqb u v)) [ inl t ↦ rw t refl | inr f ↦ rw f refl ])
-  | inr isnt ↦ rw isnt (has_insert ks i u v)
-]
+has_insert (k ∷ ks) (suc i) u v = grind (arith, nat_tests, common_steps, has_insert ks i u v)
 
 pub look_insert : (ks vs : List ℕ) (i u v : ℕ) → length vs ≡ length ks → has ks u ≡ false
     → look (insert ks i u) (insert vs i 0) v ≡ look ks vs v
@@ -56,10 +53,7 @@ look_remove [] vs i v len up lt ne = absurd (omega arith)
 look_remove (k ∷ ks) [] i v len up lt ne = absurd (omega arith)
 look_remove (k ∷ ks) (w ∷ vs) zero v len up lt ne = rw (ne_eqb k v (λ q. ne (sym q))) refl
 look_remove (k ∷ ks) (w ∷ vs) (suc i) v len up lt ne =
-    elim (cases_Bool (eqb k v)) [
-      | inl t ↦ rw t refl
-      | inr f ↦ rw f (look_remove ks vs i v (omega arith) (rest_rises k ks up) (omega arith) ne)
-    ]
+    grind (arith, nat_tests, common_steps, look_remove ks vs i v (omega arith) (rest_rises k ks up) (omega arith) ne)
 
 pub look_gone : (ks vs : List ℕ) (i : ℕ) → IsRising ks → i < length ks
     → look (remove ks i) (remove vs i) (get_or ks i 0) ≡ 0

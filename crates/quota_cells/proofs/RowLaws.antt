@@ -99,10 +99,7 @@ module _ {g : ℕ → ℕ} {P : ℕ → Type 0} {start now : CellMaps} {up : Lis
   going = rw (drop_more up i 0 lt) at walks.going
 
   in_start : place.0 < length start.directories
-  in_start =
-      let same : length now.directories ≡ length start.directories =
-      ap (λ (c : CellMaps). length c.directories) walks.kept in
-      omega (arith, place.1, same)
+  in_start = grind (arith, nat_tests, common_steps)
 
   at_start : get_or start.directories place.0 0 ≡ x
   at_start = cc (place.2)

@@ -111,8 +111,7 @@ look_beside table (k ∷ ks) u is = elim (cases_eq k u) [
 kept_beside : (table ks : List ℕ) (f u v : ℕ) → Rises f ks → u < f → beside (set table u v) ks ≡ beside table ks
 kept_beside table [] f u v r lt = refl
 kept_beside table (k ∷ ks) f u v r lt =
-    let le : f ≤ k = r.0 in
-    rw (get_or-set_other table u k v 0 (λ q. omega arith), kept_beside table ks (k + 1) u v r.1 (omega arith)) refl
+    grind (arith, nat_tests, common_steps, get_or-set_other, kept_beside table ks (k + 1) u v r.1 (omega arith))
 
 set_from : (table ks : List ℕ) (f u v : ℕ) → Rises f ks → has ks u ≡ true → u < length table
     → beside (set table u v) ks ≡ with_value ks (beside table ks) u v
@@ -153,10 +152,7 @@ entered_beside table (k ∷ ks) f u r off lt = elim (cases_lt u k) [
 pub left_beside : (table ks : List ℕ) (u : ℕ)
     → beside table (without_beside ks ks u) ≡ without_beside ks (beside table ks) u
 left_beside table [] u = refl
-left_beside table (k ∷ ks) u = elim (cases_Bool (eqb k u)) [
-  | inl is ↦ rw is refl
-  | inr isnt ↦ rw (isnt, left_beside table ks u) refl
-]
+left_beside table (k ∷ ks) u = grind (arith, nat_tests, common_steps, left_beside table ks u)
 
 -- a list that rises does so from 0
 from_order : (f : ℕ) (ks : List ℕ) → ((j : ℕ) → j < length ks → f ≤ get_or ks j 0) → IsRising ks → Rises f ks
