@@ -1,13 +1,5 @@
 -- One more entry: what it does to a clean book, and to the custody after it.
-use Rattle.std.proofs.Common.{◌≡◌, List, [], ◌∷◌, ◌++◌, refl}
-use Rattle.script.specs.Plans.{Plan}
-use Rattle.book.specs.declared.entries.Entry.{Entry}
-use Rattle.flat_model.specs.Legal.{after_entry, store_from, store_after}
-use Rattle.flat_model.specs.Store.{Store, boot}
-use Rattle.custody_model.specs.Allowed.{IsAllowed}
-use Rattle.custody_model.specs.Clean.{IsCleanFrom, custody_from, IsClean, custody_after}
-use Rattle.custody_model.specs.Custody.{Custody, nothing_held}
-use Rattle.custody_model.specs.Next.{custody_next}
+use Rattle.custody_model.proofs.Prelude.{◌≡◌, List, [], ◌∷◌, ◌++◌, refl, Plan, Entry, after_entry, store_from, store_after, Store, boot, IsAllowed, IsCleanFrom, custody_from, IsClean, custody_after, Custody, nothing_held, custody_next}
 
 custody_from-push : (p : Plan) (s : Store) (c : Custody) (es : List Entry) (e : Entry)
     → custody_from p s c (es ++ e ∷ []) ≡ custody_next p (store_from p s es) (custody_from p s c es) e

@@ -1,26 +1,5 @@
 -- What each entry of a clean book leaves: what processors hold stays current, or they are warned.
-use Rattle.std.proofs.Common.{◌≡◌, ◌≢◌, ℕ, Bool, true, false, not, ◌&&◌, ◌||◌, cond, eqb, List, [], ◌∷◌, ◌++◌, Option, Some, None, ◌+◌, refl, sym, ap, subst, ◌∙◌, inl, inr, ◌⊎◌, arith}
-use Rattle.std.specs.Prelude.{IsSomeAnd, drop, length, nat_le, if◌then◌else◌}
-use Rattle.std.specs.List.{filter}
-use Rattle.std.proofs.lemmas.Bool.Decides.{nat_tests, eqb_tells}
-use Rattle.std.proofs.lemmas.List.Folds.{list_any-append}
-use Rattle.std.proofs.lemmas.Map.Views.{any-filter_same}
-use Rattle.assoc_mem.specs.declared.What.{What}
-use Rattle.assoc_mem.specs.declared.What.TheVariants as what
-use Rattle.book.specs.declared.entries.Entry.{Entry}
-use Rattle.book.specs.declared.entries.Entry.TheVariants as entry
-use Rattle.script.specs.Plans.{Plan}
-use Rattle.flat_model.specs.Store.{Store}
-use Rattle.custody_model.specs.declared.FrameUse.{FrameUse}
-use Rattle.custody_model.specs.declared.FrameUse.TheVariants as frame
-use Rattle.custody_model.specs.declared.DescriptorUse.{DescriptorUse}
-use Rattle.custody_model.specs.declared.DescriptorUse.TheVariants as descriptor
-use Rattle.custody_model.specs.Custody.{Custody, Seat, has, is_current_frame, is_going_frame, is_current_descriptor, is_going_descriptor, names_frame, names_descriptor, names_number, is_started, taken, given_back, cut, reconnected, cleared, filled, nothing_held}
-use Rattle.custody_model.specs.Allowed.{IsAllowed, MayBeHere, MayTakeSeg, NobodyHoldsPage, NobodyHoldsSeg, NamesAllGoing, next_command}
-use Rattle.custody_model.specs.Fine.{Fine, IsFinePage, IsFineSeg, IsWarned, NoneDue, FillsOnline, pending_after}
-use Rattle.custody_model.specs.Next.{with_frame, with_descriptor, with_active, with_seat, signalled, answered_clear, queued, is_try, released_by, custody_next}
-use Rattle.laws.proofs.Bools.{not_both}
-use Rattle.std.proofs.lemmas.Bool.{false_from_ne_true}
+use Rattle.custody_model.proofs.Prelude.{◌≡◌, ◌≢◌, ℕ, Bool, true, false, not, ◌&&◌, ◌||◌, cond, eqb, List, [], ◌∷◌, ◌++◌, Option, Some, None, ◌+◌, refl, sym, ap, subst, ◌∙◌, inl, inr, ◌⊎◌, arith, IsSomeAnd, drop, length, nat_le, if◌then◌else◌, filter, nat_tests, eqb_tells, list_any-append, any-filter_same, What, what, Entry, entry, Plan, Store, FrameUse, frame, DescriptorUse, descriptor, Custody, Seat, has, is_current_frame, is_going_frame, is_current_descriptor, is_going_descriptor, names_frame, names_descriptor, is_started, taken, given_back, cut, reconnected, cleared, filled, nothing_held, IsAllowed, MayBeHere, MayTakeSeg, NobodyHoldsPage, NobodyHoldsSeg, NamesAllGoing, next_command, Fine, IsFinePage, IsFineSeg, IsWarned, NoneDue, FillsOnline, pending_after, with_frame, with_descriptor, with_active, with_seat, signalled, answered_clear, queued, is_try, released_by, custody_next, not_both, false_from_ne_true, common_steps}
 
 -- ---- lists
 
@@ -49,29 +28,17 @@ names_descriptor_same c e _ k n h = refl
 warned : (b : Bool) (o p : Option What) (t u : What → Bool) → p ≡ o → ((w : What) → u w ≡ t w) → (b ≡ true)
     ⊎ IsSomeAnd o (λ w. t w ≡ true) → (b ≡ true) ⊎ IsSomeAnd p (λ w. u w ≡ true)
 warned b o p t u e h (inl i) = inl i
-warned b o p t u e h (inr i) = inr (rw e (each o i))
-  where
-    each : (x : Option What) → IsSomeAnd x (λ w. t w ≡ true) → IsSomeAnd x (λ w. u w ≡ true)
-    each None i = i
-    each (Some w) i = h w ∙ i
+warned b o p t u e h (inr i) = grind (arith, nat_tests, common_steps)
 
 page_same : (c e : Custody) {b : Bool} {d f : ℕ} → e.frame f ≡ c.frame f → (e.seat d).due ≡ (c.seat d).due
     → IsFinePage c b d f → IsFinePage e b d f
 page_same c e h due (inl i) = inl (cc)
-page_same c e {b} {d} {f} h due (inr i) = inr (
-  cc,
-  warned b (c.seat d).due (e.seat d).due (λ w. names_frame c w f) (λ w. names_frame e w f) due
-      (λ w. names_same c e w f h) i.1,
-)
+page_same c e {b} {d} {f} h due (inr i) = grind (arith, nat_tests, common_steps, warned, names_same)
 
 seg_same : (c e : Custody) {b : Bool} {d k n : ℕ} → e.descriptor k n ≡ c.descriptor k n → (e.seat d).due
     ≡ (c.seat d).due → IsFineSeg c b d k n → IsFineSeg e b d k n
 seg_same c e h due (inl i) = inl (cc)
-seg_same c e {b} {d} {k} {n} h due (inr i) = inr (
-  cc,
-  warned b (c.seat d).due (e.seat d).due (λ w. names_descriptor c w k n) (λ w. names_descriptor e w k n) due
-      (λ w. names_descriptor_same c e w k n h) i.1,
-)
+seg_same c e {b} {d} {k} {n} h due (inr i) = grind (arith, nat_tests, common_steps, warned, names_descriptor_same)
 
 -- ---- nobody holds
 
@@ -95,10 +62,7 @@ not_warned (Some w) t none (inr i) = let no : Some w ≡ None = none in absurd c
 pub nobody_holds_going_page : (c : Custody) (f : ℕ) → Fine c false → NoneDue c → is_current_frame (c.frame f) ≡ false
     → NobodyHoldsPage c f
 nobody_holds_going_page c f fine none current d =
-    false_from_ne_true (has (c.seat d).pages f) (λ h. elim (fine.page d f h) [
-      | inl i ↦ not_both i current
-      | inr i ↦ not_warned (c.seat d).due (λ w. names_frame c w f) (none d) i.1
-    ])
+    grind (arith, nat_tests, common_steps, false_from_ne_true, not_both, not_warned)
 
 pub nobody_holds_going_seg : (c : Custody) (k n : ℕ) → Fine c false → NoneDue c
     → is_current_descriptor (c.descriptor k n) ≡ false → NobodyHoldsSeg c k n
@@ -113,14 +77,7 @@ nobody_holds_going_seg c k n fine none current d process = false_from_ne_true (h
 -- a frame whose word nobody holds is used otherwise: started, lost, come into, gone or back
 pub frame_fine : {c : Custody} {b : Bool} (f : ℕ) (x : FrameUse) → Fine c b → NobodyHoldsPage c f
     → Fine (with_frame c f x) b
-frame_fine {c} {b} f x fine nobody = record {
-  page = λ d g h. page_same c (with_frame c f x) {b = b} {d = d} {f = g}
-      (by_place g f x (c.frame g) (λ y. y ≡ c.frame g)
-      (λ e. cc (subst (λ (i : ℕ). has (c.seat d).pages i ≡ false) (sym e) (nobody d))) (λ n. refl))
-      refl (fine.page d g h);
-  seg = λ d k n process h. fine.seg d k n process h;
-  idle = fine.idle;
-}
+frame_fine {c} {b} f x fine nobody = grind (arith, nat_tests, common_steps, page_same, by_place)
 
 pub descriptor_fine : {c : Custody} {b : Bool} {k : ℕ} (n : ℕ) (x : DescriptorUse) → Fine c b → NobodyHoldsSeg c k n
     → Fine (with_descriptor c k n x) b
@@ -319,17 +276,11 @@ kept_page c w s f h = let both = has-filter (λ g. not (names_frame c w g)) s.pa
 
 kept_seg : (c : Custody) (w : What) (s : Seat) {k : ℕ} (n : ℕ) → s.process ≡ Some k → has (cleared c w s).segs n ≡ true
     → (names_descriptor c w k n ≡ false) × (has s.segs n ≡ true)
-kept_seg c w s {k} n process h =
-    let both = has-filter (λ m. not (names_number c w s.process m)) s.segs n h in
-    let named = ap (λ (o : Option ℕ). names_number c w o n) process in
-    (grind (arith, nat_tests), both.1)
+kept_seg c w s {k} n process h = grind (arith, nat_tests, common_steps, has-filter)
 
 cleared_none : (c : Custody) (w : What) (s : Seat) → (s.segs ≡ []) × (s.pages ≡ []) → ((cleared c w s).segs ≡ [])
     × ((cleared c w s).pages ≡ [])
-cleared_none c w s h = (
-  cc,
-  cc,
-)
+cleared_none c w s h = grind (arith, nat_tests, common_steps)
 
 -- a processor gives the signal: it holds nothing that is going, and every other one is warned of all that is
 pub signal_fine : {c : Custody} {b : Bool} (d : ℕ) {w : What} → Fine c b → NamesAllGoing c w
@@ -447,32 +398,14 @@ none_has x h = let no : false ≡ true = h in cc
 -- a processor that holds nothing
 emptied : (old : Seat) (process : Option ℕ) (count : ℕ) (tried : Bool)
     → HoldsLess old (record old { process = process; count = count; tried = tried; segs = []; pages = [] })
-emptied old process count tried = record {
-  pages = λ f h. absurd (none_has f h);
-  process = λ k n its h. absurd (none_has n h);
-  segs = λ n h. absurd (none_has n h);
-  due = refl;
-  idle = λ off. (refl, refl);
-}
+emptied old process count tried = grind (arith, nat_tests, common_steps, none_has)
 
 counted : (old : Seat) (count : ℕ) (tried : Bool) → (old.online ≡ false → (old.segs ≡ []) × (old.pages ≡ []))
     → HoldsLess old (record old { count = count; tried = tried })
-counted old count tried idle = record {
-  pages = λ f h. h;
-  process = λ k n its h. its;
-  segs = λ n h. h;
-  due = refl;
-  idle = idle;
-}
+counted old count tried idle = grind (arith, nat_tests, common_steps)
 
 come_online : {old : Seat} → HoldsLess old (record old { online = true })
-come_online = record {
-  pages = λ f h. h;
-  process = λ k n its h. its;
-  segs = λ n h. h;
-  due = refl;
-  idle = λ off. absurd (let no : true ≡ false = off in cc);
-}
+come_online = grind (arith, nat_tests, common_steps)
 
 started_is_no_other : (x : FrameUse) → is_started x ≡ true → (is_current_frame x ≡ false) × (is_going_frame x ≡ false)
 started_is_no_other (frame.Current u q) h = absurd (let no : false ≡ true = h in cc)
@@ -534,8 +467,4 @@ fine_next p s c b _ fine may online = fine
 
 -- at first nobody holds anything
 pub fine_first : (p : Plan) → Fine (nothing_held p) false
-fine_first p = record {
-  page = λ d f h. absurd (none_has f h);
-  seg = λ d k n its h. absurd (none_has n h);
-  idle = λ d off. (refl, refl);
-}
+fine_first p = grind (arith, nat_tests, common_steps, none_has)

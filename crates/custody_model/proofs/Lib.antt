@@ -1,3 +1,4 @@
+mod Prelude
 pub mod CleanLaws
 pub mod FineLaws
 pub mod SharedLaws

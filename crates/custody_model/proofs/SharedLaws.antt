@@ -1,9 +1,5 @@
 -- Laws that several crates cite.
-use Rattle.std.proofs.Common.{Bool, List, [], ap, arith, eqb, false, inl, inr, length, refl, suc, sym, true, zero, ℕ, ◌++◌, ◌+◌, ◌||◌, ◌∷◌, ◌≡◌}
-use Rattle.std.proofs.lemmas.Bool.Decides.{eqb_tells}
-use Rattle.std.proofs.lemmas.List.Folds.{list_any-append}
-use Rattle.std.specs.List.{list_any}
-use Rattle.custody_model.specs.Custody.{has, range}
+use Rattle.custody_model.proofs.Prelude.{nat_tests, List, [], ap, arith, eqb, inl, inr, length, refl, suc, true, zero, ℕ, ◌++◌, ◌+◌, ◌||◌, ◌∷◌, ◌≡◌, eqb_tells, list_any-append, list_any, has, range, common_steps}
 
 pub has_head : (x : ℕ) (xs : List ℕ) → has (x ∷ xs) x ≡ true
 has_head x xs = elim (eqb_tells x x) [ inl e ↦ rw e.0 refl | inr n ↦ absurd (n.1 refl) ]
@@ -14,24 +10,10 @@ range_length from (suc n) = ap suc (range_length (from + 1) n)
 
 pub any_turned : (xs : List ℕ) (q : ℕ) → list_any (eqb q) xs ≡ true → has xs q ≡ true
 any_turned [] q h = h
-any_turned (x ∷ xs) q h = elim (eqb_tells q x) [
-  | inl e ↦ elim (eqb_tells x q) [
-    | inl i ↦ ap (λ (b : Bool). b || has xs q) i.0
-    | inr n ↦ absurd (n.1 (sym e.1))
-  ]
-  | inr n ↦ or_last (eqb x q) (any_turned xs q (cc))
-]
-  where
-    or_last : (a : Bool) → has xs q ≡ true → (a || has xs q) ≡ true
-    or_last true i = refl
-    or_last false i = i
+any_turned (x ∷ xs) q h = grind (arith, nat_tests, common_steps, eqb_tells)
 
 pub has_tail : (f : ℕ) (fs : List ℕ) (g : ℕ) → has fs g ≡ true → has (f ∷ fs) g ≡ true
-has_tail f fs g h = by (eqb f g)
-  where
-    by : (b : Bool) → (b || has fs g) ≡ true
-    by true = refl
-    by false = h
+has_tail f fs g h = grind (arith, nat_tests, common_steps)
 
 pub has_append : (xs ys : List ℕ) (j : ℕ) → has (xs ++ ys) j ≡ (has xs j || has ys j)
 has_append xs ys j = list_any-append (λ y. eqb y j) xs ys
