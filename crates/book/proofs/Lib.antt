@@ -1,3 +1,4 @@
+mod Prelude
 pub mod AnswerLaws
 pub mod Numbers
 pub mod ReadingLaws

@@ -1,11 +1,5 @@
 -- The numbers in the text of an entry are read as those of a script are.
-use Rattle.std.proofs.Common.{◌≡◌, ℕ, ◌+◌, ◌-◌, ◌*◌, ◌^◌, Bool, true, false, cond, ◌&&◌, nat_lt, nat_le, List, [], ◌∷◌, length, Option, Some, None, refl, ◌∙◌, arith}
-use Rattle.std.specs.Str.Parse.{digits_value, digits_value_after}
-use Rattle.std.specs.Char.{digit_value, is_ascii_digit}
-use Rattle.std.specs.List.{list_all}
-use Rattle.std.proofs.lemmas.Bool.Decides.{nat_tests}
-use Rattle.script.specs.Fields.{decimal_value, decimal_value_from, up_to, number_of as script_number}
-use Rattle.book.specs.Reading.{is_plain, number_of}
+use Rattle.book.proofs.Prelude.{◌≡◌, ℕ, ◌+◌, ◌-◌, ◌*◌, ◌^◌, Bool, true, false, cond, ◌&&◌, nat_lt, nat_le, List, [], ◌∷◌, length, Option, Some, None, refl, ◌∙◌, arith, digits_value, digits_value_after, digit_value, is_ascii_digit, list_all, nat_tests, decimal_value, decimal_value_from, up_to, script_number, is_plain, number_of}
 
 pub not_plain : (w : List ℕ) → is_plain w ≡ false → None ≡ number_of w
 unfolding number_of

@@ -1,35 +1,5 @@
 -- That each entry's text is read back as the entry, and that nothing else is read.
-use Rattle.std.proofs.Common.{rules, ◌≡◌, ℕ, zero, suc, ◌+◌, ◌<◌, ◌≤◌, ◌^◌, ◌⊎◌, Bool, true, false, not, ◌&&◌, cond, eqb, List, [], ◌∷◌, ◌++◌, length, get_or, take, drop, drop-cons, add-one, Option, Some, None, refl, sym, ap, subst, ◌∙◌, arith, IfSome, inl, inr}
-use Rattle.std.specs.Prelude.{codes, nat_lt, nat_le, ◌==◌, ◌/◌, ◌%◌}
-use Rattle.std.specs.Char.{is_ascii_digit}
-use Rattle.std.specs.Fmt.{decimal}
-use Rattle.std.specs.List.{AllByRecursion, slice_split, list_all, join_with_byte, before_first, after_first, position_or_len}
-use Rattle.std.specs.Option.{option_map, option_and_then}
-use Rattle.std.specs.Str.{bytes_eq}
-use Rattle.std.specs.Str.Parse.{digits_value}
-use Rattle.std.proofs.lemmas.Bool.Decides.{nat_tests}
-use Rattle.std.proofs.lemmas.Fmt.{decimal_digit, digits_decimal, decimal-digits_value, digits_value-decimal, decimal_nonempty, length-decimal-le, first_decimal}
-use Rattle.std.proofs.lemmas.Grind.{common_steps}
-use Rattle.std.proofs.lemmas.List.{append_assoc, take_all}
-use Rattle.std.proofs.lemmas.List.Splits.{join_with_byte-slice_split}
-use Rattle.std.proofs.lemmas.List.Sums.{split_at_first}
-use Rattle.std.proofs.Math.Seq.{take-suc}
-use Rattle.std.proofs.lemmas.List.Folds.{list_all-append}
-use Rattle.std.proofs.lemmas.Slice.Eq.{bytes_eq-Decides}
-use Rattle.std.proofs.lemmas.Str.Parse.{IsNumeralModel, numerals_by_value}
-use Rattle.mword.proofs.OctalLaws.{octal_number_push, octal_digits_all, length-octal_digits, octal_number_digits}
-use Rattle.mword.specs.Octal.{octal_digits, octal_number, is_octal_digit, is_octal, octal_value}
-use Rattle.assoc_mem.specs.declared.What.{What}
-use Rattle.assoc_mem.specs.declared.What.TheVariants as what
-use Rattle.book.specs.declared.entries.Entry.{Entry}
-use Rattle.book.specs.declared.entries.Entry.TheVariants as entry
-use Rattle.book.specs.declared.reading.Named.{Named}
-use Rattle.book.specs.declared.reading.Named.TheVariants as named
-use Rattle.book.specs.declared.replies.Reply.{Reply}
-use Rattle.book.specs.declared.replies.Reply.TheVariants as reply
-use Rattle.book.specs.Entries.{counted_text, entry_text, number_text, what_text}
-use Rattle.book.specs.Replies.{bare_replies, bare_text, reply_text}
-use Rattle.book.specs.Reading.{is_space, is_dot, is_plain, is_number, number_of, number_or_none, word_of, both, dotted_of, named_reply, bare_reply, numbered_reply, status_reply, status_of, triple, reply_of, what_of, dropped_of, named_of, gone, back, filled, fill_of, fault_of, answered_of, do_of, of_one, of_two, of_three, plain_of, entry_of, entry_of_words, IsSmall, IsReply, IsWhat, IsEntry}
+use Rattle.book.proofs.Prelude.{rules, ◌≡◌, ℕ, zero, suc, ◌+◌, ◌<◌, ◌≤◌, ◌^◌, ◌⊎◌, Bool, true, false, not, ◌&&◌, cond, eqb, List, [], ◌∷◌, ◌++◌, length, get_or, take, drop, drop-cons, add-one, Option, Some, None, refl, sym, ap, subst, ◌∙◌, arith, IfSome, inl, inr, codes, nat_lt, nat_le, ◌==◌, ◌/◌, ◌%◌, is_ascii_digit, decimal, AllByRecursion, slice_split, list_all, join_with_byte, before_first, after_first, position_or_len, option_map, option_and_then, bytes_eq, digits_value, nat_tests, decimal_digit, digits_decimal, decimal-digits_value, digits_value-decimal, decimal_nonempty, length-decimal-le, first_decimal, common_steps, append_assoc, take_all, join_with_byte-slice_split, split_at_first, take-suc, list_all-append, bytes_eq-Decides, IsNumeralModel, numerals_by_value, octal_number_push, octal_digits_all, length-octal_digits, octal_number_digits, octal_digits, octal_number, is_octal_digit, is_octal, octal_value, What, what, Entry, entry, Named, named, Reply, reply, counted_text, entry_text, number_text, what_text, bare_replies, bare_text, reply_text, is_space, is_dot, is_plain, is_number, number_of, number_or_none, word_of, both, dotted_of, named_reply, bare_reply, numbered_reply, status_reply, status_of, triple, reply_of, what_of, dropped_of, named_of, gone, back, filled, fill_of, fault_of, answered_of, do_of, of_one, of_two, of_three, plain_of, entry_of, entry_of_words, IsSmall, IsReply, IsWhat, IsEntry}
 use Rattle.book.proofs.Words.{lacks, AllLack, words_of_join, before_dot, after_dot, dot_there, dot_within}
 
 -- ---- numbers
@@ -53,9 +23,7 @@ plain_decimal n h = plain_by (decimal n) (decimal_nonempty n (omega arith))
 number_is : (t : List ℕ) (n : ℕ) → is_plain t ≡ true → list_all is_ascii_digit t ≡ true → digits_value 10 t ≡ n
     → n < 2 ^ 32 → number_of t ≡ Some n
 unfolding number_of
-number_is t n plain digits value small =
-    let below : nat_lt (digits_value 10 t) (2 ^ 32) ≡ true = rw value (grind (arith, nat_tests)) in
-    rw (plain, digits, below) (ap (λ m. Some m) value)
+number_is t n plain digits value small = grind (arith, nat_tests, common_steps, nat_lt)
 
 number_again : (n : ℕ) → n < 2 ^ 32 → number_of (decimal n) ≡ Some n
 number_again n h = number_is (decimal n) n (plain_decimal n h) (digits_decimal own n (omega arith))
@@ -72,12 +40,7 @@ number_parts t h =
 
 number_only : (t : List ℕ) (n : ℕ) → number_of t ≡ Some n → decimal n ≡ t
 unfolding number_of
-number_only t n h = by_test (is_number t) refl h
-  where
-    by_test : (z : Bool) → is_number t ≡ z → cond z (Some (digits_value 10 t)) None ≡ Some n → decimal n ≡ t
-    by_test true e is = let same : digits_value 10 t ≡ n =
-        cc in subst (λ (m : ℕ). decimal m ≡ t) same (number_parts t e)
-    by_test false e is = cc
+number_only t n h = grind (arith, nat_tests, common_steps, number_parts)
 
 -- what no byte of a kind passes, a text of such bytes lacks: digits are no space and no dot
 all_lack : (kind p : ℕ → Bool) → ((b : ℕ) → kind b ≡ true → p b ≡ false) → (t : List ℕ) → list_all kind t ≡ true
@@ -99,12 +62,7 @@ lacks-append : (p : ℕ → Bool) (xs ys : List ℕ) → lacks p xs ≡ true →
 lacks-append p xs ys h g = list_all-append (λ b. not (p b)) xs ys ∙ rw h g
 
 dotted_again : (k i : ℕ) → k < 2 ^ 32 → i < 2 ^ 32 → dotted_of (decimal k ++ (46 ∷ decimal i)) ≡ Some (k, i)
-dotted_again k i hk hi = rw (
-  before_dot (decimal k) (decimal i) (dotless k hk),
-  after_dot (decimal k) (decimal i) (dotless k hk),
-  number_again k hk,
-  number_again i hi,
-) refl
+dotted_again k i hk hi = grind (arith, nat_tests, common_steps, before_dot, dotless, after_dot, number_again)
 
 -- a word that equals another is the other
 is_word : (w v : List ℕ) → bytes_eq w v ≡ true → w ≡ v
@@ -117,23 +75,12 @@ no_dash = refl
 optional_again : (f : Option ℕ) → IfSome f IsSmall → number_or_none (number_text f) ≡ Some f
 unfolding number_text
 optional_again None h = refl
-optional_again (Some n) h = by_test (bytes_eq (decimal n) (codes "-")) refl
-  where
-    by_test : (z : Bool) → bytes_eq (decimal n) (codes "-") ≡ z
-        → cond z (Some None) (option_map (λ m. Some m) (number_of (decimal n))) ≡ Some (Some n)
-    by_test true e =
-        let no : Some n ≡ None = sym (number_again n h) ∙ ap number_of (is_word (decimal n) (codes "-") e) ∙ no_dash in
-        absurd cc
-    by_test false e = ap (option_map (λ m. Some m)) (number_again n h)
+optional_again (Some n) h = grind (arith, nat_tests, common_steps, number_again, is_word, no_dash)
 
 -- what holds of what a test chooses
 same : {A : Type 0} (w v : List ℕ) (x y : Option A) (P : Option A → Type 0) → (w ≡ v → P x) → P y
     → P (cond (bytes_eq w v) x y)
-same w v x y P h g = by_test (bytes_eq w v) refl
-  where
-    by_test : (z : Bool) → bytes_eq w v ≡ z → P (cond z x y)
-    by_test true e = h (is_word w v e)
-    by_test false e = g
+same w v x y P h g = grind (arith, nat_tests, common_steps, is_word)
 
 -- what holds of each value that there may be
 from_each : {A : Type 0} (o : Option A) (Q : A → Type 0) → ((a : A) → o ≡ Some a → Q a) → IfSome o Q
@@ -332,15 +279,7 @@ status_only w x y a b c u n m e f g = by_seg (bytes_eq w (codes "seg")
 
 status_of_only : (w a x b y c : List ℕ) → IfSome (status_of w x y (triple (number_of a) (number_of b) (number_of c)))
     (λ r. reply_words r ≡ w ∷ a ∷ x ∷ b ∷ y ∷ c ∷ [])
-status_of_only w a x b y c = by_numbers (triple (number_of a) (number_of b) (number_of c))
-    (triple_each (number_of a) (number_of b) (number_of c)
-    (λ t. (decimal t.0 ≡ a) × (decimal t.1 ≡ b) × (decimal t.2 ≡ c))
-    (λ u n m e f g. (number_only a u e, number_only b n f, number_only c m g)))
-  where
-    by_numbers : (o : Option (ℕ × ℕ × ℕ)) → IfSome o (λ t. (decimal t.0 ≡ a) × (decimal t.1 ≡ b) × (decimal t.2 ≡ c))
-        → IfSome (status_of w x y o) (λ r. reply_words r ≡ w ∷ a ∷ x ∷ b ∷ y ∷ c ∷ [])
-    by_numbers None h = tt
-    by_numbers (Some t) h = status_only w x y a b c t.0 t.1 t.2 h.0 h.1 h.2
+status_of_only w a x b y c = grind (arith, nat_tests, common_steps, triple_each, number_only, status_only)
 
 pair_only : (w a : List ℕ) → IfSome (cond (bytes_eq w (codes "word")) (option_map (λ n. reply.Word n) (word_of a))
     (option_and_then (numbered_reply w) (number_of a))) (λ r. reply_words r ≡ w ∷ a ∷ [])
@@ -400,11 +339,7 @@ join_what x _ = refl
 -- the words of an entry, with a space between each two, are its text
 entry_text_is : (e : Entry) → entry_text e ≡ join_with_byte 32 (entry_words e)
 unfolding entry_text counted_text
-entry_text_is (entry.Do k i c f r) =
-    ap (λ (t : List ℕ). codes "do " ++ t) (sym
-    (append_assoc (decimal k) (46 ∷ decimal i) (32 ∷ (decimal c ++ (32 ∷ (number_text f ++ (32 ∷ reply_text r)))))))
-    ∙ ap (λ (t : List ℕ). codes "do " ++ ((decimal k ++ (46 ∷ decimal i)) ++ (32 ∷ (decimal c ++ (32 ∷ t)))))
-    (sym (join_reply (number_text f) r))
+entry_text_is (entry.Do k i c f r) = grind (arith, nat_tests, common_steps, append_assoc, join_reply)
 entry_text_is (entry.Signal c w) = ap (λ (t : List ℕ). codes "signal " ++ t) (sym (join_what (decimal c) w))
 entry_text_is (entry.Clear c w) = ap (λ (t : List ℕ). codes "clear " ++ t) (sym (join_what (decimal c) w))
 entry_text_is _ = refl
@@ -421,8 +356,7 @@ what_lacks (what.Seg u) h = (refl, (spaceless u h, tt))
 
 entry_lacks : (e : Entry) → IsEntry e → AllLack is_space (entry_words e)
 entry_lacks (entry.Do k i c f r) h =
-    let dotted = lacks-append is_space (decimal k) (46 ∷ decimal i) (spaceless k h.0) (spaceless i h.1) in
-    (refl, (dotted, (spaceless c h.2, (optional_lacks f h.3, reply_lacks r h.4))))
+    grind (arith, nat_tests, common_steps, lacks-append, spaceless, optional_lacks, reply_lacks)
 entry_lacks (entry.Signal c w) h = (refl, (spaceless c h.0, what_lacks w h.1))
 entry_lacks (entry.Clear c w) h = (refl, (spaceless c h.0, what_lacks w h.1))
 entry_lacks (entry.Fault k) h = (refl, (optional_lacks k h, tt))
@@ -436,12 +370,8 @@ what_again (what.Seg u) h = rw (number_again u h) refl
 -- the words of an entry are read as the entry
 entry_again : (e : Entry) → IsEntry e → entry_of_words (entry_words e) ≡ Some e
 unfolding entry_of
-entry_again (entry.Do k i c f r) h = rw (
-  dotted_again k i h.0 h.1,
-  number_again c h.2,
-  optional_again f h.3,
-  reply_again r h.4,
-) refl
+entry_again (entry.Do k i c f r) h =
+    grind (arith, nat_tests, common_steps, dotted_again, number_again, optional_again, reply_again)
 entry_again (entry.Signal c w) h = rw (number_again c h.0, what_again w h.1) refl
 entry_again (entry.Clear c w) h = rw (number_again c h.0, what_again w h.1) refl
 entry_again (entry.Fault k) h = rw (optional_again k h) refl

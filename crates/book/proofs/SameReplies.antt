@@ -1,11 +1,5 @@
 -- A reply is told by its word and its numbers.
-use Rattle.std.proofs.Common.{◌≡◌, ◌↔◌, IsTrue, ℕ, eqb, if◌then◌else◌, List, Option, Some, None, refl, sym, ◌∙◌}
-use Rattle.std.specs.Str.{bytes_eq}
-use Rattle.std.proofs.lemmas.Slice.Eq.{bytes_eq-Decides}
-use Rattle.book.specs.declared.replies.Reply.{Reply}
-use Rattle.book.specs.declared.replies.Reply.TheVariants as reply
-use Rattle.book.specs.Replies.{bare_text, reply_numbers}
-use Rattle.book.specs.Reading.{bare_reply, named_reply}
+use Rattle.book.proofs.Prelude.{◌≡◌, ◌↔◌, IsTrue, ℕ, eqb, if◌then◌else◌, List, Option, Some, None, refl, sym, ◌∙◌, bytes_eq, bytes_eq-Decides, Reply, reply, bare_text, reply_numbers, bare_reply, named_reply}
 
 -- the reply that was found, and another where there is none
 abbrev found : Option Reply → Reply

@@ -1,8 +1,5 @@
 -- Texts that are compared byte by byte.
-use Rattle.std.proofs.Common.{◌≡◌, ◌≢◌, ℕ, suc, ◌<◌, true, false, List, [], ◌∷◌, length, get_or, refl, sym, ap, arith, eqb, eq-eqb, inl, inr}
-use Rattle.std.specs.Str.{bytes_eq}
-use Rattle.std.specs.Cmp.Lexicographic.{bytes_decides}
-use Rattle.std.proofs.lemmas.Bool.{cases_Bool}
+use Rattle.book.proofs.Prelude.{◌≡◌, ◌≢◌, ℕ, suc, ◌<◌, true, false, List, [], ◌∷◌, length, get_or, refl, sym, ap, arith, eqb, eq-eqb, inl, inr, bytes_eq, bytes_decides, cases_Bool}
 
 -- they are one where they are as long and each byte is the same
 pub same_bytes : (xs ys : List ℕ) → length xs ≡ length ys

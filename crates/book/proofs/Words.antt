@@ -1,14 +1,5 @@
 -- Laws of a line and its words.
-use Rattle.std.proofs.Common.{◌≡◌, ◌≢◌, ℕ, suc, zero, ◌+◌, ◌-◌, ◌<◌, ◌≤◌, Bool, true, false, not, cond, eqb, ltb, List, [], ◌∷◌, ◌++◌, length, get_or, take, drop, Option, Some, None, map, refl, sym, ap, subst, ◌∙◌, arith, inl, inr, All}
-use Rattle.std.specs.List.{slice_split, position, position_or_len, before_first, after_first, join_with_byte, list_all}
-use Rattle.std.proofs.lemmas.Bool.Decides.{eqb_tells, nat_tests}
-use Rattle.std.proofs.lemmas.Grind.{common_steps}
-use Rattle.std.proofs.lemmas.List.{drop-drop, take_at, append_assoc, map-append, length-append, length-map}
-use Rattle.std.proofs.lemmas.List.Elements.{All-from_get_or, All-nil, All-cons}
-use Rattle.std.proofs.Math.Seq.{drop-append-add}
-use Rattle.std.proofs.lemmas.List.Splits.{length-slice_split, slice_split_none, slice_split_at}
-use Rattle.std.proofs.lemmas.List.Sums.{passes_at_first}
-use Rattle.book.specs.Reading.{is_space, is_dot, number_of, dotted_of, both}
+use Rattle.book.proofs.Prelude.{◌≡◌, ◌≢◌, ℕ, suc, zero, ◌+◌, ◌-◌, ◌<◌, ◌≤◌, Bool, true, false, not, cond, eqb, ltb, List, [], ◌∷◌, ◌++◌, length, get_or, take, drop, Option, Some, None, map, refl, sym, ap, subst, ◌∙◌, arith, inl, inr, All, slice_split, position, position_or_len, before_first, after_first, join_with_byte, list_all, eqb_tells, nat_tests, common_steps, drop-drop, take_at, append_assoc, map-append, length-append, length-map, All-from_get_or, All-nil, All-cons, drop-append-add, length-slice_split, slice_split_none, slice_split_at, passes_at_first, is_space, is_dot, number_of, dotted_of, both}
 
 -- ---- the words of a line, taken one after the other
 
@@ -33,11 +24,7 @@ pub record Taken (words : List (List ℕ)) (line : List ℕ) (start i : ℕ) : T
   pub split : words ++ slice_split is_space (drop start line) ≡ slice_split is_space line
 
 pub taken_none : {A : Type 0} (f : A → List ℕ) (xs : List A) (line : List ℕ) → xs ≡ [] → Taken (map f xs) line 0 0
-taken_none f xs line none = record {
-  order = omega arith;
-  clear = λ k low high. let no : ⊥ = omega (arith, low, high) in absurd no;
-  split = ap (λ (ys : List _). map f ys ++ slice_split is_space line) none;
-}
+taken_none f xs line none = grind (arith, nat_tests, common_steps)
 
 pub taken_byte : (words : List (List ℕ)) (line : List ℕ) (start i : ℕ) → Taken words line start i
     → get_or line i 0 ≢ 32 → Taken words line start (i + 1)
@@ -117,9 +104,7 @@ taken_last f xs x line start i t far is =
 
 pub taken_full : {A : Type 0} (f : A → List ℕ) (xs : List A) (line : List ℕ) (start i : ℕ)
     → Taken (map f xs) line start i → 10 ≤ length xs → 10 < length (slice_split is_space line)
-taken_full f xs line start i t full =
-    too_many f xs (slice_split is_space (drop start line)) (slice_split is_space line) t.split full
-    (let n = length-slice_split is_space (drop start line) in omega (arith, n))
+taken_full f xs line start i t full = grind (arith, nat_tests, common_steps, too_many, length-slice_split)
 
 -- ---- a dot between two numbers
 

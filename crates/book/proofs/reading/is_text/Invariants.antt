@@ -1,4 +1,4 @@
-use Rattle.std.proofs.Common.{◌≡◌, ℕ, ◌<◌, get_or}
+use Rattle.book.proofs.Prelude.{◌≡◌, ℕ, ◌<◌, get_or}
 use Rattle.book.proofs.reading.is_text.Given as goal
 
 -- each byte before it is the same

@@ -1,5 +1,4 @@
-use Rattle.std.proofs.Common.{◌≡◌, drop}
-use Rattle.book.specs.Reading.{named_reply}
+use Rattle.book.proofs.Prelude.{◌≡◌, drop, named_reply}
 use Rattle.book.proofs.reading.named_reply.Given as goal
 
 -- the replies so far don't have the word

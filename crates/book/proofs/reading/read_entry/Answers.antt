@@ -1,6 +1,4 @@
-use Rattle.std.proofs.Common.{◌≡◌, ℕ, List, Bor, map, ap, ◌∙◌}
-use Rattle.std.specs.List.{slice_split}
-use Rattle.book.specs.Reading.{is_space}
+use Rattle.book.proofs.Prelude.{arith, common_steps, nat_tests, ◌≡◌, ℕ, List, Bor, map, ap, ◌∙◌, slice_split, is_space}
 use Rattle.book.proofs.ReadingLaws.{read_only, read_again, read_none}
 use Rattle.book.proofs.reading.read_entry.Goals as goal
 
@@ -10,9 +8,7 @@ cut_of : (lent kept : List (Bor (List ℕ))) (line : List ℕ) → lent ≡ kept
 cut_of lent kept line same cut = ap (map (λ (w : Bor (List ℕ)). w.now)) same ∙ cut
 
 pub returns-then-read_words-clause-some : goal.returns-then-read_words-clause-some
-returns-then-read_words-clause-some c = read_only c.args.line.now _ c.entry_of_words.result
-    (cut_of c.deref.result.now c.read_words.new.words.items c.args.line.now c.deref.ensures.0
-    (c.read_words.ensures.yes c.if-read_words.true)) c.entry_of_words.ensures
+returns-then-read_words-clause-some c = grind (arith, nat_tests, common_steps, read_only, cut_of)
 
 pub returns-then-read_words-clause-back : goal.returns-then-read_words-clause-back
 returns-then-read_words-clause-back c = λ e h text. c.entry_of_words.ensures ∙ read_again c.args.line.now _ e

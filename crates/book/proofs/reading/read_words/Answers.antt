@@ -1,5 +1,4 @@
-use Rattle.std.proofs.Common.{List, ap, ◌∙◌, map, arith}
-use Rattle.std.proofs.lemmas.Grind.{common_steps}
+use Rattle.book.proofs.Prelude.{List, ap, ◌∙◌, map, arith, common_steps}
 use Rattle.book.proofs.Words.{taken_full, taken_last}
 use Rattle.book.proofs.reading.read_words.Goals as goal
 

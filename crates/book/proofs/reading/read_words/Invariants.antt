@@ -1,4 +1,4 @@
-use Rattle.std.proofs.Common.{map}
+use Rattle.book.proofs.Prelude.{map}
 use Rattle.book.proofs.Words.{Taken}
 use Rattle.book.proofs.reading.read_words.Given as goal
 
