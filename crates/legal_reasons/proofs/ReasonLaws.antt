@@ -1,19 +1,5 @@
 -- What the looks at the flat store say of a reason.
-use Rattle.std.proofs.Common.{◌≡◌, ℕ, suc, ◌+◌, ◌*◌, ◌<◌, ◌≤◌, Bool, true, false, List, [], ◌∷◌, length, Option, Some, None, refl, sym, subst, ◌∙◌, arith, inl, inr}
-use Rattle.std.specs.Prelude.{IfSome, slice_index_or}
-use Rattle.std.specs.List.{list_all}
-use Rattle.std.proofs.lemmas.Bool.{cases_eq}
-use Rattle.std.specs.Bool.{Decides}
-use Rattle.script.specs.Plans.{Plan}
-use Rattle.flat_model.specs.Legal.{MayFault}
-use Rattle.flat_model.specs.Pages.{is_zero_page}
-use Rattle.flat_model.specs.Store.{Progress, Store, progress_of}
-use Rattle.flat_model.proofs.ZeroLaws.{words_zero}
-use Rattle.flat_store.specs.Shown.{Kept, Shows}
-use Rattle.book.specs.declared.entries.Entry.{Entry}
-use Rattle.book.specs.declared.entries.Entry.TheVariants as entry
-use Rattle.legal_reasons.specs.declared.reasons.Reason.{Reason}
-use Rattle.legal_reasons.specs.Reasons.{HasWordAt, HaveEnded, IsAbout, IsSaid, IsSo, process_in}
+use Rattle.legal_reasons.proofs.Prelude.{◌≡◌, ℕ, suc, ◌+◌, ◌*◌, ◌<◌, ◌≤◌, Bool, true, false, List, [], ◌∷◌, length, Option, Some, None, refl, sym, subst, ◌∙◌, arith, inl, inr, IfSome, slice_index_or, list_all, cases_eq, Decides, Plan, MayFault, is_zero_page, Progress, Store, progress_of, words_zero, Kept, Shows, Entry, entry, Reason, HasWordAt, HaveEnded, IsAbout, IsSaid, IsSo, process_in}
 
 each_ended : (qs : List Progress) → ((k : ℕ) → k < length qs
     → (slice_index_or qs k (record { place = 0; tries = 0; ended = true; faulted = false })).ended ≡ true)

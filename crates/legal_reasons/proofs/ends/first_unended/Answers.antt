@@ -1,4 +1,4 @@
-use Rattle.std.proofs.Common.{arith}
+use Rattle.legal_reasons.proofs.Prelude.{arith}
 use Rattle.legal_reasons.proofs.ReasonLaws.{all_ended}
 use Rattle.legal_reasons.proofs.ends.first_unended.Goals as goal
 

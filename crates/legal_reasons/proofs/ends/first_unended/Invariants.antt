@@ -1,6 +1,4 @@
-use Rattle.std.proofs.Common.{◌≡◌, ◌<◌, ℕ, true}
-use Rattle.flat_model.specs.Store.{Store, progress_of}
-use Rattle.flat_store.specs.Shown.{Shows}
+use Rattle.legal_reasons.proofs.Prelude.{◌≡◌, ◌<◌, ℕ, true, Store, progress_of, Shows}
 use Rattle.legal_reasons.proofs.ends.first_unended.Given as goal
 
 -- each process so far has ended

@@ -1,4 +1,4 @@
-use Rattle.std.proofs.Common.{arith}
+use Rattle.legal_reasons.proofs.Prelude.{arith}
 use Rattle.legal_reasons.proofs.ReasonLaws.{all_words_zero, words_so_far}
 use Rattle.legal_reasons.proofs.pages.first_word.Goals as goal
 

@@ -1,7 +1,4 @@
-use Rattle.std.proofs.Common.{◌≡◌, ◌<◌, ◌*◌, ◌+◌, ℕ}
-use Rattle.flat_model.specs.Store.{Store}
-use Rattle.flat_store.specs.Shown.{Shows}
-use Rattle.script.specs.Plans.{Plan}
+use Rattle.legal_reasons.proofs.Prelude.{◌≡◌, ◌<◌, ◌*◌, ◌+◌, ℕ, Store, Shows, Plan}
 use Rattle.legal_reasons.proofs.pages.first_word.Given as goal
 
 -- each word so far is 0

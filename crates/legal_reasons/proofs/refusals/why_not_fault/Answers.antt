@@ -1,8 +1,6 @@
-use Rattle.std.proofs.Common.{ℕ, Option, sym, subst}
-use Rattle.flat_model.specs.Legal.{MayFault}
+use Rattle.legal_reasons.proofs.Prelude.{ℕ, Option, sym, subst, MayFault, when_none}
 use Rattle.legal_reasons.proofs.ReasonLaws.{may_fault}
 use Rattle.legal_reasons.proofs.refusals.why_not_fault.Goals as goal
-use Rattle.laws.proofs.Options.{when_none}
 
 pub returns-in_err-process-in-None-clause-none : goal.returns-in_err-process-in-None-clause-none
 returns-in_err-process-in-None-clause-none c = λ s shown. when_none c.from_residual.result

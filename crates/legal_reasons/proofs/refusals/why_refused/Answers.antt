@@ -1,11 +1,6 @@
-use Rattle.std.proofs.Common.{sym, subst}
-use Rattle.book.specs.declared.entries.Entry.{Entry}
-use Rattle.flat_model.specs.Legal.{IsLawful}
-use Rattle.flat_store.proofs.FollowLaws.{quiet_lawful}
-use Rattle.legal_reasons.specs.Reasons.{IsAbout}
+use Rattle.legal_reasons.proofs.Prelude.{sym, subst, Entry, IsLawful, quiet_lawful, IsAbout, map_none}
 use Rattle.legal_reasons.proofs.ReasonLaws.{fault_so}
 use Rattle.legal_reasons.proofs.refusals.why_refused.Goals as goal
-use Rattle.laws.proofs.Options.{map_none}
 
 pub returns-in-Do-clause-so : goal.returns-in-Do-clause-so
 returns-in-Do-clause-so c = λ s shown not_. record {
