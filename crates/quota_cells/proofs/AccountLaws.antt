@@ -1,5 +1,5 @@
 -- The laws of accounts: what a page more, and another quota, do to the loads from scratch.
-use Rattle.quota_cells.proofs.Prelude.{common_steps, ◌≡◌, ◌≢◌, ℕ, ◌+◌, true, false, cond, eqb, not, if◌then◌else◌, List, [], ◌∷◌, refl, sym, arith, inl, inr, cases_Bool, cases_eq, both_ways, eqb-true, eq-eqb, ne_eqb, or_cases, and_parts, or_right, or_left, not-true, not_from_false, account, AreUnder, IsChain, EndsAtRoot, covers, load, is_an_account, nat_tests}
+use Rattle.quota_cells.proofs.Prelude.{common_steps, ◌≡◌, ◌≢◌, ℕ, ◌+◌, true, false, cond, eqb, not, if◌then◌else◌, List, [], ◌∷◌, refl, arith, inl, inr, cases_Bool, cases_eq, both_ways, eqb-true, eq-eqb, ne_eqb, or_cases, and_parts, or_right, or_left, not-true, not_from_false, account, AreUnder, IsChain, EndsAtRoot, covers, load, is_an_account, nat_tests}
 use Rattle.quota_cells.proofs.ColumnLaws.{weigh_same}
 use Rattle.quota_cells.proofs.PlaceLaws.{covers_under, covers_not}
 
@@ -64,56 +64,15 @@ module _ (f : ℕ → List ℕ) (q r : ℕ → ℕ) (x : ℕ) (same : (y : ℕ) 
   appears_on : (e w : ℕ) (xs : List ℕ) → IsChain f xs
       → cond (covers r xs e) w 0 + cond (covers q (f x) e) (cond (covers q xs x) w 0) 0 ≡ cond (covers q xs e) w 0
   appears_on e w [] c = elim (cases_Bool (covers q (f x) e)) [ inl t ↦ rw t refl | inr u ↦ rw u refl ]
-  appears_on e w (y ∷ ys) c = elim (cases_eq y x) [
-    | inl here ↦
-        (let q_none = eq-eqb (q y) 0 (cc) in
-        let r_some = ne_eqb (r y) 0 (λ z. some (cc)) in
-        let rest : f x ≡ ys = sym (cc) in
-        let is_x = eq-eqb y x here in
-        elim (cases_eq y e) [
-          | inl at ↦
-              (let off : covers q ys e ≡ false = rw (← at) (covers_not q y ys c.1) in
-              rw (q_none, r_some, rest, is_x, eq-eqb y e at, off) (omega arith))
-          | inr past ↦
-              rw (q_none, r_some, rest, is_x, ne_eqb y e past)
-              (elim (cases_Bool (covers q ys e)) [ inl t ↦ rw t (omega arith) | inr u ↦ rw u (omega arith) ])
-        ])
-    | inr other ↦
-        (let r_is = same y other in
-        let isnt_x = ne_eqb y x other in
-        elim (cases_Bool (eqb (q y) 0)) [
-          | inr stop ↦ rw (r_is, isnt_x, stop) (elim (cases_Bool (covers q (f x) e))
-              [ inl t ↦ rw t (omega arith) | inr u ↦ rw u (omega arith) ])
-          | inl on ↦ elim (cases_eq y e) [
-            | inl at ↦
-                (let is_e : eqb y e ≡ true = eq-eqb y e at in
-                let zero_part : cond (covers q (f x) e) (cond (covers q ys x) w 0) 0 ≡ 0 =
-                elim (cases_Bool (covers q ys x)) [
-                  | inr u ↦ rw u (elim (cases_Bool (covers q (f x) e)) [ inl t ↦ rw t refl | inr v ↦ rw v refl ])
-                  | inl t ↦
-                      (let off : covers q (f x) e ≡ false = elim (cases_Bool (covers q (f x) e)) [
-                        | inr v ↦ v
-                        | inl v ↦ absurd (omega (arith, covers_under q x (f x) e under v, covers_under q y ys x c.1 t))
-                      ] in
-                      rw off refl)
-                ] in
-                rw (r_is, isnt_x, on, is_e, zero_part) (omega arith))
-            | inr past ↦ rw (r_is, isnt_x, on, ne_eqb y e past) (appears_on e w ys c.2)
-          ]
-        ])
-  ]
+  appears_on e w (y ∷ ys) c =
+      grind (arith, nat_tests, common_steps, covers_not q y ys c.1, covers_under, appears_on e w ys c.2)
 
   pub appears : ((k : ℕ) → IsChain f (f k)) → (ks ws : List ℕ) (e : ℕ)
       → load f r ks ws e + cond (covers q (f x) e) (load f q ks ws x) 0 ≡ load f q ks ws e
   appears chains [] ws e = elim (cases_Bool (covers q (f x) e)) [ inl t ↦ rw t refl | inr u ↦ rw u refl ]
   appears chains (k ∷ ks) [] e = elim (cases_Bool (covers q (f x) e)) [ inl t ↦ rw t refl | inr u ↦ rw u refl ]
   appears chains (k ∷ ks) (w ∷ ws) e =
-      let ih = appears chains ks ws e in
-      let here = appears_on e w (f k) (chains k) in
-      elim (cases_Bool (covers q (f x) e)) [
-        | inl t ↦ (let ih' = rw t at ih in let here' = rw t at here in rw t (omega arith))
-        | inr u ↦ (let ih' = rw u at ih in let here' = rw u at here in rw u (omega arith))
-      ]
+      grind (arith, nat_tests, common_steps, appears chains ks ws e, appears_on e w (f k) (chains k))
 
   -- its own load stays
   pub appears_own : ((k : ℕ) → IsChain f (f k)) → (ks ws : List ℕ) → load f r ks ws x ≡ load f q ks ws x

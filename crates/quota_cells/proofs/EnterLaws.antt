@@ -232,19 +232,17 @@ module _ (c : CellMaps) (table : IsTable c) (uid : ℕ) (absent : has_cell c uid
         total = rw enters.total table.total;
       }
   table_entered false =
-      let size = length_more c.segments uid table.segments_rise no_segment in record {
-        rising = table.rising;
-        segments_rise = rising_more c.segments uid table.segments_rise no_segment;
-        quota_count = table.quota_count;
-        load_count = table.load_count;
-        stored_count = size c.stored 0 table.stored_count ∙ sym (size c.segments uid refl);
-        apart = λ u h. (enters_entered false).segments u ∙ elim (cases_Bool (eqb uid u)) [
-          | inl is ↦ absurd (both_ways (has c.directories u) (rw (eqb-true uid u is) at no_directory) h)
-          | inr isnt ↦ rw isnt (table.apart u h)
-        ];
-        within = table.within;
-        total = table.total;
-      }
+      grind (
+        arith,
+        nat_tests,
+        common_steps,
+        length_more c.segments uid table.segments_rise no_segment,
+        rising_more c.segments uid table.segments_rise no_segment,
+        apart,
+        enters_entered false,
+        both_ways,
+        no_directory,
+      )
 
 -- a uid that isn't there is left out of no list
 left_out : (ks : List ℕ) (uid u : ℕ) → has ks uid ≡ false → has ks u ≡ (has ks u && not (eqb uid u))
@@ -280,17 +278,15 @@ module _ (c : CellMaps) (table : IsTable c) (uid : ℕ) (no_quota : quota_in c u
 
     table_segment : has c.segments uid ≡ true → IsTable (without_segment c uid)
     table_segment seg =
-        let size = length_less c.segments uid table.segments_rise seg in
-        let all = size c.segments refl in record {
-          rising = table.rising;
-          segments_rise = rising_less c.segments uid table.segments_rise seg;
-          quota_count = table.quota_count;
-          load_count = table.load_count;
-          stored_count = (omega (arith, size c.stored table.stored_count));
-          apart = λ u h. has_less c.segments uid table.segments_rise seg u ∙ rw (table.apart u h) refl;
-          within = table.within;
-          total = table.total;
-        }
+        grind (
+          arith,
+          nat_tests,
+          common_steps,
+          length_less c.segments uid table.segments_rise seg,
+          rising_less c.segments uid table.segments_rise seg,
+          apart,
+          has_less,
+        )
 
 module _ (c : CellMaps) (table : IsTable c) (uid : ℕ) (there : has_cell c uid ≡ true) (no_quota : quota_in c uid ≡ 0)
     (no_pages : stored_in c uid ≡ 0) where

@@ -1,5 +1,5 @@
 -- Rising uids: what stands beside a uid stands at its place; and a walk up a chain that changes the loads that cover.
-use Rattle.quota_cells.proofs.Prelude.{◌≡◌, ◌≢◌, ℕ, suc, zero, ◌<◌, true, false, cond, eqb, ◌&&◌, List, [], ◌∷◌, length, refl, sym, ap, subst, ◌∙◌, arith, get_or, set, inl, inr, cases_Bool, cases_eq, cases_order, eqb-true, eq-eqb, ne_eqb, or_cases, and_parts, or_right, or_left, get_or-set_same, get_or-set_other, length-set, ext_get_or, AreUnder, look, has, with_value, covers, changed_where, IsRising, AreThere, IsFalling, rest_rises}
+use Rattle.quota_cells.proofs.Prelude.{common_steps, nat_tests, ◌≡◌, ◌≢◌, ℕ, suc, zero, ◌<◌, true, false, cond, eqb, ◌&&◌, List, [], ◌∷◌, length, refl, sym, ap, subst, ◌∙◌, arith, get_or, set, inl, inr, cases_Bool, cases_eq, cases_order, eqb-true, eq-eqb, ne_eqb, or_cases, and_parts, or_right, or_left, get_or-set_same, get_or-set_other, length-set, ext_get_or, AreUnder, look, has, with_value, covers, changed_where, IsRising, AreThere, IsFalling, rest_rises}
 use Rattle.quota_cells.proofs.ColumnLaws.{look_with, length_changed, get_changed}
 
 pub look_at : (ks vs : List ℕ) (i : ℕ) → IsRising ks → i < length ks → look ks vs (get_or ks i 0) ≡ get_or vs i 0
@@ -111,20 +111,19 @@ module _ {g : ℕ → ℕ} {P : ℕ → Type 0} {ks : List ℕ} {q : ℕ → ℕ
 
   same_end : q x ≢ 0 → (i : ℕ) → i < length ks → get_or changed i 0
       ≡ get_or (changed_where g (covers q (x ∷ xs)) ks ws) i 0
-  same_end some_q i lt = elim (cases_eq i p) [
-    | inl same ↦ rw same (cc (
-      get_or-set_same ws p (g (get_or ws p 0)) 0 in_ws,
-      get_changed g (covers q (x ∷ xs)) ks ws p going.loads within,
-      here_covers,
-    ))
-    | inr other ↦
-        (let some : eqb (q x) 0 ≡ false = ne_eqb (q x) 0 some_q in
-        let c : covers q (x ∷ xs) (get_or ks i 0) ≡ false = other_covers i lt other ∙ rw some refl in
-        cc (
-          get_or-set_other ws p i (g (get_or ws p 0)) 0 other,
-          get_changed g (covers q (x ∷ xs)) ks ws i going.loads lt,
-        ))
-  ]
+  same_end some_q i lt =
+      grind (
+        arith,
+        nat_tests,
+        common_steps,
+        get_or-set_same ws p (g (get_or ws p 0)) 0 in_ws,
+        get_changed g (covers q (x ∷ xs)) ks ws p going.loads within,
+        here_covers,
+        get_or ks i 0,
+        other_covers,
+        get_or-set_other,
+        get_changed g (covers q (x ∷ xs)) ks ws i going.loads lt,
+      )
 
   pub going_ends : q x ≢ 0 → changed ≡ goal
   going_ends some_q = (ext_get_or 0 changed

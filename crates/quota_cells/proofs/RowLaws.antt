@@ -1,5 +1,5 @@
 -- Columns of numbers in the order of uids: one more and one less, and a walk up a chain.
-use Rattle.quota_cells.proofs.Prelude.{common_steps, ◌≡◌, ◌≢◌, ℕ, suc, zero, ◌+◌, ◌<◌, ◌≤◌, true, false, List, [], ◌∷◌, length, drop, refl, sym, ap, ◌∙◌, arith, get_or, set, inl, inr, insert, remove, drop_more, cases_order, eq-eqb, ne_eqb, lt-ltb, le-ltb, has, with_value, with_beside, without_beside, covers, changed_where, CellMaps, IsRising, quota_in, load_in, with_loads, IsGap, place_there, rest_rises, nat_tests}
+use Rattle.quota_cells.proofs.Prelude.{common_steps, ◌≡◌, ◌≢◌, ℕ, suc, zero, ◌+◌, ◌<◌, ◌≤◌, true, false, List, [], ◌∷◌, length, drop, refl, sym, ◌∙◌, arith, get_or, set, inl, inr, insert, remove, drop_more, cases_order, eq-eqb, ne_eqb, lt-ltb, le-ltb, has, with_value, with_beside, without_beside, covers, changed_where, CellMaps, IsRising, quota_in, load_in, with_loads, IsGap, place_there, rest_rises, nat_tests}
 use Rattle.quota_cells.proofs.PlaceLaws.{Going, going_here, going_next, going_ends, changed_none, look_at, set_there}
 
 -- ---- one more, and one less
@@ -130,10 +130,8 @@ module _ {g : ℕ → ℕ} {P : ℕ → Type 0} {start now : CellMaps} {up : Lis
   pub load_next : quota_in now x ≡ 0
       → Walks g P start (with_loads now (with_value now.directories now.loads x (g (load_in now x)))) up
       (drop (i + 1) up)
-  load_next none = rw spot_set (assumption (
-    ap (λ (c : CellMaps). with_loads c after) walks.kept,
-    going_next going rising in_start at_start (sym quota ∙ none),
-  ))
+  load_next none =
+      grind (arith, nat_tests, common_steps, spot_set, going_next going rising in_start at_start (sym quota ∙ none))
 
 pub walk_done : {g : ℕ → ℕ} {P : ℕ → Type 0} {start now : CellMaps} {up : List ℕ} → Walks g P start now up []
     → now ≡ with_loads start (changed_where g (covers (quota_in start) up) start.directories start.loads)

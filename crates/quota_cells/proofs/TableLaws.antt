@@ -1,5 +1,5 @@
 -- Tables by uid: the uids that are there, and what stands beside them.
-use Rattle.quota_cells.proofs.Prelude.{common_steps, ◌≡◌, ℕ, suc, zero, ◌+◌, ◌-◌, ◌<◌, ◌≤◌, Bool, true, false, eqb, List, [], ◌∷◌, ◌++◌, length, length-append, length-replicate, replicate, refl, sym, ◌∙◌, arith, get_or, set, inl, inr, cases_Bool, cases_eq, cases_lt, eq-eqb, ne_eqb, lt-ltb, le-ltb, false_from_ne_true, get_or-set_same, get_or-set_other, look, has, with_value, with_beside, without_beside, IsRising, NumberMap, beside, no_numbers, numbers_of, uids_from, with_uid, without_uid, nat_tests}
+use Rattle.quota_cells.proofs.Prelude.{common_steps, ◌≡◌, ℕ, suc, zero, ◌+◌, ◌-◌, ◌<◌, ◌≤◌, Bool, true, false, eqb, List, [], ◌∷◌, ◌++◌, length, length-append, length-replicate, replicate, refl, sym, ◌∙◌, arith, get_or, set, inl, inr, cases_eq, cases_lt, eq-eqb, ne_eqb, lt-ltb, le-ltb, false_from_ne_true, get_or-set_same, get_or-set_other, look, has, with_value, with_beside, without_beside, IsRising, NumberMap, beside, no_numbers, numbers_of, uids_from, with_uid, without_uid, nat_tests}
 use Rattle.quota_cells.proofs.PadLaws.{blanks_next, set_end}
 
 -- ---- uids in order, none below this one
