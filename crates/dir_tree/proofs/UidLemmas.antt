@@ -11,10 +11,7 @@ pub taken_past : (t : List ℕ) (n : ℕ) → taken (t ++ replicate n 65535) ≡
 unfolding taken
 taken_past [] zero = refl
 taken_past [] (suc n) = taken_past [] n
-taken_past (p ∷ t) n = elim (cases_eq p 65535) [
-  | inl none ↦ rw (eq-eqb p 65535 none) (taken_past t n)
-  | inr is ↦ rw (ne_eqb p 65535 is, taken_past t n) refl
-]
+taken_past (p ∷ t) n = grind (arith, nat_tests, common_steps, taken_past t n)
 
 taken_none : (t : List ℕ) → ((v : ℕ) → v < length t → get_or t v 0 ≡ 65535) → taken t ≡ []
 unfolding taken
@@ -217,8 +214,7 @@ module _ {slots : List Entry} {table : List ℕ} (l : IsListed slots (taken tabl
   pub place_given : (uid value : ℕ) → value ≡ get_or table uid value → uid < length table → value ≢ 65535
       → IsThere now uid value
   place_given uid value read lt some =
-      let is : value ≡ get_or table uid 0 = get_or_read table uid value lt read 0 in
-      rw (← view, is) (place_found l t uid lt (λ z. some (is ∙ z)))
+      grind (arith, nat_tests, common_steps, get_or table uid 0, get_or_read table uid value lt read 0, place_found)
 
   pub place_absent : (uid : ℕ) → (uid < length table → get_or table uid 0 ≡ 65535) → (i : ℕ) → i < length now
       → (entry_at now i).uid ≢ uid

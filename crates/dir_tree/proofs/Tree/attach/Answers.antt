@@ -15,16 +15,14 @@ few {nodes} {es} s name dir k seen e = grind (arith, nat_tests, common_steps, no
 
 pub store-place-requires-clause-room : goal.store-place-requires-clause-room
 store-place-requires-clause-room c none =
-    let lt = few _ _ _ c.self.invariant.0 c.self.view_is c.requires.may in
-    omega (arith, c.self.invariant.0.count, c.self.invariant.1, c.self.inside.nodes.ok.0)
+    grind (arith, nat_tests, common_steps, few _ _ _ c.self.invariant.0 c.self.view_is c.requires.may)
 
 pub store-place-requires-clause-count : goal.store-place-requires-clause-count
 store-place-requires-clause-count c = omega (arith, c.self.invariant.0.few)
 
 pub insert-requires-clause-room : goal.insert-requires-clause-room
 insert-requires-clause-room c =
-    let lt = few _ _ _ c.self.invariant.0 c.self.view_is c.requires.may in
-    omega (arith, c.self.invariant.0.branches, c.self.invariant.0.room)
+    grind (arith, nat_tests, common_steps, few _ _ _ c.self.invariant.0 c.self.view_is c.requires.may)
 
 -- what the index asks for holds once the new node stands in its place
 ready : (c : goal.After-deref)
