@@ -20,7 +20,4 @@ has_append xs ys j = list_any-append (λ y. eqb y j) xs ys
 
 pub range_end : (from n : ℕ) → range from (suc n) ≡ range from n ++ (from + n) ∷ []
 range_end from zero = let e : from ≡ from + 0 = omega arith in cc
-range_end from (suc n) =
-    let r = range_end (from + 1) n in
-    let e : from + 1 + n ≡ from + suc n = omega arith in
-    cc
+range_end from (suc n) = grind (arith, nat_tests, common_steps, range_end (from + 1) n)
