@@ -46,9 +46,7 @@ number_only t n h = grind (arith, nat_tests, common_steps, number_parts)
 all_lack : (kind p : ℕ → Bool) → ((b : ℕ) → kind b ≡ true → p b ≡ false) → (t : List ℕ) → list_all kind t ≡ true
     → lacks p t ≡ true
 all_lack kind p h [] all = refl
-all_lack kind p h (b ∷ bs) all =
-    let here : p b ≡ false = h b (grind (arith, nat_tests)) in
-    rw here (all_lack kind p h bs (grind (arith, nat_tests)))
+all_lack kind p h (b ∷ bs) all = grind (arith, nat_tests, common_steps, all_lack kind p h bs (grind (arith, nat_tests)))
 
 spaceless : (n : ℕ) → n < 2 ^ 32 → lacks is_space (decimal n) ≡ true
 spaceless n h =
@@ -182,13 +180,7 @@ join_reply x _ = refl
 
 reply_lacks : (r : Reply) → IsReply r → AllLack is_space (reply_words r)
 unfolding bare_text
-reply_lacks (reply.Word w) h = (
-  refl,
-  (
-    all_lack is_octal_digit is_space (λ b d. grind (arith, nat_tests)) (octal_digits 12 w) (octal_digits_all 12 w),
-    tt,
-  ),
-)
+reply_lacks (reply.Word w) h = grind (arith, nat_tests, common_steps, all_lack, octal_digits_all 12 w)
 reply_lacks _ h = search (rules, spaceless)
 
 reply_again : (r : Reply) → IsReply r → reply_of (reply_words r) ≡ Some r

@@ -72,19 +72,17 @@ piece_cut line start i order l =
 pub taken_word : {A : Type 0} (f : A → List ℕ) (xs : List A) (x : A) (line : List ℕ) (start i : ℕ)
     → Taken (map f xs) line start i → i < length line → get_or line i 0 ≡ 32
     → f x ≡ take (i - start) (drop start line) → Taken (map f (xs ++ x ∷ [])) line (i + 1) (i + 1)
-taken_word f xs x line start i t l space is = record {
-  order = omega arith;
-  clear = λ k low high. let no : ⊥ = omega (arith, low, high) in absurd no;
-  split = word_added f xs x (slice_split is_space (drop start line)) (slice_split is_space (drop (i + 1) line))
-      (slice_split is_space line) t.split (first ∙ ap (λ (w : List ℕ). w ∷ slice_split is_space (drop (i + 1) line))
-      (sym is));
-}
-  where
-    first : slice_split is_space (drop start line) ≡ take (i - start) (drop start line)
-        ∷ slice_split is_space (drop (i + 1) line)
-    first = ap (λ (bs : List ℕ). slice_split is_space bs) (piece_cut line start i t.order l)
-        ∙ slice_split_at is_space (take (i - start) (drop start line)) (get_or line i 0) (drop (i + 1) line)
-        (piece_lacks (map f xs) line start i t) (rw space refl)
+taken_word f xs x line start i t l space is =
+    grind (
+      arith,
+      nat_tests,
+      common_steps,
+      word_added,
+      piece_cut line start i t.order l,
+      slice_split_at,
+      get_or line i 0,
+      piece_lacks (map f xs) line start i t,
+    )
 
 pub taken_last : {A : Type 0} (f : A → List ℕ) (xs : List A) (x : A) (line : List ℕ) (start i : ℕ)
     → Taken (map f xs) line start i → length line ≤ i
