@@ -1,5 +1,5 @@
 -- What a line says as a command is in its ranges (own).
-use Rattle.script.proofs.Prelude.{common_steps, ◌≡◌, ℕ, zero, suc, ◌+◌, ◌-◌, ◌*◌, ◌^◌, ◌<◌, ◌≤◌, Bool, true, false, ◌&&◌, nat_le, nat_lt, cond, eqb, List, [], ◌∷◌, length, fold, Option, Some, None, Result, Ok, Err, codes, ℤ, pos, neg_ℤ, refl, sym, subst, arith, nat_tests, bytes_eq-Decides, unsigned_abs, list_all, bytes_eq, Row, octal_below, octal_bound_more, is_octal, is_octal_digit, octal_number, octal_value, path_alone, path_and_number, place_in, place_and_word, mkdir_of, mkseg_of, initiate_of, terminate_of, read_of, write_of, add_of, await_of, acl_of, length_of, truncate_of, delete_of, move_of, status_of, end_of, other_command_of, reference_or, command_of, path_of, has_name, is_command, is_end, is_from, is_path, is_place, is_row, is_word, ◌>>=◌, found_or, number_in, word_in, row_in, path_in, number_from, volume_in, amount_in, Command, VolumeLine, Cause, and_from, and_parts, cause}
+use Rattle.script.proofs.Prelude.{common_steps, ◌≡◌, ℕ, zero, suc, ◌+◌, ◌-◌, ◌*◌, ◌^◌, ◌<◌, ◌≤◌, Bool, true, false, ◌&&◌, nat_le, nat_lt, cond, eqb, List, [], ◌∷◌, length, fold, Option, Some, None, Result, Ok, Err, codes, ℤ, pos, neg_ℤ, refl, sym, subst, arith, nat_tests, bytes_eq-Decides, unsigned_abs, list_all, bytes_eq, Row, octal_below, octal_bound_more, is_octal, is_octal_digit, octal_number, octal_value, path_alone, path_and_number, place_in, place_and_word, mkdir_of, mkseg_of, initiate_of, terminate_of, read_of, write_of, add_of, await_of, acl_of, length_of, truncate_of, delete_of, move_of, status_of, end_of, other_command_of, reference_or, command_of, path_of, is_command, is_end, is_from, is_path, is_place, is_row, is_word, ◌>>=◌, found_or, number_in, word_in, row_in, path_in, number_from, volume_in, amount_in, Command, VolumeLine, Cause, and_from, and_parts, cause}
 use Rattle.script.proofs.PathLaws.{path_only}
 use Rattle.script.proofs.PrincipalLaws.{row_read}
 
@@ -91,12 +91,7 @@ volume_below : (n : ℕ) (vs : List VolumeLine) (name : List ℕ) (k : ℕ) → 
     → k < n + length vs
 unfolding number_from
 volume_below n [] name k e = absurd (cc)
-volume_below n (v ∷ vs) name k e = test (has_name name v) (volume_below (n + 1) vs name k) e
-  where
-    test : (b : Bool) → (number_from (n + 1) vs name ≡ Some k → k < n + 1 + length vs)
-        → cond b (Some n) (number_from (n + 1) vs name) ≡ Some k → k < n + length (v ∷ vs)
-    test true later e = let same : n ≡ k = cc in omega arith
-    test false later e = let below = later e in omega arith
+volume_below n (v ∷ vs) name k e = grind (arith, nat_tests, common_steps, volume_below (n + 1) vs name k)
 
 abbrev Below : ℕ → ℕ → Type 0
 Below volumes n = nat_lt n volumes ≡ true

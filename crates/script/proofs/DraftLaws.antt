@@ -131,7 +131,6 @@ process_ended d h inside within =
       inside_has_volume,
       false_not_true,
       begins_same,
-      begins,
     )
 
 -- the plan of a whole draft

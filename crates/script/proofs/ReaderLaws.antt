@@ -1,5 +1,5 @@
 -- Laws of reading line by line (own).
-use Rattle.script.proofs.Prelude.{◌≡◌, ℕ, ◌+◌, List, [], ◌∷◌, length, fold, Result, Ok, Err, refl, sym, ap, ◌∙◌, DraftPlan, blank, lines_of, finished, numbered, script_of, text_after, whole_or_missing, after_number, Plan, Cause, Refusal, no_lines}
+use Rattle.script.proofs.Prelude.{arith, common_steps, nat_tests, ◌≡◌, ℕ, ◌+◌, List, [], ◌∷◌, length, fold, Result, Ok, Err, refl, sym, ap, ◌∙◌, DraftPlan, blank, lines_of, finished, numbered, script_of, text_after, whole_or_missing, after_number, Plan, Cause, Refusal, no_lines}
 
 -- a line after so many others
 line_read : (n : ℕ) (d : DraftPlan) (line : List ℕ) → numbered (Ok (n, d)) line ≡ after_number n (text_after d line)
@@ -30,8 +30,7 @@ pub line_refused : (n : ℕ) (d : DraftPlan) (why : Cause) (bytes line rest : Li
     (all : Result (ℕ × DraftPlan) Refusal) → lines_of bytes ≡ line ∷ lines_of rest → text_after d line ≡ Err why
     → fold numbered (Ok (n, d)) (lines_of bytes) ≡ all → all ≡ Err (record { line = n; cause = why })
 line_refused n d why bytes line rest all e refused h =
-    sym h ∙ first_of n d bytes line rest e ∙ ap (λ r. fold numbered (after_number n r) (lines_of rest)) refused
-    ∙ refused_stays (record { line = n; cause = why }) (lines_of rest)
+    grind (arith, nat_tests, common_steps, first_of n d bytes line rest e, refused_stays)
 
 pub lines_end : (n : ℕ) (d : DraftPlan) (bytes : List ℕ) (all : Result (ℕ × DraftPlan) Refusal) → length bytes ≡ 0
     → fold numbered (Ok (n, d)) (lines_of bytes) ≡ all → all ≡ Ok (n, d)

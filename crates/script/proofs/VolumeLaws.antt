@@ -1,5 +1,5 @@
 -- Laws of the names of volumes (own).
-use Rattle.script.proofs.Prelude.{◌≡◌, ℕ, suc, ◌+◌, ◌<◌, ◌≤◌, Bool, true, false, List, [], ◌∷◌, length, drop, drop-cons, add-one, Option, Some, None, refl, sym, ap, ◌∙◌, arith, slice_index_or, common_steps, list_any, has_name, number_from, VolumeLine}
+use Rattle.script.proofs.Prelude.{nat_tests, ◌≡◌, ℕ, suc, ◌+◌, ◌<◌, ◌≤◌, Bool, true, false, List, [], ◌∷◌, length, drop, drop-cons, add-one, Option, Some, None, refl, sym, ap, ◌∙◌, arith, slice_index_or, common_steps, list_any, has_name, number_from, VolumeLine}
 use Rattle.script.proofs.SmallLaws.{left_at, none_left}
 
 pub number_found : (vs : List VolumeLine) (i : ℕ) (v : VolumeLine) (name : List ℕ) → i < length vs → v
@@ -27,12 +27,7 @@ found (Some n) = true
 any_found : (n : ℕ) (vs : List VolumeLine) (name : List ℕ) → list_any (has_name name) vs ≡ found (number_from n vs name)
 unfolding number_from
 any_found n [] name = refl
-any_found n (v ∷ vs) name = split (has_name name v) refl (any_found (n + 1) vs name)
-  where
-    split : (z : Bool) → has_name name v ≡ z → list_any (has_name name) vs ≡ found (number_from (n + 1) vs name)
-        → list_any (has_name name) (v ∷ vs) ≡ found (number_from n (v ∷ vs) name)
-    split true z ih = rw z refl
-    split false z ih = rw z ih
+any_found n (v ∷ vs) name = grind (arith, nat_tests, common_steps, any_found (n + 1) vs name)
 
 pub found_is_given : (vs : List VolumeLine) (name : List ℕ) (n : ℕ) → Some n ≡ number_from 0 vs name
     → list_any (has_name name) vs ≡ true
