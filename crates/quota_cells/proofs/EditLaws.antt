@@ -1,5 +1,5 @@
 -- One more value beside a uid, 0, and one less.
-use Rattle.quota_cells.proofs.Prelude.{common_steps, nat_tests, ◌≡◌, ◌≢◌, ℕ, suc, zero, ◌+◌, ◌<◌, ◌≤◌, Bool, true, false, eqb, not, ◌&&◌, ◌||◌, List, [], ◌∷◌, length, refl, sym, ◌∙◌, arith, get_or, inl, inr, insert, remove, cases_Bool, cases_eq, cases_lt, eq-eqb, ne_eqb, length-insert, get_or-insert_below, get_or-insert_at, get_or-insert_above, length-remove, get_or-remove_below, get_or-remove_above, look, has, weigh, IsRising, IsGap, look_absent, Where, Before, Here, After, where_is, first_once, rest_rises}
+use Rattle.quota_cells.proofs.Prelude.{common_steps, nat_tests, ◌≡◌, ◌≢◌, ℕ, suc, zero, ◌+◌, ◌<◌, ◌≤◌, Bool, true, false, eqb, not, ◌&&◌, ◌||◌, List, [], ◌∷◌, length, refl, sym, arith, get_or, inl, inr, insert, remove, cases_Bool, cases_eq, cases_lt, eq-eqb, ne_eqb, length-insert, get_or-insert_below, get_or-insert_at, get_or-insert_above, length-remove, get_or-remove_below, get_or-remove_above, look, has, weigh, IsRising, IsGap, look_absent, Where, Before, Here, After, where_is, first_once, rest_rises}
 
 pub has_insert : (ks : List ℕ) (i u v : ℕ) → has (insert ks i u) v ≡ (eqb u v || has ks v)
 has_insert ks zero u v = refl
@@ -54,12 +54,6 @@ look_remove (k ∷ ks) [] i v len up lt ne = absurd (omega arith)
 look_remove (k ∷ ks) (w ∷ vs) zero v len up lt ne = rw (ne_eqb k v (λ q. ne (sym q))) refl
 look_remove (k ∷ ks) (w ∷ vs) (suc i) v len up lt ne =
     grind (arith, nat_tests, common_steps, look_remove ks vs i v (omega arith) (rest_rises k ks up) (omega arith) ne)
-
-pub look_gone : (ks vs : List ℕ) (i : ℕ) → IsRising ks → i < length ks
-    → look (remove ks i) (remove vs i) (get_or ks i 0) ≡ 0
-look_gone ks vs i up lt = look_absent (remove ks i) (remove vs i) (get_or ks i 0)
-    (has_remove ks i (get_or ks i 0) up lt ∙ rw (eq-eqb (get_or ks i 0) (get_or ks i 0) refl)
-    (elim (cases_Bool (has ks (get_or ks i 0))) [ inl t ↦ rw t refl | inr f ↦ rw f refl ]))
 
 pub weigh_remove : (t : ℕ → Bool) (ks ws : List ℕ) (i : ℕ) → length ws ≡ length ks → i < length ks → get_or ws i 0 ≡ 0
     → weigh t (remove ks i) (remove ws i) ≡ weigh t ks ws
