@@ -1,24 +1,6 @@
 -- Laws of the line that is due.
-use Rattle.std.proofs.Common.{◌≡◌, ℕ, Bool, true, false, ◌&&◌, cond, eqb, List, [], ◌∷◌, Option, Some, None, refl, sym, IfSome, ap, subst, ◌∙◌}
-use Rattle.std.specs.Prelude.{◌==◌}
-use Rattle.std.specs.Option.{is_some}
-use Rattle.std.specs.List.{slice_get}
-use Rattle.script.specs.Plans.{Plan}
-use Rattle.text_model.specs.Lines.{lines_of}
-use Rattle.script.specs.declared.plan.VolumeLine.{VolumeLine}
-use Rattle.tree_model.specs.Tree.{Node, node_in, has_directory, quota_in, used_by, taken_on, entries_on}
-use Rattle.flat_model.specs.Store.{Store, records_in, entries_in}
-use Rattle.line_reasons.specs.declared.due_lines.AccountDue.{AccountDue}
-use Rattle.line_reasons.specs.declared.due_lines.VolumeDue.{VolumeDue}
-use Rattle.line_reasons.specs.declared.due_lines.DueLine.{DueLine}
-use Rattle.line_reasons.specs.declared.due_lines.DueLine.TheVariants as due
-use Rattle.line_reasons.specs.declared.sum_reasons.SumWord.TheVariants as word
-use Rattle.line_reasons.specs.declared.sum_reasons.SumReason.{SumReason}
-use Rattle.line_reasons.specs.declared.sum_reasons.SumReason.TheVariants as reason
-use Rattle.line_reasons.specs.DueLines.{IsAccountDue, IsVolumeDue, IsDue, IsSoSum, account_reason, volume_reason, reason_of_line, reason_of_end, is_still_so, account_still}
-use Rattle.line_reasons.specs.Fronts.{same_front}
-use Rattle.std.proofs.lemmas.Bool.{and_from}
-use Rattle.laws.proofs.Numbers.{same_test}
+use Rattle.line_reasons.proofs.Prelude.{◌≡◌, ℕ, Bool, true, false, ◌&&◌, cond, eqb, List, [], ◌∷◌, Option, Some, None, refl, sym, IfSome, ap, subst, ◌∙◌, ◌==◌, is_some, slice_get, Plan, lines_of, VolumeLine, Node, node_in, has_directory, quota_in, used_by, taken_on, entries_on, Store, records_in, entries_in, AccountDue, VolumeDue, DueLine, word, SumReason, reason, IsAccountDue, IsVolumeDue, IsDue, IsSoSum, account_reason, volume_reason, reason_of_line, reason_of_end, is_still_so, account_still, same_front, and_from, same_test}
+use Rattle.line_reasons.specs.declared.due_lines.DueLine.{DueLine as due}
 
 -- ---- what is due
 

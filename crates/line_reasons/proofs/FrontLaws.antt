@@ -1,9 +1,5 @@
 -- How much of two lists is the same (own).
-use Rattle.std.proofs.Common.{◌≡◌, ℕ, ◌+◌, Bool, true, false, cond, List, [], ◌∷◌, length, refl, ap, ◌∙◌, arith}
-use Rattle.std.specs.Str.{bytes_eq}
-use Rattle.text_model.proofs.LineSteps.{lines_nil, no_lines}
-use Rattle.text_model.specs.Lines.{lines_of}
-use Rattle.line_reasons.specs.Fronts.{same_front, one_more}
+use Rattle.line_reasons.proofs.Prelude.{◌≡◌, ℕ, ◌+◌, Bool, true, false, cond, List, [], ◌∷◌, length, refl, ap, ◌∙◌, arith, bytes_eq, no_lines, lines_of, same_front, one_more}
 
 both : (xs ys ms ns : List (List ℕ)) (a b : List ℕ) → xs ≡ a ∷ ms → ys ≡ b ∷ ns
     → same_front xs ys ≡ cond (bytes_eq a b) (1 + same_front ms ns) 0

@@ -1,3 +1,4 @@
+mod Prelude
 mod CutLaws
 mod DueLaws
 mod FrontLaws

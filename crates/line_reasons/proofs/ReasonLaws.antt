@@ -1,9 +1,5 @@
 -- Laws of the first field at fault.
-use Rattle.std.proofs.Common.{◌≡◌, ℕ, ◌+◌, List, [], ◌∷◌, Option, Some, None, sym, ap, ◌∙◌}
-use Rattle.line_reasons.specs.declared.grammar.Due.{Due}
-use Rattle.line_reasons.specs.declared.entry_reasons.EntryReason.{EntryReason}
-use Rattle.line_reasons.specs.Grammar.{behind}
-use Rattle.line_reasons.specs.Reasons.{fault_at, last_fault, or_later, reason_from}
+use Rattle.line_reasons.proofs.Prelude.{◌≡◌, ℕ, ◌+◌, List, [], ◌∷◌, Option, Some, None, sym, ap, ◌∙◌, Due, EntryReason, behind, fault_at, last_fault, or_later, reason_from}
 
 -- a field is without fault
 pub goes_on : (n : ℕ) (d e : Due) (f : List ℕ) (fs gs : List (List ℕ)) (w : Option EntryReason) → gs ≡ f ∷ fs

@@ -1,14 +1,5 @@
 -- Of references and their lines. (own)
-use Rattle.std.proofs.Common.{◌≡◌, ℕ, suc, ◌+◌, true, false, nat_lt, if◌then◌else◌, List, [], ◌++◌, refl, sym, ap, ◌∙◌, add-one, append_assoc, append-nil, codes}
-use Rattle.std.proofs.lemmas.List.{flat_map_more}
-use Rattle.script.specs.Scripts.{commands_text, ended}
-use Rattle.script.specs.Texts.{arguments_text, command_text}
-use Rattle.script.specs.declared.commands.Command.{Command}
-use Rattle.script.specs.declared.commands.Command.TheVariants as command
-use Rattle.script.specs.declared.plan.VolumeLine.{VolumeLine}
-use Rattle.draws.specs.Draws.{drawn}
-use Rattle.make_work.specs.Lines.{lines_of}
-use Rattle.make_work.specs.References.{kind_of, reference_at, references, second, third, state_after, state_at}
+use Rattle.make_work.proofs.Prelude.{◌≡◌, ℕ, ◌+◌, true, false, nat_lt, if◌then◌else◌, List, [], ◌++◌, refl, sym, ap, ◌∙◌, add-one, append_assoc, append-nil, codes, flat_map_more, commands_text, ended, arguments_text, command_text, Command, command, VolumeLine, drawn, lines_of, kind_of, reference_at, references, second, third, state_after, state_at}
 
 -- the lines so far, and the line of one reference more
 pub line_more : (bs : List ℕ) (i x : ℕ) → ((bs ++ lines_of (references i x))

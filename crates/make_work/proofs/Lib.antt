@@ -1,3 +1,4 @@
+mod Prelude
 pub mod Drawing
 pub mod Texts
 pub mod Plans

@@ -1,20 +1,5 @@
 -- A day is a script. (own)
-use Rattle.std.proofs.Common.{◌≡◌, ℕ, suc, zero, ◌+◌, ◌<◌, ◌≤◌, ◌*◌, Bool, true, not, List, [], ◌∷◌, ◌++◌, refl, ap, ◌∙◌, arith, codes, sum_by, Ok}
-use Rattle.std.proofs.lemmas.Bool.Decides.{nat_tests}
-use Rattle.std.proofs.lemmas.Bool.{and_parts, and_from}
-use Rattle.std.proofs.lemmas.List.Sums.{sum_by-append, sum_by-cons}
-use Rattle.std.specs.List.{list_all}
-use Rattle.draws.proofs.Bounds.{drawn_below}
-use Rattle.mnames.specs.Names.{is_label, is_label_byte, is_name, is_name_byte}
-use Rattle.mnames.specs.Principals.{default_project}
-use Rattle.script.specs.Forms.{IsPlan, are_apart, ends_once, is_command, is_end, is_path, is_process, is_volume, is_who, weight, weight_of}
-use Rattle.script.specs.Grammar.{script_of}
-use Rattle.script.specs.Plans.{Plan}
-use Rattle.script.specs.Scripts.{script_text}
-use Rattle.script.specs.declared.commands.Command.{Command}
-use Rattle.script.specs.declared.commands.Command.TheVariants as command
-use Rattle.make_work.specs.Day.{counter, numbered, day_of, initializer, made, own, reference_count, shared, user, user_name, users}
-use Rattle.make_work.specs.References.{reference_at, references, second, third, state_at}
+use Rattle.make_work.proofs.Prelude.{◌≡◌, ℕ, suc, zero, ◌+◌, ◌<◌, ◌≤◌, ◌*◌, Bool, true, not, List, [], ◌∷◌, ◌++◌, refl, arith, codes, sum_by, Ok, nat_tests, and_parts, and_from, sum_by-append, sum_by-cons, list_all, drawn_below, is_label, is_label_byte, is_name, is_name_byte, default_project, IsPlan, are_apart, ends_once, is_command, is_end, is_path, is_process, is_volume, is_who, weight, weight_of, script_of, Plan, script_text, Command, command, counter, numbered, day_of, initializer, made, own, reference_count, shared, user, user_name, users, reference_at, references, second, third, state_at}
 use Rattle.make_work.proofs.Drawing.{of_each}
 
 -- ---- what holds of each reference

@@ -1,16 +1,5 @@
 -- The text of a day is its lines. (own)
-use Rattle.std.proofs.Common.{◌≡◌, ℕ, suc, zero, ◌+◌, ◌<◌, true, false, List, [], ◌∷◌, ◌++◌, refl, sym, ap, ◌∙◌, append_assoc, codes, Result, Ok, Err, OnOk}
-use Rattle.std.proofs.lemmas.Grind.{flat_map-append}
-use Rattle.std.specs.Fmt.{decimal, digits}
-use Rattle.std.proofs.lemmas.Fmt.{decimal_digit}
-use Rattle.mnames.specs.Principals.{who_text, row_text}
-use Rattle.script.specs.Scripts.{begin_text, commands_text, ended, head_text, machine_text, print_text, process_text, processes_text, quota_text, script_text, volume_text}
-use Rattle.script.specs.Texts.{arguments_text, command_text, mode_text, path_fields_text, reference_text, sign_text, word_text}
-use Rattle.script.specs.declared.commands.Command.TheVariants as command
-use Rattle.script.specs.declared.plan.VolumeLine.{VolumeLine}
-use Rattle.make_work.specs.Day.{day_of, initializer, made, reference_count, user, users}
-use Rattle.make_work.specs.Lines.{lines_of, opening_text, user_text, users_text}
-use Rattle.make_work.specs.References.{reference_at, references, state_at}
+use Rattle.make_work.proofs.Prelude.{◌≡◌, ℕ, suc, zero, ◌+◌, ◌<◌, true, false, List, [], ◌∷◌, ◌++◌, refl, ap, ◌∙◌, append_assoc, codes, Result, Ok, Err, OnOk, flat_map-append, decimal, digits, decimal_digit, who_text, row_text, begin_text, commands_text, ended, head_text, machine_text, print_text, process_text, processes_text, quota_text, script_text, volume_text, arguments_text, command_text, mode_text, path_fields_text, reference_text, sign_text, word_text, command, VolumeLine, day_of, initializer, made, reference_count, user, users, lines_of, opening_text, user_text, users_text, reference_at, references, state_at}
 use Rattle.make_work.proofs.Drawing.{names_no_volume}
 
 -- the lines of references are the same over any volumes

@@ -1,5 +1,3 @@
-use Rattle.std.proofs.Common.{◌∙◌, ap}
-use Rattle.make_work.specs.Day.{made}
 use Rattle.make_work.proofs.Plans.{accepted}
 use Rattle.make_work.proofs.make_script.Goals as goal
 

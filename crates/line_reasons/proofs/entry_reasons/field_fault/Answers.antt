@@ -1,6 +1,4 @@
-use Rattle.line_reasons.specs.Grammar.{pieces}
-use Rattle.line_reasons.specs.Reasons.{reason_from}
-use Rattle.line_reasons.specs.declared.grammar.Due.TheVariants as due
+use Rattle.line_reasons.proofs.Prelude.{pieces, reason_from, due}
 use Rattle.line_reasons.proofs.ReasonLaws.{goes_out}
 use Rattle.line_reasons.proofs.entry_reasons.field_fault.Goals as goal
 

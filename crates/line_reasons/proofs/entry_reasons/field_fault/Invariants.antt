@@ -1,7 +1,4 @@
-use Rattle.std.proofs.Common.{◌≡◌, ◌≤◌, ◌+◌, length}
-use Rattle.line_reasons.specs.Grammar.{pieces}
-use Rattle.line_reasons.specs.Reasons.{reason_from}
-use Rattle.line_reasons.specs.declared.grammar.Due.TheVariants as due
+use Rattle.line_reasons.proofs.Prelude.{◌≡◌, ◌≤◌, ◌+◌, length, pieces, reason_from, due}
 use Rattle.line_reasons.proofs.entry_reasons.field_fault.Given as goal
 
 abbrev pub invariant-loop-field : goal.invariant-loop-field

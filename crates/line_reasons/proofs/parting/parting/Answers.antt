@@ -1,7 +1,4 @@
-use Rattle.std.proofs.Common.{arith}
-use Rattle.std.proofs.lemmas.Bool.Decides.{nat_tests}
-use Rattle.text_model.specs.Lines.{lines_of}
-use Rattle.line_reasons.specs.Fronts.{same_front}
+use Rattle.line_reasons.proofs.Prelude.{arith, nat_tests, lines_of, same_front}
 use Rattle.line_reasons.proofs.FrontLaws.{front_no_due, front_no_left}
 use Rattle.line_reasons.proofs.parting.parting.Goals as goal
 

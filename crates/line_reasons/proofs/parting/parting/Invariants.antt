@@ -1,6 +1,4 @@
-use Rattle.std.proofs.Common.{◌≡◌, ◌≤◌, ◌+◌, length}
-use Rattle.text_model.specs.Lines.{lines_of}
-use Rattle.line_reasons.specs.Fronts.{same_front}
+use Rattle.line_reasons.proofs.Prelude.{◌≡◌, ◌≤◌, ◌+◌, length, lines_of, same_front}
 use Rattle.line_reasons.proofs.parting.parting.Given as goal
 
 -- the lines so far are the same

@@ -1,5 +1,4 @@
-use Rattle.line_reasons.specs.Grammar.{pieces}
-use Rattle.line_reasons.specs.Fronts.{same_front}
+use Rattle.line_reasons.proofs.Prelude.{pieces, same_front}
 use Rattle.line_reasons.proofs.FrontLaws.{front_due_last}
 use Rattle.line_reasons.proofs.parting.same_fields.Goals as goal
 

@@ -1,6 +1,4 @@
-use Rattle.std.proofs.Common.{◌≡◌, ◌≤◌, ◌+◌, length}
-use Rattle.line_reasons.specs.Grammar.{pieces}
-use Rattle.line_reasons.specs.Fronts.{same_front}
+use Rattle.line_reasons.proofs.Prelude.{◌≡◌, ◌≤◌, ◌+◌, length, pieces, same_front}
 use Rattle.line_reasons.proofs.parting.same_fields.Given as goal
 
 -- the fields so far are the same

@@ -1,4 +1,4 @@
-use Rattle.std.proofs.Common.{◌++◌, ◌∙◌, ap}
+use Rattle.make_work.proofs.Prelude.{◌++◌, ◌∙◌, ap}
 use Rattle.make_work.proofs.Texts.{day_written, front, if_ok}
 use Rattle.make_work.proofs.lines.push_day.Goals as goal
 

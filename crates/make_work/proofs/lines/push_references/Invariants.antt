@@ -1,6 +1,4 @@
-use Rattle.std.proofs.Common.{◌≡◌, ◌++◌, string_bytes}
-use Rattle.make_work.specs.Lines.{lines_of}
-use Rattle.make_work.specs.References.{references, state_at}
+use Rattle.make_work.proofs.Prelude.{◌≡◌, ◌++◌, string_bytes, lines_of, references, state_at}
 use Rattle.make_work.proofs.lines.push_references.Given as goal
 
 -- the references that were drawn so far are written, and their draws are done

@@ -1,5 +1,4 @@
-use Rattle.std.proofs.Common.{◌≡◌, ◌++◌, ◌-◌, string_bytes}
-use Rattle.make_work.specs.Lines.{users_text}
+use Rattle.make_work.proofs.Prelude.{◌≡◌, ◌++◌, ◌-◌, string_bytes, users_text}
 use Rattle.make_work.proofs.lines.push_users.Given as goal
 
 -- the lines of the users so far, before those of the others, are the lines of all

@@ -1,4 +1,4 @@
-use Rattle.line_reasons.specs.Reasons.{entry_reason_text}
+use Rattle.line_reasons.proofs.Prelude.{entry_reason_text}
 use Rattle.line_reasons.proofs.entry_reasons.EntryReasonDisplay.fmt.Goals as goal
 
 pub returns-in-OtherWord-clause-writes : goal.returns-in-OtherWord-clause-writes
