@@ -1,5 +1,5 @@
 -- What a new branch leaves of the tables behind a tree.
-use Rattle.dir_tree.proofs.Prelude.{common_steps, ◌≡◌, ◌≢◌, ℕ, ◌+◌, ◌-◌, ◌<◌, ◌≤◌, true, eqb, if◌then◌else◌, List, [], ◌∷◌, ◌++◌, length, take, Option, Some, None, refl, sym, ap, ◌∙◌, arith, get_or, inl, inr, ◌⊎◌, ◌↔◌, length-map, length_push, get_or_append_left, get_or_push, get_or-take, length-take-le, Node, Entry, Places, HasPlace, IsOrdered, AreWithin, key_of, key_at, node_at, is_directory, add_fault_of, shape, shapes, IsBranch, no_entry, entry_at, newest, place_for, IsNamed, IsPlace, IsKept, directory_shape, branch_in, subst, Joins, nat_tests}
+use Rattle.dir_tree.proofs.Prelude.{cases_eq, eq-eqb, ne_eqb, common_steps, ◌≡◌, ◌≢◌, ℕ, ◌+◌, ◌-◌, ◌<◌, ◌≤◌, true, eqb, if◌then◌else◌, List, [], ◌∷◌, ◌++◌, length, take, Option, Some, None, refl, sym, ap, ◌∙◌, arith, get_or, inl, inr, ◌⊎◌, ◌↔◌, length-map, length_push, get_or_append_left, get_or_push, get_or-take, length-take-le, Node, Entry, Places, HasPlace, IsOrdered, AreWithin, key_of, key_at, node_at, is_directory, add_fault_of, shape, shapes, IsBranch, no_entry, entry_at, newest, place_for, IsNamed, IsPlace, IsKept, directory_shape, branch_in, subst, Joins, nat_tests}
 use Rattle.dir_tree.proofs.EditLemmas.{each_pushed}
 use Rattle.dir_tree.proofs.NewestLemmas.{node_of_entry, newest_same, newest_push, length_newest}
 use Rattle.dir_tree.proofs.KeptLemmas.{MayAdd, no_fault, below_newest, no_place, places_within}
@@ -11,7 +11,10 @@ data Placed (nodes : List Node) (free : List ℕ) (place : ℕ) : Type 0 where
   Reused : 0 < length free → place ≡ get_or free (length free - 1) 0 → Placed nodes free place
 
 placed : (nodes : List Node) (free : List ℕ) (place : ℕ) → place ≡ place_for nodes free → Placed nodes free place
-placed nodes free place is = grind (arith, nat_tests, common_steps)
+placed nodes free place is = elim (cases_eq (length free) 0) [
+  | inl none ↦ Behind none (rw (eq-eqb (length free) 0 none) at is)
+  | inr some ↦ Reused (omega arith) (rw (ne_eqb (length free) 0 some) at is)
+]
 
 module _ {nodes : List Node} {es : List Entry} {free : List ℕ} {index : Places} {next : ℕ}
     (k : IsKept nodes es free index next) (place : ℕ) (is_place : place ≡ place_for nodes free) where

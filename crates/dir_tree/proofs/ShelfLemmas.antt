@@ -41,7 +41,9 @@ before_later (x ∷ xs) (suc m) zero lt = absurd (omega arith)
 before_later (x ∷ xs) (suc m) (suc n) lt = omega (arith, before_later xs m n (omega arith))
 
 pub shelf_of_all : (xs : List (List ℕ)) (m p : ℕ) → HasPlace (shelf_at xs m) p → HasPlace (concat xs) p
-shelf_of_all xs m p there = grind (arith, nat_tests, common_steps, on_shelf xs m there.at there.within)
+shelf_of_all xs m p there =
+    let r = on_shelf xs m there.at there.within in
+    record { at = before xs m + there.at; within = r.0; is = cc }
 
 -- the shelf that a place stands on
 pub on_some : (xs : List (List ℕ)) (p : ℕ) → HasPlace (concat xs) p → (m : ℕ) × HasPlace (shelf_at xs m) p
