@@ -1,8 +1,8 @@
 -- The machine keeps its promise where a segment becomes active, is connected, or is active no more, where a page is
 -- made, and where a word is reached through a frame.
-use Rattle.machine_model.proofs.Prelude.{◌≡◌, ◌≢◌, ◌<◌, ℕ, ◌%◌, Bool, true, false, cond, count_by, List, [], ◌∷◌, ◌++◌, length, Option, Some, None, refl, sym, ap, subst, ◌∙◌, arith, length-set, Plan, Reference, binding_at, frame_in, referred, word_put, Frame, after_reference, bound_page, started_page, IsOneToOne, entry_at, uid_at, leads_at, place_of, sdws_at, table_of, read_at, alters, new_word, word_reply, MayActivate, MayDeactivate, NoneDue, gone_seg, KeepsBook, is_pending, seen, deactivated_one, emptied, seg_gone, segs_gone, IsAtWork, Keeps, StoreSays, is_fault, cut_of_owner, flat_of, frames_of_owner, process_at, processor_at, run_at, shown, CutDescriptor, Owner, State, Storage, activated_at, connected_to, looking, old_word, page_created, page_made, pages_after, went_through, with_owner, with_pages, with_store, without_first_cut, map_kept, Entry as entry, Frame as frame, page_referred}
-use Rattle.machine_model.proofs.Laws.{activate_keeps, deactivate_keeps, activate_seen, blank_less, deactivate_seen, inactive_blank, names_table, words_less, words_more, words_new, owner_keeps, GoesOn, first_finish_seg, uncut_on, CanConnect, connect_keeps, gone_seg_keeps, faults_push, quiet_push, connect_seen, made_seen, IsIdle, nobody, job_over, CanTell, told_keeps, works_counted, kept_with, quiet_faults}
-use Rattle.machine_model.proofs.TransferLaws.{CanMake, here_keeps}
+use Rattle.machine_model.proofs.Laws.{◌≡◌, ◌≢◌, ◌<◌, ℕ, ◌%◌, Bool, true, false, cond, count_by, List, [], ◌∷◌, ◌++◌, length, Option, Some, None, refl, sym, ap, subst, ◌∙◌, arith, length-set, Plan, Reference, binding_at, frame_in, referred, word_put, Frame, after_reference, bound_page, started_page, IsOneToOne, entry_at, uid_at, leads_at, place_of, sdws_at, table_of, read_at, alters, new_word, word_reply, MayActivate, MayDeactivate, NoneDue, gone_seg, KeepsBook, is_pending, seen, deactivated_one, emptied, seg_gone, segs_gone, IsAtWork, Keeps, StoreSays, is_fault, cut_of_owner, flat_of, frames_of_owner, process_at, processor_at, run_at, shown, CutDescriptor, Owner, State, Storage, activated_at, connected_to, looking, old_word, page_created, page_made, pages_after, went_through, with_owner, with_pages, with_store, without_first_cut, map_kept, Entry as entry, Frame as frame, page_referred, activate_keeps, deactivate_keeps, activate_seen, blank_less, deactivate_seen, inactive_blank, names_table, words_less, words_more, words_new, owner_keeps, GoesOn, first_finish_seg, uncut_on, CanConnect, connect_keeps, gone_seg_keeps, faults_push, quiet_push, IsIdle, owned_laws_nobody as nobody, job_over, tell_kept_CanTell as CanTell, told_keeps, works_counted, CanMake, here_keeps}
+use Rattle.machine_model.proofs.MoveSeen.{connect_seen, made_seen}
+use Rattle.machine_model.proofs.TransferKept.{kept_with, quiet_faults}
 
 -- ---- a segment becomes active
 
@@ -124,11 +124,10 @@ emptied_kept s c u o k mine same over may says = kept_with (emptied s c u)
 -- ---- a page is made
 
 pub created_kept : (s : State) (c f u p : ℕ) (r : Reference) → Keeps s → CanMake (seen s) f u p
-    → f < length s.store.pages.core.frames
-    → place_of s.store.ast.entries u < length s.store.ast.entries → p < length (table_of s.store.ast u)
-    → IsIdle s.owner → is_pending s.owner ≡ false
-    → CanTell (page_made s f u p r) c (process_at s c) None (word_reply 0 r.kind)
-    → StoreSays (page_created s c f u p r) → Keeps (page_created s c f u p r)
+    → f < length s.store.pages.core.frames → place_of s.store.ast.entries u < length s.store.ast.entries
+    → p < length (table_of s.store.ast u) → IsIdle s.owner → is_pending s.owner ≡ false
+    → CanTell (page_made s f u p r) c (process_at s c) None (word_reply 0 r.kind) → StoreSays (page_created s c f u p r)
+    → Keeps (page_created s c f u p r)
 created_kept s c f u p r k can within active inner idle quiet tell says = kept_with (page_created s c f u p r)
     (owner_keeps
     (told_keeps book tell) idle nobody quiet) says (omega (
@@ -150,8 +149,7 @@ created_kept s c f u p r k can within active inner idle quiet tell says = kept_w
 
 pub started_after : (x : Frame) (b : Bool) → started_page (after_reference x b) ≡ started_page x
 started_after frame.Free b = refl
-started_after (frame.Started u p) b = refl
-started_after (frame.Bound u p used modified) b = refl
+started_after _ b = refl
 
 -- custody doesn't see the marks of a reference, nor the words
 pub through_seen : (s : State) (f : ℕ) (r : Reference)

@@ -1,6 +1,5 @@
 -- A segment becomes active, or is it no more.
-use Rattle.machine_model.proofs.Prelude.{◌≡◌, ◌≢◌, ℕ, Bool, true, false, [], ◌∷◌, ◌++◌, Option, Some, None, inl, inr, refl, sym, ap, subst, ◌∙◌, eqb_tells, Entry, Ptw, IsLawful, after_entry, IsAllowed, MayActivate, MayDeactivate, Custody, page_of, uid_of_page, HasNoPage, at_put, custody_next, activated, deactivated, KeepsBook, IsOwned, IsRun, IsTied, is_pending, names, is_out, Seen, flat, shown, frame_use, progress_of, FillsOnline, pending_after, Entry as entry, Ptw as ptw}
-use Rattle.machine_model.proofs.Basics.{book_next, like_active, owned_like, not_there, page_used}
+use Rattle.machine_model.proofs.Basics.{◌≡◌, ◌≢◌, ℕ, Bool, true, false, [], ◌∷◌, ◌++◌, Option, Some, None, inl, inr, refl, sym, ap, subst, ◌∙◌, eqb_tells, Entry, Ptw, IsLawful, after_entry, IsAllowed, MayActivate, MayDeactivate, Custody, page_of, uid_of_page, HasNoPage, at_put, custody_next, activated, deactivated, KeepsBook, IsOwned, IsRun, IsTied, is_pending, names, is_out, Seen, flat, shown, frame_use, progress_of, FillsOnline, pending_after, Entry as entry, Ptw as ptw, book_next, like_active, owned_like, not_there, page_used}
 
 -- The words of one segment are others, which name no frame, as those before didn't; no page of it is being read.
 pub record ChangesSegment (v : Seen) (u : ℕ) (words : ℕ → ℕ → Ptw) : Type 0 where

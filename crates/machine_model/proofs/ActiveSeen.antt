@@ -1,6 +1,5 @@
 -- What custody sees of a machine where a segment becomes active, or is it no more.
-use Rattle.machine_model.proofs.Prelude.{◌≡◌, ◌≢◌, ◌<◌, ℕ, zero, suc, ◌+◌, Bool, true, false, not, ◌||◌, cond, eqb, List, [], ◌∷◌, ◌++◌, length, set, get_or, replicate, Option, Some, None, inl, inr, refl, sym, ap, ◌∙◌, arith, list_any, position_or_len, cases_Bool, or_parts, eqb-true, eqb_tells, leb_tells, get_or_past, get_or-set_same, get_or-set_other, length-set, position_or_len-set, Ptw, ActiveSegs, IsOneToOne, entry_at, table_at, uid_at, uid_in, Sdw, is_for, leads, leads_at, place_of, word_of, filed_word, made_active, table_for, at_put, activated, no_more_active, names, led_to, seen, descriptor_of, is_active, State, passed_there, Ptw as ptw, Active as Entry, active_deactivated as deactivated, Sdw as sdw, Entry as entry, true_from_ne_false}
-use Rattle.machine_model.proofs.Basics.{by_place, none_some, found, any_set}
+use Rattle.machine_model.proofs.Basics.{◌≡◌, ◌≢◌, ◌<◌, ℕ, zero, suc, ◌+◌, Bool, true, false, not, ◌||◌, cond, eqb, List, [], ◌∷◌, ◌++◌, length, set, get_or, replicate, Option, Some, None, inl, inr, refl, sym, ap, ◌∙◌, arith, list_any, position_or_len, cases_Bool, or_parts, eqb-true, eqb_tells, leb_tells, get_or_past, get_or-set_same, get_or-set_other, length-set, position_or_len-set, Ptw, ActiveSegs, IsOneToOne, entry_at, table_at, uid_at, uid_in, Sdw, is_for, leads, leads_at, place_of, word_of, filed_word, made_active, table_for, at_put, activated, no_more_active, names, led_to, seen, descriptor_of, is_active, State, passed_there, Ptw as ptw, Active as Entry, active_deactivated as deactivated, Sdw as sdw, Entry as entry, true_from_ne_false, by_place, none_some, found, any_set}
 
 -- ---- where something is found
 
@@ -30,13 +29,12 @@ module _ {X : Type 0} (p : X → Bool) where
 
   -- what passes is found
   pub any_at : (xs : List X) (i : ℕ) (d : X) → p (get_or xs i d) ≡ true → p d ≡ false → list_any p xs ≡ true
-  any_at [] i d h none = cc
-  any_at (x ∷ xs) zero d h none = cc
   any_at (x ∷ xs) (suc i) d h none = or_right (p x) (any_at xs i d h none)
     where
       or_right : (a : Bool) {b : Bool} → b ≡ true → (a || b) ≡ true
       or_right true e = refl
       or_right false e = e
+  any_at _ _ d h none = cc
 
 -- ---- active segments
 
@@ -50,10 +48,7 @@ pub active_place : (ast : ActiveSegs) (u : ℕ) → is_active ast u ≡ true
 unfolding place_of
 active_place ast u h = let within = some_within (is_for u) ast.entries h in
     let own = passed_there (λ (e : Entry). eqb e.uid u) (entry_at ast.entries (position_or_len (is_for u) ast.entries))
-    (found (is_for u) ast.entries None within) in (
-      within,
-      cc (eqb-true own.0.uid u own.2),
-    )
+    (found (is_for u) ast.entries None within) in (within, cc (eqb-true own.0.uid u own.2))
 
 -- a segment that isn't active has no words
 pub inactive_blank : (ast : ActiveSegs) (u : ℕ) → length ast.tables ≡ length ast.entries → is_active ast u ≡ false
@@ -94,11 +89,10 @@ module _ (ast : ActiveSegs) (u place : ℕ) (superior : Option ℕ) (table : Lis
   for_new v n = cc (not_for v (Some (record { uid = u; superior = superior })) (λ e. n (sym cc)))
 
   pub active_more : (v : ℕ) → is_active now v ≡ at_put (λ x. is_active ast x) u true v
-  active_more v = by_place (λ (b : Bool). is_active now v ≡ b) (λ x. is_active ast x) u true v
-      (λ e. cc (
-        any_set (is_for v) ast.entries place (Some (record { uid = u; superior = superior })) None within (cc),
-        own e,
-      ))
+  active_more v = by_place (λ (b : Bool). is_active now v ≡ b) (λ x. is_active ast x) u true v (λ e. cc (
+    any_set (is_for v) ast.entries place (Some (record { uid = u; superior = superior })) None within (cc),
+    own e,
+  ))
       (λ n. any_same (is_for v) ast.entries place (Some (record { uid = u; superior = superior })) None (for_new v n))
     where
       own : v ≡ u → eqb u v ≡ true
@@ -144,9 +138,8 @@ module _ (ast : ActiveSegs) (u place : ℕ) (superior : Option ℕ) (table : Lis
           no_other i h = let no = sym (any_at (is_for u) ast.entries i None h refl) ∙ inactive in cc
 
           elsewhere : position_or_len (is_for u) now.entries ≢ place → ⊥
-          elsewhere n = no_other (position_or_len (is_for u) now.entries)
-              (ap (is_for u) (sym (get_or-set_other ast.entries place (position_or_len (is_for u) now.entries) _ None
-              n)) ∙ there)
+          elsewhere n = no_other (position_or_len (is_for u) now.entries) (ap (is_for u)
+              (sym (get_or-set_other ast.entries place (position_or_len (is_for u) now.entries) _ None n)) ∙ there)
 
 -- descriptors lead where they led: none led to the place
 pub links_more : (s : State) (u place : ℕ) (superior : Option ℕ) (table : List Ptw)
@@ -237,9 +230,7 @@ module _ (ast : ActiveSegs) (u : ℕ) (active : is_active ast u ≡ true) (once 
 pub deactivate_seen : (s : State) (u : ℕ) → is_active s.store.ast u ≡ true → IsOneToOne s.store.ast.entries
     → length s.store.ast.tables ≡ length s.store.ast.entries → ((k n : ℕ) → (seen s).linked k n ≢ Some u)
     → seen (record s {
-      store = record s.store {
-        ast = deactivated s.store.ast (place_of s.store.ast.entries u);
-      };
+      store = record s.store { ast = deactivated s.store.ast (place_of s.store.ast.entries u) };
       entries = s.entries ++ entry.Deactivate u ∷ [];
     }) ≡ no_more_active (seen s) u (λ v q. word_of (deactivated s.store.ast (place_of s.store.ast.entries u)) v q)
 deactivate_seen s u active once tables none = λ i. record (seen s) {

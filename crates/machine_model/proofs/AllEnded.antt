@@ -70,10 +70,7 @@ module _ (p : Plan) (s : Store) (k : ℕ) (going : (progress_of s k).ended ≡ f
       → (progress_of (after_command p s j c r) k).ended ≡ true → (j ≡ k) × (c ≡ command.End)
   unfolding after_command
   do_ends j c r its h = elim (eqb_tells k j) [
-    | inl e ↦ (
-      sym e.1,
-      end_of c (by (tries_on (progress_of s j) c r) (cc (here e.1))),
-    )
+    | inl e ↦ (sym e.1, end_of c (by (tries_on (progress_of s j) c r) (cc (here e.1))))
     | inr n ↦ absurd (not_both h (cc (at k ∙ get_or-set_other s.processes j k now ended_progress n.1)))
   ]
     where
@@ -112,9 +109,7 @@ module _ (p : Plan) (s : Store) (k : ℕ) (going : (progress_of s k).ended ≡ f
       by : (x : Option Command) → command_at p j place ≡ x → IsAnswer p s j x r
           → (progress_of (after_do p s j x r) k).ended ≡ true → (j ≡ k) × (command_at p j place ≡ Some command.End)
       by None e i f = absurd i
-      by (Some c) e i f = let its = do_ends j c r h.going f in
-          (its.0, cc)
-  entry_ends (entry.Release uid page) h ended = not_both ended going
+      by (Some c) e i f = let its = do_ends j c r h.going f in (its.0, cc)
   entry_ends (entry.Fault process) h ended = by process h ended
     where
       by : (x : Option ℕ) → MayFault s x → (progress_of (after_fault s x) k).ended ≡ true → ⊥
@@ -144,7 +139,6 @@ module _ (p : Plan) (k : ℕ) where
       by : (x : Option Command) → IsAnswer p s j x r → (progress_of (after_do p s j x r) k).ended ≡ true
       by None i = absurd i
       by (Some c) i = cc (other_do s j c r other)
-  stays_ended s (entry.Release uid page) over h = (refl, over)
   stays_ended s (entry.Fault process) over h = (refl, by process h)
     where
       by : (x : Option ℕ) → MayFault s x → (progress_of (after_fault s x) k).ended ≡ true

@@ -1,6 +1,7 @@
 -- The machine keeps its promise where a write failed: all that was still going comes back, and the process is told.
-use Rattle.machine_model.proofs.Prelude.{◌≡◌, ◌≤◌, ℕ, zero, suc, count_by, List, [], ◌∷◌, ◌++◌, length, set, get_or, Option, Some, None, refl, sym, subst, ◌∙◌, arith, length-set, ◌^◌, min, Rose, bound_page, frame_in, Sdw, place_of, sdws_at, MayFault, page_at, back, back_seg, KeepsBook, seen, here_if, page_back, pages_back, seg_back, segs_back, with_relink, write_failed, AreThere, Keeps, StoreSays, is_fault, cut_of_owner, flat_of, frames_of_owner, process_at, run_at, CutDescriptor, State, Storage, fault_told, looking, told, with_owner, without_first_cut, without_first_frame, Entry as entry, Reply as reply}
-use Rattle.machine_model.proofs.Laws.{active_place, fault_keeps, GoesOn, chain_laws_back_on as back_on, first_finish, first_finish_seg, uncut_on, goes_with, back_seg_keeps, CanFinish, back_keeps, finish_with, faults_push, quiet_push, back_seen, back_seg_seen, nobody, job_over, HasTables, CanTell, told_keeps, kept_with}
+use Rattle.machine_model.proofs.Laws.{◌≡◌, ◌≤◌, ℕ, zero, suc, count_by, List, [], ◌∷◌, ◌++◌, length, set, get_or, Option, Some, None, refl, sym, subst, ◌∙◌, arith, length-set, ◌^◌, min, Rose, bound_page, frame_in, Sdw, place_of, sdws_at, MayFault, page_at, back, back_seg, KeepsBook, seen, here_if, page_back, pages_back, seg_back, segs_back, with_relink, write_failed, AreThere, Keeps, StoreSays, is_fault, cut_of_owner, flat_of, frames_of_owner, process_at, run_at, CutDescriptor, State, Storage, fault_told, looking, told, with_owner, without_first_cut, without_first_frame, Entry as entry, Reply as reply, active_place, fault_keeps, GoesOn, back_on, first_finish, first_finish_seg, uncut_on, goes_with, back_seg_keeps, CanFinish, back_keeps, finish_with, faults_push, quiet_push, back_seen, owned_laws_nobody as nobody, job_over, HasTables, tell_kept_CanTell as CanTell, told_keeps}
+use Rattle.machine_model.proofs.MoveSeen.{back_seg_seen}
+use Rattle.machine_model.proofs.TransferKept.{kept_with}
 
 -- ---- pages come back
 
@@ -64,9 +65,8 @@ pages_are_back s (f ∷ fs) ds tables k on there = let rest =
 
 -- ---- descriptors come back
 
-segs_rest : (s : State) (ds : List CutDescriptor)
-    → ((segs_back s ds).processors ≡ s.processors) × ((segs_back s ds).runs ≡ s.runs)
-    × ((segs_back s ds).plan ≡ s.plan) × ((segs_back s ds).faults ≡ s.faults)
+segs_rest : (s : State) (ds : List CutDescriptor) → ((segs_back s ds).processors ≡ s.processors)
+    × ((segs_back s ds).runs ≡ s.runs) × ((segs_back s ds).plan ≡ s.plan) × ((segs_back s ds).faults ≡ s.faults)
 segs_rest s [] = (refl, refl, refl, refl)
 segs_rest s (d ∷ ds) = segs_rest (seg_back s d) ds
 
@@ -133,9 +133,8 @@ module _ (s : State) (c faults : ℕ) (fs : List ℕ) (ds : List CutDescriptor) 
       → CanTell (with_owner now None) c (process_at now c) None reply.Device
       → StoreSays (with_owner (told now c None reply.Device) None)
       → Keeps (with_owner (told now c None reply.Device) None)
-  failed_with now is book can says = kept_with (with_owner (told now c None reply.Device) None)
-      (told_keeps book can) says
-      few (cc (length-set now.processors c _, same_processors, k.sizes.processors, same_plan))
+  failed_with now is book can says = kept_with (with_owner (told now c None reply.Device) None) (told_keeps book can)
+      says few (cc (length-set now.processors c _, same_processors, k.sizes.processors, same_plan))
       (cc (length-set now.runs (process_at now c) _, same_runs, k.sizes.processes, same_plan)) (λ o h. cc)
     where
       pages : State

@@ -1,12 +1,8 @@
 -- A step appends 320 entries to the book at the most, in room that was there.
-use Rattle.machine_model.proofs.Prelude.{cond_both, not, ◌⊎◌, inl, inr, list_all, ◌≡◌, ◌≤◌, ◌<◌, ℕ, ◌+◌, ◌-◌, Bool, true, false, cond, List, [], ◌∷◌, ◌++◌, length, map, Option, Some, None, refl, ap, arith, length-append, length-map, Command, What, Entry, Reply, Transfer, Left, words_in, first_off_chain, hand_past, Aim, CutDescriptor, action_of, Outcome, after, committed, committed_at, cut_entry, frame_entry, gone_entries, inactive_entries, left_after, cut_all, cut_one, deactivation_begun, emptied, entries_left, eviction_done, left_of, page_back, page_done, page_in, pages_back, seg_back, seg_gone, segment_taken, segs_back, segs_gone, take_all, take_one, took, victim_taken, write_failed, Keeps, is_fault, copy_failed, page_copied, without_move, KeepsAll, flat_of, run_at, cut_of_owner, frames_from, frames_of_owner, is_active, next_command, process_at, trailers_in, reply_of, uid_of_command, State, Storage, calls_drive, fault_told, frame_lost, page_made, told, transfer_failed, old_word, transferred, with_faults, with_store, OwnsFew, append-nil, append_assoc, suc, Command as command, What as what, Entry as entry, Reply as reply, Left as left, Aim as aim, list_all-append, Action, Action as act}
-use Rattle.machine_model.proofs.ListSizes.{frames_from_few, trailers_few}
+use Rattle.machine_model.proofs.StepBasics.{cond_both, not, ◌⊎◌, inl, inr, list_all, ◌≡◌, ◌≤◌, ◌<◌, ℕ, ◌+◌, ◌-◌, Bool, true, false, cond, List, [], ◌∷◌, ◌++◌, length, map, Option, Some, None, refl, ap, arith, length-append, length-map, Command, What, Entry, Reply, Transfer, Left, words_in, first_off_chain, hand_past, Aim, CutDescriptor, action_of, Outcome, after, committed, committed_at, cut_entry, frame_entry, gone_entries, inactive_entries, left_after, cut_all, cut_one, deactivation_begun, emptied, entries_left, eviction_done, left_of, page_back, page_done, page_in, pages_back, seg_back, seg_gone, segment_taken, segs_back, segs_gone, take_all, take_one, took, victim_taken, write_failed, Keeps, is_fault, copy_failed, page_copied, without_move, KeepsAll, flat_of, run_at, cut_of_owner, frames_from, frames_of_owner, is_active, next_command, process_at, trailers_in, reply_of, uid_of_command, State, Storage, calls_drive, fault_told, frame_lost, page_made, told, transfer_failed, old_word, transferred, with_faults, with_store, OwnsFew, append-nil, append_assoc, suc, Command as command, What as what, Entry as entry, Reply as reply, Left as left, Aim as aim, list_all-append, Action, Action as act, frames_from_few, trailers_few, is_device, tree_plain, word_plain, effected, gone_pass}
 use Rattle.machine_model.proofs.PlainAction.{IsPlainly, plain_action}
-use Rattle.machine_model.proofs.PlainReplies.{is_device, tree_plain, word_plain}
 use Rattle.machine_model.proofs.StepGoes.{few_taken}
 use Rattle.machine_model.proofs.StepKnows.{Knows, step_knows}
-use Rattle.machine_model.proofs.CommitKept.{effected}
-use Rattle.machine_model.proofs.DeleteKept.{gone_pass}
 
 -- ---- what entries tell
 
@@ -45,12 +41,7 @@ record IsQuietly (s now : State) (n : ℕ) : Type 0 where
 quietly_as : {s now old new : State} {n : ℕ} → IsQuietly old new n → old.entries ≡ s.entries → old.spare ≡ s.spare
     → now.entries ≡ new.entries → now.spare ≡ new.spare → IsQuietly s now n
 quietly_as h was_entries was_spare entries spare = record {
-  booked = record {
-    more = h.booked.more;
-    entries = cc;
-    spare = cc;
-    few = h.booked.few;
-  };
+  booked = record { more = h.booked.more; entries = cc; spare = cc; few = h.booked.few };
   quiet = h.quiet;
 }
 
@@ -62,12 +53,7 @@ pub record IsBooked (s now : State) (c n : ℕ) (calls failed : Bool) : Type 0 w
 
 booked_none : (s now : State) → now.entries ≡ s.entries → now.spare ≡ s.spare → IsQuietly s now 0
 booked_none s now entries spare = record {
-  booked = record {
-    more = [];
-    entries = cc (append-nil s.entries);
-    spare = omega arith;
-    few = omega arith;
-  };
+  booked = record { more = []; entries = cc (append-nil s.entries); spare = omega arith; few = omega arith };
   quiet = refl;
 }
 
@@ -84,12 +70,7 @@ booked_on {s} a b = record {
 
 booked_less : {s now : State} {m n : ℕ} → IsQuietly s now m → m ≤ n → IsQuietly s now n
 booked_less a le = record {
-  booked = record {
-    more = a.booked.more;
-    entries = a.booked.entries;
-    spare = a.booked.spare;
-    few = omega arith;
-  };
+  booked = record { more = a.booked.more; entries = a.booked.entries; spare = a.booked.spare; few = omega arith };
   quiet = a.quiet;
 }
 
@@ -201,12 +182,10 @@ gone_long : (s : State) (u : ℕ) (c : Command) → OwnsFew s.owner → length (
 gone_long s u c few = omega (
   arith,
   length-map (frames_of_owner s.owner) (frame_entry s.store c),
-  length-map
-      (cut_of_owner s.owner) cut_entry,
+  length-map (cut_of_owner s.owner) cut_entry,
   inactive_long s.store u c,
-  length-append
-      (map (frame_entry s.store c) (frames_of_owner s.owner)) (map cut_entry (cut_of_owner s.owner) ++ inactive_entries
-      s.store u c),
+  length-append (map (frame_entry s.store c) (frames_of_owner s.owner))
+      (map cut_entry (cut_of_owner s.owner) ++ inactive_entries s.store u c),
   length-append (map cut_entry (cut_of_owner s.owner)) (inactive_entries s.store u c),
 )
 
@@ -238,9 +217,8 @@ commit_booked s c k cmd few = booked_less (quietly_as done refl refl refl refl) 
         (gone_pass is_quiet (λ f. refl) (λ f. refl) (λ j n. refl) (λ v. refl) s u cmd)
 
     answered : IsQuietly now (told now c None (reply_of s k cmd)) 1
-    answered = one_booked (entry.Do (process_at now c) _ c None _ ∷ []) refl refl
-        (told_quiet (process_at now c) (run_at now.runs (process_at now c)).place c None (reply_of s k cmd)
-        (reply_plain s k cmd))
+    answered = one_booked (entry.Do (process_at now c) _ c None _ ∷ []) refl refl (told_quiet (process_at now c)
+        (run_at now.runs (process_at now c)).place c None (reply_of s k cmd) (reply_plain s k cmd))
 
     done : IsQuietly s (left_after (told now c None (reply_of s k cmd)) c cmd) ((length (gone_entries s u cmd) + 1) + 1)
     done = left_booked (told now c None (reply_of s k cmd)) c cmd (booked_on gone answered)

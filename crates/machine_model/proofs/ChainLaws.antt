@@ -1,9 +1,8 @@
 -- Pages are taken and descriptors cut one after the other; what was taken is back, or gone.
-use Rattle.machine_model.proofs.Prelude.{◌≡◌, ℕ, Bool, true, false, List, [], ◌∷◌, ◌++◌, Option, Some, None, refl, sym, ap, subst, ◌∙◌, What, Ptw, NamesAllGoing, has, is_going_frame, is_uid, names_descriptor, names_frame, NoneDue, Aim, page_at, page_or_zero, takes, each_seg, gone_segs, gones, taken, cut, back, gone, gone_seg, AreDistinct, IsAimed, IsShaped, FitsPhase, KeepsBook, is_pending, names, says, waits_for, cut_of_owner, frames_of_owner, Seen, bound_use, frame_use, read_use, shown, CutDescriptor, Owner, rest_of, without_first_cut, without_first_frame, has_head, has_tail, What as what, Ptw as ptw, custody_bound_page as bound_page}
+use Rattle.machine_model.proofs.Basics.{◌≡◌, ℕ, Bool, true, false, List, [], ◌∷◌, ◌++◌, Option, Some, None, refl, sym, ap, subst, ◌∙◌, What, Ptw, NamesAllGoing, has, is_going_frame, is_uid, names_descriptor, names_frame, NoneDue, Aim, page_at, page_or_zero, takes, each_seg, gone_segs, gones, taken, cut, back, gone, gone_seg, AreDistinct, IsAimed, IsShaped, FitsPhase, KeepsBook, is_pending, names, says, waits_for, cut_of_owner, frames_of_owner, Seen, bound_use, frame_use, read_use, shown, CutDescriptor, Owner, rest_of, without_first_cut, without_first_frame, has_head, has_tail, What as what, Ptw as ptw, custody_bound_page as bound_page, IsIdle, by_places, bound_used}
 use Rattle.machine_model.proofs.DescriptorLaws.{CanFinishSeg, gone_seg_keeps}
 use Rattle.machine_model.proofs.DueLaws.{HasLeft, HasLeftCut, none_due, LeavesFirst}
 use Rattle.machine_model.proofs.FrameLaws.{CanFinish, gone_keeps, take_keeps}
-use Rattle.machine_model.proofs.Basics.{IsIdle, by_places, bound_used}
 
 -- ---- what is named, by the page in a frame
 
@@ -167,9 +166,8 @@ left_by xs first left same quiet shaped =
 -- it goes on without its first frame
 left_first : (o : Option Owner) (f : ℕ) (fs : List ℕ) → frames_of_owner o ≡ f ∷ fs → says o ≡ None → IsSteady o
     → HasLeft o (without_first_frame o) f
-left_first o f fs frames quiet steady = left_by fs frames (cc ((frame_goes o).frames))
-    (frame_goes o).cut ((frame_goes o).says ∙ quiet)
-    (shaped_steady (without_first_frame o) ((frame_goes o).steady steady))
+left_first o f fs frames quiet steady = left_by fs frames (cc ((frame_goes o).frames)) (frame_goes o).cut
+    ((frame_goes o).says ∙ quiet) (shaped_steady (without_first_frame o) ((frame_goes o).steady steady))
 
 -- and without its first descriptor
 left_first_cut : (o : Option Owner) (d : CutDescriptor) (ds : List CutDescriptor) → cut_of_owner o ≡ d ∷ ds

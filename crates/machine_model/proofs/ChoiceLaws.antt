@@ -1,7 +1,6 @@
 -- The victim's choice: which frame the clock comes to, and what its hand leaves. Another rule for the choice of a frame
 -- would change these laws, and no other file's.
-use Rattle.machine_model.proofs.Prelude.{◌≡◌, ◌≢◌, ◌<◌, ◌-◌, ℕ, true, List, [], ◌∷◌, length, map, set, position, Option, Some, None, inl, inr, refl, sym, ap, ◌∙◌, arith, find, cases_lt, cond_both, length-map, find_passes, map_kept, no_place, not_both, IsMember, member_found, member_left, member_right, Frame, Core, after_choice, bound_page, clock_choice, core_frame, frame_at, is_bound, is_free, is_idle, is_started, least_free_frame, or_else, passed_over, reads_of, round_frames, started_page, unmarked, binding_at, bindings, bare, Frame as frame}
-use Rattle.machine_model.proofs.ListLaws.{map_list}
+use Rattle.machine_model.proofs.Basics.{◌≡◌, ◌≢◌, ◌<◌, ◌-◌, ℕ, true, List, [], ◌∷◌, length, map, set, position, Option, Some, None, inl, inr, refl, sym, ap, ◌∙◌, arith, find, cases_lt, cond_both, length-map, find_passes, map_kept, no_place, not_both, IsMember, member_found, member_left, member_right, Frame, Core, after_choice, bound_page, clock_choice, core_frame, frame_at, is_bound, is_free, is_idle, is_started, least_free_frame, or_else, passed_over, reads_of, round_frames, started_page, unmarked, binding_at, bindings, bare, Frame as frame, map_list}
 use Rattle.machine_model.proofs.PoolRoom.{range_has}
 use Rattle.page_control.proofs.Turns.{page_unmarked}
 

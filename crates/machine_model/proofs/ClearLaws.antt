@@ -1,6 +1,5 @@
 -- The signal of what was taken is given, and a processor clears.
-use Rattle.machine_model.proofs.Prelude.{◌≡◌, ℕ, Bool, true, false, cond, not, eqb, List, [], ◌∷◌, map, filter, Option, Some, None, refl, sym, ap, subst, ◌∙◌, arith, HeldPage, HeldSeg, What, names_seg, names_page, IsLawful, after_entry, DescriptorUse, SomethingGoes, NamesAllGoing, NoneDue, Seat, leads_to, names_frame, names_descriptor, names_number, cleared, at_put, custody_next, cleared_at, told_at, dropped, warned, done_dropping, Phase, KeepsBook, HoldsRight, AreHeldPages, AreHeldSegs, AreOfProcess, is_pending, says, waits_for, Seen, shown, seat_of, descriptor_use, cut_uid, Processor, Owner, few_kept, What as what, custody_bound_page as bound_page, next_told as told, signal_given as signalled, Phase as phase}
-use Rattle.machine_model.proofs.Basics.{book_next, pages_kept, right_like, segs_kept, under_way_alike, kept_step, by_place, put_map, bound_used}
+use Rattle.machine_model.proofs.Basics.{◌≡◌, ℕ, Bool, true, false, cond, not, eqb, List, [], ◌∷◌, map, filter, Option, Some, None, refl, sym, ap, subst, ◌∙◌, arith, HeldPage, HeldSeg, What, names_seg, names_page, IsLawful, after_entry, DescriptorUse, SomethingGoes, NamesAllGoing, NoneDue, Seat, leads_to, names_frame, names_descriptor, names_number, cleared, at_put, custody_next, cleared_at, told_at, dropped, warned, done_dropping, Phase, KeepsBook, HoldsRight, AreHeldPages, AreHeldSegs, AreOfProcess, is_pending, says, waits_for, Seen, shown, seat_of, descriptor_use, cut_uid, Processor, Owner, few_kept, What as what, custody_bound_page as bound_page, next_told as told, signal_given as signalled, Phase as phase, book_next, pages_kept, right_like, segs_kept, under_way_alike, kept_step, by_place, put_map, bound_used}
 use Rattle.machine_model.proofs.DueLaws.{HasSaid, none_due, owned_signal, owned_clear}
 
 -- ---- what custody sees of what is dropped
@@ -24,18 +23,16 @@ pages_dropped : (v : Seen) (w : What) (es : List HeldPage) → AreHeldPages v.bo
     ≡ filter (λ f. not (names_frame (shown v) w f)) (map (λ e. e.frame) es)
 pages_dropped v w [] held = refl
 pages_dropped v w (e ∷ es) held = kept_step (λ x. x.frame) (λ x. not (names_page w x))
-    (λ f. not (names_frame (shown v) w f)) e es
-    (pages_dropped v w es held.1) (not (names_page w e)) (not (names_frame (shown v) w e.frame))
-    (ap not (page_named v w e held.0))
+    (λ f. not (names_frame (shown v) w f)) e es (pages_dropped v w es held.1) (not (names_page w e))
+    (not (names_frame (shown v) w e.frame)) (ap not (page_named v w e held.0))
 
 segs_dropped : (v : Seen) (w : What) (k : ℕ) (es : List HeldSeg) → AreHeldSegs (shown v).descriptor k es
     → map (λ e. e.number) (filter (λ e. not (names_seg w e)) es)
     ≡ filter (λ n. not (names_number (shown v) w (Some k) n)) (map (λ e. e.number) es)
 segs_dropped v w k [] held = refl
 segs_dropped v w k (e ∷ es) held = kept_step (λ x. x.number) (λ x. not (names_seg w x))
-    (λ n. not (names_number (shown v) w (Some k) n)) e es
-    (segs_dropped v w k es held.1) (not (names_seg w e)) (not (names_descriptor (shown v) w k e.number))
-    (ap not (seg_named v w k e held.0))
+    (λ n. not (names_number (shown v) w (Some k) n)) e es (segs_dropped v w k es held.1) (not (names_seg w e))
+    (not (names_descriptor (shown v) w k e.number)) (ap not (seg_named v w k e held.0))
 
 segs_of_process : (v : Seen) (w : What) (o : Option ℕ) (es : List HeldSeg) → AreOfProcess (shown v).descriptor o es
     → map (λ e. e.number) (filter (λ e. not (names_seg w e)) es)

@@ -89,15 +89,12 @@ left_runs u c command.End = same_runs refl refl
 left_runs u c other = same_runs refl refl
 
 abbrev commit_booked : State → ℕ → Command → State
-commit_booked s c command =
-    let k = process_at s c in
-    let uid = uid_of_command s.store k command in
+commit_booked s c command = let k = process_at s c in let uid = uid_of_command s.store k command in
     booked (with_store s (with_effect s.store k uid (frames_of_owner s.owner) command)) (gone_entries s uid command)
 
 commits : (s : State) (c : ℕ) (o : Option Command) → Tale s c act.Commit (committed_at s c o)
 commits s c None = inl (same_runs refl refl)
-commits s c (Some command) =
-    let r = reply_of s (process_at s c) command in
+commits s c (Some command) = let r = reply_of s (process_at s c) command in
     let left = left_runs (told (commit_booked s c command) c None r) c command in
     inr (refl, its_own {s = s} {t = committed s c (process_at s c) command} {c = c} r left.plan left.runs)
 
@@ -148,8 +145,6 @@ all_come s c a o plan come may = elim (tale s c a o) [
 ]
   where
     answered_come : WasTold s c (after s c a o) → MayAnswer s c → AllCome (after s c a o)
-    answered_come was by =
-        let k = by.process in
-        let same = was.here by.can.within ∙ ap or_zero by.can.process in
+    answered_come was by = let k = by.process in let same = was.here by.can.within ∙ ap or_zero by.can.process in
         come_same (told_by s c k None was.reply) (after s c a o) was.plan (cc)
         (told_come s c k None was.reply by.command plan come by.can.there by.can.planned by.can.on)

@@ -1,7 +1,7 @@
 -- Each process that hasn't ended comes to a command next: at first, and after each answer.
 use Rattle.machine_model.proofs.Prelude.{◌≡◌, ◌<◌, ℕ, zero, suc, ◌+◌, Bool, true, false, cond, List, [], ◌∷◌, length, slice_get, get_or, replicate, Option, Some, set, not, refl, sym, subst, inl, inr, arith, ◌≢◌, ◌==◌, nat_lt, list_all, eqb_tells, nat_tests, get_or-replicate, get_or-set_other, get_or-set_same, length-replicate, length-set, IsPlan, ends_once, is_command, is_process, weight, Plan, ProcessPlan, commands_of, process_of, Command, Reply, Progress, is_end, tries_on, Run, State, next_command, no_run, run_at, goes_on, is_its_end, progress_of_run, run_after, told_by, GoesOn, AllCome, booted, first_run, command_of, heavy, bool_and_parts as and_parts, Command as command, Reply as reply, ForeseenComes as Comes}
-use Rattle.script.specs.Forms as script
 use Rattle.machine_model.proofs.LeftLaws.{no_process}
+use Rattle.script.specs.Forms as script
 
 -- a try that doesn't end an `await` leaves another
 tries_less : (q : Progress) (c : Command) (r : Reply) → tries_on q c r ≡ true → q.tries + 1 < weight c

@@ -1,7 +1,5 @@
 -- What the step asks of a command that takes effect: what the store says after it, and that it may be answered.
-use Rattle.machine_model.proofs.Prelude.{cond_both, [], ◌≡◌, ℕ, true, false, length, map, List, ◌∷◌, ◌++◌, Option, Some, None, inl, refl, sym, ap, subst, ◌∙◌, length-set, list_all, reference_of, Command, Entry, IsTree, Ptw, effect_of, reply_to_command, takes_effect, store_after, Store, MayTakeEffect, CutDescriptor, Outcome, after, committed, cut_entry, gone_entries, left_after, with_deleted, with_effect, with_truncated, without_page, seen, Keeps, StoreSays, flat_of, frames_of_owner, is_active, process_at, run_at, reply_of, uid_of_command, Says, with_command, shown, State, Storage, told, with_owner, tree_free, effect_total, refusal_of, TakesSome, Command as command, Entry as entry, Frame as frame, Ptw as ptw, shown_answered as answered, Action as act}
-use Rattle.machine_model.proofs.CommitKept.{effected}
-use Rattle.machine_model.proofs.Laws.{IsAlike, all_still, alike_by, done_alike, is_still, one_still, refused_alike, none_rest, quotas, says_is, Speaks, can_tell, speaks_like, length_stands, FindsTaken, CanTell, effect_has, truncated_has}
+use Rattle.machine_model.proofs.Kept.{cond_both, [], ◌≡◌, ℕ, true, false, length, map, List, ◌∷◌, ◌++◌, Option, Some, None, inl, refl, sym, ap, subst, ◌∙◌, length-set, list_all, reference_of, Command, Entry, IsTree, Ptw, effect_of, reply_to_command, takes_effect, store_after, Store, MayTakeEffect, CutDescriptor, Outcome, after, committed, cut_entry, gone_entries, left_after, with_deleted, with_effect, with_truncated, without_page, seen, Keeps, StoreSays, flat_of, frames_of_owner, is_active, process_at, run_at, reply_of, uid_of_command, Says, with_command, shown, State, Storage, told, with_owner, tree_free, effect_total, refusal_of, TakesSome, Command as command, Entry as entry, Frame as frame, Ptw as ptw, shown_answered as answered, Action as act, effected, IsAlike, all_still, alike_by, done_alike, is_still, one_still, refused_alike, none_rest, quotas, says_is, Speaks, can_tell, speaks_like, length_stands, FindsTaken, tell_kept_CanTell as CanTell, effect_has, truncated_has}
 use Rattle.machine_model.proofs.StepKept.{AsksCommit, IsSettled}
 use Rattle.machine_model.proofs.DeleteKept.{freed_length, gone_pass}
 
@@ -127,10 +125,7 @@ module _ (s : State) (c : ℕ) (o : Outcome) (keeps : Keeps s) (cmd : Command) (
   commit_tell out = can_tell b c k cmd None (reply_of s k cmd) speaks_still (inl (record {
     own = cc (is_reply, still);
     free = tree_free s.plan (flat_of b) k cmd tree;
-  })) (rw tree (record {
-    without = refl;
-    out = λ e. rw still out;
-  }))
+  })) (rw tree (record { without = refl; out = λ e. rw still out }))
 
   -- What the step asks of it follows.
   pub commit_asks : Says s c o act.Commit → Rests s c cmd → AsksCommit s c (Some cmd)

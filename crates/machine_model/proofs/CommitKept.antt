@@ -1,6 +1,6 @@
 -- The machine keeps its promise where a tree command takes effect.
-use Rattle.machine_model.proofs.Prelude.{◌≡◌, ◌<◌, ℕ, Bool, true, false, count_by, List, [], ◌∷◌, ◌++◌, map, length, set, Option, Some, None, inl, refl, sym, ap, subst, ◌∙◌, arith, get_or-set_same, length-set, Command, Entry, Row, parts_of, Store, progress_of, MayLeave, queued_by, gone_segs, counted, gone_seg, left, committed, cut_entry, gone_entries, inactive_entries, left_after, with_effect, with_made, IsRun, KeepsBook, is_pending, seen, Keeps, StoreSays, is_fault, cut_of_owner, flat_of, frames_of_owner, next_command, no_processor, no_run, or_zero, process_at, processor_at, run_at, reply_of, uid_of_command, Seen, shown, Processor, Run, CutDescriptor, Owner, State, Storage, booked, left_at, queued, run_after, told, told_by, with_owner, with_store, without_first_cut, append-nil, append_assoc, Command as command, Entry as entry, changes_emptied as emptied}
-use Rattle.machine_model.proofs.Laws.{owner_keeps, GoesOn, gone_segs_keep, faults_push, quiet_push, IsIdle, nobody, job_over, leave_keeps, reseated_seen, CanTell, told_keeps, none_some, kept_with}
+use Rattle.machine_model.proofs.Laws.{◌≡◌, ◌<◌, ℕ, Bool, true, false, count_by, List, [], ◌∷◌, ◌++◌, map, length, set, Option, Some, None, inl, refl, sym, ap, subst, ◌∙◌, arith, get_or-set_same, length-set, Command, Entry, Row, parts_of, Store, progress_of, MayLeave, queued_by, gone_segs, counted, gone_seg, left, committed, cut_entry, gone_entries, inactive_entries, left_after, with_effect, with_made, IsRun, KeepsBook, is_pending, seen, Keeps, StoreSays, is_fault, cut_of_owner, flat_of, frames_of_owner, next_command, no_processor, no_run, or_zero, process_at, processor_at, run_at, reply_of, uid_of_command, Seen, shown, Processor, Run, CutDescriptor, Owner, State, Storage, booked, left_at, queued, run_after, told, told_by, with_owner, with_store, without_first_cut, append-nil, append_assoc, Command as command, Entry as entry, changes_emptied as emptied, owner_keeps, GoesOn, gone_segs_keep, faults_push, quiet_push, IsIdle, owned_laws_nobody as nobody, job_over, leave_keeps, reseated_seen, tell_kept_CanTell as CanTell, told_keeps, none_some}
+use Rattle.machine_model.proofs.TransferKept.{kept_with}
 
 -- ---- a process leaves its processor
 
@@ -179,10 +179,9 @@ module _ (s : State) (c k : ℕ) (keeps : Keeps s) (none : frames_of_owner s.own
       book = told_keeps (effected_book s c k command.End keeps tt none over) tell
 
       over_now : (progress_of (flat_of ended) k).ended ≡ true
-      over_now = (book.runs k).ended ∙ (ap (λ (r : Run). r.ended)
-          (get_or-set_same s.runs k (run_after (run_at s.runs k) (next_command s k)
-          (reply_of s k command.End)) no_run tell.known)
-          ∙ ap (λ (o : Option Command). (run_after (run_at s.runs k) o (reply_of s k command.End)).ended) next)
+      over_now = (book.runs k).ended ∙ (ap (λ (r : Run). r.ended) (get_or-set_same s.runs k
+          (run_after (run_at s.runs k) (next_command s k) (reply_of s k command.End)) no_run tell.known) ∙ ap
+          (λ (o : Option Command). (run_after (run_at s.runs k) o (reply_of s k command.End)).ended) next)
 
       may : MayLeave (flat_of ended) (shown (seen ended)) c
       may = rw process_still (inl over_now)

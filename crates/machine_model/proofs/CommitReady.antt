@@ -1,8 +1,6 @@
 -- Where a step has the effect of a tree command, the command isn't refused, and what it must have out of use is so.
-use Rattle.machine_model.proofs.Prelude.{◌≡◌, ◌<◌, ℕ, length, Some, None, sym, subst, ◌∙◌, reference_of, Command, action_of, no_call, KeepsAll, IsReadyFor, OwnsFor, frames_of_owner, next_command, process_at, refusal_of, State, Action as act}
+use Rattle.machine_model.proofs.StepBasics.{◌≡◌, ◌<◌, ℕ, length, Some, None, sym, subst, ◌∙◌, reference_of, Command, action_of, no_call, KeepsAll, IsReadyFor, OwnsFor, frames_of_owner, next_command, process_at, refusal_of, State, Action as act, Speaks, IsMine}
 use Rattle.machine_model.proofs.ReadyLaws.{ready_by}
-use Rattle.machine_model.proofs.SpeakLaws.{Speaks}
-use Rattle.machine_model.proofs.StepKept.{IsMine}
 use Rattle.machine_model.proofs.StepKnows.{Commits, Knows, step_knows}
 
 some_same : (a b : Command) → Some a ≡ Some b → a ≡ b

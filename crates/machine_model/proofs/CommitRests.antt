@@ -1,11 +1,5 @@
 -- What a tree command must have out of use is so where it takes effect: its job took just that.
-use Rattle.machine_model.proofs.Prelude.{cases_Bool, or_parts, eqb_self, cond_both, [], ◌≡◌, ◌≢◌, ◌<◌, ℕ, Bool, true, false, ◌||◌, eqb, List, ◌∷◌, ◌++◌, map, length, Option, Some, None, ◌⊎◌, inl, inr, refl, sym, ap, subst, ◌∙◌, Result, Ok, Err, list_all, list_any, eqb_tells, Command, Path, Named, Mode, Entry, Reply, Node, is_inferior, node_in, branch_at, node_at, segment_at, Store, store_after, Ptw, Sdw, reads_of, erased, Plain, binding_at, bindings, read_at, DescriptorUse, FrameUse, MayDeactivate, superior_in, has, is_going_descriptor, is_going_frame, leads_to, page_of, uid_of_page, HasNoDescriptor, HasNoPage, IsOutOfUse, OfNode, at_put, CutDescriptor, gone_segs, gones, page_at, gone, gone_seg, cut_entry, frames_freed, inactive_if, has_cut, led_to, seen, with_inactive, Keeps, cut_of_owner, descriptor_of, flat_of, frames_of_owner, home_in, is_active, process_at, uid_at_path, Seen, bound_use, cut_uid, descriptor_use, flat, frame_use, shown, Owner, State, Storage, with_owner, with_pages, IsTakenFor, rest_of, without_first_cut, without_first_frame, branch_found, only_found, has_head, not_both, some_same, Command as command, Ptw as ptw, Sdw as sdw, DescriptorUse as descriptor, FrameUse as frame}
-use Rattle.machine_model.proofs.Laws.{active_less, LeavesRest, all_still, is_still, cut_at_same, by_place, none_some, page_used, active_at}
-use Rattle.machine_model.proofs.CommitAsks.{IsOut, Rests, cuts_still}
-use Rattle.machine_model.proofs.CommitKept.{effected}
-use Rattle.machine_model.proofs.DeleteKept.{taken_bound, all_gone, chain_leaves, freed, freed_bound, freed_reads, gone_entry, gones_bound, gones_entries, node, segs_bound, segs_entries}
-use Rattle.machine_model.proofs.FinishKept.{bound_within}
-use Rattle.machine_model.proofs.MoveAsks.{cut_active}
+use Rattle.machine_model.proofs.StepBasics.{cases_Bool, or_parts, eqb_self, cond_both, [], ◌≡◌, ◌≢◌, ◌<◌, ℕ, Bool, true, false, ◌||◌, eqb, List, ◌∷◌, ◌++◌, map, length, Option, Some, None, ◌⊎◌, inl, inr, refl, sym, ap, subst, ◌∙◌, Result, Ok, Err, list_all, list_any, eqb_tells, Command, Path, Named, Mode, Entry, Reply, Node, is_inferior, node_in, branch_at, node_at, segment_at, Store, store_after, Ptw, Sdw, reads_of, erased, Plain, binding_at, bindings, read_at, DescriptorUse, FrameUse, MayDeactivate, superior_in, has, is_going_descriptor, is_going_frame, leads_to, page_of, uid_of_page, HasNoDescriptor, HasNoPage, IsOutOfUse, OfNode, at_put, CutDescriptor, gone_segs, gones, page_at, gone, gone_seg, cut_entry, frames_freed, inactive_if, has_cut, led_to, seen, with_inactive, Keeps, cut_of_owner, descriptor_of, flat_of, frames_of_owner, home_in, is_active, process_at, uid_at_path, Seen, bound_use, cut_uid, descriptor_use, flat, frame_use, shown, Owner, State, Storage, with_owner, with_pages, IsTakenFor, rest_of, without_first_cut, without_first_frame, branch_found, only_found, has_head, not_both, some_same, Command as command, Ptw as ptw, Sdw as sdw, DescriptorUse as descriptor, FrameUse as frame, active_less, LeavesRest, all_still, is_still, cut_at_same, by_place, none_some, page_used, active_at, IsOut, Rests, cuts_still, effected, taken_bound, all_gone, chain_leaves, freed, freed_bound, freed_reads, gone_entry, gones_bound, gones_entries, node, segs_bound, segs_entries, bound_within, cut_active}
 
 -- ---- what goes
 
@@ -36,9 +30,8 @@ free_now (Some v) none = absurd (none v refl)
 
 module _ (s : State) (k : ℕ) (cmd : Command) (keeps : Keeps s) (h : IsTakenFor s k cmd) where
   -- a frame that the owner took has a page that the command takes
-  frame_page : (f : ℕ) → has (frames_of_owner s.owner) f ≡ true
-      → (u : ℕ) × (q : ℕ) × (page_of ((shown (seen s)).frame f) ≡ Some (u, q))
-      × (is_going_frame ((shown (seen s)).frame f) ≡ true)
+  frame_page : (f : ℕ) → has (frames_of_owner s.owner) f ≡ true → (u : ℕ) × (q : ℕ)
+      × (page_of ((shown (seen s)).frame f) ≡ Some (u, q)) × (is_going_frame ((shown (seen s)).frame f) ≡ true)
   frame_page f listed = let going = keeps.book.going_owned.frames f ∙ listed in
       let at = going_page ((shown (seen s)).frame f) going in (at.0, at.1, at.2, going)
 
@@ -52,10 +45,7 @@ module _ (s : State) (k : ℕ) (cmd : Command) (keeps : Keeps s) (h : IsTakenFor
   -- a descriptor that is connected wasn't cut
   pub linked_on : (j n v : ℕ) → (seen s).linked j n ≡ Some v → (leads_to ((shown (seen s)).descriptor j n) ≡ Some v)
       × (is_going_descriptor ((shown (seen s)).descriptor j n) ≡ false)
-  linked_on j n v e = (
-    cc,
-    cc,
-  )
+  linked_on j n v e = (cc, cc)
 
 pub path_uid : (s : State) (path : List (List ℕ)) (n : Node) → Keeps s → node_at (flat_of s).nodes path ≡ Ok n
     → uid_at_path s.store path ≡ n.uid
@@ -114,10 +104,7 @@ freed_was b (f ∷ fs) g page h = let rest = freed_was (at_put b f None) fs g pa
     (λ e i. cc) (λ n i. (i, other n rest.1)) rest.0
   where
     other : g ≢ f → has fs g ≡ false → has (f ∷ fs) g ≡ false
-    other n e = elim (eqb_tells f g) [
-      | inl i ↦ absurd (n (sym i.1))
-      | inr i ↦ ap (λ (b : Bool). b || has fs g) i.0 ∙ e
-    ]
+    other n e = elim (eqb_tells f g) [ inl i ↦ absurd (n (sym i.1)) | inr i ↦ ap (λ (b : Bool). b || has fs g) i.0 ∙ e ]
 
 -- the page of a frame
 page_cases : (words : ℕ → ℕ → Ptw) (x y : Option (ℕ × ℕ)) (u : ℕ) → uid_of_page (page_of (frame_use words x y)) ≡ Some u
@@ -201,8 +188,7 @@ module _ (s : State) (c : ℕ) (path : Path) (keeps : Keeps s) (h : IsTakenFor s
     none_left : (words : ℕ → ℕ → Ptw) (f : ℕ)
         → uid_of_page (page_of (frame_use words (freed (seen s).bound fs f) ((seen s).reads f))) ≡ Some u → ⊥
     none_left words f e = elim (page_cases words (freed (seen s).bound fs f) ((seen s).reads f) u e) [
-      | inl x ↦ (let was = freed_was (seen s).bound fs f (u, x.0) x.1 in
-          not_both (bound_taken f x.0 was.0) was.1)
+      | inl x ↦ (let was = freed_was (seen s).bound fs f (u, x.0) x.1 in not_both (bound_taken f x.0 was.0) was.1)
       | inr x ↦ not_read f x.0 x.2
     ]
 
@@ -248,10 +234,9 @@ module _ (s : State) (c : ℕ) (path : Path) (keeps : Keeps s) (h : IsTakenFor s
     -- it is active no more
     inactive_now : is_active (inactive_if freed_store u).ast u ≡ false
     inactive_now = cond_both (is_active s.store.ast u) (with_inactive freed_store u) freed_store
-        (λ x. is_active x.ast u ≡ false)
-        (λ e. active_less s.store.ast u e keeps.store.kept.tree.once keeps.store.kept.places u
-        ∙ by_place (λ (x : Bool). x ≡ false) (λ x. is_active s.store.ast x) u false u (λ i. refl)
-        (λ n. absurd (n refl))) (λ e. e)
+        (λ x. is_active x.ast u ≡ false) (λ e. active_less s.store.ast u e keeps.store.kept.tree.once
+        keeps.store.kept.places u ∙ by_place (λ (x : Bool). x ≡ false) (λ x. is_active s.store.ast x) u false u
+        (λ i. refl) (λ n. absurd (n refl))) (λ e. e)
 
     abbrev now : Seen
     now = seen (with_owner (effected s j (command.Delete path)) None)
@@ -266,8 +251,7 @@ module _ (s : State) (c : ℕ) (path : Path) (keeps : Keeps s) (h : IsTakenFor s
         (sym (ap (λ (p : Plain). binding_at (bindings p.core) f) pages_now ∙ freed_bound s.store.pages fs within f) i)
         (sym (ap (λ (p : Plain). read_at (reads_of p.core) f) pages_now ∙ freed_reads s.store.pages fs within f) i))))
         ∙ e)) [
-          | inl x ↦ (let was = freed_was (seen s).bound fs f (u, x.0) x.1 in
-              not_both (bound_taken f x.0 was.0) was.1)
+          | inl x ↦ (let was = freed_was (seen s).bound fs f (u, x.0) x.1 in not_both (bound_taken f x.0 was.0) was.1)
           | inr x ↦ not_read f x.0 ((freed_was (seen s).reads fs f (u, x.0) x.2).0)
         ]
 

@@ -1,10 +1,7 @@
 -- What processors hold stays what their processes may do where a command leaves the access lists, the lengths and the
 -- numbers of what it doesn't take away.
-use Rattle.machine_model.proofs.Prelude.{option_map, cond_both, ◌≡◌, ◌<◌, ℕ, Bool, true, false, cond, eqb, length, set, List, [], ◌∷◌, Option, Some, None, refl, sym, inl, inr, ap, ◌∙◌, arith, eqb_tells, length-set, Who, HeldSeg, uid_of, Node, above, node_in, without_node, getter_of, giver_of, with_quota_of, ◌+◌, ◌-◌, ℤ, map, is_positive, unsigned_abs, kst_at, node_gone, Mover, AreEntitled, HoldEntitled, IsEntitled, move_committed, cpu_at, Processor, Command, Row, Ptw, erased, parts_of, committed, committed_at, with_made, with_truncated, frames_freed, inactive_if, with_deleted, without_page, IsEntitledToAll, with_inactive, Keeps, frames_of_owner, home_in, is_active, process_at, reply_of, uid_of_command, State, Storage, told, with_pages, Sdw, leads, leads_to, AreHeldSegs, led_to, seen, descriptor_of, shown, slice_index_or, with_node, uid_at, Segment, sdw_at, node_without, Command as command, Ptw as ptw, Sdw as sdw}
-use Rattle.machine_model.proofs.CommitKept.{effected}
+use Rattle.machine_model.proofs.StepBasics.{option_map, cond_both, ◌≡◌, ◌<◌, ℕ, Bool, true, false, cond, eqb, length, set, List, [], ◌∷◌, Option, Some, None, refl, sym, inl, inr, ap, ◌∙◌, arith, eqb_tells, length-set, Who, HeldSeg, uid_of, Node, above, node_in, without_node, getter_of, giver_of, with_quota_of, ◌+◌, ◌-◌, ℤ, map, is_positive, unsigned_abs, kst_at, node_gone, Mover, AreEntitled, HoldEntitled, IsEntitled, move_committed, cpu_at, Processor, Command, Row, Ptw, erased, parts_of, committed, committed_at, with_made, with_truncated, frames_freed, inactive_if, with_deleted, without_page, IsEntitledToAll, with_inactive, Keeps, frames_of_owner, home_in, is_active, process_at, reply_of, uid_of_command, State, Storage, told, with_pages, Sdw, leads, leads_to, AreHeldSegs, led_to, seen, descriptor_of, shown, slice_index_or, with_node, uid_at, Segment, sdw_at, node_without, Command as command, Ptw as ptw, Sdw as sdw, effected, set_entitled, node_mapped, none_some, truncated_has}
 use Rattle.machine_model.proofs.CommitRests.{led_now}
-use Rattle.machine_model.proofs.EntitledKept.{set_entitled}
-use Rattle.machine_model.proofs.Laws.{node_mapped, none_some, truncated_has}
 
 -- each older node that is there now was there, with these rows and pages
 pub record HaveFrom (old now : List Node) (next : ℕ) : Type 0 where
@@ -38,8 +35,7 @@ module _ (old now : List Node) (whos : List Who) (known : List (List (Option ℕ
   one_from : (k : ℕ) (e : HeldSeg) → IsEntitled old whos known k e → IsEntitled now whos known k e
   one_from k e h = record {
     stands = h.stands;
-    mode = λ n at. (let m = from.each e.uid n (older k e.number e.uid h.stands) at in
-        cc (h.mode m.0 m.1));
+    mode = λ n at. (let m = from.each e.uid n (older k e.number e.uid h.stands) at in cc (h.mode m.0 m.1));
     pages = λ n at. (let m = from.each e.uid n (older k e.number e.uid h.stands) at in h.pages m.0 m.1 ∙ sym m.3);
   }
 
@@ -251,9 +247,8 @@ module _ (s : State) (c : ℕ) (k : Keeps s) (there : c < length s.processors) (
   commit_entitled (Some (command.Acl path row m)) kept = right_again s (committed s c j (command.Acl path row m)) k kept
       refl refl refl _ (λ n. cond_both _ _ n (λ x. x.uid ≡ n.uid) (λ h. refl) (λ h. refl)) refl
       (by_nodes s.store.accounts.nodes _ same_nodes refl)
-  commit_entitled (Some (command.Length path pages)) kept = right_again s (committed s c j
-      (command.Length path pages)) k kept
-      refl refl refl _ (λ n. cond_both _ _ n (λ x. x.uid ≡ n.uid) (λ h. refl) (λ h. refl)) refl
+  commit_entitled (Some (command.Length path pages)) kept = right_again s (committed s c j (command.Length path pages))
+      k kept refl refl refl _ (λ n. cond_both _ _ n (λ x. x.uid ≡ n.uid) (λ h. refl) (λ h. refl)) refl
       (by_nodes s.store.accounts.nodes _ same_nodes refl)
   commit_entitled (Some (command.Move path amount)) kept = right_again s (committed s c j (command.Move path amount)) k
       kept refl refl refl _ (λ n. cc (quota_moves s.store.accounts.nodes (uid_of_command s.store j
@@ -268,8 +263,7 @@ module _ (s : State) (c : ℕ) (k : Keeps s) (there : c < length s.processors) (
       let names = truncated_names s.store (uid_of_command s.store j (command.Truncate path words)) words in
       by_store (with_truncated s.store (uid_of_command s.store j (command.Truncate path words)) words) _
       (rw names.nodes same_nodes) names.whos names.known refl
-  commit_entitled (Some (command.Delete path)) kept =
-      let u = uid_of_command s.store j (command.Delete path) in
+  commit_entitled (Some (command.Delete path)) kept = let u = uid_of_command s.store j (command.Delete path) in
       let names = deleted_names s.store u (frames_of_owner s.owner) in
       by_store (with_deleted s.store u (frames_of_owner s.owner)) _
       (from_less s.store.accounts.nodes u s.store.accounts.next) names.whos names.known refl

@@ -131,11 +131,10 @@ freed_is_free frames f lt =
 pub count_like : {A : Type 0} (p : A → Bool) (xs ys : List A) (d : A) → length ys ≡ length xs
     → ((i : ℕ) → p (get_or ys i d) ≡ p (get_or xs i d)) → count_by p ys ≡ count_by p xs
 count_like p [] [] d long same = refl
-count_like p [] (y ∷ ys) d long same = let no = long in absurd (omega arith)
-count_like p (x ∷ xs) [] d long same = let no = long in absurd (omega arith)
 count_like p (x ∷ xs) (y ∷ ys) d long same =
     let rest = count_like p xs ys d (omega arith) (λ i. same (suc i)) in
     omega (arith, ap bit (same zero), count_cons p x xs, count_cons p y ys)
+count_like p _ _ d long same = let no = long in absurd (omega arith)
 
 pub readers_set : (xs : List Runner) (c : ℕ) (x : Runner) → c < length xs
     → readers (set xs c x) + cond (is_some (runner_at xs c).reading) 1 0 ≡ readers xs + cond (is_some x.reading) 1 0

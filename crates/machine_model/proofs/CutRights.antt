@@ -1,7 +1,5 @@
 -- What a job has cut had the right mode and length, and the store says so of a job that takes pages and descriptors.
-use Rattle.machine_model.proofs.Prelude.{◌≡◌, ◌≢◌, ◌<◌, ℕ, zero, suc, true, List, [], ◌∷◌, ◌++◌, length, get_or, set, Option, Some, None, ◌⊎◌, inl, inr, refl, sym, ap, subst, ◌∙◌, slice_get, eqb_tells, get_or-set_other, get_or-set_same, length-set, Mode, Who, What, access_of, Node, node_in, bound_page, Plain, frame_in, uid_at, Sdw, Links, leads, sdws_at, unlinked, HaveRights, who_at, store_after, Aim, CutDescriptor, Outcome, after, seen, cut_all, cut_one, leaving_if, note_of, take_all, take_one, took, AreThere, HadRights, IsFaithful, Keeps, StoreKept, StoreSays, cut_of_owner, descriptor_of, flat_of, is_active, or_zero, Says, State, Storage, Entry as entry, Sdw as sdw, Aim as aim, Action as act}
-use Rattle.machine_model.proofs.Laws.{alike, alike_by, one_still, by_places, says_by, there_still, leaving_pages, descriptors_put, led_place, linked_within, active_at}
-use Rattle.machine_model.proofs.TookKept.{ArePairs, pairs_left}
+use Rattle.machine_model.proofs.Kept.{◌≡◌, ◌≢◌, ◌<◌, ℕ, zero, suc, true, List, [], ◌∷◌, ◌++◌, length, get_or, set, Option, Some, None, ◌⊎◌, inl, inr, refl, sym, ap, subst, ◌∙◌, slice_get, eqb_tells, get_or-set_other, get_or-set_same, length-set, Mode, Who, What, access_of, Node, node_in, bound_page, Plain, frame_in, uid_at, Sdw, Links, leads, sdws_at, unlinked, HaveRights, who_at, store_after, Aim, CutDescriptor, Outcome, after, seen, cut_all, cut_one, leaving_if, note_of, take_all, take_one, took, AreThere, HadRights, IsFaithful, Keeps, StoreKept, StoreSays, cut_of_owner, descriptor_of, flat_of, is_active, or_zero, Says, State, Storage, Entry as entry, Sdw as sdw, Aim as aim, Action as act, alike, alike_by, one_still, by_places, says_by, there_still, leaving_pages, descriptors_put, led_place, linked_within, active_at, ArePairs, pairs_left}
 use Rattle.machine_model.proofs.TakeWhole.{take_linked}
 
 -- ---- lists
@@ -131,8 +129,7 @@ module _ (s : State) (k n u : ℕ) (cuts : Cuts s) (linked : (seen s).linked k n
       its x at = ap (node_in s.store.accounts.nodes) (sym (ap or_zero leads_there)) ∙ at
 
   one_cut : (c : ℕ) (a : Aim) (w : What) → Cuts (cut_one s c a w (k, n))
-  one_cut c a w = let p = parts (descriptor_of s.store.links k n) refl in
-      assumption
+  one_cut c a w = let p = parts (descriptor_of s.store.links k n) refl in assumption
 
 -- ---- and some
 
@@ -189,9 +186,8 @@ leaving_cuts s now f x store cut linked cuts = record {
 
 take_cuts : (s : State) (c : ℕ) (a : Aim) (w : What) (fs : List ℕ) → Cuts s → Cuts (take_all s c a w fs)
 take_cuts s c a w [] cuts = cuts
-take_cuts s c a w (f ∷ fs) cuts = take_cuts (take_one s c a w f) c a w fs
-    (leaving_cuts s (take_one s c a w f) f (bound_page (frame_in s.store.pages f)) refl refl
-    (take_linked s c a w (f ∷ [])) cuts)
+take_cuts s c a w (f ∷ fs) cuts = take_cuts (take_one s c a w f) c a w fs (leaving_cuts s (take_one s c a w f) f
+    (bound_page (frame_in s.store.pages f)) refl refl (take_linked s c a w (f ∷ [])) cuts)
 
 -- ---- the store says so
 

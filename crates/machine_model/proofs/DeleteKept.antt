@@ -1,9 +1,6 @@
 -- The machine keeps its promise where a `delete` takes effect: the pages of the node have left their frames, its
 -- descriptors are gone, and it is active no more.
-use Rattle.machine_model.proofs.Prelude.{not_both, cond_both, [], ◌≡◌, ◌≢◌, ◌<◌, ℕ, Bool, not, not-true, and_parts, list_all, Command, frame_entry, inactive_entries, told, true, false, cond, if◌then◌else◌, count_by, List, ◌∷◌, ◌++◌, map, length, Option, Some, None, refl, sym, ap, subst, ◌∙◌, arith, length-set, Path, Entry, reads_of, Ptw, erased, framed, Plain, binding_at, bindings, word_of, read_at, MayDeactivate, has, at_put, gone_segs, gones, page_at, page_or_zero, no_more_active, gone, gone_seg, committed, cut_entry, frames_freed, gone_entries, AreDistinct, KeepsBook, is_pending, names, seen, with_inactive, Keeps, StoreSays, is_fault, cut_of_owner, frames_of_owner, home_in, is_active, process_at, run_at, reply_of, uid_of_command, Seen, flat, shown, CutDescriptor, State, Storage, booked, with_owner, with_pages, with_store, without_first_cut, without_first_frame, append-nil, append_assoc, Core, has_head, has_tail, Command as command, Entry as entry, Frame as frame, Ptw as ptw, commits_lost as lost, list_all-append, core_map_with_frame as with_frame}
-use Rattle.machine_model.proofs.Laws.{deactivate_keeps, active_less, blank_less, deactivate_seen, words_less, GoesOn, IsDone, gone_done, idle_done, going_word, gone_segs_keep, gones_keep, LeavesRest, frame_entry_has, faults_push, quiet_push, unread_put, IsIdle, nobody, job_over, by_place, by_places, bound_put, reads_put, CanTell, told_keeps, kept_with}
-use Rattle.machine_model.proofs.CommitKept.{effected}
-use Rattle.machine_model.proofs.FinishKept.{bound_within}
+use Rattle.machine_model.proofs.Kept.{not_both, cond_both, [], ◌≡◌, ◌≢◌, ◌<◌, ℕ, Bool, not, not-true, and_parts, list_all, Command, frame_entry, inactive_entries, told, true, false, cond, if◌then◌else◌, count_by, List, ◌∷◌, ◌++◌, map, length, Option, Some, None, refl, sym, ap, subst, ◌∙◌, arith, length-set, Path, Entry, reads_of, Ptw, erased, framed, Plain, binding_at, bindings, word_of, read_at, MayDeactivate, has, at_put, gone_segs, gones, page_at, page_or_zero, no_more_active, gone, gone_seg, committed, cut_entry, frames_freed, gone_entries, AreDistinct, KeepsBook, is_pending, names, seen, with_inactive, Keeps, StoreSays, is_fault, cut_of_owner, frames_of_owner, home_in, is_active, process_at, run_at, reply_of, uid_of_command, Seen, flat, shown, CutDescriptor, State, Storage, booked, with_owner, with_pages, with_store, without_first_cut, without_first_frame, append-nil, append_assoc, Core, has_head, has_tail, Command as command, Entry as entry, Frame as frame, Ptw as ptw, commits_lost as lost, list_all-append, core_map_with_frame as with_frame, deactivate_keeps, active_less, blank_less, deactivate_seen, words_less, GoesOn, IsDone, gone_done, idle_done, going_word, gone_segs_keep, gones_keep, LeavesRest, frame_entry_has, faults_push, quiet_push, unread_put, IsIdle, owned_laws_nobody as nobody, job_over, by_place, by_places, bound_put, reads_put, tell_kept_CanTell as CanTell, told_keeps, kept_with, effected, bound_within}
 
 -- ---- frames that are freed
 
@@ -138,12 +135,11 @@ gone_pass test back page seg inactive s u c = cc (
 no_faults : (es more : List Entry) → list_all (λ e. not (is_fault e)) more ≡ true
     → count_by is_fault (es ++ more) ≡ count_by is_fault es
 no_faults es [] h = cc (append-nil es)
-no_faults es (e ∷ more) h = let both = and_parts (not (is_fault e)) (list_all (λ x. not (is_fault x)) more) h in
-    cc (
-      append_assoc es (e ∷ []) more,
-      no_faults (es ++ e ∷ []) more both.1,
-      quiet_push es e (not-true (is_fault e) both.0),
-    )
+no_faults es (e ∷ more) h = let both = and_parts (not (is_fault e)) (list_all (λ x. not (is_fault x)) more) h in cc (
+  append_assoc es (e ∷ []) more,
+  no_faults (es ++ e ∷ []) more both.1,
+  quiet_push es e (not-true (is_fault e) both.0),
+)
 
 -- A command is told, and the supervisor given up, where the book keeps custody once what was taken is gone.
 pub told_commit : (s : State) (c k : ℕ) (cmd : Command) → Keeps s
@@ -308,9 +304,8 @@ module _ (s : State) (c k : ℕ) (path : Path) where
       → CanTell (with_owner (effected s k (command.Delete path)) None) c (process_at s c) None
       (reply_of s k (command.Delete path))
       → StoreSays (committed s c k (command.Delete path)) → Keeps (committed s c k (command.Delete path))
-  delete_inactive_kept keeps none done tell says = told_commit s c k (command.Delete path) keeps
-      (subst KeepsBook (sym seen_is) (job_over (seen s) None keeps.book none.frames none.cut done.none done.still nobody
-      refl)) tell says
+  delete_inactive_kept keeps none done tell says = told_commit s c k (command.Delete path) keeps (subst KeepsBook
+      (sym seen_is) (job_over (seen s) None keeps.book none.frames none.cut done.none done.still nobody refl)) tell says
     where
       entries_are : s.entries ++ gone_entries s node (command.Delete path) ≡ s.entries
       entries_are = (λ i. s.entries ++ (map gone_entry (none.frames i) ++

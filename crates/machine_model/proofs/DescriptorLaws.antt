@@ -1,6 +1,5 @@
 -- A descriptor is connected, cut, gone, or back.
-use Rattle.machine_model.proofs.Prelude.{◌≡◌, ℕ, true, false, List, [], ◌∷◌, ◌++◌, Option, Some, None, refl, sym, ap, subst, ◌∙◌, What, IsLawful, after_entry, known_uid, DescriptorUse, NamesAllGoing, NobodyHoldsSeg, is_current_descriptor, is_going_descriptor, names_descriptor, leads_to, reconnected, NoneDue, at_put_two, custody_next, nobody_holds_seg, nobody_holds_going_seg, cut, gone_seg, back_seg, connected, Aim, KeepsBook, HoldsRight, IsAimed, AreApart, has_cut, is_pending, waits_for, Seen, flat, shown, descriptor_use, cut_uid, cut_use, is_cut_at, frames_of_owner, cut_of_owner, CutDescriptor, Owner, Entry, IsAllowed, FillsOnline, pending_after, IsRun, progress_of, or_parts, Entry as entry, DescriptorUse as descriptor, custody_cut as descriptor_cut}
-use Rattle.machine_model.proofs.Basics.{book_next, right_alike, right_descriptor, owned_cut, owned_like, like_descriptor, cut_at_same, cut_at_other, current_descriptor_is_not_going, by_places, one_place_of_two, put_two_here}
+use Rattle.machine_model.proofs.Basics.{◌≡◌, ℕ, true, false, List, [], ◌∷◌, ◌++◌, Option, Some, None, refl, sym, ap, subst, ◌∙◌, What, IsLawful, after_entry, known_uid, DescriptorUse, NamesAllGoing, NobodyHoldsSeg, is_current_descriptor, is_going_descriptor, names_descriptor, leads_to, reconnected, NoneDue, at_put_two, custody_next, nobody_holds_seg, nobody_holds_going_seg, cut, gone_seg, back_seg, connected, Aim, KeepsBook, HoldsRight, IsAimed, AreApart, has_cut, is_pending, waits_for, Seen, flat, shown, descriptor_use, cut_uid, cut_use, is_cut_at, frames_of_owner, cut_of_owner, CutDescriptor, Owner, Entry, IsAllowed, FillsOnline, pending_after, IsRun, progress_of, or_parts, Entry as entry, DescriptorUse as descriptor, custody_cut as descriptor_cut, book_next, right_alike, right_descriptor, owned_cut, owned_like, like_descriptor, cut_at_same, cut_at_other, current_descriptor_is_not_going, by_places, one_place_of_two, put_two_here}
 use Rattle.machine_model.proofs.DueLaws.{HasLeftCut, owned_left_cut}
 
 -- ---- what was cut
@@ -49,8 +48,7 @@ pub record CanCut (v : Seen) (aim : Aim) (w : What) (d : CutDescriptor) : Type 0
 
 leads_cut : (x : DescriptorUse) → leads_to (descriptor_cut x) ≡ leads_to x
 leads_cut descriptor.Free = refl
-leads_cut (descriptor.Current u) = refl
-leads_cut (descriptor.Going u) = refl
+leads_cut _ = refl
 
 pub cut_keeps : (v : Seen) (c : ℕ) (aim : Aim) (w : What) (d : CutDescriptor) → KeepsBook v → CanCut v aim w d
     → KeepsBook (cut v c aim w d)
@@ -65,9 +63,8 @@ cut_keeps v c aim w d k can = book_next refl refl k (record {
   tied = k.tied;
   holding_right = λ e. right_alike v.bound (shown v).descriptor now (v.processors e) (λ j n. cc (
     next_at j n,
-    by_places (λ (x : DescriptorUse). leads_to x ≡ leads_to ((shown v).descriptor j n))
-        (shown v).descriptor d.process d.number made j n (λ a b. leads_cut ((shown v).descriptor d.process d.number)
-        ∙ rw (a, b) refl) (λ m. refl),
+    by_places (λ (x : DescriptorUse). leads_to x ≡ leads_to ((shown v).descriptor j n)) (shown v).descriptor d.process
+        d.number made j n (λ a b. leads_cut ((shown v).descriptor d.process d.number) ∙ rw (a, b) refl) (λ m. refl),
   )) (k.holding_right e);
   under_way = k.under_way;
   runs = k.runs;
@@ -99,9 +96,8 @@ cut_keeps v c aim w d k can = book_next refl refl k (record {
     here = cc (put_two_here v.linked d.process d.number None, cut_pushed ds d new, is)
 
     other : (j n : ℕ) → (j ≡ d.process → n ≡ d.number → ⊥) → now j n ≡ (shown v).descriptor j n
-    other j n m = by_places (λ (o : Option ℕ). descriptor_use o (cut_uid (ds ++ d ∷ []) j n)
-        ≡ (shown v).descriptor j n) v.linked d.process d.number None j n
-        (λ a b. absurd (m a b)) (λ x. cc (cut_kept ds d j n m))
+    other j n m = by_places (λ (o : Option ℕ). descriptor_use o (cut_uid (ds ++ d ∷ []) j n) ≡ (shown v).descriptor j n)
+        v.linked d.process d.number None j n (λ a b. absurd (m a b)) (λ x. cc (cut_kept ds d j n m))
 
     next_at : (j n : ℕ) → now j n ≡ at_put_two (shown v).descriptor d.process d.number made j n
     next_at = one_place_of_two (shown v).descriptor now d.process d.number made here other
@@ -160,9 +156,8 @@ module _ (v : Seen) (d : CutDescriptor) (owner : Option Owner) (k : KeepsBook v)
     going_owned = rw next (owned_left_cut (shown v) v.owner owner d made k.going_owned can.none can.first goes);
     tied = k.tied;
     holding_right = λ c. subst (λ (x : ℕ → ℕ → DescriptorUse). HoldsRight v.bound x (v.processors c))
-        (λ i. λ j n. sym (next_at j n) i)
-        (right_descriptor v.bound (shown v).descriptor d.process d.number made (v.processors c) (cut_nobody c)
-        (k.holding_right c));
+        (λ i. λ j n. sym (next_at j n) i) (right_descriptor v.bound (shown v).descriptor d.process d.number made
+        (v.processors c) (cut_nobody c) (k.holding_right c));
     under_way = k.under_way;
     runs = runs;
   })
@@ -216,9 +211,8 @@ connect_keeps v j n u k can = book_next refl refl k (record {
       (like_descriptor (shown v) j n (descriptor.Current u) (ap is_going_descriptor is) refl) v.owner k.going_owned;
   tied = k.tied;
   holding_right = λ e. subst (λ (x : ℕ → ℕ → DescriptorUse). HoldsRight v.bound x (v.processors e))
-      (λ i. λ x y. sym (next_at x y) i)
-      (right_descriptor v.bound (shown v).descriptor j n (descriptor.Current u) (v.processors e) (nobody e)
-      (k.holding_right e));
+      (λ i. λ x y. sym (next_at x y) i) (right_descriptor v.bound (shown v).descriptor j n (descriptor.Current u)
+      (v.processors e) (nobody e) (k.holding_right e));
   under_way = k.under_way;
   runs = k.runs;
 })

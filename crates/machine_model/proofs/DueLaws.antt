@@ -1,6 +1,5 @@
 -- What goes is the owner's alone where its signal is given, a processor clears, and what went is gone or back.
-use Rattle.machine_model.proofs.Prelude.{◌≡◌, ◌≢◌, ℕ, Bool, true, false, cond, ◌||◌, eqb, List, ◌∷◌, Option, Some, None, inl, inr, refl, sym, ap, subst, ◌∙◌, eqb_tells, What, FrameUse, DescriptorUse, SomethingGoes, Custody, Seat, has, is_going_frame, is_going_descriptor, cleared, NoneDue, with_descriptor, answered_clear, IsOwned, IsShaped, AreDistinct, AreApart, has_cut, says, waits_for, is_cut_at, frames_of_owner, cut_of_owner, CutDescriptor, Owner, next_with_frame as with_frame, next_signalled as signalled}
-use Rattle.machine_model.proofs.Basics.{by_place, by_places, cut_at_tells}
+use Rattle.machine_model.proofs.Basics.{◌≡◌, ◌≢◌, ℕ, Bool, true, false, cond, ◌||◌, eqb, List, ◌∷◌, Option, Some, None, inl, inr, refl, sym, ap, subst, ◌∙◌, eqb_tells, What, FrameUse, DescriptorUse, SomethingGoes, Custody, Seat, has, is_going_frame, is_going_descriptor, cleared, NoneDue, with_descriptor, answered_clear, IsOwned, IsShaped, AreDistinct, AreApart, has_cut, says, waits_for, is_cut_at, frames_of_owner, cut_of_owner, CutDescriptor, Owner, next_with_frame as with_frame, next_signalled as signalled, by_place, by_places, cut_at_tells}
 
 -- nothing is due where the owner waits for nothing
 pub none_due : (c : Custody) (o : Option Owner) → IsOwned c o → waits_for o ≡ None → NoneDue c

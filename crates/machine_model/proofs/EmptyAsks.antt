@@ -1,13 +1,47 @@
 -- What a look asks that makes a segment inactive, for its length or as the victim of a pool.
-use Rattle.machine_model.proofs.Prelude.{◌≡◌, ◌≢◌, ℕ, Bool, true, false, cond, eqb, List, [], ◌∷◌, Option, Some, None, refl, sym, ap, subst, ◌∙◌, Command, Node, has_directory, node_in, IsUp, superior_up, superior_found, Core, frame_at, reads_of, started_page, HasNoInferior, uid_at, first_off_chain, hand_past, read_at, MayDeactivate, node_superior, any_page, Outcome, after, is_pending, seen, deactivation_begun, emptied, segment_taken, segs_gone, with_hand_moved, IsFaithful, Keeps, StoreKept, StoreSays, cut_of_owner, flat_of, frame_reading, frames_from, is_active, is_page_of, or_zero, trailers_in, Says, shown, State, with_store, refusal_of, uid_of_command, eqb_self, What as what, Frame as frame, Aim as aim, Action as act}
-use Rattle.machine_model.proofs.Laws.{LeadsToSegment, length_stands, position_none, leaf_inferiors, victim_leaf, map_list, FindsActive, FindsVictim, IsIdle, emptied_says, is_same, same_rest, says_by, none_some, active_at, alike}
-use Rattle.machine_model.proofs.CutRights.{took_says}
-use Rattle.machine_model.proofs.RuleKept.{AsksEmpty, AsksSegment, AsksVictim, nothing_over}
-use Rattle.machine_model.proofs.StepKept.{hand_kept}
-use Rattle.machine_model.proofs.TakeLists.{trailers_taken}
-use Rattle.machine_model.proofs.TakeWhole.{nothing_whole}
-use Rattle.machine_model.proofs.TookKept.{ArePairs}
-use Rattle.machine_model.proofs.WholeKept.{whole_may}
+use Rattle.machine_model.proofs.StepBasics.{◌≡◌, ◌≢◌, ℕ, Bool, true, false, cond, eqb, List, [], ◌∷◌, Option, Some, None, refl, sym, ap, subst, ◌∙◌, Command, Node, has_directory, node_in, IsUp, superior_up, superior_found, Core, frame_at, reads_of, started_page, HasNoInferior, uid_at, first_off_chain, hand_past, read_at, MayDeactivate, node_superior, any_page, Outcome, after, is_pending, seen, deactivation_begun, emptied, segment_taken, segs_gone, with_hand_moved, IsFaithful, Keeps, StoreKept, StoreSays, cut_of_owner, flat_of, frame_reading, frames_from, is_active, is_page_of, or_zero, trailers_in, Says, shown, State, with_store, refusal_of, uid_of_command, eqb_self, What as what, Frame as frame, Aim as aim, Action as act, superior_in, is_going_descriptor, leads_to, holding, led_to, descriptor_of, frames_of_owner, cut_uid, descriptor_use, CutDescriptor, Storage, IsWhole, TakenWhole, going_for, LeadsToSegment, length_stands, position_none, leaf_inferiors, victim_leaf, map_list, FindsActive, FindsVictim, IsIdle, emptied_says, is_same, same_rest, says_by, none_some, active_at, alike, no_page_left, took_says, AsksEmpty, AsksSegment, AsksVictim, nothing_over, hand_kept, trailers_taken, nothing_whole, ArePairs, IsOver, segs_gone_rest}
+
+-- ---- A job that makes a segment inactive takes it whole, and once all that it took is gone the segment may become
+-- inactive.
+
+-- ---- once all is gone
+
+abbrev no_link_in : Storage → List CutDescriptor → ℕ → Type 0
+no_link_in st ds u = (j n : ℕ) → leads_to (descriptor_use (led_to st.ast.entries (descriptor_of st.links j n))
+    (cut_uid ds j n)) ≢ Some u
+
+-- A segment that was taken whole may become inactive once its pages have left and its descriptors are gone.
+pub whole_may : (s : State) (u : ℕ) → Keeps s → IsWhole (holding s) u → frames_of_owner s.owner ≡ []
+    → IsOver (segs_gone s (cut_of_owner s.owner)) → is_active s.store.ast u ≡ true
+    → ((v : ℕ) → is_active s.store.ast v ≡ true
+    → superior_in (node_in (flat_of (segs_gone s (cut_of_owner s.owner))).nodes v) ≢ Some u)
+    → MayDeactivate (flat_of (segs_gone s (cut_of_owner s.owner))) (shown (seen (segs_gone s (cut_of_owner s.owner)))) u
+whole_may s u k whole frames over active inferiors = record {
+  active = cc (store, active);
+  inferiors = λ v h. inferiors v (cc (store, h));
+  pages = rw (← store) at (no_page_left (holding s) s.owner u k.book.going_owned whole frames);
+  descriptors = rw over.cut (rw store unlinked);
+}
+  where
+    store : (segs_gone s (cut_of_owner s.owner)).store ≡ s.store
+    store = (segs_gone_rest s (cut_of_owner s.owner)).4
+
+    unlinked : no_link_in s.store [] u
+    unlinked j n = by ((seen s).linked j n) refl
+      where
+        by : (x : Option ℕ) → (seen s).linked j n ≡ x → leads_to (descriptor_use x None) ≡ Some u → ⊥
+        by None e h = none_some h
+        by (Some v) e h = let going = whole.descriptors j n (cc) in
+            let no : false ≡ true = sym (ap is_going_descriptor (ap (λ (y : Option ℕ). descriptor_use y
+            (cut_uid (cut_of_owner s.owner) j n)) e)) ∙ going in cc
+
+-- So may the segment that the owner makes inactive.
+pub may_deactivate : (s : State) (u : ℕ) → Keeps s → TakenWhole s → going_for s.owner ≡ Some u
+    → frames_of_owner s.owner ≡ [] → IsOver (segs_gone s (cut_of_owner s.owner)) → is_active s.store.ast u ≡ true
+    → ((v : ℕ) → is_active s.store.ast v ≡ true
+    → superior_in (node_in (flat_of (segs_gone s (cut_of_owner s.owner))).nodes v) ≢ Some u)
+    → MayDeactivate (flat_of (segs_gone s (cut_of_owner s.owner))) (shown (seen (segs_gone s (cut_of_owner s.owner)))) u
+may_deactivate s u k whole goes = whole_may s u k (whole.whole u goes)
 
 -- no page of a segment is being read
 pub unread_any : (core : Core) (u : ℕ) → frame_reading core u any_page ≡ None → (f p : ℕ)
@@ -44,12 +78,10 @@ module _ (s : State) (c u : ℕ) (k : Keeps s) (idle : IsIdle s.owner) (still : 
       → frame_reading s.store.pages.core u any_page ≡ None
       → ((v : ℕ) → is_active s.store.ast v ≡ true → node_superior (node_in (flat_of s).nodes v) ≢ Some u)
       → AsksEmpty s c u
-  empty_asks kept shown_is active unread inferiors = segment_asks (frames_from s.store.ast u 0)
-      (trailers_in s.store u) kept shown_is (trailers_taken s (what.Seg u) u k (eqb_self u))
-      (λ none none_cut. whole_may s u k
+  empty_asks kept shown_is active unread inferiors = segment_asks (frames_from s.store.ast u 0) (trailers_in s.store u)
+      kept shown_is (trailers_taken s (what.Seg u) u k (eqb_self u)) (λ none none_cut. whole_may s u k
       (nothing_whole s c u k idle active (unread_any s.store.pages.core u unread) none none_cut) idle.frames
-      (nothing_over s k idle still) active
-      (rw idle.cut inferiors))
+      (nothing_over s k idle still) active (rw idle.cut inferiors))
 
 -- ---- for its length
 
@@ -73,8 +105,7 @@ segment_inferiors s u n k at segment v h = by (node_in s.store.accounts.nodes v)
 
     by : (x : Option Node) → node_in nodes v ≡ x → node_superior x ≡ Some u → ⊥
     by None e i = none_some i
-    by (Some m) e i =
-        let none : true ≡ false = sym (subst (IsUp nodes v) (superior_found nodes v m e ∙ i)
+    by (Some m) e i = let none : true ≡ false = sym (subst (IsUp nodes v) (superior_found nodes v m e ∙ i)
         (superior_up nodes k.store.accounts.tree v)).1 ∙ (directory_is nodes u n at ∙ segment) in cc
 
 pub length_asks : (s : State) (c : ℕ) (o : Outcome) (j u : ℕ) (cmd : Command) → Keeps s → IsIdle s.owner

@@ -1,6 +1,5 @@
 -- What processors hold stays what their processes may do, through every action that no command ends.
-use Rattle.machine_model.proofs.Prelude.{◌≡◌, ◌≢◌, ◌<◌, ℕ, Bool, true, false, not, eqb, List, [], ◌∷◌, ◌++◌, drop, filter, length, set, ◌+◌, Option, Some, ◌⊎◌, inl, inr, refl, sym, ap, subst, ◌∙◌, eqb_tells, get_or-set_other, get_or-set_same, length-set, Who, filled, names_seg, HeldSeg, What, Sdw, leads, Node, node_in, Processor, Outcome, after, AreEntitled, HoldEntitled, IsEntitled, IsEntitledToAll, led_to, told_from, write_failed, Keeps, move_committed, cpu_at, descriptor_of, no_processor, or_zero, process_at, processor_at, State, frame_lost, held_seg, transfer_failed, Sdw as sdw, Aim as aim, jobs_told_at as told_at, Action, Action as act, cond_both}
-use Rattle.machine_model.proofs.Laws.{Stays, all_back, all_taken, emptying, evicted, evicting, is_back, is_emptied, page_left, emptying_victim, by_end, told_reads, told_has, told_process}
+use Rattle.machine_model.proofs.Kept.{◌≡◌, ◌≢◌, ◌<◌, ℕ, Bool, true, false, not, eqb, List, [], ◌∷◌, ◌++◌, drop, filter, length, set, ◌+◌, Option, Some, ◌⊎◌, inl, inr, refl, sym, ap, subst, ◌∙◌, eqb_tells, get_or-set_other, get_or-set_same, length-set, Who, filled, names_seg, HeldSeg, What, Sdw, leads, Node, node_in, Processor, Outcome, after, AreEntitled, HoldEntitled, IsEntitled, IsEntitledToAll, led_to, told_from, write_failed, Keeps, move_committed, cpu_at, descriptor_of, no_processor, or_zero, process_at, processor_at, State, frame_lost, held_seg, transfer_failed, Sdw as sdw, Aim as aim, jobs_told_at as told_at, Action, Action as act, cond_both, Stays, job_stays_all_back as all_back, all_taken, emptying, job_stays_evicted as evicted, evicting, is_back, is_emptied, page_left, emptying_victim, by_end, told_reads, told_has, told_process}
 use Rattle.machine_model.proofs.StepKept.{CanDo, CanFill}
 
 -- ---- the entries of one processor
@@ -33,9 +32,8 @@ module _ (nodes : List Node) (whos : List Who) (known : List (List (Option ℕ))
       → HoldEntitled nodes whos known (set ps c p)
   set_entitled ps c p there h one = record { each = λ d k i. by d k i (eqb_tells c d) }
     where
-      by : (d k : ℕ) → (cpu_at (set ps c p) d).process ≡ Some k
-          → ((eqb c d ≡ true) × (c ≡ d)) ⊎ ((eqb c d ≡ false) × (c ≢ d))
-          → AreEntitled nodes whos known k (cpu_at (set ps c p) d).assoc.segs
+      by : (d k : ℕ) → (cpu_at (set ps c p) d).process ≡ Some k → ((eqb c d ≡ true) × (c ≡ d))
+          ⊎ ((eqb c d ≡ false) × (c ≢ d)) → AreEntitled nodes whos known k (cpu_at (set ps c p) d).assoc.segs
       by d k i (inl same) = rw (← same.1) (subst (λ (x : Processor). AreEntitled nodes whos known k x.cpu.assoc.segs)
           (sym (get_or-set_same ps c p no_processor there)) (one k (cc (get_or-set_same ps c p no_processor there))))
       by d k i (inr other) = subst (λ (x : Processor). AreEntitled nodes whos known k x.cpu.assoc.segs)
@@ -101,9 +99,8 @@ module _ (s : State) (c : ℕ) (o : Outcome) (k : Keeps s) (there : c < length s
       → AreEntitled nodes s.store.whos s.store.links.known j (filled (cpu_at s.processors c).assoc.segs
       (held_seg s.store n (descriptor_of s.store.links (process_at s c) n)))
   fills n can j e = filled_entitled nodes s.store.whos s.store.links.known j (cpu_at s.processors c).assoc.segs
-      (held_seg s.store n (descriptor_of s.store.links (process_at s c) n)) (held j e)
-      (rw (← (ap or_zero e)) (to_hold_is n (process_at s c) (descriptor_of s.store.links (process_at s c) n) refl
-      can.number (cc)))
+      (held_seg s.store n (descriptor_of s.store.links (process_at s c) n)) (held j e) (rw (← (ap or_zero e))
+      (to_hold_is n (process_at s c) (descriptor_of s.store.links (process_at s c) n) refl can.number (cc)))
 
   failed : IsEntitledToAll (write_failed s c o.faults)
   failed = set_entitled _ _ _ (all_back s c o.faults).processors c _
@@ -118,9 +115,6 @@ module _ (s : State) (c : ℕ) (o : Outcome) (k : Keeps s) (there : c < length s
   -- What processors hold stays so.
   pub entitled_kept : (a : Action) → CanDo s c o a → MayEntitle s c o a → IsEntitledToAll (after s c a o)
   unfolding after
-  entitled_kept act.IsStopped can may = h
-  entitled_kept act.HasEnded can may = h
-  entitled_kept (act.Waits why) can may = h
   entitled_kept act.Online can may = one _ held
   entitled_kept (act.Clear w) can may = one _ (λ j e. kept_entitled nodes s.store.whos s.store.links.known j
       (λ x. not (names_seg w x)) (cpu_at s.processors c).assoc.segs (held j e))
@@ -135,18 +129,13 @@ module _ (s : State) (c : ℕ) (o : Outcome) (k : Keeps s) (there : c < length s
   entitled_kept (act.FillPage f r) can may = one _ held
   entitled_kept (act.Through f r) can may = one _ held
   entitled_kept (act.Plain r) can may = one _ held
-  entitled_kept act.TakeSupervisor can may = h
   entitled_kept (act.Answer r) can may = one _ held
-  entitled_kept act.GiveUp can may = h
-  entitled_kept (act.Activate u place) can may = h
-  entitled_kept (act.Connect n u) can may = h
   entitled_kept (act.Create f u p r) can may = one _ held
   entitled_kept (act.Start f u p) can may = one _ held
   entitled_kept (act.Evict f) can may = names_kept (evicting s c f) h
   entitled_kept (act.Empty u) can may = names_kept (emptying s c u) h
   entitled_kept (act.EmptyVictim pool chain u) can may = names_kept (emptying_victim s c pool chain u) h
   entitled_kept (act.TakeAway fs pairs w) can may = names_kept (all_taken s c aim.Committing w fs pairs) h
-  entitled_kept (act.BeginMove u volume) can may = h
   entitled_kept (act.CopyPage m p) can may = by_end IsEntitledToAll o _ _ (λ e. h) (λ e. one _ held)
   entitled_kept (act.CommitMove m) can may = may
   entitled_kept (act.Signal w) can may = told_entitled nodes s.store.whos s.store.links.known c w s.processors h
@@ -156,3 +145,4 @@ module _ (s : State) (c : ℕ) (o : Outcome) (k : Keeps s) (there : c < length s
       by_end IsEntitledToAll o _ _ (λ e. names_kept (page_left s f o.faults) h) (λ e. failed)
   entitled_kept (act.Deactivate u) can may = names_kept (is_emptied s c u) h
   entitled_kept act.Commit can may = may
+  entitled_kept _ can may = h

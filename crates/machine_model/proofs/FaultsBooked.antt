@@ -1,6 +1,6 @@
 -- What the entries of a step tell of the drives: one failure at the most, of the processor's process, just where a call
 -- failed, and before a process is told of one.
-use Rattle.machine_model.proofs.Prelude.{◌≡◌, ◌≤◌, ◌<◌, ℕ, ◌+◌, Bool, true, false, cond, List, [], ◌∷◌, ◌++◌, count_by, length, Option, Some, None, inl, inr, ◌⊎◌, refl, sym, ap, subst, arith, list_all, sum_by-cons, Entry, action_of, Outcome, after, is_fault, KeepsAll, process_at, State, calls_drive, not_both, and_parts, Entry as entry, Reply as reply}
+use Rattle.machine_model.proofs.StepBasics.{◌≡◌, ◌≤◌, ◌<◌, ℕ, ◌+◌, Bool, true, false, cond, List, [], ◌∷◌, ◌++◌, count_by, length, Option, Some, None, inl, inr, ◌⊎◌, refl, sym, ap, subst, arith, list_all, sum_by-cons, Entry, action_of, Outcome, after, is_fault, KeepsAll, process_at, State, calls_drive, not_both, and_parts, Entry as entry, Reply as reply}
 use Rattle.machine_model.proofs.BookAfter.{AreQuiet, HasBooked, TellsFailure, is_quiet, told_after}
 
 abbrev tally : Bool → ℕ
@@ -53,8 +53,7 @@ told_later (b ∷ bs) rest [] ys process k place c f quiet e =
     cc ((and_parts (is_quiet b) (list_all is_quiet bs) quiet).0)
 told_later (b ∷ bs) rest (x ∷ xs) ys process k place c f quiet e = omega (
   arith,
-  told_later bs rest xs ys process k place c f (and_parts (is_quiet b) (list_all is_quiet bs) quiet).1
-      (ap rest_of e),
+  told_later bs rest xs ys process k place c f (and_parts (is_quiet b) (list_all is_quiet bs) quiet).1 (ap rest_of e),
   count_cons x xs,
 )
 
@@ -69,9 +68,8 @@ told_counts more xs ys process e = omega (
 )
 
 -- where only one failure is told, it is the one that is found
-told_once : (before rest xs ys : List Entry) (k : ℕ) (process : Option ℕ) → AreQuiet before
-    → count_by is_fault rest ≡ 0 → before ++ entry.Fault (Some k) ∷ rest ≡ xs ++ entry.Fault process ∷ ys
-    → process ≡ Some k
+told_once : (before rest xs ys : List Entry) (k : ℕ) (process : Option ℕ) → AreQuiet before → count_by is_fault rest ≡ 0
+    → before ++ entry.Fault (Some k) ∷ rest ≡ xs ++ entry.Fault process ∷ ys → process ≡ Some k
 told_once [] rest [] ys k process quiet none e = cc
 told_once [] rest (x ∷ xs) ys k process quiet none e =
     absurd (omega (arith, told_counts rest xs ys process (ap rest_of e)))
@@ -90,9 +88,8 @@ pub record ToldRight (k : ℕ) (more : List Entry) (calls failed : Bool) : Type 
   pub later : (xs ys : List Entry) (k place c : ℕ) (f : Option ℕ)
       → more ≡ xs ++ entry.Do k place c f reply.Device ∷ ys → 1 ≤ count_by is_fault xs
 
-told_right : (k : ℕ) (more : List Entry) (calls failed : Bool)
-    → (AreQuiet more × (calls ≡ true → failed ≡ false)) ⊎ ((failed ≡ true) × TellsFailure k more)
-    → ToldRight k more calls failed
+told_right : (k : ℕ) (more : List Entry) (calls failed : Bool) → (AreQuiet more × (calls ≡ true → failed ≡ false))
+    ⊎ ((failed ≡ true) × TellsFailure k more) → ToldRight k more calls failed
 told_right k more calls failed (inl both) = let quiet = both.0 in record {
   few = omega (arith, quiet_none more quiet);
   each = λ called did. cc (both.1 called);
@@ -102,17 +99,16 @@ told_right k more calls failed (inl both) = let quiet = both.0 in record {
 }
 told_right k more calls failed (inr told) = record {
   each = λ called did. told_counts more told.1.before (told.1.between ++ told.1.last ∷ []) (Some k) told.1.is;
-  few = let all = ap (λ (es : List Entry). count_by is_fault es) told.1.is in
-      omega (
-        arith,
-        count_on told.1.before (entry.Fault (Some k) ∷ (told.1.between ++ told.1.last ∷ [])),
-        count_cons (entry.Fault (Some k)) (told.1.between ++ told.1.last ∷ []),
-        count_on told.1.between (told.1.last ∷ []),
-        count_cons told.1.last [],
-        ap tally told.1.last_is,
-        quiet_none told.1.before told.1.quiet_before,
-        quiet_none told.1.between told.1.quiet_between,
-      );
+  few = let all = ap (λ (es : List Entry). count_by is_fault es) told.1.is in omega (
+    arith,
+    count_on told.1.before (entry.Fault (Some k) ∷ (told.1.between ++ told.1.last ∷ [])),
+    count_cons (entry.Fault (Some k)) (told.1.between ++ told.1.last ∷ []),
+    count_on told.1.between (told.1.last ∷ []),
+    count_cons told.1.last [],
+    ap tally told.1.last_is,
+    quiet_none told.1.before told.1.quiet_before,
+    quiet_none told.1.between told.1.quiet_between,
+  );
   only = λ some. told.0;
   its = λ xs ys process e. told_once told.1.before (told.1.between ++ told.1.last ∷ []) xs ys k process
       told.1.quiet_before (omega (

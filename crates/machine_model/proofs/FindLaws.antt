@@ -1,7 +1,6 @@
 -- What is found in lists of frames, of places and of what a processor holds.
-use Rattle.machine_model.proofs.Prelude.{◌≡◌, ◌≢◌, ◌<◌, ℕ, Bool, true, false, ◌||◌, cond, eqb, List, [], ◌∷◌, map, length, get_or, not, position, Option, Some, None, inl, inr, refl, sym, ap, ◌∙◌, arith, find, find_passes, no_place, position-Some, get_or_past, eqb_tells, leb_tells, nat_tests, HeldPage, HeldSeg, is_number, is_page, Frame, Core, bound_page, frame_at, is_free, least_free_frame, reads_of, started_page, binding_at, bindings, read_at, has, AreHeldPages, frame_reading, is_page_of, not-true, first_inactive, is_active, ActiveSegs, not_both, page_is, Frame as frame, eqb_self}
+use Rattle.machine_model.proofs.Basics.{◌≡◌, ◌≢◌, ◌<◌, ℕ, Bool, true, false, ◌||◌, cond, eqb, List, [], ◌∷◌, map, length, get_or, not, position, Option, Some, None, inl, inr, refl, sym, ap, ◌∙◌, arith, find, find_passes, no_place, position-Some, get_or_past, eqb_tells, leb_tells, nat_tests, HeldPage, HeldSeg, is_number, is_page, Frame, Core, bound_page, frame_at, is_free, least_free_frame, reads_of, started_page, binding_at, bindings, read_at, has, AreHeldPages, frame_reading, is_page_of, not-true, first_inactive, is_active, ActiveSegs, not_both, page_is, Frame as frame, eqb_self, map_list}
 pub use Rattle.machine_model.proofs.ChoiceLaws.{choice_bound}
-use Rattle.machine_model.proofs.ListLaws.{map_list}
 
 module _ {X : Type 0} (p : X → Bool) where
   -- what is found passes

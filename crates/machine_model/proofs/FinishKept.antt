@@ -1,7 +1,7 @@
 -- The machine keeps its promise where a page leaves its frame, where a write failed, and where a segment is inactive at
 -- last.
-use Rattle.machine_model.proofs.Prelude.{◌≡◌, ◌≢◌, ◌<◌, ◌≤◌, ℕ, count_by, List, [], ◌∷◌, ◌++◌, map, length, Option, Some, None, refl, sym, ap, subst, ◌∙◌, arith, Plan, Entry, bound_page, Left, word_of_left, record_of, words_in, MayRelease, after_entry, Store, IsInNoFrame, page_at, gone, released, KeepsBook, is_out, names, seen, entries_left, eviction_done, left_of, page_done, page_gone, page_in, with_left, IsAtWork, Keeps, StoreSays, is_fault, flat_of, home_in, processor_at, Seen, flat, shown, CutDescriptor, Owner, State, booked, looking, with_faults, with_owner, with_store, rest_of, without_first_frame, Entry as entry, Ptw as ptw, Left as left}
-use Rattle.machine_model.proofs.Laws.{GoesOn, first_finish, CanFinish, gone_keeps, in_no_frame, release_keeps, faults_push, flat_still, gone_seen, map_length, within_by, put_two_here, HasTables, binding_is, none_some, kept_with}
+use Rattle.machine_model.proofs.Laws.{◌≡◌, ◌≢◌, ◌<◌, ◌≤◌, ℕ, count_by, List, [], ◌∷◌, ◌++◌, map, length, Option, Some, None, refl, sym, ap, subst, ◌∙◌, arith, Plan, Entry, bound_page, Left, word_of_left, record_of, words_in, MayRelease, after_entry, Store, IsInNoFrame, page_at, gone, released, KeepsBook, is_out, names, seen, entries_left, eviction_done, left_of, page_done, page_gone, page_in, with_left, IsAtWork, Keeps, StoreSays, is_fault, flat_of, home_in, processor_at, Seen, flat, shown, CutDescriptor, Owner, State, booked, looking, with_faults, with_owner, with_store, rest_of, without_first_frame, Entry as entry, Ptw as ptw, Left as left, GoesOn, first_finish, CanFinish, gone_keeps, in_no_frame, release_keeps, faults_push, flat_still, gone_seen, map_length, within_by, put_two_here, HasTables, binding_is, none_some}
+use Rattle.machine_model.proofs.TransferKept.{kept_with}
 
 append_two : (es : List Entry) (a b : Entry) → es ++ a ∷ b ∷ [] ≡ (es ++ a ∷ []) ++ b ∷ []
 append_two [] a b = refl
@@ -30,9 +30,8 @@ left_keeps s f u p how owner tables k can zeros = by how zeros
     by : (x : Left) → (x ≡ left.Released → MayRelease (flat_of s) u p)
         → KeepsBook (seen (with_owner (booked (with_store s (with_left s.store f x (u, p)))
         (entries_left f x (u, p))) owner))
-    by left.Kept z = subst KeepsBook (sym (gone_seen s f u p left.Kept owner tables k within can.leaving))
-        (gone_keeps (seen s) f u p owner k can
-        (word_of_left left.Kept (record_of s.store.pages (home_in s.store u) p)) refl)
+    by left.Kept z = subst KeepsBook (sym (gone_seen s f u p left.Kept owner tables k within can.leaving)) (gone_keeps
+        (seen s) f u p owner k can (word_of_left left.Kept (record_of s.store.pages (home_in s.store u) p)) refl)
     by left.Released z = subst KeepsBook (sym whole) (release_keeps now u p book may nowhere)
       where
         now : Seen

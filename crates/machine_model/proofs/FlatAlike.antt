@@ -15,13 +15,7 @@ pub alike : (t : Store) → IsAlike t t
 alike t = record { nodes = refl; next = refl; words = λ v o. refl; stored = refl; known = refl }
 
 pub alike_on : {t u v : Store} → IsAlike t u → IsAlike u v → IsAlike t v
-alike_on a b = record {
-  nodes = cc;
-  next = cc;
-  words = λ w o. b.words w o ∙ a.words w o;
-  stored = cc;
-  known = cc;
-}
+alike_on a b = record { nodes = cc; next = cc; words = λ w o. b.words w o ∙ a.words w o; stored = cc; known = cc }
 
 pub alike_by : {t u v : Store} → IsAlike t u → v ≡ u → IsAlike t v
 alike_by {t} a e = rw e a
@@ -29,11 +23,7 @@ alike_by {t} a e = rw e a
 -- a store shows each of them, or none
 pub alike_shown : (p : Plan) (t u : Store) (st : Storage) → IsAlike t u → IsFaithful p t st → IsFaithful p u st
 alike_shown p t u st a is = record {
-  tree = record {
-    nodes = cc;
-    next = cc;
-    counts = λ s. cc (is.tree.counts s);
-  };
+  tree = record { nodes = cc; next = cc; counts = λ s. cc (is.tree.counts s) };
   known = cc;
   pages = record {
     stored = λ v q. cc (is.pages.stored v q);

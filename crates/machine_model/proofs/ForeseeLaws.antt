@@ -1,6 +1,5 @@
 -- What a step must find of the machine, as far as it follows from the whole promise alone.
-use Rattle.machine_model.proofs.Prelude.{◌≡◌, ◌<◌, ℕ, true, false, is_some, length, [], Option, Some, None, refl, sym, ◌∙◌, Command, What, started_page, Frame, MayAnswer, seen, Keeps, IsMachine, cpu_at, or_zero, process_at, shown, Owner, State, frame_in, Frame as frame, Phase as phase, ForeseenIsReading as IsReading, ForTransfer, Action as act}
-use Rattle.machine_model.proofs.Laws.{LookFinds, looking_idle}
+use Rattle.machine_model.proofs.StepBasics.{◌≡◌, ◌<◌, ℕ, true, false, is_some, length, [], Option, Some, None, refl, sym, ◌∙◌, Command, What, started_page, Frame, MayAnswer, seen, Keeps, IsMachine, cpu_at, or_zero, process_at, shown, Owner, State, frame_in, Frame as frame, Phase as phase, ForeseenIsReading as IsReading, ForTransfer, Action as act, LookFinds, looking_idle}
 use Rattle.machine_model.proofs.StepGoes.{may_answer}
 
 -- what doesn't take part has nothing to drop

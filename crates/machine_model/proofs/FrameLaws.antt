@@ -1,6 +1,5 @@
 -- A page is taken, has left its frame, is stored no more, or is back.
-use Rattle.machine_model.proofs.Prelude.{◌≡◌, ◌≢◌, ℕ, true, false, [], ◌∷◌, ◌++◌, Option, Some, None, refl, sym, ap, subst, ◌∙◌, What, Ptw, IsLawful, after_entry, MayRelease, DescriptorUse, NamesAllGoing, NobodyHoldsPage, is_current_frame, is_going_frame, names_frame, page_of, given_back, IsInNoFrame, NoneDue, at_put, at_put_two, custody_next, nobody_holds_going_page, taken, gone, released, back, Aim, KeepsBook, HoldsRight, IsAimed, names, is_pending, waits_for, Seen, flat, shown, frame_use, bound_use, descriptor_use, cut_uid, frames_of_owner, cut_of_owner, Owner, Entry as entry, Ptw as ptw, FrameUse as frame, custody_taken as page_taken}
-use Rattle.machine_model.proofs.Basics.{book_apart, book_next, right_frame, owned_take, one_place, put_here, put_other, put_two_here, none_some, use_bound, other_use, tied_word, tied_gone, page_used}
+use Rattle.machine_model.proofs.Basics.{◌≡◌, ◌≢◌, ℕ, true, false, [], ◌∷◌, ◌++◌, Option, Some, None, refl, sym, ap, subst, ◌∙◌, What, Ptw, IsLawful, after_entry, MayRelease, DescriptorUse, NamesAllGoing, NobodyHoldsPage, is_current_frame, is_going_frame, names_frame, page_of, given_back, IsInNoFrame, NoneDue, at_put, at_put_two, custody_next, nobody_holds_going_page, taken, gone, released, back, Aim, KeepsBook, HoldsRight, IsAimed, names, is_pending, waits_for, Seen, flat, shown, frame_use, bound_use, descriptor_use, cut_uid, frames_of_owner, cut_of_owner, Owner, Entry as entry, Ptw as ptw, FrameUse as frame, custody_taken as page_taken, book_apart, book_next, right_frame, owned_take, one_place, put_here, put_other, put_two_here, none_some, use_bound, other_use, tied_word, tied_gone, page_used}
 use Rattle.machine_model.proofs.DueLaws.{HasLeft, owned_left}
 
 -- the frame that a word names is that of its page, and is used as the word says

@@ -103,10 +103,8 @@ segs_kept descriptor k p (e ∷ es) held = by (segs_kept descriptor k p es held.
 pub kept_step : {A : Type 0} (g : A → ℕ) (p : A → Bool) (q : ℕ → Bool) (x : A) (xs : List A)
     → map g (filter p xs) ≡ filter q (map g xs) → (a b : Bool)
     → b ≡ a → map g (cond a (x ∷ filter p xs) (filter p xs)) ≡ cond b (g x ∷ filter q (map g xs)) (filter q (map g xs))
-kept_step g p q x xs rest true true e = cc
 kept_step g p q x xs rest false false e = rest
-kept_step g p q x xs rest true false e = cc
-kept_step g p q x xs rest false true e = cc
+kept_step g p q x xs rest _ _ e = cc
 
 -- ---- a frame or a descriptor that nobody holds
 

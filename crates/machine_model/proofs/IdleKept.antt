@@ -1,7 +1,5 @@
 -- A processor without a process holds nothing, and after each action of a step too.
-use Rattle.machine_model.proofs.Prelude.{◌≡◌, ◌≢◌, ◌<◌, ℕ, ◌+◌, true, false, eqb, set, length, List, Option, Some, None, ◌⊎◌, inl, inr, refl, sym, subst, eqb_tells, get_or-set_other, get_or-set_same, length-set, What, nothing_held, Command, Processor, Outcome, after, committed_at, told_from, write_failed, cpu_at, next_command, no_processor, process_at, processor_at, AreIdle, State, transfer_failed, Command as command, Aim as aim, jobs_told_at as told_at, Action, Action as act}
-use Rattle.machine_model.proofs.Basics.{by_end, Stays, all_back, all_taken, emptying, evicted, evicting, is_back, is_emptied, page_left, emptying_victim}
-use Rattle.machine_model.proofs.LeaveSeen.{told_reads, told_has, told_process}
+use Rattle.machine_model.proofs.Laws.{◌≡◌, ◌≢◌, ◌<◌, ℕ, ◌+◌, true, false, eqb, set, length, List, Option, Some, None, ◌⊎◌, inl, inr, refl, sym, subst, eqb_tells, get_or-set_other, get_or-set_same, length-set, What, nothing_held, Command, Processor, Outcome, after, committed_at, told_from, write_failed, cpu_at, next_command, no_processor, process_at, processor_at, AreIdle, State, transfer_failed, Command as command, Aim as aim, jobs_told_at as told_at, Action, Action as act, by_end, Stays, job_stays_all_back as all_back, all_taken, emptying, job_stays_evicted as evicted, evicting, is_back, is_emptied, page_left, emptying_victim, told_reads, told_has, told_process}
 
 -- ---- one processor is another
 
@@ -68,9 +66,6 @@ module _ (s : State) (c : ℕ) (o : Outcome) (there : c < length s.processors) (
   -- What holds nothing holds nothing still.
   pub idle_kept : (a : Action) → FillsBusy s c a → AreIdle (after s c a o).processors
   unfolding after
-  idle_kept act.IsStopped busy = h
-  idle_kept act.HasEnded busy = h
-  idle_kept (act.Waits why) busy = h
   idle_kept act.Online busy = one _ own
   idle_kept (act.Clear w) busy = one _ (λ e. cc (own e))
   idle_kept (act.EndTransfer t) busy = by_end (λ x. AreIdle x.processors) o _ _ (λ e. one _ own) (λ e. ill)
@@ -83,20 +78,14 @@ module _ (s : State) (c : ℕ) (o : Outcome) (there : c < length s.processors) (
   idle_kept (act.FillPage f r) busy = one _ (λ e. absurd (busy e))
   idle_kept (act.Through f r) busy = one _ own
   idle_kept (act.Plain r) busy = one _ own
-  idle_kept act.TakeSupervisor busy = h
   idle_kept (act.Answer r) busy = one _ own
-  idle_kept act.GiveUp busy = h
-  idle_kept (act.Activate u place) busy = h
-  idle_kept (act.Connect n u) busy = h
   idle_kept (act.Create f u p r) busy = one _ own
   idle_kept (act.Start f u p) busy = one _ own
   idle_kept (act.Evict f) busy = same (evicting s c f)
   idle_kept (act.Empty u) busy = same (emptying s c u)
   idle_kept (act.EmptyVictim pool chain u) busy = same (emptying_victim s c pool chain u)
   idle_kept (act.TakeAway fs pairs w) busy = same (all_taken s c aim.Committing w fs pairs)
-  idle_kept (act.BeginMove u volume) busy = h
   idle_kept (act.CopyPage m page) busy = by_end (λ x. AreIdle x.processors) o _ _ (λ e. h) (λ e. one _ own)
-  idle_kept (act.CommitMove m) busy = h
   idle_kept (act.Signal w) busy = told_idle c w s.processors h
   idle_kept (act.FinishEviction f) busy =
       by_end (λ x. AreIdle x.processors) o _ _ (λ e. same (evicted s c f o.faults)) (λ e. failed)
@@ -104,3 +93,4 @@ module _ (s : State) (c : ℕ) (o : Outcome) (there : c < length s.processors) (
       by_end (λ x. AreIdle x.processors) o _ _ (λ e. same (page_left s f o.faults)) (λ e. failed)
   idle_kept (act.Deactivate u) busy = same (is_emptied s c u)
   idle_kept act.Commit busy = commits (next_command s (process_at s c))
+  idle_kept _ busy = h

@@ -1,6 +1,5 @@
 -- What the flat store answers a reference that isn't refused before its page is looked at.
-use Rattle.machine_model.proofs.Prelude.{◌≡◌, ◌<◌, ℕ, ◌*◌, Bool, true, false, not, ◌&&◌, cond, eqb, Option, Some, None, inl, inr, refl, ◌∙◌, arith, ◌/◌, nat_le, leb_tells, who_of, Command, Reference, Reply, access_of, Node, node_in, is_held_back, is_held_in, is_stored, alters, new_word, permits, reference_of, is_used_up, is_out_of_room, reply_at, reply_to_reference, room_reply, stores_page, word_reply, is_volume_full, room_for, Store, known_uid, Keeps, flat_of, is_of_room, is_outside, only, outside_refusal, room_refusal, uid_of_number, move_to, State, held_by, held_in, held_of, held_parts, volume_found, found_uid, Reply as reply, references_reply_of as reply_of, false_from_ne_true, and-false}
-use Rattle.machine_model.proofs.LookFacts.{IsInside}
+use Rattle.machine_model.proofs.Laws.{◌≡◌, ◌<◌, ℕ, ◌*◌, Bool, true, false, not, ◌&&◌, cond, eqb, Option, Some, None, inl, inr, refl, ◌∙◌, arith, ◌/◌, nat_le, leb_tells, who_of, Command, Reference, Reply, access_of, Node, node_in, is_held_back, is_held_in, is_stored, alters, new_word, permits, reference_of, is_used_up, is_out_of_room, reply_at, reply_to_reference, room_reply, stores_page, word_reply, is_volume_full, room_for, Store, known_uid, Keeps, flat_of, is_of_room, is_outside, only, outside_refusal, room_refusal, uid_of_number, move_to, State, held_by, held_in, held_of, held_parts, volume_found, found_uid, Reply as reply, references_reply_of as reply_of, false_from_ne_true, and-false, IsInside}
 
 module _ (s : State) (k : ℕ) (r : Reference) (keeps : Keeps s) where
   abbrev t : Store

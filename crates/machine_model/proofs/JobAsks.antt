@@ -1,10 +1,7 @@
 -- What the owner's job asks where a write fails, and where a segment becomes inactive, follows from what it rests on.
-use Rattle.machine_model.proofs.Prelude.{◌≡◌, ℕ, Bool, true, false, ◌&&◌, List, [], ◌∷◌, ◌++◌, Option, Some, None, inl, inr, refl, sym, ap, subst, ◌∙◌, get_or-set_same, reference_of, Command, Reference, reply_to_command, takes_effect, after_entry, after_fault, may_fail, store_after, Progress, Store, progress_of, store_after-push, MayAnswerBy, Outcome, IsRun, seen, pages_back, write_failed, IsFaithful, Keeps, StoreSays, copy_failed, cpu_at, cut_of_owner, flat_of, frames_of_owner, next_command, process_at, processor_at, or_zero, run_at, shown, State, fault_told, with_owner, MayFailBy, Processor, length-set, Rose, Cpu, Transfer, frame_lost, transfer_failed, no_processor, Run, HasTurn, is_its_end, going_within, Entry as entry, Reply as reply}
-use Rattle.machine_model.proofs.Laws.{one_still, alike_shown, fault_alike, fails_more, may_fail_is, says_laws_back_on as back_on, pages_are_back, segs_are_back, is_back, Speaks, can_tell, CanTell}
+use Rattle.machine_model.proofs.Kept.{◌≡◌, ℕ, Bool, true, false, ◌&&◌, List, [], ◌∷◌, ◌++◌, Option, Some, None, inl, inr, refl, sym, ap, subst, ◌∙◌, get_or-set_same, reference_of, Command, Reference, reply_to_command, takes_effect, after_entry, after_fault, may_fail, store_after, Progress, Store, progress_of, store_after-push, MayAnswerBy, Outcome, IsRun, seen, pages_back, write_failed, IsFaithful, Keeps, StoreSays, copy_failed, cpu_at, cut_of_owner, flat_of, frames_of_owner, next_command, process_at, processor_at, or_zero, run_at, shown, State, fault_told, with_owner, MayFailBy, Processor, length-set, Rose, Cpu, Transfer, frame_lost, transfer_failed, no_processor, Run, HasTurn, is_its_end, going_within, Entry as entry, Reply as reply, one_still, alike_shown, fault_alike, fails_more, may_fail_is, says_laws_back_on as back_on, pages_are_back, segs_are_back, is_back, Speaks, can_tell, tell_kept_CanTell as CanTell, all_back, runs_failed}
 use Rattle.machine_model.proofs.MovingKept.{copy_failing}
 use Rattle.machine_model.proofs.StepKept.{CanLose, CanFailWrite, CanFailCopy}
-use Rattle.machine_model.proofs.BackKept.{all_back}
-use Rattle.machine_model.proofs.RunLaws.{runs_failed}
 use Rattle.machine_model.proofs.ScheduleKept.{IsAnswering, Sits, still}
 
 -- ---- a failure is told
@@ -148,10 +145,9 @@ module _ (s : State) (c : ℕ) (o : Outcome) (t : Transfer) (cmd : Command) (kee
     assumption (
       ap (λ (x : Store). (progress_of x k).ended) (one_still s.plan s.entries (entry.Lose t.frame) refl)
           ∙ ((sp.runs k).ended ∙ sp.going),
-      subst (λ (j : ℕ). CanTell lost c j None reply.Device)
-          (sym (ap (λ (x : Cpu). or_zero x.process) lost_here)) (device_tell lost c k cmd lost_speaks
-          (ap (λ (x : Store). (progress_of x k).faulted) lost_flat ∙ faulted_now (flat_of s) k ((sp.runs k).ended
-          ∙ sp.going)) (may_fail_is s k (flat_of lost) lost_shown cmd may)),
+      subst (λ (j : ℕ). CanTell lost c j None reply.Device) (sym (ap (λ (x : Cpu). or_zero x.process) lost_here))
+          (device_tell lost c k cmd lost_speaks (ap (λ (x : Store). (progress_of x k).faulted) lost_flat ∙ faulted_now
+          (flat_of s) k ((sp.runs k).ended ∙ sp.going)) (may_fail_is s k (flat_of lost) lost_shown cmd may)),
     ),
     record {
       process = k;

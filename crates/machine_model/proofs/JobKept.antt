@@ -1,7 +1,7 @@
 -- The machine keeps its promise through the phases of a job: a page is evicted, a segment's pages and descriptors are
 -- taken, the signal is given, and what was taken goes, or comes back where a drive failed.
-use Rattle.machine_model.proofs.Prelude.{◌≡◌, ℕ, ◌+◌, true, eqb, List, [], ◌∷◌, ◌++◌, length, Option, Some, None, inl, inr, refl, sym, ap, subst, ◌∙◌, arith, eqb_tells, What, Plan, after_entry, store_after, Store, binding_at, read_at, Aim, Phase, dropped, told_at, FitsPhase, IsShaped, KeepsBook, is_pending, is_pending_in, says, says_in, seen, eviction_begun, owner_signalled, phase_signalled, signalled, told_from, with_choice, AreThere, HadRights, IsAtWork, IsConserved, IsFaithful, Keeps, StoreSays, cut_of_owner, frames_of_owner, processor_at, Seen, shown, Processor, Owner, State, with_store, What as what, Entry as entry, Ptw as ptw, Aim as aim, Phase as phase, eqb_self}
-use Rattle.machine_model.proofs.Laws.{choice_bindings, choice_reads, signal_keeps, HasSaid, take_keeps, flat_still, signal_seen, told_reads, IsIdle, bound_here, idle_names, take_one_seen, kept_with, quiet_faults}
+use Rattle.machine_model.proofs.Laws.{◌≡◌, ℕ, ◌+◌, true, eqb, List, [], ◌∷◌, ◌++◌, length, Option, Some, None, inl, inr, refl, sym, ap, subst, ◌∙◌, arith, eqb_tells, What, Plan, after_entry, store_after, Store, binding_at, read_at, Aim, Phase, dropped, told_at, FitsPhase, IsShaped, KeepsBook, is_pending, is_pending_in, says, says_in, seen, eviction_begun, owner_signalled, phase_signalled, signalled, told_from, with_choice, AreThere, HadRights, IsAtWork, IsConserved, IsFaithful, Keeps, StoreSays, cut_of_owner, frames_of_owner, processor_at, Seen, shown, Processor, Owner, State, with_store, What as what, Entry as entry, Ptw as ptw, Aim as aim, Phase as phase, eqb_self, choice_bindings, choice_reads, signal_keeps, HasSaid, take_keeps, flat_still, signal_seen, told_reads, IsIdle, bound_here, idle_names, take_one_seen}
+use Rattle.machine_model.proofs.TransferKept.{kept_with, quiet_faults}
 
 -- ---- the clock
 

@@ -1,7 +1,38 @@
 -- Each step of the owner makes the measure of its job fall.
-use Rattle.machine_model.proofs.Prelude.{◌≡◌, ◌≤◌, ◌<◌, ℕ, ◌+◌, Bool, true, false, cond, List, [], ◌∷◌, length, Option, None, set, ◌&&◌, refl, le_refl, le_of_eq, arith, get_or-set_same, Frame, Want, Refer, Truncate, Length, Other, Runner, no_runner, Work, EvictFrame, EmptyPlace, CommitCommand, Stage, Look, Taken, Waiting, Copying, Outline, runner_at, want_at, at_stage, IsSmall, idle_links, off_links, readers, has_free, frame_lack, room_lack, work_left, stage_left, rank_of, job_rank, IsIn, JobStep, activates, connects, takes_segment, takes_frame, takes_for_commit, signals, frees_frame, frees_page, empties, empties_at_once, begins_move, copies, commits_move, HasMoved, gives_up, starts, answers, AreAlike, with_link, with_runners, IsKept, FitsStage, FitsWork, Frame as frame, Active as Entry, wanted_chain as chain_of, measures_unlinked as unlinked, measures_parts_of as parts_of}
+use Rattle.machine_model.proofs.Prelude.{◌≡◌, ◌≤◌, ◌<◌, ℕ, ◌+◌, Bool, true, false, cond, List, [], ◌∷◌, length, Option, None, set, ◌&&◌, refl, le_refl, le_of_eq, arith, get_or-set_same, Frame, Want, Refer, Truncate, Length, Other, Runner, no_runner, Work, EvictFrame, EmptyPlace, CommitCommand, Stage, Look, Taken, Waiting, Copying, Outline, runner_at, want_at, at_stage, IsSmall, idle_links, off_links, readers, has_free, frame_lack, room_lack, work_left, stage_left, rank_of, job_rank, IsIn, JobStep, activates, connects, takes_segment, takes_frame, takes_for_commit, signals, frees_frame, frees_page, empties, empties_at_once, begins_move, copies, commits_move, HasMoved, gives_up, starts, answers, AreAlike, with_link, with_runners, IsKept, FitsStage, FitsWork, Frame as frame, Active as Entry, wanted_chain as chain_of, measures_unlinked as unlinked, measures_parts_of as parts_of, Parts}
 use Rattle.machine_model.proofs.CountLaws.{activation_falls, emptying_off, emptying_idle, freed_is_free, readers_like, readers_set, dues_few, idle_few, off_few}
-use Rattle.machine_model.proofs.RankLaws.{falls_idle, falls_off, falls_link, falls_room, falls_frame, falls_stage}
+
+-- ---- The measure of a job falls where one of its parts falls and none before it rises.
+
+pub falls_reading : (p q : Parts) → IsSmall q → q.reading < p.reading → rank_of q < rank_of p
+falls_reading p q small less = omega arith
+
+pub falls_idle : (p q : Parts) → IsSmall q → q.reading ≤ p.reading → q.idle < p.idle → rank_of q < rank_of p
+falls_idle p q small reading less = omega arith
+
+pub falls_off : (p q : Parts) → IsSmall q → q.reading ≤ p.reading → q.idle ≤ p.idle → q.off < p.off
+    → rank_of q < rank_of p
+falls_off p q small reading idle less = omega arith
+
+pub falls_link : (p q : Parts) → IsSmall q → q.reading ≤ p.reading → q.idle ≤ p.idle → q.off ≤ p.off → q.link < p.link
+    → rank_of q < rank_of p
+falls_link p q small reading idle off less = omega arith
+
+pub falls_room : (p q : Parts) → IsSmall q → q.reading ≤ p.reading → q.idle ≤ p.idle → q.off ≤ p.off → q.link ≤ p.link
+    → q.room < p.room → rank_of q < rank_of p
+falls_room p q small reading idle off link less = omega arith
+
+pub falls_frame : (p q : Parts) → IsSmall q → q.reading ≤ p.reading → q.idle ≤ p.idle → q.off ≤ p.off → q.link ≤ p.link
+    → q.room ≤ p.room → q.frame < p.frame → rank_of q < rank_of p
+falls_frame p q small reading idle off link room less = omega arith
+
+pub falls_stage : (p q : Parts) → IsSmall q → q.reading ≤ p.reading → q.idle ≤ p.idle → q.off ≤ p.off → q.link ≤ p.link
+    → q.room ≤ p.room → q.frame ≤ p.frame → q.stage < p.stage → rank_of q < rank_of p
+falls_stage p q small reading idle off link room frame less = omega arith
+
+pub falls_due : (p q : Parts) → q.reading ≤ p.reading → q.idle ≤ p.idle → q.off ≤ p.off → q.link ≤ p.link
+    → q.room ≤ p.room → q.frame ≤ p.frame → q.stage ≤ p.stage → q.due < p.due → rank_of q < rank_of p
+falls_due p q reading idle off link room frame stage less = omega arith
 
 -- the measure of a job by its owner and stage
 pub ranked : (s : Outline) (c : ℕ) (stage : Stage) → IsIn s c stage
@@ -15,10 +46,7 @@ ranked_none s h = cc
 
 link_small : (w : Want) (b : Bool) → unlinked w b < 2
 link_small (Refer chain uid page makes) true = omega arith
-link_small (Refer chain uid page makes) false = omega arith
-link_small (Truncate chain uid cut) b = omega arith
-link_small (Length uid) b = omega arith
-link_small Other b = omega arith
+link_small _ _ = omega arith
 
 bit_small : (b : Bool) → cond {A = ℕ} b 0 1 < 2
 bit_small true = omega arith
@@ -42,10 +70,9 @@ work_small s w (EmptyPlace place rest) fits = omega arith
 work_small s w _ fits = omega arith
 
 stage_small : (s : Outline) (w : Want) (stage : Stage) → FitsStage s w stage → stage_left stage < 512
-stage_small s w Look fits = omega arith
 stage_small s w (Taken work) fits = omega (arith, work_small s w work fits)
 stage_small s w (Waiting work) fits = omega (arith, work_small s w work fits)
-stage_small s w (Copying left) fits = omega arith
+stage_small s w _ fits = omega arith
 
 pub small_of : (t : Outline) (c : ℕ) (stage : Stage) → IsKept t → IsIn t c stage
     → IsSmall (parts_of t (runner_at t.runners c) stage)
@@ -208,9 +235,8 @@ job_falls s c t k l (begins_move left owner few) =
     stage_falls s Look (Copying left) owner (alike_self s.runners c) l (le_refl _) (omega arith)
 job_falls s c t k l (copies left fewer owner less) =
     stage_falls s (Copying left) (Copying fewer) owner (alike_self s.runners c) l (le_refl _) (omega arith)
-job_falls s c t k l (commits_move left stored full owner has) = between s _ c (Copying left) Look owner refl
-    (falls_room _ _ (small_of _ c Look l refl) (le_refl _) (le_refl _) (le_refl _) (le_refl _)
-    (room_falls s c full has))
+job_falls s c t k l (commits_move left stored full owner has) = between s _ c (Copying left) Look owner refl (falls_room
+    _ _ (small_of _ c Look l refl) (le_refl _) (le_refl _) (le_refl _) (le_refl _) (room_falls s c full has))
 job_falls s c t k l (gives_up chain uid page makes owner want fits) = over_falls s _ c Look owner refl
 job_falls s c t k l (starts f uid page can) = over_falls s _ c Look can.look refl
 job_falls s c t k l (answers stage _ owner due given) = over_falls s t c stage owner given.owner

@@ -1,11 +1,7 @@
 -- A look takes for a tree command just what the command takes.
-use Rattle.machine_model.proofs.Prelude.{◌≡◌, ◌≢◌, ◌<◌, ◌≤◌, ℕ, zero, suc, ◌+◌, ◌-◌, ◌/◌, Bool, true, false, ◌||◌, cond, eqb, List, [], ◌∷◌, ◌++◌, map, length, drop, get_or, Option, Some, None, ◌⊎◌, inl, inr, refl, sym, ap, ◌∙◌, arith, nat_le, filter, list_any, range_with_len, eqb_tells, leb_tells, list_any-append, Command, AccountMaps, What, Ptw, Sdw, Core, frame_at, reads_of, started_page, is_for, sdws_at, table_of, read_at, has, is_going_descriptor, is_going_frame, leads_to, page_of, Aim, CutDescriptor, descriptors_taken, first_taken, frame_read_from, frames_taken, KeepsBook, has_cut, names, led_to, seen, cut_all, cut_one, note_of, take_all, take_one, took, Keeps, cut_of_owner, descriptor_of, frame_reading, frames_from, frames_of_owner, is_active, is_connected, is_page_of, trailers_in, refusal_of, uid_of_command, cut_uid, descriptor_use, frame_use, is_cut_at, shown, State, GoesJust, IsAlone, IsTakenFor, TakesDescriptor, TakesPage, WasBrought, Segment, not_both, or_cases, none_has, eqb_self, page_is, some_same, Command as command, What as what, Ptw as ptw, Sdw as sdw, Frame as frame, Aim as aim}
-use Rattle.machine_model.proofs.Laws.{chain_active, IsBrought, FindsTaken, names_uid, delete_stands, position_none, map_list, LooksLike, took_like, IsIdle, cut_at_tells, took_stands, linked_within, none_some, page_used, active_at}
-use Rattle.machine_model.proofs.JustLaws.{brought_on, same_uid}
-use Rattle.machine_model.proofs.OutLaws.{took_out}
+use Rattle.machine_model.proofs.Kept.{◌≡◌, ◌≢◌, ◌<◌, ◌≤◌, ℕ, zero, suc, ◌+◌, ◌-◌, ◌/◌, Bool, true, false, ◌||◌, cond, eqb, List, [], ◌∷◌, ◌++◌, map, length, drop, get_or, Option, Some, None, ◌⊎◌, inl, inr, refl, sym, ap, ◌∙◌, arith, nat_le, filter, list_any, range_with_len, eqb_tells, leb_tells, list_any-append, Command, AccountMaps, What, Ptw, Sdw, Core, frame_at, reads_of, started_page, is_for, sdws_at, table_of, read_at, has, is_going_descriptor, is_going_frame, leads_to, page_of, Aim, CutDescriptor, descriptors_taken, first_taken, frame_read_from, frames_taken, KeepsBook, has_cut, names, led_to, seen, cut_all, cut_one, note_of, take_all, take_one, took, Keeps, cut_of_owner, descriptor_of, frame_reading, frames_from, frames_of_owner, is_active, is_connected, is_page_of, trailers_in, refusal_of, uid_of_command, cut_uid, descriptor_use, frame_use, is_cut_at, shown, State, GoesJust, IsAlone, IsTakenFor, TakesDescriptor, TakesPage, WasBrought, Segment, not_both, or_cases, none_has, eqb_self, page_is, some_same, Command as command, What as what, Ptw as ptw, Sdw as sdw, Frame as frame, Aim as aim, chain_active, IsBrought, FindsTaken, names_uid, delete_stands, position_none, map_list, LooksLike, took_like, IsIdle, cut_at_tells, took_stands, linked_within, none_some, page_used, active_at, brought_on, same_uid, took_out, ArePairs, CanTook, has_pair, is_pair, linked_before, noted, noted_has, pairs_left, took_keeps}
 use Rattle.machine_model.proofs.TakeLists.{dropped_word, frame_word, trailers_taken}
 use Rattle.machine_model.proofs.TakeWhole.{cut_pages, frame_listed, note_at, take_rest, trailer_listed, take_linked, took_linked, cut_frames}
-use Rattle.machine_model.proofs.TookKept.{ArePairs, CanTook, has_pair, is_pair, linked_before, noted, noted_has, pairs_left, took_keeps}
 use Rattle.machine_model.proofs.NumberLaws.{take_cut}
 
 or_moved : (a b c : Bool) → ((a || (b || false)) || c) ≡ (a || (b || c))
@@ -26,10 +22,7 @@ pair_own k n m same = rw (eqb_self k) (cc (eqb_self m))
 
 pair_tells : (k n : ℕ) (x : ℕ × ℕ) → is_pair k n x ≡ true → (x.0 ≡ k) × (x.1 ≡ n)
 pair_tells k n x h = elim (eqb_tells x.0 k) [
-  | inl e ↦ elim (eqb_tells x.1 n) [
-    | inl i ↦ (e.1, i.1)
-    | inr m ↦ absurd (not_both h (rw (e.0, m.0) refl))
-  ]
+  | inl e ↦ elim (eqb_tells x.1 n) [ inl i ↦ (e.1, i.1) | inr m ↦ absurd (not_both h (rw (e.0, m.0) refl)) ]
   | inr m ↦ absurd (not_both h (rw m.0 refl))
 ]
 
@@ -74,8 +67,7 @@ notes_led linked (d ∷ ds) k n u led h = by (is_cut_at k n d) refl h (λ i. not
   where
     by : (b : Bool) → is_cut_at k n d ≡ b → cond b (Some d.uid) (cut_uid ds k n) ≡ Some u
         → (cut_uid ds k n ≡ Some u → linked k n ≡ Some u) → linked k n ≡ Some u
-    by true e i rest = let at = cut_at_tells k n d e in
-        (λ j. linked (at.0 j) (at.1 j)) ∙ (led.0 ∙ i)
+    by true e i rest = let at = cut_at_tells k n d e in (λ j. linked (at.0 j) (at.1 j)) ∙ (led.0 ∙ i)
     by false e i rest = rest i
 
 cut_notes : (s : State) (c : ℕ) (a : Aim) (w : What) (xs : List (ℕ × ℕ)) (linked : ℕ → ℕ → Option ℕ)
@@ -83,9 +75,8 @@ cut_notes : (s : State) (c : ℕ) (a : Aim) (w : What) (xs : List (ℕ × ℕ)) 
     → NotesLed linked (cut_of_owner s.owner) → NotesLed linked (cut_of_owner (cut_all s c a w xs).owner)
 cut_notes s c a w [] linked are less led = led
 cut_notes s c a w (x ∷ xs) linked are less led = cut_notes (cut_one s c a w x) c a w xs linked
-    (pairs_left s c a w x xs are) (λ k n u h. less k n u (linked_before s c a w x are.0.0 are.0.1 k n u h))
-    (notes_push linked (cut_of_owner s.owner) (noted s x) led
-    (noted_has linked s x are.0.0 are.0.1 (less x.0 x.1 are.0.0 are.0.1)))
+    (pairs_left s c a w x xs are) (λ k n u h. less k n u (linked_before s c a w x are.0.0 are.0.1 k n u h)) (notes_push
+    linked (cut_of_owner s.owner) (noted s x) led (noted_has linked s x are.0.0 are.0.1 (less x.0 x.1 are.0.0 are.0.1)))
 
 -- ---- what goes is what was listed
 
@@ -360,8 +351,7 @@ module _ (s : State) (k : ℕ) (keeps : Keeps s) where
   -- a node that a `delete` isn't refused for has no inferior
   alone_found : (cmd : Command) → refusal_of s k cmd ≡ None
       → IsAlone s.store.accounts.nodes (uid_of_command s.store k cmd) cmd
-  alone_found (command.Delete path) stands = let leads_there = delete_stands s k keeps path stands in
-      cc
+  alone_found (command.Delete path) stands = let leads_there = delete_stands s k keeps path stands in cc
   alone_found cmd stands = tt
 
 -- what a `truncate` wants is there before it takes

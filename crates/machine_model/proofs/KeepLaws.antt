@@ -1,8 +1,7 @@
 -- The machine keeps its promise where its store is as it was.
-use Rattle.machine_model.proofs.Prelude.{◌≡◌, ◌≢◌, ◌<◌, ℕ, ◌+◌, Bool, true, false, cond, count_by, List, [], ◌∷◌, ◌++◌, drop, length, set, Some, None, refl, sym, ap, subst, ◌∙◌, arith, length-set, get_or-set_other, sum_by-cons, Plan, HeldPage, HeldSeg, What, Entry, after_entry, store_after, store_after-push, MayLeave, IsFront, reseated, taking_part, running, with_held_seg, with_held_page, done_dropping, KeepsBook, seen, Keeps, IsAtWork, is_fault, flat_of, no_processor, processor_at, shown, Processor, Owner, State, add-zero, Entry as entry, queued_by as queued, changes_emptied as emptied}
+use Rattle.machine_model.proofs.Basics.{◌≡◌, ◌≢◌, ◌<◌, ℕ, ◌+◌, Bool, true, false, cond, count_by, List, [], ◌∷◌, ◌++◌, drop, length, set, Some, None, refl, sym, ap, subst, ◌∙◌, arith, length-set, get_or-set_other, sum_by-cons, Plan, HeldPage, HeldSeg, What, Entry, after_entry, store_after, store_after-push, MayLeave, IsFront, reseated, taking_part, running, with_held_seg, with_held_page, done_dropping, KeepsBook, seen, Keeps, IsAtWork, is_fault, flat_of, no_processor, processor_at, shown, Processor, Owner, State, add-zero, Entry as entry, queued_by as queued, changes_emptied as emptied, reseated_seen}
 use Rattle.machine_model.proofs.ClearLaws.{clear_keeps}
 use Rattle.machine_model.proofs.SeatLaws.{CanFillPage, CanFillSeg, fill_page_keeps, fill_seg_keeps, leave_keeps, load_keeps, online_keeps}
-use Rattle.machine_model.proofs.SeenLaws.{reseated_seen}
 
 -- one entry more tells one failure more, or none
 pub faults_push : (es : List Entry) (e : Entry)

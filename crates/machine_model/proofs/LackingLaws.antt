@@ -1,7 +1,5 @@
 -- What a move rests on by the tables is what the flat store and custody ask of it.
-use Rattle.machine_model.proofs.Prelude.{◌≡◌, ◌≢◌, ◌*◌, ℕ, true, false, List, Option, Some, None, inl, inr, refl, sym, ap, subst, ◌∙◌, arith, ◌/◌, nat_le, leb_tells, command_at, who_of, permits, Command, Reference, access_of, Node, entries_on, node_in, taken_on, volume_in, MayMove, awaits_by, awaits_in, awaits_move, is_stored, is_used_up, is_volume_full, stores_page, room_for, has_room_flat, Store, known_uid, volume_found, room_is, Ptw, is_full, has_record, Mover, word_of, MayRehome, seen, Keeps, IsFirstWithRoom, IsMovedFor, LacksRecord, MovesFor, MovesForNext, has_room, tables_of, flat_of, is_active, next_command, bound_use, frame_use, shown, State, nonzero_alters, found_uid, moves_lacks_record as lacks_record, Ptw as ptw, FrameUse as frame, eqb_self}
-use Rattle.machine_model.proofs.Laws.{IsInside, null_word, stored_is, Speaks, turn_is}
-use Rattle.machine_model.proofs.MoveAsks.{who_is}
+use Rattle.machine_model.proofs.StepBasics.{◌≡◌, ◌≢◌, ◌*◌, ℕ, true, false, List, Option, Some, None, inl, inr, refl, sym, ap, subst, ◌∙◌, arith, ◌/◌, nat_le, leb_tells, command_at, who_of, permits, Command, Reference, access_of, Node, entries_on, node_in, taken_on, volume_in, MayMove, awaits_by, awaits_in, awaits_move, is_stored, is_used_up, is_volume_full, stores_page, room_for, has_room_flat, Store, known_uid, volume_found, room_is, Ptw, is_full, has_record, Mover, word_of, MayRehome, seen, Keeps, IsFirstWithRoom, IsMovedFor, LacksRecord, MovesFor, MovesForNext, has_room, tables_of, flat_of, is_active, next_command, bound_use, frame_use, shown, State, nonzero_alters, found_uid, moves_lacks_record as lacks_record, Ptw as ptw, FrameUse as frame, eqb_self, IsInside, null_word, stored_is, Speaks, turn_is, who_is}
 
 module _ (s : State) (keeps : Keeps s) where
   abbrev t : Store

@@ -1,9 +1,8 @@
 -- The victim of a pool has no active inferior: the ways down from a segment come to an end.
-use Rattle.machine_model.proofs.Prelude.{◌≡◌, ◌≢◌, ◌<◌, ◌≤◌, ℕ, zero, suc, ◌+◌, Bool, true, false, count_by, List, eqb, not, length, Option, Some, None, inl, inr, refl, sym, ap, subst, ◌∙◌, arith, nat_lt, range_with_len, list_any, eqb_tells, leb_tells, Node, node_in, ActiveSegs, HasNoInferior, entry_at, superior_at, uid_at, uid_in, first_off_chain, is_inferior_in, is_inferior_of, leaf_below, leaf_of, least_inferior, least_inferior_of, off_chain, round_pool, stead_of, victim_of, place_of, node_superior, Keeps, flat_of, is_active, State, lt_from, not_both, passed_there, Active as Entry, ActiveIsTree as IsTree, active_superior_in as superior_in, eqb_self}
+use Rattle.machine_model.proofs.Basics.{◌≡◌, ◌≢◌, ◌<◌, ◌≤◌, ℕ, zero, suc, ◌+◌, Bool, true, false, count_by, List, eqb, not, length, Option, Some, None, inl, inr, refl, sym, ap, subst, ◌∙◌, arith, nat_lt, range_with_len, list_any, eqb_tells, leb_tells, Node, node_in, ActiveSegs, HasNoInferior, entry_at, superior_at, uid_at, uid_in, first_off_chain, is_inferior_in, is_inferior_of, leaf_below, leaf_of, least_inferior, least_inferior_of, off_chain, round_pool, stead_of, victim_of, place_of, node_superior, Keeps, flat_of, is_active, State, lt_from, not_both, passed_there, Active as Entry, ActiveIsTree as IsTree, active_superior_in as superior_in, eqb_self, none_some}
 use Rattle.machine_model.proofs.ActiveSeen.{active_place}
 use Rattle.machine_model.proofs.FindLaws.{find_true, position_at, position_none}
 use Rattle.machine_model.proofs.PoolRoom.{count_all, count_new, range_has, range_length}
-use Rattle.machine_model.proofs.TieLaws.{none_some}
 
 tells_less : (a b : ℕ) → a < b → nat_lt a b ≡ true
 tells_less a b h = elim (leb_tells (suc a) b) [
@@ -154,6 +153,5 @@ leaf_inferiors s place u k at leaf v active h = by (node_in s.store.accounts.nod
   where
     by : (x : Option Node) → node_in s.store.accounts.nodes v ≡ x → node_superior x ≡ Some u → ⊥
     by None e i = none_some i
-    by (Some n) e i = leaf (place_of s.store.ast.entries v) u at
-        (k.store.counted.active.superiors (place_of s.store.ast.entries v) v n
-        ((active_place s.store.ast v active).1) e ∙ i)
+    by (Some n) e i = leaf (place_of s.store.ast.entries v) u at (k.store.counted.active.superiors
+        (place_of s.store.ast.entries v) v n ((active_place s.store.ast v active).1) e ∙ i)

@@ -1,6 +1,5 @@
 -- What custody sees of a machine whose job signals, and where a page leaves its frame or stays.
-use Rattle.machine_model.proofs.Prelude.{◌≡◌, ◌<◌, ℕ, zero, suc, ◌+◌, Bool, true, false, cond, eqb, List, [], ◌∷◌, ◌++◌, length, Option, Some, None, inr, refl, sym, ap, ◌∙◌, arith, What, Core, bound_page, reads_of, Left, evicted, word_of_left, Plain, binding_at, bindings, frame_in, record_of, read_at, at_put, back, dropped, gone, signal_given, told_at, warned, KeepsBook, names, seen, here_if, told_from, with_left, home_in, no_processor, processor_at, Processor, Owner, State, with_word, Entry as entry, Frame as frame, core_map_with_frame as with_frame, Ptw as ptw, Left as left}
-use Rattle.machine_model.proofs.Basics.{by_place, bound_put, reads_put}
+use Rattle.machine_model.proofs.Basics.{◌≡◌, ◌<◌, ℕ, zero, suc, ◌+◌, Bool, true, false, cond, eqb, List, [], ◌∷◌, ◌++◌, length, Option, Some, None, inr, refl, sym, ap, ◌∙◌, arith, What, Core, bound_page, reads_of, Left, evicted, word_of_left, Plain, binding_at, bindings, frame_in, record_of, read_at, at_put, back, dropped, gone, signal_given, told_at, warned, KeepsBook, names, seen, here_if, told_from, with_left, home_in, no_processor, processor_at, Processor, Owner, State, with_word, Entry as entry, Frame as frame, core_map_with_frame as with_frame, Ptw as ptw, Left as left, by_place, bound_put, reads_put}
 use Rattle.machine_model.proofs.TakeSeen.{HasTables, binding_is, not_null, words_put}
 
 -- ---- the signal

@@ -23,9 +23,8 @@ module _ {A B : Type 0} where
   -- a mapped list of which one element is changed
   pub put_mapped : (f : A → B) (xs : List A) (i : ℕ) (x d : A) (j : ℕ) → i < length xs
       → get_or (map f (set xs i x)) j (f d) ≡ at_put (λ k. get_or (map f xs) k (f d)) i (f x) j
-  put_mapped f xs i x d j within = map_list f (set xs i x) j d
-      ∙ (ap f (put_list xs i x d j within) ∙ (put_map f (λ k. get_or xs k d) i x j
-      ∙ (λ t. at_put (λ k. sym (map_list f xs k d) t) i (f x) j)))
+  put_mapped f xs i x d j within = map_list f (set xs i x) j d ∙ (ap f (put_list xs i x d j within)
+      ∙ (put_map f (λ k. get_or xs k d) i x j ∙ (λ t. at_put (λ k. sym (map_list f xs k d) t) i (f x) j)))
 
 module _ {A : Type 0} where
   -- a list of lists of which one element is changed

@@ -1,9 +1,7 @@
 -- How much a job takes at the most of a segment: each of its pages, 256 at the most, and a descriptor of each process,
 -- 32 at the most.
-use Rattle.machine_model.proofs.Prelude.{◌≡◌, ◌<◌, ◌≤◌, ℕ, Bool, true, false, ◌||◌, cond, eqb, is_some, length, map, List, [], ◌∷◌, Option, Some, None, inl, inr, refl, sym, ap, ◌∙◌, arith, ◌+◌, ◌/◌, suc, drop, filter, position_or_len, range_with_len, get_or_past, length-range_with_len, Command, trailers_of, descriptors_taken, first_taken, frames_taken, AllByRecursion, IsDistinct, list_any, nat_le, eqb_tells, length-map, length-le_from_distinct_below, Node, node_in, pool_for, pool_of, uid_of, Ptw, Sdw, uid_at, Links, is_for, kst_at, leads, place_of, table_of, IsKnownAt, words_few, is_uid, seen, Keeps, connected_of, descriptor_of, frames_from, frames_in, is_active, is_connected, trailers_in, State, few_kept, Command as command, What as what, Ptw as ptw, Sdw as sdw, eqb_self}
-use Rattle.machine_model.proofs.Laws.{active_place, none_length, within_by, none_some}
+use Rattle.machine_model.proofs.Kept.{◌≡◌, ◌<◌, ◌≤◌, ℕ, Bool, true, false, ◌||◌, cond, eqb, is_some, length, map, List, [], ◌∷◌, Option, Some, None, inl, inr, refl, sym, ap, ◌∙◌, arith, ◌+◌, ◌/◌, suc, drop, filter, position_or_len, range_with_len, get_or_past, length-range_with_len, Command, trailers_of, descriptors_taken, first_taken, frames_taken, AllByRecursion, IsDistinct, list_any, nat_le, eqb_tells, length-map, length-le_from_distinct_below, Node, node_in, pool_for, pool_of, uid_of, Ptw, Sdw, uid_at, Links, is_for, kst_at, leads, place_of, table_of, IsKnownAt, words_few, is_uid, seen, Keeps, connected_of, descriptor_of, frames_from, frames_in, is_active, is_connected, trailers_in, State, few_kept, Command as command, What as what, Ptw as ptw, Sdw as sdw, eqb_self, active_place, none_length, within_by, none_some, ArePairs, has_pair, is_pair}
 use Rattle.machine_model.proofs.TakeLists.{trailers_taken}
-use Rattle.machine_model.proofs.TookKept.{ArePairs, has_pair, is_pair}
 
 -- ---- pages
 
@@ -69,20 +67,14 @@ module _ (s : State) (u : ℕ) (k : Keeps s) (active : is_active s.store.ast u �
       outer = within_by s.store.links.known j [] (λ e. none_some (sym (cc) ∙ known_as j n h))
 
   uid_same : (v : ℕ) → is_uid u (Some v) ≡ true → v ≡ u
-  uid_same v e = elim (eqb_tells v u) [
-    | inl y ↦ y.1
-    | inr n ↦ cc
-  ]
+  uid_same v e = elim (eqb_tells v u) [ inl y ↦ y.1 | inr n ↦ cc ]
 
   -- no other one of them is of the same process
   apart : (x : ℕ × ℕ) (xs : List (ℕ × ℕ)) → (seen s).linked x.0 x.1 ≡ Some u → has_pair xs x.0 x.1 ≡ false
       → ArePairs (seen s).linked (what.Seg u) xs → AllByRecursion (λ y. eqb x.0 y ≡ false) (map (λ y. y.0) xs)
   apart x [] leads_there other are = tt
   apart x (y ∷ ys) leads_there other are = (
-    elim (eqb_tells x.0 y.0) [
-      | inl e ↦ absurd (one e.1)
-      | inr n ↦ n.0
-    ],
+    elim (eqb_tells x.0 y.0) [ inl e ↦ absurd (one e.1) | inr n ↦ n.0 ],
     apart x ys leads_there (later (is_pair x.0 x.1 y) (has_pair ys x.0 x.1) other) are.2,
   )
     where
@@ -111,10 +103,7 @@ module _ (s : State) (u : ℕ) (k : Keeps s) (active : is_active s.store.ast u �
   distinct : (xs : List (ℕ × ℕ)) → ArePairs (seen s).linked (what.Seg u) xs → IsDistinct eqb (map (λ y. y.0) xs)
   unfolding IsDistinct
   distinct [] are = tt
-  distinct (x ∷ xs) are = (
-    apart x xs (cc (uid_same are.0.0 are.0.2)) are.1 are.2,
-    distinct xs are.2,
-  )
+  distinct (x ∷ xs) are = (apart x xs (cc (uid_same are.0.0 are.0.2)) are.1 are.2, distinct xs are.2)
 
   below : (xs : List (ℕ × ℕ)) → ArePairs (seen s).linked (what.Seg u) xs → (q : ℕ)
       → list_any (eqb q) (map (λ y. y.0) xs) ≡ true → q < 32

@@ -1,11 +1,6 @@
 -- What the actions of a look ask follows from the promise, from what the look finds, and from what the calls of the
 -- store say.
-use Rattle.machine_model.proofs.Prelude.{or_zero, cases_Bool, eqb-true, and_parts, ◌≡◌, ◌<◌, ◌≤◌, ℕ, zero, suc, ◌+◌, ◌^◌, Bool, true, false, cond, eqb, List, is_some, is_none, sum, take, [], ◌∷◌, length, get_or, Option, Some, None, inl, inr, refl, sym, ap, subst, ◌∙◌, arith, ◌/◌, IsSomeAnd, IfSome, eqb_tells, leb_tells, sum_by-cons, reference_of, Command, Reference, Reply, Node, node_in, pool_for, pool_of, IsTree, IsMember, found_member, chain_of, uid_of, entry_at, IsInPool, first_of, kst_at, leads, place_of, table_of, word_of, reply_to_command, is_held_back, word_reply, known_uid, MayActivate, MayAnswerBy, MayJoin, stores, pages_of, pool_of_node, Outcome, seen, Keeps, IsMachine, flat_of, free_place, is_active, first_inactive, places_in, process_at, uid_of_number, Says, shown, State, page_made, older, Entry as entry, Ptw as ptw, Active as Entry, Action as act}
-use Rattle.machine_model.proofs.Laws.{active_place, chain_active, first_there, superior_active, truncate_stands, find_true, first_idle, one_still, inside_is, room_due, stays_free, within_by, FindsLink, FindsPage, FindsPlace, FindsRoom, IsAbout, IsInside, IsRefused, IsIdle, null_word, stored_is, has_room, is_its, activated_says, connected_says, created_says, refused_says, Speaks, can_refuse, can_tell, refusal_quiet, speaks_like, none_some, active_at}
-use Rattle.machine_model.proofs.RuleKept.{AsksCreate}
-use Rattle.machine_model.proofs.StepKept.{CanActivateAt, CanConnectTo, CanReply}
-use Rattle.machine_model.proofs.VictimLaws.{directory_is, in_range_is, some_there}
-use Rattle.machine_model.proofs.ListSizes.{pool_small}
+use Rattle.machine_model.proofs.StepBasics.{or_zero, cases_Bool, eqb-true, and_parts, ◌≡◌, ◌<◌, ◌≤◌, ℕ, zero, suc, ◌+◌, ◌^◌, Bool, true, false, cond, eqb, List, is_some, is_none, sum, take, [], ◌∷◌, length, get_or, Option, Some, None, inl, inr, refl, sym, ap, subst, ◌∙◌, arith, ◌/◌, IsSomeAnd, IfSome, eqb_tells, leb_tells, sum_by-cons, reference_of, Command, Reference, Reply, Node, node_in, pool_for, pool_of, IsTree, IsMember, found_member, chain_of, uid_of, entry_at, IsInPool, first_of, kst_at, leads, place_of, table_of, word_of, reply_to_command, is_held_back, word_reply, known_uid, MayActivate, MayAnswerBy, MayJoin, stores, pages_of, pool_of_node, Outcome, seen, Keeps, IsMachine, flat_of, free_place, is_active, first_inactive, places_in, process_at, uid_of_number, Says, shown, State, page_made, older, Entry as entry, Ptw as ptw, Active as Entry, Action as act, active_place, chain_active, first_there, superior_active, truncate_stands, find_true, first_idle, one_still, inside_is, room_due, stays_free, within_by, FindsLink, FindsPage, FindsPlace, FindsRoom, IsAbout, IsInside, IsRefused, IsIdle, null_word, stored_is, pool_room_has_room as has_room, is_its, activated_says, connected_says, created_says, refused_says, Speaks, can_refuse, can_tell, refusal_quiet, speaks_like, none_some, active_at, AsksCreate, CanActivateAt, CanConnectTo, CanReply, directory_is, in_range_is, some_there, pool_small}
 
 -- ---- nodes and places
 
@@ -55,8 +50,7 @@ module _ (s : State) (c : ℕ) (o : Outcome) (m : IsMachine s) (idle : IsIdle s.
   -- what a command is about is there
   pub about_there : (u : ℕ) → IsAbout s k cmd u → is_some (node_in nodes u) ≡ true
   about_there u h = elim h.case [
-    | inl x ↦ (let inside = inside_is s k x.0 keeps x.3 in
-        rw (← x.2) (cc))
+    | inl x ↦ (let inside = inside_is s k x.0 keeps x.3 in rw (← x.2) (cc))
     | inr x ↦ (let leads = truncate_stands s k keeps x.0 x.1 (rw (← x.2) x.3) in
         rw (← (sym leads.uid ∙ (sym (cc) ∙ x.4))) (cc))
   ]
@@ -116,19 +110,13 @@ module _ (s : State) (c : ℕ) (o : Outcome) (m : IsMachine s) (idle : IsIdle s.
   -- a number that a process knows is one of its 256
   pub known_within : (n u : ℕ) → uid_of (kst_at s.store.links.known k) n ≡ Some u
       → (k < length s.store.links.known) × (n < 256)
-  known_within n u h =
-      let inner = within_by (kst_at s.store.links.known k) n None (λ e. none_some (sym e ∙ h)) in
+  known_within n u h = let inner = within_by (kst_at s.store.links.known k) n None (λ e. none_some (sym e ∙ h)) in
       let outer = within_by s.store.links.known k [] (λ e. none_some (sym (cc) ∙ h)) in
       (outer, rw (← (keeps.store.kept.linked.lists.numbers k outer)) inner)
 
   pub connect_asks : (n u : ℕ) → FindsLink s k cmd n u → Says s c o (act.Connect n u) → CanConnectTo s c n u
   connect_asks n u finds says = record {
-    can = record {
-      known = known;
-      active = active;
-      unlinked = cc;
-      uncut = cc;
-    };
+    can = record { known = known; active = active; unlinked = cc; uncut = cc };
     outer = rw keeps.store.kept.linked.lists.processes within.0;
     inner = rw (keeps.store.kept.linked.lists.words k within.0) within.1;
     active = (active_place s.store.ast u active).1;
@@ -199,9 +187,8 @@ module _ (s : State) (c : ℕ) (o : Outcome) (m : IsMachine s) (idle : IsIdle s.
       → AsksCreate s c f u p r
   create_asks f u p r finds says = assumption (
     (active_place s.store.ast u active).0,
-    page_inner u p inside.node active
-        (sym (flat_node u) ∙ inside.there) (let within = inside.within in let page = finds.finds.page in omega
-        (arith, within, page)),
+    page_inner u p inside.node active (sym (flat_node u) ∙ inside.there)
+        (let within = inside.within in let page = finds.finds.page in omega (arith, within, page)),
     can_tell (page_made s f u p r) c k cmd None (word_reply 0 r.kind) (still_speaks f u p r)
         (inl (record { own = due; free = free })) may,
     created_says s c o f u u p r cmd keeps says speaks.next finds.finds.is inside.known zero_word finds.word,

@@ -1,5 +1,5 @@
 -- What a look of the owner finds for the command of its process, when it comes to each of its actions.
-use Rattle.machine_model.proofs.Prelude.{cond_both, cases_Bool, ◌≡◌, ◌≢◌, ◌<◌, ℕ, ◌*◌, Bool, true, false, cond, eqb, is_some, List, [], position, Option, Some, None, ◌⊎◌, inl, inr, refl, sym, ap, ◌∙◌, ◌%◌, ◌/◌, Mode, who_of, reference_of, Command, Reference, Reply, access_of, Node, node_in, chain_of, Frame, Core, frame_at, is_started, least_free_frame, started_page, clock_choice, Ptw, Sdw, frame_in, uid_at, victim_of, word_of, reply_by, reply_to_command, new_word, permits, reply_to_reference, known_uid, is_refusal, activate_first, activate_in, any_page, bring_cut, create_unless, descriptors_taken, empty_victim, empty_when_read, evict_or_wait, first_taken, frame_read_from, frames_taken, into_frame, look_at_descriptor, look_at_word, look_for, look_for_reference, look_inside, look_of, look_to_change, look_to_take, look_unless, pool_of_node, take_or_commit, unless_read, what_taken, with_chain, with_cut_page, look_to_create, move_or, is_out, descriptor_of, first_inactive, flat_of, frame_reading, free_place, is_active, is_page_of, or_zero, is_of_room, is_outside, only, outside_refusal, refusal_of, room_refusal, uid_of_command, uid_of_number, move_to, State, reply_to_tree_command, ◌∷◌, subst, nat_le, Command as command, Reply as reply, Frame as frame, Ptw as ptw, Sdw as sdw, actions_room_for as room_for, same_Some, Action, ForTransfer, Action as act}
+use Rattle.machine_model.proofs.Basics.{cond_both, cases_Bool, ◌≡◌, ◌≢◌, ◌<◌, ℕ, ◌*◌, Bool, true, false, cond, eqb, is_some, List, [], position, Option, Some, None, ◌⊎◌, inl, inr, refl, sym, ap, ◌∙◌, ◌%◌, ◌/◌, Mode, who_of, reference_of, Command, Reference, Reply, access_of, Node, node_in, chain_of, Frame, Core, frame_at, is_started, least_free_frame, started_page, clock_choice, Ptw, Sdw, frame_in, uid_at, victim_of, word_of, reply_by, reply_to_command, new_word, permits, reply_to_reference, known_uid, is_refusal, activate_first, activate_in, any_page, bring_cut, create_unless, descriptors_taken, empty_victim, empty_when_read, evict_or_wait, first_taken, frame_read_from, frames_taken, into_frame, look_at_descriptor, look_at_word, look_for, look_for_reference, look_inside, look_of, look_to_change, look_to_take, look_unless, pool_of_node, take_or_commit, unless_read, what_taken, with_chain, with_cut_page, look_to_create, move_or, is_out, descriptor_of, first_inactive, flat_of, frame_reading, free_place, is_active, is_page_of, or_zero, is_of_room, is_outside, only, outside_refusal, refusal_of, room_refusal, uid_of_command, uid_of_number, move_to, State, reply_to_tree_command, ◌∷◌, subst, nat_le, Command as command, Reply as reply, Frame as frame, Ptw as ptw, Sdw as sdw, actions_room_for as room_for, same_Some, Action, ForTransfer, Action as act}
 use Rattle.machine_model.proofs.FindLaws.{position_at}
 
 -- ---- what is found

@@ -1,20 +1,69 @@
 -- A look of the owner finds what its outline asks of its actions.
-use Rattle.machine_model.proofs.Prelude.{passed_there, ◌≡◌, ◌<◌, ℕ, zero, suc, Bool, true, false, not, cond, ◌&&◌, ◌||◌, eqb, List, [], ◌∷◌, length, get_or, map, Option, Some, None, Ok, ◌⊎◌, inl, inr, refl, sym, ap, subst, ◌∙◌, arith, ◌/◌, list_any, length-map, new_word, reference_of, Command, Reference, Node, node_in, found_member, chain_of, segment_at, is_free, least_free_frame, Frame, Ptw, store_frame, has_record, entry_at, uid_at, uid_in, off_chain, victim_of, known_uid, place_of, word_of, has, no_call, is_out, names, AreOf, CanActivate, CanEmpty, CanEvict, CanStart, IsIn, IsWantedPage, is_wanted_here, IsLook, KeepsLink, MayAnswer, MayConnect, MayEmpty, WantsPage, lack_of, seen, deactivation_begun, took, victim_taken, with_hand_moved, Keeps, has_free, is_here, page_fits, want_lack, wanted_chain, Want, Refer, Truncate, Length, Look, runner_at, want_at, around, bare, cut_page, is_linked, outline_of, want_by, want_lengthened, want_truncated, IsMachine, cpu_at, descriptor_of, first_inactive, flat_of, frames_from, is_active, is_connected, next_command, or_zero, process_at, processor_at, trailers_in, outside_refusal, refusal_of, uid_of_command, uid_of_number, shown, Owner, State, with_store, has_head, has_tail, Command as command, Frame as frame, Ptw as ptw, Active as Entry, Aim as aim, Phase as phase, finishing_is_bound as is_bound, finishing_page_of as page_of, outline_frame_in as frame_in, Action, ForTransfer, look_of, Action as act}
-use Rattle.machine_model.proofs.Laws.{active_place, chain_active, first_there, runs_stay, all_taken, emptying, emptying_victim, LeadsToSegment, length_stands, truncate_stands, choice_bound, free_frame, position_at, position_none, first_idle, bound_outlined, frame_outlined, named_here, not_here, stored_outlined, inside_is, within_by, FindsActive, FindsAll, FindsCut, FindsFull, FindsLink, FindsNoFrame, FindsNoVictim, FindsOut, FindsPage, FindsPlace, FindsVictim, IsAbout, IsInside, LookFinds, look_finds, in_look, at_outline, seen_reading, IsIdle, bound_here, looking_idle, Speaks, none_some, active_at, one_read}
+use Rattle.machine_model.proofs.StepBasics.{passed_there, ◌≡◌, ◌<◌, ℕ, zero, suc, Bool, true, false, not, cond, ◌&&◌, ◌||◌, eqb, List, [], ◌∷◌, length, get_or, map, Option, Some, None, Ok, ◌⊎◌, inl, inr, refl, sym, ap, subst, ◌∙◌, arith, ◌/◌, list_any, length-map, new_word, reference_of, Command, Reference, Node, node_in, found_member, chain_of, segment_at, is_free, least_free_frame, Frame, Ptw, store_frame, has_record, entry_at, uid_at, uid_in, off_chain, victim_of, known_uid, place_of, word_of, has, no_call, is_out, names, AreOf, CanActivate, CanEmpty, CanEvict, CanStart, IsIn, IsWantedPage, is_wanted_here, IsLook, KeepsLink, MayAnswer, MayConnect, MayEmpty, WantsPage, lack_of, seen, deactivation_begun, took, victim_taken, with_hand_moved, Keeps, has_free, is_here, page_fits, want_lack, wanted_chain, Want, Refer, Truncate, Length, Look, runner_at, want_at, around, bare, cut_page, is_linked, outline_of, want_by, want_lengthened, want_truncated, IsMachine, cpu_at, descriptor_of, first_inactive, flat_of, frames_from, is_active, is_connected, next_command, or_zero, process_at, processor_at, trailers_in, outside_refusal, refusal_of, uid_of_command, uid_of_number, shown, Owner, State, with_store, has_head, has_tail, Command as command, Frame as frame, Ptw as ptw, Active as Entry, Aim as aim, Phase as phase, finishing_is_bound as is_bound, finishing_page_of as page_of, outline_frame_in as frame_in, Action, ForTransfer, look_of, Action as act, command_at, What, Sdw, Links, leads, descriptor_cut, unlinked, trailer_gone, Aim, CutDescriptor, seg_gone, segment_taken, segs_gone, reference_in, runner_by, cut_of_owner, run_at, What as what, Sdw as sdw, active_place, chain_active, first_there, runs_stay, all_taken, emptying, emptying_victim, LeadsToSegment, length_stands, truncate_stands, choice_bound, free_frame, position_at, position_none, first_idle, bound_outlined, frame_outlined, named_here, not_here, stored_outlined, inside_is, within_by, FindsActive, FindsAll, FindsCut, FindsFull, FindsLink, FindsNoFrame, FindsNoVictim, FindsOut, FindsPage, FindsPlace, FindsVictim, IsAbout, IsInside, LookFinds, look_finds, in_look, at_outline, seen_reading, IsIdle, bound_here, looking_idle, Speaks, none_some, active_at, one_read, frames_from_few, listed_bound, some_there, has_victim, member_contains, victim_is_off, SameRuns, by_places, took_has, descriptors_put, linked_within}
 use Rattle.machine_model.proofs.ForeseeLaws.{has_answer, waits_reading}
-use Rattle.machine_model.proofs.LinkSeen.{fault_link, segment_faults, tree_link}
-use Rattle.machine_model.proofs.ListSizes.{frames_from_few}
 use Rattle.machine_model.proofs.LookAsks.{about_there, free_is, free_within, known_within, page_active}
-use Rattle.machine_model.proofs.TakeLists.{listed_bound}
-use Rattle.machine_model.proofs.VictimLaws.{some_there, has_victim, member_contains, victim_is_off}
 use Rattle.machine_model.proofs.WantLaws.{linked_here, refer_wants, want_here}
+
+-- ---- Whether the descriptor of a processor's next command is connected, while a job takes pages and descriptors.
+
+-- a descriptor that faults goes on doing so
+abbrev pub StillFaults : Links → Links → Type 0
+StillFaults old now = (k n : ℕ) → descriptor_of old k n ≡ sdw.Fault → descriptor_of now k n ≡ sdw.Fault
+
+cut_faults : (links : Links) (k n : ℕ) → StillFaults links (descriptor_cut links k n)
+cut_faults links k n i j h = by (descriptor_of links k n) refl
+  where
+    by : (x : Sdw) → descriptor_of links k n ≡ x → descriptor_of (unlinked links k n (leads x)) i j ≡ sdw.Fault
+    by sdw.Fault e = h
+    by (sdw.Present aste m pages) e = let within = linked_within links k n (λ f. none_some (sym (ap leads f)
+        ∙ ap leads e)) in
+        descriptors_put links (trailer_gone links.trailers aste k n) k n sdw.Fault within.0 within.1 i j
+        ∙ by_places (λ y. y ≡ sdw.Fault) (λ a b. descriptor_of links a b) k n sdw.Fault i j (λ a b. refl) (λ m. h)
+
+took_faults : (s : State) (c : ℕ) (a : Aim) (w : What) (fs : List ℕ) (pairs : List (ℕ × ℕ))
+    → StillFaults s.store.links (took s c a w fs pairs).store.links
+took_faults s c a w fs pairs k n h = took_has (λ st. descriptor_of st.links k n ≡ sdw.Fault) (λ st f u p e. e)
+    (λ st i j e. cut_faults st.links i j k n e) c a w s fs pairs h
+
+gone_faults : (s : State) (ds : List CutDescriptor) → StillFaults s.store.links (segs_gone s ds).store.links
+gone_faults s [] k n h = h
+gone_faults s (d ∷ ds) k n h = gone_faults (seg_gone s d) ds k n h
+
+pub segment_faults : (s : State) (c u : ℕ) (fs : List ℕ) (pairs : List (ℕ × ℕ))
+    → StillFaults s.store.links (segment_taken s c u fs pairs).store.links
+segment_faults s c u [] [] k n h = gone_faults s (cut_of_owner s.owner) k n h
+segment_faults s c u [] (x ∷ xs) k n h = took_faults s c (aim.Deactivating u) (what.Seg u) [] (x ∷ xs) k n h
+segment_faults s c u (f ∷ fs) pairs k n h = took_faults s c (aim.Deactivating u) (what.Seg u) (f ∷ fs) pairs k n h
+
+-- ---- the next command's
+
+module _ (s t : State) (c k : ℕ) (its : (cpu_at s.processors c).process ≡ Some k) (same : SameRuns s t) where
+  same_next : next_command t k ≡ next_command s k
+  same_next = λ i. command_at (same.plan i) k (run_at (same.runs i) k).place
+
+  link_of : (u : State) → (next_command u k ≡ next_command s k)
+      → (runner_by (around u) (processor_at s.processors c) (cpu_at s.processors c).process).linked
+      ≡ is_linked (around u) k (reference_in (next_command s k))
+  link_of u next = cc
+
+  -- of a command without a reference none is
+  pub tree_link : (cmd : Command) → next_command s k ≡ Some cmd → reference_of cmd ≡ None → KeepsLink s t c
+  tree_link cmd next none = (link_of t same_next ∙ off t) ∙ sym (link_of s refl ∙ off s)
+    where
+      off : (u : State) → is_linked (around u) k (reference_in (next_command s k)) ≡ false
+      off u = cc
+
+  -- one that faults does so still
+  pub fault_link : (cmd : Command) (r : Reference) → next_command s k ≡ Some cmd → reference_of cmd ≡ Some r
+      → descriptor_of s.store.links k r.number ≡ sdw.Fault → descriptor_of t.store.links k r.number ≡ sdw.Fault
+      → KeepsLink s t c
+  fault_link cmd r next is was now = cc (link_of t same_next, link_of s refl)
 
 -- ---- frames
 
 bare_free : (x : Frame) → is_free (bare x) ≡ is_free x
 bare_free frame.Free = refl
-bare_free (frame.Started u p) = refl
-bare_free (frame.Bound u p used modified) = refl
+bare_free _ = refl
 
 none_free : (fs : List Frame) → ((i : ℕ) → is_free (get_or fs i (frame.Started 0 0)) ≡ false)
     → list_any is_free (map bare fs) ≡ false
@@ -55,11 +104,7 @@ module _ (s : State) (k : Keeps s) where
       → AreOf (outline_of s) (place_of s.store.ast.entries u) fs
   are_of u active [] h = tt
   are_of u active (f ∷ fs) h = let at = listed_bound s u 0 k f (h f (has_head f fs)) in (
-    (
-      bound_within f (u, at.0) at.1,
-      bound_there f (u, at.0) at.1,
-      cc (bound_outlined s f, place_is u active),
-    ),
+    (bound_within f (u, at.0) at.1, bound_there f (u, at.0) at.1, cc (bound_outlined s f, place_is u active)),
     are_of u active fs (λ g i. h g (has_tail f fs g i)),
   )
 
@@ -302,10 +347,7 @@ module _ (s : State) (c : ℕ) (m : IsMachine s) (cmd : Command) (sp : Speaks s 
     reference = finds.reference;
     number = finds.number;
     process = k;
-    placed = record {
-      here = sp.its;
-      only = λ d other e. other (m.scheduled.alone d c k e sp.its);
-    };
+    placed = record { here = sp.its; only = λ d other e. other (m.scheduled.alone d c k e sp.its) };
     next = cc;
     there = record {
       process = rw keeps.store.kept.linked.lists.processes within.0;
@@ -367,9 +409,8 @@ module _ (s : State) (c : ℕ) (m : IsMachine s) (cmd : Command) (sp : Speaks s 
 
       link : KeepsLink s (victim_taken s c pool chain u) c
       link = elim finds.link.case.case [
-        | inl x ↦ fault_link s (victim_taken s c pool chain u) c k sp.its
-            (runs_stay (emptying_victim s c pool chain u)) cmd x.0 sp.next x.1 x.4
-            (segment_faults (with_store s (with_hand_moved s.store pool chain)) c u
+        | inl x ↦ fault_link s (victim_taken s c pool chain u) c k sp.its (runs_stay (emptying_victim s c pool chain u))
+            cmd x.0 sp.next x.1 x.4 (segment_faults (with_store s (with_hand_moved s.store pool chain)) c u
             (frames_from (with_hand_moved s.store pool chain).ast u 0)
             (trailers_in (with_hand_moved s.store pool chain) u) k x.0.number x.4)
         | inr x ↦ tree_link s (victim_taken s c pool chain u) c k sp.its

@@ -1,16 +1,12 @@
 -- A machine that keeps its promise keeps it through each step, where the calls of its store do what they say.
-use Rattle.machine_model.proofs.Prelude.{◌<◌, ℕ, length, sym, ap, subst, ◌∙◌, IsPlan, Plan, action_of, Outcome, after, Keeps, AsksMover, mover_of, IsMachine, KeepsAll, Says, State, next_command, process_at, IsEntitledToAll, IsReading, IsWorking, Action, Action as act}
-use Rattle.machine_model.proofs.EntitledKept.{MayEntitle, entitled_kept}
+use Rattle.machine_model.proofs.StepBasics.{◌<◌, ℕ, length, sym, ap, subst, ◌∙◌, IsPlan, Plan, action_of, Outcome, after, Keeps, AsksMover, mover_of, IsMachine, KeepsAll, Says, State, next_command, process_at, IsEntitledToAll, IsReading, IsWorking, Action, Action as act, MayEntitle, entitled_kept, action_asks, tie_kept, schedule_kept, CanDo, after_keeps}
 use Rattle.machine_model.proofs.CommitRights.{commit_entitled, moved_entitled}
-use Rattle.machine_model.proofs.MoverTied.{action_asks, tie_kept}
 use Rattle.machine_model.proofs.PoolsKept.{SamePools, pools_kept}
 use Rattle.machine_model.proofs.RulesKept.{action_can}
-use Rattle.machine_model.proofs.ScheduleKept.{schedule_kept}
 use Rattle.machine_model.proofs.FitsKept.{fits_kept}
 use Rattle.machine_model.proofs.StepAsks.{step_asks}
 use Rattle.machine_model.proofs.ReadKept.{IsPast, is_past, reading_kept}
 use Rattle.machine_model.proofs.StepGoes.{comes, may_read, may_schedule, may_work}
-use Rattle.machine_model.proofs.StepKept.{CanDo, after_keeps}
 use Rattle.machine_model.proofs.StepKnows.{Knows, step_knows}
 use Rattle.machine_model.proofs.WorkStep.{work_kept}
 

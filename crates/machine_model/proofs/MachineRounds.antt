@@ -1,13 +1,8 @@
 -- How the turns of the loop that makes the machine end join, said of machines.
-use Rattle.machine_model.proofs.Prelude.{◌≡◌, ◌≢◌, ◌≤◌, ◌<◌, ℕ, zero, suc, ◌+◌, Bool, true, false, not, cond, ◌&&◌, ◌||◌, eqb, length, List, [], ◌∷◌, Option, Some, None, is_some, ◌⊎◌, inl, inr, refl, sym, ap, subst, ◌∙◌, arith, list_any, ForClear, ForOwner, ForTransfer, WhileIdle, action_of, has_process, is_empty, is_over, IsEnded, IsIn, Step, AwaitsClear, AwaitsTransfer, CommandDone, CommandStep, Goes, HasTaken, IsReader, JobDone, IsUnderWay, JobFell, OwnerStep, RoundDone, is_at, all_rank, Ended, Keeper, Moved, Stage, Look, Turn, WaitsFor, runner_at, around, outline_of, stage_of, IsKept, KeepsAll, cpu_at, processor_at, HasStepped, IsGoing, IsOwnedBy, Owner, State, turn_of, Processor}
-use Rattle.machine_model.proofs.CommandLaws.{command_step, idle_step}
+use Rattle.machine_model.proofs.StepBasics.{◌≡◌, ◌≢◌, ◌≤◌, ◌<◌, ℕ, zero, suc, ◌+◌, Bool, true, false, not, cond, ◌&&◌, ◌||◌, eqb, length, List, [], ◌∷◌, Option, Some, None, is_some, ◌⊎◌, inl, inr, refl, sym, ap, subst, ◌∙◌, arith, list_any, ForClear, ForOwner, ForTransfer, WhileIdle, action_of, has_process, is_empty, is_over, IsEnded, IsIn, Step, AwaitsClear, AwaitsTransfer, CommandDone, CommandStep, Goes, HasTaken, IsReader, JobDone, IsUnderWay, JobFell, OwnerStep, RoundDone, is_at, all_rank, Ended, Keeper, Moved, Stage, Look, Turn, WaitsFor, runner_at, around, outline_of, stage_of, IsKept, KeepsAll, cpu_at, processor_at, HasStepped, IsGoing, IsOwnedBy, Owner, State, turn_of, Processor, lack_few, in_job, step_outlined, at_outline, long_outline, seen_since, owner_none, kept_seen, no_owner, running_is, clear_step, inside, owner_step}
+use Rattle.machine_model.proofs.CommandLaws.{command_step, idle_step, read_step}
 use Rattle.machine_model.proofs.ForeseeAll.{foresees}
-use Rattle.machine_model.proofs.LackLaws.{lack_few}
 use Rattle.machine_model.proofs.LoopLaws.{goes_on, goes_self, job_goes, job_over, reader_there, taken_done, waited_fell}
-use Rattle.machine_model.proofs.Laws.{in_job, step_outlined, at_outline, long_outline, seen_since, owner_none}
-use Rattle.machine_model.proofs.OutlineSeen.{kept_seen, no_owner, running_is}
-use Rattle.machine_model.proofs.ReadLaws.{read_step}
-use Rattle.machine_model.proofs.StepLaws.{clear_step, inside, owner_step}
 
 -- ---- a step
 
@@ -97,10 +92,7 @@ pub job_owner : (a b : State) (c : ℕ) → Goes (outline_of a) (outline_of b) c
     → IsOwnedBy b c
 job_owner a b c goes q mine = record { owner = q; mine = mine; cpu = ap cpu_or (sym is ∙ under.in_job) }
   where
-    is : (outline_of b).owner ≡ Some (record {
-      cpu = q.cpu;
-      stage = stage_of b.store.ast.entries q.frames q.phase;
-    })
+    is : (outline_of b).owner ≡ Some (record { cpu = q.cpu; stage = stage_of b.store.ast.entries q.frames q.phase })
     is = in_job b q mine
 
     under : IsUnderWay (outline_of a) (outline_of b) c
@@ -157,22 +149,12 @@ module _ (s t : State) (c : ℕ) (going : IsGoing s) (keeps : KeepsAll t) (there
   pub command_took : (q : Owner) → t.owner ≡ Some q → IsOwnedBy t c × HasTaken (outline_of s) (outline_of t) c
   command_took q mine = by moved
     where
-      is : (outline_of t).owner ≡ Some (record {
-        cpu = q.cpu;
-        stage = stage_of t.store.ast.entries q.frames q.phase;
-      })
+      is : (outline_of t).owner ≡ Some (record { cpu = q.cpu; stage = stage_of t.store.ast.entries q.frames q.phase })
       is = in_job t q mine
 
       by : HasTaken (outline_of s) (outline_of t) c ⊎ CommandDone (outline_of s) (outline_of t) c
           → IsOwnedBy t c × HasTaken (outline_of s) (outline_of t) c
-      by (inl taken) = (
-        record {
-          owner = q;
-          mine = mine;
-          cpu = ap cpu_or (sym is ∙ looking_is s t c taken);
-        },
-        taken,
-      )
+      by (inl taken) = (record { owner = q; mine = mine; cpu = ap cpu_or (sym is ∙ looking_is s t c taken) }, taken)
       by (inr done) = cc (done_free s t c done, is)
 
   -- or the turn is done

@@ -1,9 +1,6 @@
 -- What a reference that a processor makes by itself asks follows from the promise, and from what it holds.
-use Rattle.machine_model.proofs.Prelude.{cases_Bool, eqb-true, and_parts, cond_both, eqb_self, ◌≡◌, ℕ, ◌*◌, Bool, true, false, ◌&&◌, ◌||◌, cond, eqb, suc, List, [], ◌∷◌, map, get_or, Option, Some, None, inl, inr, refl, sym, ap, subst, ◌∙◌, arith, ◌/◌, nat_le, find, option_map, eqb_tells, leb_tells, ProcessPlan, nobody, who_of, reference_of, Command, RefKind, Reference, Reply, HeldPage, HeldSeg, frame_of, is_number, is_page, seg_of, access_of, Node, node_in, Ptw, Sdw, uid_at, has_record, word_of, who_at, reply_to_command, is_stored, alters, new_word, permits, reply_to_reference, room_reply, stores_page, word_reply, written, Store, known_uid, DescriptorUse, IsPageAt, MayDo, is_word_or_done, stores, has, leads_to, Outcome, AreHeldPages, AreHeldSegs, names, AreEntitled, IsEntitled, IsEntitledToAll, led_to, seen, page_in, AreThere, Keeps, cpu_at, cut_of_owner, descriptor_of, flat_of, is_active, process_at, Says, Seen, cut_uid, cut_use, descriptor_use, is_cut_at, shown, State, Storage, old_word, CutDescriptor, not_both, RefKind as kind, Reply as reply, Ptw as ptw, Sdw as sdw, references_after_reference as after_reference, custody_bound_page as bound_page, same_Some, Action as act}
-use Rattle.machine_model.proofs.ActiveKept.{through_seen}
-use Rattle.machine_model.proofs.Laws.{bound_shown, find_true, IsAlike, alike, stored_due, zero_due, zero_free, stored_free, IsInside, active_there, bound_word, null_word, stored_is, plain_says, refused_says, through_says, Speaks, can_refuse, can_tell, binding_is, CanTell, active_at}
+use Rattle.machine_model.proofs.Kept.{cases_Bool, eqb-true, and_parts, cond_both, eqb_self, ◌≡◌, ℕ, ◌*◌, Bool, true, false, ◌&&◌, ◌||◌, cond, eqb, suc, List, [], ◌∷◌, map, get_or, Option, Some, None, inl, inr, refl, sym, ap, subst, ◌∙◌, arith, ◌/◌, nat_le, find, option_map, eqb_tells, leb_tells, ProcessPlan, nobody, who_of, reference_of, Command, RefKind, Reference, Reply, HeldPage, HeldSeg, frame_of, is_number, is_page, seg_of, access_of, Node, node_in, Ptw, Sdw, uid_at, has_record, word_of, who_at, reply_to_command, is_stored, alters, new_word, permits, reply_to_reference, room_reply, stores_page, word_reply, written, Store, known_uid, DescriptorUse, IsPageAt, MayDo, is_word_or_done, stores, has, leads_to, Outcome, AreHeldPages, AreHeldSegs, names, AreEntitled, IsEntitled, IsEntitledToAll, led_to, seen, page_in, AreThere, Keeps, cpu_at, cut_of_owner, descriptor_of, flat_of, is_active, process_at, Says, Seen, cut_uid, cut_use, descriptor_use, is_cut_at, shown, State, Storage, old_word, CutDescriptor, not_both, RefKind as kind, Reply as reply, Ptw as ptw, Sdw as sdw, references_after_reference as after_reference, custody_bound_page as bound_page, same_Some, Action as act, through_seen, bound_shown, find_true, IsAlike, alike, stored_due, zero_due, zero_free, stored_free, IsInside, active_there, bound_word, null_word, stored_is, plain_says, refused_says, through_says, Speaks, can_refuse, can_tell, binding_is, tell_kept_CanTell as CanTell, active_at, some_there}
 use Rattle.machine_model.proofs.StepKept.{CanGoThrough, CanReply}
-use Rattle.machine_model.proofs.VictimLaws.{some_there}
 
 -- ---- what is held
 
@@ -62,8 +59,7 @@ page_is_held bound (x ∷ xs) u p f h all = elim (cases_Bool (is_page u p x)) [
     or_right false e = e
 
     same_both : (a b c d : ℕ) → (eqb a c && eqb b d) ≡ true → (a ≡ c) × (b ≡ d)
-    same_both a b c d e = let parts = and_parts (eqb a c) (eqb b d) e in
-        (eqb-true a c parts.0, eqb-true b d parts.1)
+    same_both a b c d e = let parts = and_parts (eqb a c) (eqb b d) e in (eqb-true a c parts.0, eqb-true b d parts.1)
 
 -- a page that is in a frame is stored
 pub bound_stored : (s : State) → Keeps s → (f u p : ℕ) → is_active s.store.ast u ≡ true
@@ -158,12 +154,7 @@ module _ (s : State) (c : ℕ) (keeps : Keeps s) (entitled : IsEntitledToAll s) 
 
   has_node : HasNode
   has_node = let n = some_there (node_in s.store.accounts.nodes h.uid) (active_there s keeps h.uid held_active) in
-      record {
-        node = n.0;
-        there = cc;
-        mode = cc (right.mode n.0 n.1, who_is s keeps k);
-        pages = right.pages n.0 n.1;
-      }
+      record { node = n.0; there = cc; mode = cc (right.mode n.0 n.1, who_is s keeps k); pages = right.pages n.0 n.1 }
 
   -- a reference that the held descriptor refuses
   no_access : permits h.mode r.kind ≡ false → reply_to_reference s.plan t k r ≡ reply.NoAccess
@@ -205,8 +196,7 @@ module _ (s : State) (c : ℕ) (keeps : Keeps s) (entitled : IsEntitledToAll s) 
 
     word_answer : (w : ℕ) (how : RefKind) → is_word_or_done (word_reply w how) ≡ true
     word_answer w kind.Read = refl
-    word_answer w (kind.Write v) = refl
-    word_answer w (kind.Add v) = refl
+    word_answer w _ = refl
 
     -- a page of zeros that stays one
     pub zero_asks : word_of s.store.ast h.uid (r.offset / 1024) ≡ ptw.Null → eqb (new_word 0 r.kind) 0 ≡ true

@@ -1,9 +1,6 @@
 -- What custody sees of a machine where a page is being read, is there, isn't, or is made, and where a descriptor is
 -- connected.
-use Rattle.machine_model.proofs.Prelude.{◌≡◌, ◌≢◌, ◌<◌, ℕ, true, false, List, [], ◌∷◌, ◌++◌, length, set, Option, Some, None, sym, ap, ◌∙◌, Mode, Ptw, framed, uid_at, Transfer, place_of, sdws_at, table_of, linked, at_put, at_put_two, back_seg, page_brought, connected, here, lost, page_started, with_transfer, is_out, led_to, seen, descriptor_of, no_processor, processor_at, Processor, CutDescriptor, Owner, State, brought, with_created, with_pages, Entry as entry, Frame as frame, Ptw as ptw, Sdw as sdw}
-use Rattle.machine_model.proofs.LeaveSeen.{unread_put as none_put}
-use Rattle.machine_model.proofs.Basics.{put_list, put_two_map, bound_put, reads_put, word_put}
-use Rattle.machine_model.proofs.TakeSeen.{HasTables, descriptors_put, words_put}
+use Rattle.machine_model.proofs.Laws.{◌≡◌, ◌≢◌, ◌<◌, ℕ, true, false, List, [], ◌∷◌, ◌++◌, length, set, Option, Some, None, sym, ap, ◌∙◌, Mode, Ptw, framed, uid_at, Transfer, place_of, sdws_at, table_of, linked, at_put, at_put_two, back_seg, page_brought, connected, here, lost, page_started, with_transfer, is_out, led_to, seen, descriptor_of, no_processor, processor_at, Processor, CutDescriptor, Owner, State, brought, with_created, with_pages, Entry as entry, Frame as frame, Ptw as ptw, Sdw as sdw, unread_put as none_put, put_list, put_two_map, bound_put, reads_put, word_laws_word_put as word_put, HasTables, descriptors_put, words_put}
 
 -- a processor with another transfer
 abbrev pub with_reading : State → ℕ → Option Transfer → List Processor

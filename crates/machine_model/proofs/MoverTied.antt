@@ -1,7 +1,49 @@
 -- The move that segment control has under way is that of the supervisor's owner, after each action.
-use Rattle.machine_model.proofs.Prelude.{◌≡◌, ℕ, eqb, not, ◌&&◌, List, [], ◌∷◌, position, Option, Some, None, refl, sym, ap, subst, ◌∙◌, cond_both, reference_of, Command, Reference, What, bound_page, frame_in, Move, Transfer, table_of, next_out, Aim, Phase, Processor, action_of, by_move, clear_or, come_to, copy_or_commit, finish_of, go_on_with, has_had_its_turn, is_empty, load_or_idle, look_of, once_cleared, own_or_run, refer_or_take, run_process, take_or_wait, transfer_or, Outcome, after, committed, committed_at, with_effect, cut_all, cut_one, emptied, here_if, leaving_if, owner_signalled, segment_taken, take_all, take_one, took, with_choice, with_hand_moved, with_here, without_first_frame, write_failed, phase_signalled, AsksMover, mover_in, mover_of, copy_failed, page_copied, IsMachine, frames_from, frames_of_owner, is_due, next_command, process_at, processor_at, trailers_in, uid_of_command, Owner, State, Storage, with_store, with_faults, Command as command, What as what, Move as move, Aim as aim, Phase as phase, Action, move_of, Action as act}
-use Rattle.machine_model.proofs.Basics.{is_back, is_emptied, action_by, by_end, effect_rests}
-use Rattle.machine_model.proofs.LookLaws.{IsLook, look_is}
+use Rattle.machine_model.proofs.Laws.{◌≡◌, ℕ, eqb, not, ◌&&◌, List, [], ◌∷◌, position, Option, Some, None, refl, sym, ap, subst, ◌∙◌, cond_both, reference_of, Command, Reference, What, bound_page, frame_in, Move, Transfer, table_of, next_out, Aim, Phase, Processor, action_of, by_move, clear_or, come_to, copy_or_commit, finish_of, go_on_with, has_had_its_turn, is_empty, load_or_idle, look_of, once_cleared, own_or_run, refer_or_take, run_process, take_or_wait, transfer_or, Outcome, after, committed, committed_at, with_effect, cut_all, cut_one, emptied, here_if, leaving_if, owner_signalled, segment_taken, take_all, take_one, took, with_choice, with_hand_moved, with_here, without_first_frame, write_failed, phase_signalled, AsksMover, mover_in, mover_of, copy_failed, page_copied, IsMachine, frames_from, frames_of_owner, is_due, next_command, process_at, processor_at, trailers_in, uid_of_command, Owner, State, Storage, with_store, with_faults, Command as command, What as what, Move as move, Aim as aim, Phase as phase, Action, move_of, Action as act, true, false, ◌==◌, least_free_frame, clock_choice, word_of, is_out, frame_reading, free_place, is_active, Ptw as ptw, is_back, is_emptied, action_by, by_end, effect_rests, first_idle, LookFinds, look_finds}
+
+-- ---- What a look of the owner comes to, and what is true then of the frames and of the active segments.
+
+-- An action that a look may come to. A page is read into the least free frame where it is read into none, and made in
+-- it where it has no record; the clock's choice is evicted; a segment that isn't active takes a free place.
+abbrev pub IsLook : State → Action → Type 0
+IsLook s (act.Waits why) = Unit {0}
+IsLook s (act.Answer r) = Unit {0}
+IsLook s act.GiveUp = Unit {0}
+IsLook s (act.Activate u place) = (is_active s.store.ast u ≡ false) ×
+    ((pool : ℕ) × (free_place s.store.ast pool ≡ Some place))
+IsLook s (act.Connect n u) = Unit {0}
+IsLook s (act.Create f u p r) = (least_free_frame s.store.pages.core ≡ Some f) × (word_of s.store.ast u p ≡ ptw.Null)
+IsLook s (act.Start f u p) = (least_free_frame s.store.pages.core ≡ Some f) ×
+    (frame_reading s.store.pages.core u (λ q. q == p) ≡ None) × (is_out (word_of s.store.ast u p) ≡ true)
+IsLook s (act.Evict f) = clock_choice s.store.pages.core ≡ Some f
+IsLook s (act.Empty u) = Unit {0}
+IsLook s (act.EmptyVictim pool chain u) = Unit {0}
+IsLook s (act.TakeAway fs pairs w) = Unit {0}
+IsLook s (act.BeginMove u volume) = Unit {0}
+IsLook s act.Commit = Unit {0}
+IsLook s _ = ⊥
+
+-- what is found is such an action
+finds_look : (s : State) (k : ℕ) (c : Command) (a : Action) → LookFinds s k c a → IsLook s a
+finds_look s k c (act.Activate u place) h = (first_idle s.store.ast _ u h.link.first, (_, h.free))
+finds_look s k c (act.Create f u p r) h = (h.frame, h.null)
+finds_look s k c (act.Start f u p) h = (h.frame, h.unread, h.out)
+finds_look s k c (act.Evict f) h = h.choice
+finds_look s k c (act.Waits why) h = tt
+finds_look s k c (act.Answer r) h = tt
+finds_look s k c act.GiveUp h = tt
+finds_look s k c (act.Connect n u) h = tt
+finds_look s k c (act.Empty u) h = tt
+finds_look s k c (act.EmptyVictim pool chain u) h = tt
+finds_look s k c (act.TakeAway fs pairs w) h = tt
+finds_look s k c (act.BeginMove u volume) h = tt
+finds_look s k c act.Commit h = tt
+finds_look s k c _ h = absurd h
+
+-- whatever the next command is
+pub look_is : (s : State) (k : ℕ) (x : Option Command) → IsLook s (look_of s k x)
+look_is s k None = tt
+look_is s k (Some c) = finds_look s k c (look_of s k (Some c)) (look_finds s k c)
 
 -- ---- what the rules know
 
@@ -161,9 +203,8 @@ failed s c faults h = still ((is_back s c faults).moving ∙ h.moving) refl
 
 commits : (s : State) (c : ℕ) (x : Option Command) → IsStill s → IsStill (committed_at s c x)
 commits s c None h = h
-commits s c (Some cmd) h = by cmd
-    (effect_rests s.store (process_at s c) (uid_of_command s.store (process_at s c) cmd) (frames_of_owner s.owner)
-    cmd).moving
+commits s c (Some cmd) h = by cmd (effect_rests s.store (process_at s c) (uid_of_command s.store (process_at s c) cmd)
+    (frames_of_owner s.owner) cmd).moving
   where
     by : (x : Command)
         → (with_effect s.store (process_at s c) (uid_of_command s.store (process_at s c) x) (frames_of_owner s.owner)

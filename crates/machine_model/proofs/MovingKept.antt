@@ -1,8 +1,5 @@
 -- The machine keeps its promise through the steps of a move.
-use Rattle.machine_model.proofs.Prelude.{◌≡◌, ◌≤◌, ℕ, false, List, [], ◌∷◌, ◌++◌, Option, Some, None, ◌⊎◌, inl, inr, refl, sym, ap, subst, ◌∙◌, arith, count_by, suc, zero, ◌^◌, min, Rose, IsLawful, MayFault, after_entry, MayMove, MayRehome, custody_next, Ptw, ptw_at, rehomed, rehomed_word, binding_at, bindings_modified, reads_modified, ActiveSegs, Mover, map_at, place_of, table_of, word_of, tabled, read_at, KeepsBook, is_out, is_pending, names, seen, IsAtWork, Keeps, StoreSays, is_fault, copy_failed, move_begun, move_committed, mover_to, moving, page_copied, past_page, volumes_in, without_move, flat_of, process_at, processor_at, run_at, Seen, bound_use, frame_use, shown, Owner, State, fault_told, looking, with_faults, with_store, length-set, Entry as entry, Reply as reply, Ptw as ptw}
-use Rattle.machine_model.proofs.Laws.{fault_keeps, owner_keeps, faults_push, IsIdle, nobody, set_either, CanTell, told_keeps, kept_with, quiet_faults}
-use Rattle.machine_model.proofs.BookNext.{book_apart}
-use Rattle.machine_model.proofs.ActiveKept.{looks_idle}
+use Rattle.machine_model.proofs.Kept.{◌≡◌, ◌≤◌, ℕ, false, List, [], ◌∷◌, ◌++◌, Option, Some, None, ◌⊎◌, inl, inr, refl, sym, ap, subst, ◌∙◌, arith, count_by, suc, zero, ◌^◌, min, Rose, IsLawful, MayFault, after_entry, MayMove, MayRehome, custody_next, Ptw, ptw_at, rehomed, rehomed_word, binding_at, bindings_modified, reads_modified, ActiveSegs, Mover, map_at, place_of, table_of, word_of, tabled, read_at, KeepsBook, is_out, is_pending, names, seen, IsAtWork, Keeps, StoreSays, is_fault, copy_failed, move_begun, move_committed, mover_to, moving, page_copied, past_page, volumes_in, without_move, flat_of, process_at, processor_at, run_at, Seen, bound_use, frame_use, shown, Owner, State, fault_told, looking, with_faults, with_store, length-set, Entry as entry, Reply as reply, Ptw as ptw, fault_keeps, owner_keeps, faults_push, IsIdle, owned_laws_nobody as nobody, set_either, tell_kept_CanTell as CanTell, told_keeps, kept_with, quiet_faults, book_apart, looks_idle}
 
 -- ---- owners that have taken nothing
 
@@ -71,10 +68,7 @@ pub word_rehomed : (ast : ActiveSegs) (uid : ℕ) (places : List (Option ℕ)) (
 word_rehomed ast uid places u p = elim (set_either ast.tables (place_of ast.entries uid)
     (rehomed (table_of ast uid) places) (place_of ast.entries u) []) [
       | inl same ↦ inl (cc)
-      | inr is ↦ (let at = rehomed_at (table_of ast uid) places p in inr (
-        at.0,
-        cc,
-      ))
+      | inr is ↦ (let at = rehomed_at (table_of ast uid) places p in inr (at.0, cc))
     ]
 
 -- what custody sees of a word is as before

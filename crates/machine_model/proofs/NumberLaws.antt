@@ -1,8 +1,6 @@
 -- What a job cuts is known by its number to its process, and is so still once it is cut.
-use Rattle.machine_model.proofs.Prelude.{◌≡◌, ◌≤◌, ◌+◌, ℕ, arith, length, List, [], ◌∷◌, ◌++◌, Option, Some, None, refl, sym, ap, subst, ◌∙◌, length-append, What, Sdw, uid_of, kst_at, leads, Aim, CutDescriptor, led_to, seen, cut_all, cut_one, note_of, owner_signalled, take_all, take_one, took, without_first_frame, Keeps, cut_of_owner, descriptor_of, frames_of_owner, Owner, State, AreNumbered, OwnsFew, Sdw as sdw}
-use Rattle.machine_model.proofs.OwnedLaws.{IsIdle}
+use Rattle.machine_model.proofs.Kept.{◌≡◌, ◌≤◌, ◌+◌, ℕ, arith, length, List, [], ◌∷◌, ◌++◌, Option, Some, None, refl, sym, ap, subst, ◌∙◌, length-append, What, Sdw, uid_of, kst_at, leads, Aim, CutDescriptor, led_to, seen, cut_all, cut_one, note_of, owner_signalled, take_all, take_one, took, without_first_frame, Keeps, cut_of_owner, descriptor_of, frames_of_owner, Owner, State, AreNumbered, OwnsFew, Sdw as sdw, IsIdle, ArePairs, linked_before, noted, noted_has, pairs_left}
 use Rattle.machine_model.proofs.TakeWhole.{take_linked, cut_frames}
-use Rattle.machine_model.proofs.TookKept.{ArePairs, linked_before, noted, noted_has, pairs_left}
 
 -- the number of a descriptor that leads to a segment stands for it
 abbrev KnowsLinked : (ℕ → ℕ → Option ℕ) → List (List (Option ℕ)) → Type 0

@@ -12,10 +12,7 @@ found_or test (suc n) = by (found_or test n) (test n) refl
         → ((i : ℕ) × (i < suc n) × (test i ≡ true)) ⊎ ((i : ℕ) → i < suc n → test i ≡ false)
     by (inl x) b h = inl (x.0, omega arith, x.2)
     by (inr none) true h = inl (n, omega arith, h)
-    by (inr none) false h = inr (λ i lt. elim (eqb_tells i n) [
-      | inl e ↦ rw e.1 h
-      | inr other ↦ none i (omega arith)
-    ])
+    by (inr none) false h = inr (λ i lt. elim (eqb_tells i n) [ inl e ↦ rw e.1 h | inr other ↦ none i (omega arith) ])
 
 -- ---- the uids of some places
 
@@ -75,11 +72,7 @@ distinct entries first (suc n) once used = (
 eqb_turn : (i j : ℕ) → eqb i j ≡ true → eqb j i ≡ true
 eqb_turn i j h = elim (eqb_tells j i) [
   | inl e ↦ e.0
-  | inr n ↦ elim (eqb_tells i j) [
-    | inl e ↦ absurd (n.1 (sym e.1))
-    | inr m ↦
-        (let no = sym h ∙ m.0 in absurd cc)
-  ]
+  | inr n ↦ elim (eqb_tells i j) [ inl e ↦ absurd (n.1 (sym e.1)) | inr m ↦ (let no = sym h ∙ m.0 in absurd cc) ]
 ]
 
 any_turn : (chain : List ℕ) (q : ℕ) → list_any (λ u. eqb u q) chain ≡ true → list_any (eqb q) chain ≡ true
@@ -137,8 +130,7 @@ one_off entries chain first n once used few = by (found_or (λ i. off_chain chai
         ⊎ ((i : ℕ) → i < n → off_chain chain (entry_at entries (first + i)) ≡ false)
         → (i : ℕ) × (i < n) × (off_chain chain (entry_at entries (first + i)) ≡ true)
     by (inl found) = found
-    by (inr none) =
-        let long = length-le_from_is_member nat_eq_equiv (uids entries first n) chain
+    by (inr none) = let long = length-le_from_is_member nat_eq_equiv (uids entries first n) chain
         (distinct entries first n once used) (all_in entries chain first n used none) in
         let same = uids_long entries first n in
         absurd (omega arith)

@@ -19,9 +19,7 @@ online_runner a p = by p.cpu.process
 
 pub online_outlined : (s : State) (c : ℕ) → rule_of (outline_of s) c ≡ Comes
     → Step (outline_of s) c Moved (outline_of (came_online s c))
-online_outlined s c h =
-    let p = processor_at s.processors c in
-    step_to (outline_of s) (with_runner (outline_of s) c
+online_outlined s c h = let p = processor_at s.processors c in step_to (outline_of s) (with_runner (outline_of s) c
     (record (runner_at (outline_of s).runners c) { online = true })) (outline_of (came_online s c)) c Moved
     (ap (λ (x : Runner). with_runner (outline_of s) c (record x { online = true })) (at_outline s c)
     ∙ ap (λ (x : Runner). with_runner (outline_of s) c x) (sym (online_runner (around s) (processor_at s.processors c)))
@@ -31,8 +29,7 @@ online_outlined s c h =
 -- two processors of which the outlines read the same but for what is due
 cleared_runner : (a : Around) (p : Processor) (held : Held)
     → IsCleared (runner_of a p) (runner_of a (record p { cpu = record p.cpu { due = None; assoc = held } }))
-cleared_runner a p held =
-    let q : Processor = record p { cpu = record p.cpu { due = None; assoc = held } } in
+cleared_runner a p held = let q : Processor = record p { cpu = record p.cpu { due = None; assoc = held } } in
     assumption (
       seen_due a (record p { cpu = record p.cpu { due = None; assoc = held } }),
       seen_online a (record p { cpu = record p.cpu { due = None; assoc = held } }) ∙ sym (seen_online a p),
@@ -44,19 +41,12 @@ cleared_runner a p held =
 
 pub clear_outlined : (s : State) (c : ℕ) (w : What) → rule_of (outline_of s) c ≡ Clears
     → Step (outline_of s) c Moved (outline_of (cleared_at s c w))
-clear_outlined s c w h =
-    let cpu = cpu_at s.processors c in
+clear_outlined s c w h = let cpu = cpu_at s.processors c in
     step_to (outline_of s) _ (outline_of (cleared_at s c w)) c Moved
     (sym (one_outlined s c (record (processor_at s.processors c) {
-      cpu = record (cpu_at s.processors c) {
-        due = None;
-        assoc = cleared (cpu_at s.processors c).assoc w;
-      };
+      cpu = record (cpu_at s.processors c) { due = None; assoc = cleared (cpu_at s.processors c).assoc w };
     }) _)) (clears (runner_of (around s) (record (processor_at s.processors c) {
-      cpu = record (cpu_at s.processors c) {
-        due = None;
-        assoc = cleared (cpu_at s.processors c).assoc w;
-      };
+      cpu = record (cpu_at s.processors c) { due = None; assoc = cleared (cpu_at s.processors c).assoc w };
     })) h (rw (at_outline s c) (cleared_runner (around s) (processor_at s.processors c)
     (cleared (cpu_at s.processors c).assoc w))))
 
@@ -196,8 +186,7 @@ pub fill_seg_outlined : (s : State) (c k : ℕ) (r : Reference) → rule_of (out
     → (cpu_at s.processors c).process ≡ Some k → reference_in ((around s).next k) ≡ Some r
     → is_some (seg_of (cpu_at s.processors c).assoc r.number) ≡ false
     → Step (outline_of s) c Moved (outline_of (seg_filled s c r.number))
-fill_seg_outlined s c k r h process next none =
-    let cpu = cpu_at s.processors c in
+fill_seg_outlined s c k r h process next none = let cpu = cpu_at s.processors c in
     let e = held_seg s.store r.number (descriptor_of s.store.links (process_at s c) r.number) in
     step_to (outline_of s) _ (outline_of (seg_filled s c r.number)) c Moved
     (sym (one_outlined s c (held_processor (processor_at s.processors c) (with_seg (cpu_at s.processors c).assoc
@@ -234,8 +223,7 @@ pub fill_page_outlined : (s : State) (c k f : ℕ) (r : Reference) → rule_of (
     → is_some (seg_of (cpu_at s.processors c).assoc r.number) ≡ true
     → holds_page (cpu_at s.processors c).assoc (Some r) ≡ false
     → Step (outline_of s) c Moved (outline_of (page_filled s c f r))
-fill_page_outlined s c k f r h process next seg none =
-    let cpu = cpu_at s.processors c in
+fill_page_outlined s c k f r h process next seg none = let cpu = cpu_at s.processors c in
     step_to (outline_of s) _ (outline_of (page_filled s c f r)) c Moved
     (sym (one_outlined s c (held_processor (processor_at s.processors c)
     (with_page (cpu_at s.processors c).assoc (held_page (cpu_at s.processors c) f r))) _))

@@ -88,8 +88,7 @@ all_back s c faults = segs_back (pages_back (fault_told s (Some (process_at s c)
     (cut_of_owner s.owner)
 
 back_tale : (s : State) (c n : ℕ) → SameTale s (all_back s c n) c
-back_tale s c n =
-    let one = pages_tale (fault_told s (Some (process_at s c)) n) (frames_of_owner s.owner) c in
+back_tale s c n = let one = pages_tale (fault_told s (Some (process_at s c)) n) (frames_of_owner s.owner) c in
     let two = segs_tale (pages_back (fault_told s (Some (process_at s c)) n) (frames_of_owner s.owner))
     (cut_of_owner s.owner) c in
     assumption (two.plan ∙ one.plan, two.runs ∙ one.runs, two.processors ∙ one.processors)

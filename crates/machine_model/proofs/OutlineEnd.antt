@@ -67,8 +67,7 @@ page_outlined s o uid w f rest owner h frames due may =
     (Waiting (EmptyPlace (place_of s.store.ast.entries uid) rest))) (stored_then s f) (full_then s f))
     (outline_of (page_done s f)) o.cpu (cc (
       rest_keeper s.store.ast.entries o uid w f rest h frames,
-      (gone_outline s f
-          (without_first_frame s.owner)),
+      (gone_outline s f (without_first_frame s.owner)),
     ))
     (frees_page (place_of s.store.ast.entries uid) f rest (stored_then s f) (full_then s f)
     (cc (in_stage s o (phase.Waiting (aim.Deactivating uid) w) owner h)) due may)

@@ -1,11 +1,71 @@
 -- Each step of the owner of the supervisor is a step of the outline, where it finds what its actions ask; and so each
 -- step of the machine is.
-use Rattle.machine_model.proofs.Prelude.{◌≡◌, ◌≢◌, ◌≤◌, ℕ, zero, suc, Bool, true, false, not, cond, eqb, List, [], ◌∷◌, length, position, count_by, Option, Some, None, is_some, get_or, refl, sym, ap, subst, ◌∙◌, inl, inr, arith, ◌-◌, position_or_len, cases_lt, Decides-ltb, eqb_tells, get_or_past, position-Some, fails_before_first, Command, What, first_off_chain, hand_past, place_of, table_of, next_out, Transfer, Mover, Aim, Phase, State, Owner, or_zero, no_processor, is_due, next_command, processor_at, cpu_at, process_at, frames_of_owner, frames_from, trailers_in, action_of, is_over, Outcome, after, turn_of, with_faults, with_store, deactivation_begun, segment_taken, took, write_failed, committed, committed_at, Moved, Runner, no_runner, Stage, Look, Copying, dues, Works, rule_of, IsIn, JobStep, Step, works, AreOf, CanEmpty, around, stage_of, outline_of, Foresees, IsLook, KeepsLink, MayAnswer, MayEmpty, What as what, Aim as aim, Phase as phase, Action, ForTransfer, clear_or, copy_or_commit, finish_of, go_on_with, look_of, once_cleared, own_or_run, run_process, transfer_or, Action as act}
-use Rattle.machine_model.proofs.Basics.{by_end, count_cons, at_outline, is_owner, seen_due, clear_outlined, online_outlined, activate_outlined, connect_outlined, in_job, in_look, deactivate_at_once_outlined, deactivate_outlined, eviction_outlined, give_up_outlined, in_stage, page_outlined, start_outlined, answer_outlined, commit_outlined, create_outlined, failed_outlined, running_at}
-use Rattle.machine_model.proofs.OutlineMove.{copy_failed_outlined, copy_outlined, move_outlined, begin_outlined}
+use Rattle.machine_model.proofs.Laws.{◌≡◌, ◌≢◌, ◌≤◌, ℕ, zero, suc, Bool, true, false, not, cond, eqb, List, [], ◌∷◌, length, position, count_by, Option, Some, None, is_some, get_or, refl, sym, ap, subst, ◌∙◌, inl, inr, arith, ◌-◌, position_or_len, cases_lt, Decides-ltb, eqb_tells, get_or_past, position-Some, fails_before_first, Command, What, first_off_chain, hand_past, place_of, table_of, next_out, Transfer, Mover, Aim, Phase, State, Owner, or_zero, no_processor, is_due, next_command, processor_at, cpu_at, process_at, frames_of_owner, frames_from, trailers_in, action_of, is_over, Outcome, after, turn_of, with_faults, with_store, deactivation_begun, segment_taken, took, write_failed, committed, committed_at, Moved, Runner, no_runner, Stage, Look, Copying, dues, Works, rule_of, IsIn, JobStep, Step, works, AreOf, CanEmpty, around, stage_of, outline_of, Foresees, IsLook, KeepsLink, MayAnswer, MayEmpty, What as what, Aim as aim, Phase as phase, Action, ForTransfer, clear_or, copy_or_commit, finish_of, go_on_with, look_of, once_cleared, own_or_run, run_process, transfer_or, Action as act, ◌||◌, list_any, Processor, ForClear, has_process, is_empty, Ended, WaitsFor, IsEnded, ends, awaits_clear, awaits_transfer, bare, work_of, and_parts, not_true, Frame as frame, outline_frame_in as frame_in, by_end, count_cons, at_outline, is_owner, seen_due, clear_outlined, online_outlined, activate_outlined, connect_outlined, in_job, in_look, deactivate_at_once_outlined, deactivate_outlined, eviction_outlined, give_up_outlined, in_stage, page_outlined, start_outlined, answer_outlined, commit_outlined, create_outlined, failed_outlined, running_at, outline_reads_map_at as map_at, seen_online, seen_running, copy_failed_outlined, copy_outlined, move_outlined, begin_outlined}
 use Rattle.machine_model.proofs.OutlineTake.{evict_outlined, signal_outlined, take_away_outlined, take_segment_outlined, took_like, took_owner}
-use Rattle.machine_model.proofs.OutlineWaits.{awaits_clear_outlined, awaits_transfer_outlined, end_outlined}
 use Rattle.machine_model.proofs.OutlineStep.{Goal, IsAtRest, clears_rule, comes_rule, reads_rule, run_goal, transfer_goal, works_seen}
+
+-- ---- In the outline of the machine, what the owner waits for is there; and where the machine has ended, so has its
+-- outline.
+
+-- the owner waits for a clear
+pub awaits_clear_outlined : (s : State) (o : Owner) (a : Aim) (w : What) (d : ℕ) → rule_of (outline_of s) o.cpu ≡ Works
+    → s.owner ≡ Some o → o.phase ≡ phase.Waiting a w → is_due (processor_at s.processors d) ≡ true
+    → Step (outline_of s) o.cpu (WaitsFor (ForClear d)) (outline_of s)
+awaits_clear_outlined s o a w d h owner waits due =
+    let facts = and_parts (cpu_at s.processors d).online (is_some (cpu_at s.processors d).due) due in
+    awaits_clear (work_of s.store.ast.entries o.frames a) d h (in_stage s o (phase.Waiting a w) owner waits)
+    (cc (at_outline s d, seen_online (around s) (processor_at s.processors d)))
+    (cc (at_outline s d, seen_due (around s) (processor_at s.processors d)))
+
+-- a frame that a page is being read into
+started_at : (s : State) (f uid page : ℕ) → get_or s.store.pages.core.frames f frame.Free ≡ frame.Started uid page
+    → frame_in (outline_of s).frames f ≡ frame.Started uid page
+unfolding outline_of
+started_at s f uid page h = map_at bare s.store.pages.core.frames f frame.Free ∙ ap bare h
+
+-- the owner waits for a transfer
+pub awaits_transfer_outlined : (s : State) (o : Owner) (f uid page : ℕ) → rule_of (outline_of s) o.cpu ≡ Works
+    → s.owner ≡ Some o → o.phase ≡ phase.Looking
+    → get_or s.store.pages.core.frames f frame.Free ≡ frame.Started uid page
+    → Step (outline_of s) o.cpu (WaitsFor (ForTransfer f)) (outline_of s)
+awaits_transfer_outlined s o f uid page h owner looks started =
+    awaits_transfer f uid page h (in_look s o owner looks) (started_at s f uid page started)
+
+-- ---- the end
+
+none_has : (ps : List Processor) (d : ℕ) → list_any has_process ps ≡ false → is_some (cpu_at ps d).process ≡ false
+none_has [] d h = refl
+none_has (p ∷ ps) zero h = first (has_process p) (list_any has_process ps) h
+  where
+    first : (a b : Bool) → (a || b) ≡ false → a ≡ false
+    first true b e = e
+    first false b e = refl
+none_has (p ∷ ps) (suc d) h = none_has ps d (rest (has_process p) (list_any has_process ps) h)
+  where
+    rest : (a b : Bool) → (a || b) ≡ false → b ≡ false
+    rest true b e = let no = e in absurd cc
+    rest false b e = e
+
+no_length : (xs : List ℕ) → is_empty xs ≡ true → length xs ≡ 0
+no_length [] h = refl
+no_length (x ∷ xs) h = let no = h in absurd cc
+
+ended_is : (s : State) → is_over s ≡ true → IsEnded (outline_of s)
+unfolding outline_of
+ended_is s over = let facts = and_parts (is_empty s.ready) (not (list_any has_process s.processors)) over in
+    record {
+      ready = no_length s.ready facts.0;
+      running = λ d. (
+          cc (
+            at_outline s d,
+            seen_running (around s) (processor_at s.processors d),
+            none_has s.processors d (not_true (list_any has_process s.processors) facts.1),
+          )
+          );
+    }
+
+pub end_outlined : (s : State) (c : ℕ) → is_over s ≡ true → Step (outline_of s) c Ended (outline_of s)
+end_outlined s c over = ends (ended_is s over)
 
 -- ---- a segment is taken
 
@@ -128,8 +188,7 @@ none_at p xs none i d past = elim (cases_lt (position_or_len p xs) (length xs)) 
 pub count_zero : {A : Type 0} (p : A → Bool) (xs : List A) (d : A) → ((i : ℕ) → p (get_or xs i d) ≡ false)
     → count_by p xs ≡ 0
 count_zero p [] d none = refl
-count_zero p (x ∷ xs) d none =
-    let rest = count_zero p xs d (λ i. none (suc i)) in
+count_zero p (x ∷ xs) d none = let rest = count_zero p xs d (λ i. none (suc i)) in
     let here = ap (λ (b : Bool). cond {A = ℕ} b 1 0) (none zero) in
     omega (arith, count_cons p x xs)
 
@@ -199,9 +258,8 @@ module _ (s : State) (o : Owner) (out : Outcome) (f : Foresees s o.cpu) (rule : 
       → next_out (table_of s.store.ast m.uid) m.next ≡ x → Goal s o.cpu out (copy_or_commit m x)
   unfolding after
   move_goal m moves (Some p) next = by_end (λ x. Step (outline_of s) o.cpu Moved (outline_of x)) out _ _
-      (λ e. works _ rule (copy_outlined s o m p out.faults owner moves next))
-      (λ e. works _ rule (copy_failed_outlined s o m may_answer.process out.faults may_answer.command owner moves due
-      may_answer.can))
+      (λ e. works _ rule (copy_outlined s o m p out.faults owner moves next)) (λ e. works _ rule
+      (copy_failed_outlined s o m may_answer.process out.faults may_answer.command owner moves due may_answer.can))
     where
       due : dues (outline_of s).runners ≡ 0
       due = (f.kept.job.fits o.cpu (Copying (256 - m.next)) (in_stage s o (phase.Moving m) owner moves)).0
@@ -227,8 +285,7 @@ owner_goal s c out f rest (Some w) owner = by (eqb w.cpu c) refl
     own = cc
 
     mine : w.cpu ≡ c → eqb w.cpu c ≡ true → Goal s c out (go_on_with s (process_at s c) w w.phase)
-    mine same is =
-        let work = f.kept.job.at_work c _ (rw same at (in_job s w owner)) in
+    mine same is = let work = f.kept.job.at_work c _ (rw same at (in_job s w owner)) in
         let has = sym (running_at s c) ∙ work.running in
         at_same same f (works_seen s c rest (own ∙ is)) has
       where
@@ -238,10 +295,7 @@ owner_goal s c out f rest (Some w) owner = by (eqb w.cpu c) refl
 
     by : (b : Bool) → eqb w.cpu c ≡ b → Goal s c out (cond b (go_on_with s (process_at s c) w w.phase)
         (run_process s (processor_at s.processors c) (cpu_at s.processors c).process))
-    by true is = elim (eqb_tells w.cpu c) [
-      | inl e ↦ mine e.1 is
-      | inr n ↦ (let no = sym is ∙ n.0 in absurd cc)
-    ]
+    by true is = elim (eqb_tells w.cpu c) [ inl e ↦ mine e.1 is | inr n ↦ (let no = sym is ∙ n.0 in absurd cc) ]
     by false is = run_goal s c out f rest (own ∙ is) (cpu_at s.processors c).process refl
 
 transfer_or_goal : (s : State) (c : ℕ) (out : Outcome) → Foresees s c → (cpu_at s.processors c).online ≡ true

@@ -91,17 +91,14 @@ pub rule_seen : (s : State) (c : ℕ) → rule_of (outline_of s) c ≡ rule_by (
     ((is_some (processor_at s.processors c).cpu.process && has_had_its_turn (processor_at s.processors c))
     && nat_lt 0 (length s.ready))
 unfolding rule_of
-rule_seen s c =
-    let a = around s in
-    let p = processor_at s.processors c in
-    rw (
-      at_outline s c,
-      seen_online (around s) (processor_at s.processors c),
-      seen_due (around s) (processor_at s.processors c),
-      seen_reading (around s) (processor_at s.processors c),
-      seen_owns s c,
-      seen_running (around s) (processor_at s.processors c),
-      seen_since (around s) (processor_at s.processors c),
-      seen_tried (around s) (processor_at s.processors c),
-      ready_seen s,
-    ) refl
+rule_seen s c = let a = around s in let p = processor_at s.processors c in rw (
+  at_outline s c,
+  seen_online (around s) (processor_at s.processors c),
+  seen_due (around s) (processor_at s.processors c),
+  seen_reading (around s) (processor_at s.processors c),
+  seen_owns s c,
+  seen_running (around s) (processor_at s.processors c),
+  seen_since (around s) (processor_at s.processors c),
+  seen_tried (around s) (processor_at s.processors c),
+  ready_seen s,
+) refl

@@ -1,7 +1,5 @@
 -- The outline of a machine that keeps its promise is kept: its sizes, and whoever is waited for is there.
-use Rattle.machine_model.proofs.Prelude.{◌≡◌, ◌<◌, ◌≤◌, ℕ, Bool, true, false, eqb, length, List, [], ◌∷◌, sum, Option, Some, None, Result, Ok, Err, is_some, inl, inr, refl, sym, ap, subst, ◌∙◌, arith, cond, not, nat_le, ◌*◌, IsDistinct, AllByRecursion, eqb_tells, length-le_from_distinct_below, permits, reference_of, Command, Reference, Reply, What, Who, access_of, Node, node_in, IsTree, uid_of, kst_at, segment_at, who_at, started_page, Frame, has, Transfer, store_frame, AreDistinct, waits_for, IsIn, IsFitting, seen, Keeps, AtWork, dues, Want, Refer, Other, Runner, Stage, no_runner, runner_at, want_at, around, bare, keeper_of, outline_of, runner_by, stage_of, want_by, want_in, want_known, want_lengthened, want_of, want_of_command, want_truncated, AreTied, EndsChain, FitsStage, HasJob, HasSizes, IsKept, IsMachine, IsReading, cpu_at, next_command, no_processor, processor_at, Owner, State, Processor, any_turned, not_both, page_is, pools_few, Command as command, Frame as frame, wanted_chain as chain_of}
-use Rattle.machine_model.proofs.Laws.{frame_outlined, map_list, within_by, count_zero, at_outline, long_outline, seen_due, seen_online, seen_reading, seen_running, none_some, keeper_cpu, keeper_stage}
-use Rattle.machine_model.proofs.VictimLaws.{chain_ends, chain_few}
+use Rattle.machine_model.proofs.Kept.{◌≡◌, ◌<◌, ◌≤◌, ℕ, Bool, true, false, eqb, length, List, [], ◌∷◌, sum, Option, Some, None, Result, Ok, Err, is_some, inl, inr, refl, sym, ap, subst, ◌∙◌, arith, cond, not, nat_le, ◌*◌, IsDistinct, AllByRecursion, eqb_tells, length-le_from_distinct_below, permits, reference_of, Command, Reference, Reply, What, Who, access_of, Node, node_in, IsTree, uid_of, kst_at, segment_at, who_at, started_page, Frame, has, Transfer, store_frame, AreDistinct, waits_for, IsIn, IsFitting, seen, Keeps, AtWork, dues, Want, Refer, Other, Runner, Stage, no_runner, runner_at, want_at, around, bare, keeper_of, outline_of, runner_by, stage_of, want_by, want_in, want_known, want_lengthened, want_of, want_of_command, want_truncated, AreTied, EndsChain, FitsStage, HasJob, HasSizes, IsKept, IsMachine, IsReading, cpu_at, next_command, no_processor, processor_at, Owner, State, Processor, any_turned, not_both, page_is, pools_few, Command as command, Frame as frame, wanted_chain as chain_of, frame_outlined, map_list, within_by, count_zero, at_outline, long_outline, seen_due, seen_online, seen_reading, seen_running, none_some, keeper_cpu, keeper_stage, chain_ends, chain_few}
 
 -- ---- sizes
 
@@ -14,10 +12,7 @@ distinct_of (x ∷ xs) h = (apart xs h.0, distinct_of xs h.1)
     apart [] i = tt
     apart (y ∷ ys) i = elim (eqb_tells y x) [
       | inl e ↦ absurd (not_both (cc) i)
-      | inr n ↦ (
-        elim (eqb_tells x y) [ inl e ↦ absurd (n.1 (sym e.1)) | inr o ↦ o.0 ],
-        apart ys (cc),
-      )
+      | inr n ↦ (elim (eqb_tells x y) [ inl e ↦ absurd (n.1 (sym e.1)) | inr o ↦ o.0 ], apart ys (cc))
     ]
 
 -- a want of a tree
@@ -178,12 +173,7 @@ module _ (s : State) (c : ℕ) (stage : Stage) where
       by : (o : Option Owner) → s.owner ≡ o → keeper_of s.store.ast.entries o ≡ Some
           (record { cpu = c; stage = stage }) → IsSeenIn
       by None e i = cc
-      by (Some q) e i = record {
-        owner = q;
-        mine = e;
-        cpu = ap keeper_cpu i;
-        stage_is = ap keeper_stage i;
-      }
+      by (Some q) e i = record { owner = q; mine = e; cpu = ap keeper_cpu i; stage_is = ap keeper_stage i }
 
 pub no_owner : (s : State) → (outline_of s).owner ≡ None → s.owner ≡ None
 unfolding outline_of

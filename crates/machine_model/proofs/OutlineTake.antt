@@ -1,10 +1,5 @@
 -- In the outline of the machine, taking, signalling and finishing are steps of the owner's job.
-use Rattle.machine_model.proofs.Prelude.{◌≡◌, ◌≢◌, ◌≤◌, ℕ, suc, ◌+◌, List, [], ◌∷◌, ◌++◌, length, map, Option, Some, None, refl, sym, ap, subst, ◌∙◌, inl, inr, ◌⊎◌, append_assoc, zero-add, What, bound_page, core_frame, command_at, Plain, Active, leads_at, place_of, is_filed, Aim, Processor, CutDescriptor, State, Storage, Owner, next_command, no_processor, run_at, processor_at, frames_of_owner, cut_of_owner, cut_all, cut_one, eviction_begun, leaving_if, owner_signalled, signalled, take_all, take_one, told_from, took, with_choice, with_leaving, Runner, EvictFrame, Look, Taken, Waiting, runner_at, at_stage, IsIn, JobStep, takes_segment, takes_frame, takes_for_commit, signals, CanEmpty, CanEvict, AreAlike, AreOf, with_runners, Around, around, bare, lacks_record, left_in, want_of, runner_by, runner_of, work_of, keeper_of, outline_of, Aim as aim, Phase as phase, jobs_told_at as told_at, eqb_self}
-use Rattle.machine_model.proofs.Basics.{map_at, seen_online, seen_running, seen_due, seen_reading, seen_since, seen_tried, job_to, in_job}
-use Rattle.machine_model.proofs.ChoiceLaws.{choice_bare}
-use Rattle.machine_model.proofs.LeaveSeen.{told_has, told_online, told_process, told_reads}
-use Rattle.machine_model.proofs.SaysLaws.{leaving_pages}
-use Rattle.machine_model.proofs.ClearLaws.{told_transfer}
+use Rattle.machine_model.proofs.Laws.{◌≡◌, ◌≢◌, ◌≤◌, ℕ, suc, ◌+◌, List, [], ◌∷◌, ◌++◌, length, map, Option, Some, None, refl, sym, ap, subst, ◌∙◌, inl, inr, ◌⊎◌, append_assoc, zero-add, What, bound_page, core_frame, command_at, Plain, Active, leads_at, place_of, is_filed, Aim, Processor, CutDescriptor, State, Storage, Owner, next_command, no_processor, run_at, processor_at, frames_of_owner, cut_of_owner, cut_all, cut_one, eviction_begun, leaving_if, owner_signalled, signalled, take_all, take_one, told_from, took, with_choice, with_leaving, Runner, EvictFrame, Look, Taken, Waiting, runner_at, at_stage, IsIn, JobStep, takes_segment, takes_frame, takes_for_commit, signals, CanEmpty, CanEvict, AreAlike, AreOf, with_runners, Around, around, bare, lacks_record, left_in, want_of, runner_by, runner_of, work_of, keeper_of, outline_of, Aim as aim, Phase as phase, jobs_told_at as told_at, eqb_self, Command, reply_to_tree_command, delete_reply, terminate_reply, acl_reply, truncate_reply, reference_of, refusal, Keeps, flat_of, refusal_of, TakesSome, Command as command, Entry as entry, outline_reads_map_at as map_at, seen_online, seen_running, seen_due, seen_reading, seen_since, seen_tried, job_to, in_job, choice_bare, told_has, told_online, told_process, told_reads, leaving_pages, told_transfer, one_still}
 use Rattle.storage_ops.proofs.Less.{one_known}
 
 -- ---- what taking leaves
@@ -38,9 +33,8 @@ pub record LooksLike (s t : State) : Type 0 where
   pub known : t.store.links.known ≡ s.store.links.known
 
 looks_like : {s t : State} → t.plan ≡ s.plan → t.runs ≡ s.runs → t.ready ≡ s.ready → t.processors ≡ s.processors
-    → t.store.pages ≡ s.store.pages → t.store.ast.entries ≡ s.store.ast.entries
-    → t.store.accounts ≡ s.store.accounts → t.store.whos ≡ s.store.whos
-    → t.store.links.known ≡ s.store.links.known → LooksLike s t
+    → t.store.pages ≡ s.store.pages → t.store.ast.entries ≡ s.store.ast.entries → t.store.accounts ≡ s.store.accounts
+    → t.store.whos ≡ s.store.whos → t.store.links.known ≡ s.store.links.known → LooksLike s t
 looks_like plan runs ready processors pages entries accounts whos known = assumption
 
 take_one_like : (s : State) (c : ℕ) (a : Aim) (w : What) (f : ℕ) → LooksLike s (take_one s c a w f)
@@ -100,10 +94,7 @@ took_owner s c a w [] [] none (inr some) = absurd (some refl)
 took_owner s c a w [] (pair ∷ pairs) none some =
     subst (λ (xs : List ℕ). HasTakenFrames (cut_all s c a w (pair ∷ pairs)) c a w xs) none
     (cut_owner s c a w pair pairs)
-took_owner s c a w (f ∷ fs) [] none some = record {
-  cut = cut_of_owner s.owner;
-  owner = cc (take_owner s c a w f fs);
-}
+took_owner s c a w (f ∷ fs) [] none some = record { cut = cut_of_owner s.owner; owner = cc (take_owner s c a w f fs) }
 took_owner s c a w (f ∷ fs) (pair ∷ pairs) none some =
     subst (λ (xs : List ℕ). HasTakenFrames (cut_all (take_all s c a w (f ∷ fs)) c a w (pair ∷ pairs)) c a w xs)
     (cc (take_owner s c a w f fs)) (cut_owner (take_all s c a w (f ∷ fs)) c a w pair pairs)
@@ -156,9 +147,8 @@ like_alike s t c like linked = record {
       ∙ sym (at s d (λ x. x.since) ∙ seen_since (around s) (processor_at s.processors d));
   tried = λ d. at t d (λ x. x.tried) ∙ seen_tried (around t) (processor_at s.processors d)
       ∙ sym (at s d (λ x. x.tried) ∙ seen_tried (around s) (processor_at s.processors d));
-  want = at t c (λ x. x.want) ∙ want_like (around s) (around t) (processor_at s.processors c)
-      (cc) like.whos like.known (λ i. λ k. command_at (like.plan i) k (run_at (like.runs i) k).place) ∙ sym (at s c
-      (λ x. x.want));
+  want = at t c (λ x. x.want) ∙ want_like (around s) (around t) (processor_at s.processors c) (cc) like.whos like.known
+      (λ i. λ k. command_at (like.plan i) k (run_at (like.runs i) k).place) ∙ sym (at s c (λ x. x.want));
   linked = at t c (λ x. x.linked) ∙ linked ∙ sym (at s c (λ x. x.linked));
   due = at t c (λ x. x.due) ∙ seen_due (around t) (processor_at s.processors c)
       ∙ sym (at s c (λ x. x.due) ∙ seen_due (around s) (processor_at s.processors c));
@@ -339,3 +329,56 @@ signal_outlined s o a w v owner h =
     job_to (outline_of s) _ (outline_of (signalled s o.cpu v)) o.cpu (signalled_outline s o a w v owner h)
     (signals (work_of s.store.ast.entries o.frames a) (map (runner_of (around s)) (told_from o.cpu v 0 s.processors))
     (cc (in_job s o owner)) (told_alike s o.cpu v))
+
+-- ---- A command that takes pages or descriptors out of use isn't refused while its job is at work: what refuses it is
+-- in the tree and the numbers, which no other processor's step changes.
+
+-- a command that takes is no reference
+pub takes_tree : (c : Command) → TakesSome (Some c) → reference_of c ≡ None
+takes_tree (command.Acl path row m) some = refl
+takes_tree (command.Terminate n) some = refl
+takes_tree (command.Truncate path words) some = refl
+takes_tree (command.Delete path) some = refl
+takes_tree command.End some = refl
+takes_tree _ some = absurd some
+
+-- ---- steps that leave the tree and the numbers
+
+module _ (s now : State) (keeps : Keeps s) (kept : Keeps now)
+    (nodes : now.store.accounts.nodes ≡ s.store.accounts.nodes) (known : now.store.links.known ≡ s.store.links.known)
+  where
+    same_nodes : (flat_of now).nodes ≡ (flat_of s).nodes
+    same_nodes = cc
+
+    same_numbers : (flat_of now).known ≡ (flat_of s).known
+    same_numbers = cc
+
+    pub stands_on : (k : ℕ) (c : Command) → TakesSome (Some c) → refusal_of s k c ≡ None → refusal_of now k c ≡ None
+    unfolding refusal_of acl_reply terminate_reply truncate_reply delete_reply
+    stands_on k (command.Acl path row m) some h = cc
+    stands_on k (command.Terminate n) some h = cc same_numbers
+    stands_on k (command.Truncate path words) some h = cc
+    stands_on k (command.Delete path) some h = cc
+    stands_on k command.End some h = refl
+    stands_on k _ some h = absurd some
+
+-- ---- frames and descriptors are taken
+
+take_all_flat : (s : State) (c : ℕ) (a : Aim) (w : What) (fs : List ℕ) → flat_of (take_all s c a w fs) ≡ flat_of s
+take_all_flat s c a w [] = refl
+take_all_flat s c a w (f ∷ fs) =
+    take_all_flat (take_one s c a w f) c a w fs ∙ one_still s.plan s.entries (entry.Take f) refl
+
+cut_all_flat : (s : State) (c : ℕ) (a : Aim) (w : What) (pairs : List (ℕ × ℕ))
+    → flat_of (cut_all s c a w pairs) ≡ flat_of s
+cut_all_flat s c a w [] = refl
+cut_all_flat s c a w (pair ∷ pairs) =
+    cut_all_flat (cut_one s c a w pair) c a w pairs ∙ one_still s.plan s.entries (entry.Cut pair.0 pair.1) refl
+
+-- what isn't refused isn't refused once its job took
+pub took_stands : (s : State) (c : ℕ) (a : Aim) (w : What) (fs : List ℕ) (pairs : List (ℕ × ℕ)) (k : ℕ) (cmd : Command)
+    → refusal_of s k cmd ≡ None → refusal_of (took s c a w fs pairs) k cmd ≡ None
+unfolding refusal_of
+took_stands s c a w fs pairs k cmd h =
+    (λ i. refusal (reply_to_tree_command ((took_like s c a w fs pairs).plan i) ((cut_all_flat
+    (take_all s c a w fs) c a w pairs ∙ take_all_flat s c a w fs) i) k cmd)) ∙ h

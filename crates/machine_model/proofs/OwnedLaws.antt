@@ -158,9 +158,7 @@ distinct_push (g ∷ gs) f once new = elim (eqb_tells g f) [
 
 bound_taken : (x : FrameUse) → bound_page (taken x) ≡ bound_page x
 bound_taken frame.Free = refl
-bound_taken (frame.Started u p) = refl
-bound_taken (frame.Current u p) = refl
-bound_taken (frame.Going u p) = refl
+bound_taken _ = refl
 
 pub current_is_not_going : (x : FrameUse) → is_current_frame x ≡ true → is_going_frame x ≡ false
 current_is_not_going (frame.Going u p) h = cc
@@ -276,8 +274,7 @@ apart_push (x ∷ xs) d apart new = (
 
 leads_cut : (x : DescriptorUse) → leads_to (cut x) ≡ leads_to x
 leads_cut descriptor.Free = refl
-leads_cut (descriptor.Current u) = refl
-leads_cut (descriptor.Going u) = refl
+leads_cut _ = refl
 
 pub current_descriptor_is_not_going : (x : DescriptorUse) → is_current_descriptor x ≡ true
     → is_going_descriptor x ≡ false

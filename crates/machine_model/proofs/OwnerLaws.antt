@@ -1,6 +1,5 @@
 -- The owner of the supervisor begins a job or ends one.
-use Rattle.machine_model.proofs.Prelude.{◌≡◌, ℕ, true, false, [], Option, Some, sym, ap, subst, ◌∙◌, What, Ptw, NamesAllGoing, Custody, is_going_frame, NoneDue, Mover, Phase, FitsPhase, IsOwned, KeepsBook, is_pending, names, says_in, waits_in, cut_of_owner, frames_of_owner, Seen, bound_use, cut_uid, descriptor_use, shown, Owner, Ptw as ptw, Phase as phase}
-use Rattle.machine_model.proofs.OwnedLaws.{IsIdle}
+use Rattle.machine_model.proofs.Basics.{◌≡◌, ℕ, true, false, [], Option, Some, sym, ap, subst, ◌∙◌, What, Ptw, NamesAllGoing, Custody, is_going_frame, NoneDue, Mover, Phase, FitsPhase, IsOwned, KeepsBook, is_pending, names, says_in, waits_in, cut_of_owner, frames_of_owner, Seen, bound_use, cut_uid, descriptor_use, shown, Owner, Ptw as ptw, Phase as phase, IsIdle}
 
 -- an owner that looks has taken nothing
 pub looking_idle : (c : Custody) (o : Owner) → IsOwned c (Some o) → o.phase ≡ phase.Looking → IsIdle (Some o)

@@ -1,5 +1,5 @@
 -- What the flat store says of a page, by the word of the page: whether it is stored, and which words it has.
-use Rattle.machine_model.proofs.Prelude.{◌≡◌, ℕ, true, false, ◌&&◌, eqb, is_some, [], get_or, position, replicate, Option, Some, None, inl, inr, refl, sym, ◌∙◌, ◌/◌, ◌%◌, eqb_tells, uid_at, is_binding, is_filed_at, words_at, words_held, words_of_page, bindings, words_in, has_record, vtoc_in, place_of, table_of, word_of, IsHomeOf, record_at, is_stored, is_filed, is_there, picture, seen, Keeps, flat_of, home_in, is_active, State, and_both, zeros_read, Ptw as ptw}
+use Rattle.machine_model.proofs.Basics.{◌≡◌, ℕ, true, false, ◌&&◌, eqb, is_some, [], get_or, position, replicate, Option, Some, None, inl, inr, refl, sym, ◌∙◌, ◌/◌, ◌%◌, eqb_tells, uid_at, is_binding, is_filed_at, words_at, words_held, words_of_page, bindings, words_in, has_record, vtoc_in, place_of, table_of, word_of, IsHomeOf, record_at, is_stored, is_filed, is_there, picture, seen, Keeps, flat_of, home_in, is_active, State, and_both, zeros_read, Ptw as ptw}
 use Rattle.page_control.specs.Ties.{IsTied}
 use Rattle.machine_model.proofs.ActiveSeen.{active_place}
 use Rattle.machine_model.proofs.FindLaws.{position_at, position_none}

@@ -1,7 +1,6 @@
 -- Pages are cut off one after the other: which frames are bound then, which pages are being read into them, and which
 -- words the pages have.
-use Rattle.machine_model.proofs.Prelude.{cases_Bool, eqb-true, eqb_self, ◌≡◌, ◌≢◌, ◌<◌, ℕ, Bool, true, false, cond, eqb, List, [], ◌∷◌, length, Option, None, ◌⊎◌, inl, inr, refl, sym, ◌∙◌, eqb_tells, length-set, reads_of, Ptw, binding_at, bindings, place_of, word_of, read_at, has, at_put_two, without_page, without_pages, Storage, has_head, has_tail, not_both, Frame as frame, Ptw as ptw}
-use Rattle.machine_model.proofs.Basics.{put_two_here, by_places, bound_put, reads_put}
+use Rattle.machine_model.proofs.Basics.{cases_Bool, eqb-true, eqb_self, ◌≡◌, ◌≢◌, ◌<◌, ℕ, Bool, true, false, cond, eqb, List, [], ◌∷◌, length, Option, None, ◌⊎◌, inl, inr, refl, sym, ◌∙◌, eqb_tells, length-set, reads_of, Ptw, binding_at, bindings, place_of, word_of, read_at, has, at_put_two, without_page, without_pages, Storage, has_head, has_tail, not_both, Frame as frame, Ptw as ptw, put_two_here, by_places, bound_put, reads_put}
 use Rattle.machine_model.proofs.TakeSeen.{words_put}
 
 -- what is seen of a store
@@ -113,10 +112,7 @@ has_parts p ps q h = elim (eqb_tells p q) [
 has_cases : (p : ℕ) (ps : List ℕ) (q : ℕ) → has (p ∷ ps) q ≡ true → (has ps q ≡ true) ⊎ ((p ≡ q) × (has ps q ≡ false))
 has_cases p ps q h = elim (cases_Bool (has ps q)) [
   | inl e ↦ inl e
-  | inr e ↦ elim (eqb_tells p q) [
-    | inl i ↦ inr (i.1, e)
-    | inr n ↦ absurd (not_both h (rw (n.0, e) refl))
-  ]
+  | inr e ↦ elim (eqb_tells p q) [ inl i ↦ inr (i.1, e) | inr n ↦ absurd (not_both h (rw (n.0, e) refl)) ]
 ]
 
 module _ (st : Storage) (u p : ℕ) (ps : List ℕ) (now : Storage)
@@ -160,8 +156,7 @@ module _ (st : Storage) (u p : ℕ) (ps : List ℕ) (now : Storage)
       | inl e ↦ rest.nulls q e
       | inr e ↦ rest.words u q (λ x. e.1) ∙ (cc (
         e.0,
-        (one.words u p ∙ put_two_here
-            (λ x y. word_in st x y) u p ptw.Null),
+        (one.words u p ∙ put_two_here (λ x y. word_in st x y) u p ptw.Null),
       ))
     ];
     bound = λ g n. rest.bound g (λ q i e. n q (has_tail p ps q i) (was_leaving q g e))

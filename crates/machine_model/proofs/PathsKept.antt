@@ -56,9 +56,8 @@ module _ (old now : List Node) (u : ℕ) (Stays : ℕ → Type 0) (end : Stays u
           let walk = walk_stays path 1 true (cc) in
           let at = there n (here path n h e was both.0) both.1 in (
             at.0,
-            ap (λ (w : Walk). only_segment (walked now w)) walk.0
-                ∙ (ap (λ (o : Option Node). only_segment (there_or o)) at.1
-                ∙ ap (λ (b : Bool). cond b (Err reply.IsDir) (Ok at.0)) at.2),
+            ap (λ (w : Walk). only_segment (walked now w)) walk.0 ∙ (ap (λ (o : Option Node). only_segment (there_or o))
+                at.1 ∙ ap (λ (b : Bool). cond b (Err reply.IsDir) (Ok at.0)) at.2),
             found_uid now u at.0 at.1,
           )
         where
@@ -137,10 +136,7 @@ has_above (n ∷ ns) m s tree here is = by here (λ e. has_above ns m s tree.1 e
   where
     below : (v : ℕ) (xs : List Node) → AreBelow v xs → has_directory xs s ≡ true → s < v
     below v [] b e = cc
-    below v (x ∷ xs) b e = elim (eqb_tells x.uid s) [
-      | inl i ↦ rw (← i.1) b.0
-      | inr o ↦ below v xs b.1 (cc)
-    ]
+    below v (x ∷ xs) b e = elim (eqb_tells x.uid s) [ inl i ↦ rw (← i.1) b.0 | inr o ↦ below v xs b.1 (cc) ]
 
     past : has_directory ns s ≡ true → has_directory (n ∷ ns) s ≡ true
     past e = elim (eqb_tells n.uid s) [
@@ -155,8 +151,7 @@ has_above (n ∷ ns) m s tree here is = by here (λ e. has_above ns m s tree.1 e
 
     by : (m ≡ n) ⊎ IsMember m ns → (IsMember m ns → (has_directory ns s ≡ true) × (s < m.uid))
         → (has_directory (n ∷ ns) s ≡ true) × (s < m.uid)
-    by (inl e) rest = let at = first n.superior tree.0 (cc) in
-        (at.0, rw e at.1)
+    by (inl e) rest = let at = first n.superior tree.0 (cc) in (at.0, rw e at.1)
     by (inr e) rest = let at = rest e in (past at.0, at.1)
 
 member_left : (ns : List Node) (v : ℕ) (m : Node) → IsMember m ns → m.uid ≢ v → IsMember m (without_node ns v)

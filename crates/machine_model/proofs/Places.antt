@@ -9,10 +9,7 @@ by_place P f i x j here other = elim (eqb_tells j i) [ inl e ↦ rw e.0 (here e.
 pub by_places : {A : Type 0} (P : A → Type 0) (f : ℕ → ℕ → A) (k n : ℕ) (x : A) (i j : ℕ) → (i ≡ k → j ≡ n → P x)
     → ((i ≡ k → j ≡ n → ⊥) → P (f i j)) → P (at_put_two f k n x i j)
 by_places P f k n x i j here other = elim (eqb_tells i k) [
-  | inl e ↦ elim (eqb_tells j n) [
-    | inl d ↦ rw (e.0, d.0) (here e.1 d.1)
-    | inr m ↦ rw (e.0, m.0) (other (λ a b. m.1 b))
-  ]
+  | inl e ↦ elim (eqb_tells j n) [ inl d ↦ rw (e.0, d.0) (here e.1 d.1) | inr m ↦ rw (e.0, m.0) (other (λ a b. m.1 b)) ]
   | inr m ↦ rw m.0 (other (λ a b. m.1 a))
 ]
 

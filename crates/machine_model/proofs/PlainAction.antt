@@ -1,8 +1,5 @@
 -- No action answers by itself that a drive failed.
-use Rattle.machine_model.proofs.Prelude.{◌≡◌, ℕ, false, not, ◌&&◌, eqb, List, [], ◌∷◌, position, Option, Some, None, cond_both, reference_of, Command, Reference, What, Move, Transfer, sdws_at, table_of, word_of, next_out, Aim, Phase, Processor, action_of, flat_of, is_due, next_command, or_zero, processor_at, Owner, State, Move as move, Aim as aim, Phase as phase, Action, by_move, clear_or, come_to, copy_or_commit, finish_of, go_on_with, has_had_its_turn, is_empty, load_or_idle, look_of, move_of, once_cleared, own_or_run, refer_or_take, run_process, take_or_wait, transfer_or, Action as act}
-use Rattle.machine_model.proofs.ActionCases.{action_by}
-use Rattle.machine_model.proofs.LookFacts.{LookFinds, look_finds}
-use Rattle.machine_model.proofs.PlainReplies.{command_plain, is_device, move_plainly, tells_device}
+use Rattle.machine_model.proofs.Laws.{◌≡◌, ℕ, false, not, ◌&&◌, eqb, List, [], ◌∷◌, position, Option, Some, None, cond_both, reference_of, Command, Reference, What, Move, Transfer, sdws_at, table_of, word_of, next_out, Aim, Phase, Processor, action_of, flat_of, is_due, next_command, or_zero, processor_at, Owner, State, Move as move, Aim as aim, Phase as phase, Action, by_move, clear_or, come_to, copy_or_commit, finish_of, go_on_with, has_had_its_turn, is_empty, load_or_idle, look_of, move_of, once_cleared, own_or_run, refer_or_take, run_process, take_or_wait, transfer_or, Action as act, action_by, LookFinds, look_finds, command_plain, is_device, move_plainly, tells_device}
 
 -- what it answers is a reply of the flat store
 abbrev pub IsPlainly : Action → Type 0

@@ -137,8 +137,7 @@ tree_plain p s k _ = refl
 -- a reference
 pub word_plain : (old : ℕ) (how : RefKind) → is_device (word_reply old how) ≡ false
 word_plain old kind.Read = refl
-word_plain old (kind.Write w) = refl
-word_plain old (kind.Add w) = refl
+word_plain old _ = refl
 
 reference_plain : (p : Plan) (s : Store) (k : ℕ) (r : Reference) → is_device (reply_to_reference p s k r) ≡ false
 unfolding reply_to_reference

@@ -1,5 +1,5 @@
 -- A pool with a free place has room: fewer segments of its nodes are active than it has places.
-use Rattle.machine_model.proofs.Prelude.{◌≡◌, ◌<◌, ◌≤◌, ℕ, zero, suc, ◌+◌, ◌-◌, Bool, true, false, ◌&&◌, ◌||◌, cond, eqb, count_by, is_some, is_none, List, [], ◌∷◌, length, Option, Some, None, inl, inr, refl, sym, ap, subst, ◌∙◌, arith, list_any, range_with_len, eqb_tells, sum_by-cons, Node, pool_of, AreBelow, IsTree, Joins, IsMember, found_member, ActiveSegs, entry_at, uid_in, IsInPool, first_of, size_of, is_for, place_of, free_place, is_active, places_in, Active as Entry, false_from_ne_true, find_passes}
+use Rattle.machine_model.proofs.Basics.{◌≡◌, ◌<◌, ◌≤◌, ℕ, zero, suc, ◌+◌, ◌-◌, Bool, true, false, ◌&&◌, ◌||◌, cond, eqb, count_by, is_some, is_none, List, [], ◌∷◌, length, Option, Some, None, inl, inr, refl, sym, ap, subst, ◌∙◌, arith, list_any, range_with_len, eqb_tells, sum_by-cons, Node, pool_of, AreBelow, IsTree, Joins, IsMember, found_member, ActiveSegs, entry_at, uid_in, IsInPool, first_of, size_of, is_for, place_of, free_place, is_active, places_in, Active as Entry, false_from_ne_true, find_passes}
 use Rattle.machine_model.proofs.ActiveSeen.{active_place}
 
 -- ---- counts
@@ -80,8 +80,7 @@ module _ (ast : ActiveSegs) (pool : ℕ) where
   )
 
   place_in : (q : ℕ) → IsInPool ast.sizes pool q → IsMember q places
-  place_in q h = let to = h.to in
-      range_has (first_of ast.sizes pool) _ q h.from (omega arith)
+  place_in q h = let to = h.to in range_has (first_of ast.sizes pool) _ q h.from (omega arith)
 
   -- ---- nodes
 
@@ -104,19 +103,13 @@ module _ (ast : ActiveSegs) (pool : ℕ) where
   for_same : (u v : ℕ) (o : Option Entry) → is_for u o ≡ true → is_for v o ≡ true → u ≡ v
   for_same u v None a b = cc
   for_same u v (Some e) a b = elim (eqb_tells e.uid u) [
-    | inl x ↦ elim (eqb_tells e.uid v) [
-      | inl y ↦ sym x.1 ∙ y.1
-      | inr n ↦ cc
-    ]
+    | inl x ↦ elim (eqb_tells e.uid v) [ inl y ↦ sym x.1 ∙ y.1 | inr n ↦ cc ]
     | inr n ↦ cc
   ]
 
   is_at : (u : ℕ) (o : Option Entry) → uid_in o ≡ Some u → is_for u o ≡ true
   is_at u None h = cc
-  is_at u (Some e) h = elim (eqb_tells e.uid u) [
-    | inl x ↦ x.0
-    | inr n ↦ absurd (n.1 (cc))
-  ]
+  is_at u (Some e) h = elim (eqb_tells e.uid u) [ inl x ↦ x.0 | inr n ↦ absurd (n.1 (cc)) ]
 
   -- a node that is older has another segment
   not_older : (u : ℕ) (ns : List Node) (q : ℕ) → AreBelow u ns → is_for u (entry_at ast.entries q) ≡ true
@@ -189,9 +182,8 @@ module _ (ast : ActiveSegs) (pool : ℕ) where
       member = found_member (λ q. is_none (entry_at ast.entries q)) places place free
 
       none : has_its ns place ≡ false
-      none = false_from_ne_true (has_its ns place) (λ e. not_both (entry_at ast.entries place) (find_passes
-          (λ q. is_none (entry_at ast.entries q)) places place free)
-          (has_some ns place e))
+      none = false_from_ne_true (has_its ns place) (λ e. not_both (entry_at ast.entries place)
+          (find_passes (λ q. is_none (entry_at ast.entries q)) places place free) (has_some ns place e))
         where
           not_both : (o : Option Entry) → is_none o ≡ true → is_some o ≡ true → ⊥
           not_both None a b = let off = b in cc

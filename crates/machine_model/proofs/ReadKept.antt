@@ -1,9 +1,6 @@
 -- What a processor reads into a frame is for the next command of its process through every action, until it is read.
-use Rattle.machine_model.proofs.Prelude.{and_parts, cond_both, with_node, Links, with_effect, ◌≡◌, ◌≢◌, ◌<◌, ℕ, ◌+◌, Bool, true, false, cond, eqb, length, List, [], map, set, Option, Some, None, ◌⊎◌, inl, inr, refl, sym, ap, subst, ◌∙◌, arith, ℤ, eqb_tells, get_or-set_other, get_or-set_same, length-set, Plan, command_at, Command, Reference, Reply, What, Row, Node, node_in, IsTree, uid_of, kst_at, word_of, Transfer, parts_of, segment_at, word_reply, node_gone, is_filed, is_there, pages_in, pages_of, Processor, Run, action_of, clear_or, own_or_run, transfer_or, Outcome, after, committed, committed_at, with_made, write_failed, Keeps, without_move, IsMachine, AllRead, IsReadFor, IsReading, Refers, Truncates, Wants, cpu_at, frames_of_owner, is_active, next_command, no_processor, no_run, or_zero, process_at, processor_at, run_at, refusal_of, reply_of, uid_of_command, State, Storage, fault_told, frame_lost, old_word, page_made, pages_after, started, told, transfer_failed, with_pages, with_store, MayFailBy, not_both, Command as command, Reply as reply, Aim as aim, with_links, with_nodes, Action, Action as act}
-use Rattle.machine_model.proofs.Laws.{Stays, all_back, all_taken, emptying, evicted, evicting, is_back, is_emptied, page_left, emptying_victim, action_by, by_end, LeadsToSegment, truncate_stands, inside_is, told_reads, told_process, FindsCut, FindsOut, FindsPage, active_there, stored_is, KeepsName, PathsStay, paths_changed, paths_less, paths_more, paths_same, active_at, told_transfer}
-use Rattle.machine_model.proofs.CommitKept.{effected}
+use Rattle.machine_model.proofs.StepBasics.{and_parts, cond_both, with_node, Links, with_effect, ◌≡◌, ◌≢◌, ◌<◌, ℕ, ◌+◌, Bool, true, false, cond, eqb, length, List, [], map, set, Option, Some, None, ◌⊎◌, inl, inr, refl, sym, ap, subst, ◌∙◌, arith, ℤ, eqb_tells, get_or-set_other, get_or-set_same, length-set, Plan, command_at, Command, Reference, Reply, What, Row, Node, node_in, IsTree, uid_of, kst_at, word_of, Transfer, parts_of, segment_at, word_reply, node_gone, is_filed, is_there, pages_in, pages_of, Processor, Run, action_of, clear_or, own_or_run, transfer_or, Outcome, after, committed, committed_at, with_made, write_failed, Keeps, without_move, IsMachine, AllRead, IsReadFor, IsReading, Refers, Truncates, Wants, cpu_at, frames_of_owner, is_active, next_command, no_processor, no_run, or_zero, process_at, processor_at, run_at, refusal_of, reply_of, uid_of_command, State, Storage, fault_told, frame_lost, old_word, page_made, pages_after, started, told, transfer_failed, with_pages, with_store, MayFailBy, not_both, Command as command, Reply as reply, Aim as aim, with_links, with_nodes, Action, Action as act, Stays, job_stays_all_back as all_back, all_taken, emptying, job_stays_evicted as evicted, evicting, is_back, is_emptied, page_left, emptying_victim, action_by, by_end, LeadsToSegment, truncate_stands, inside_is, told_reads, told_process, FindsCut, FindsOut, FindsPage, active_there, stored_is, KeepsName, PathsStay, paths_changed, paths_less, paths_more, paths_same, active_at, told_transfer, effected, some_there}
 use Rattle.machine_model.proofs.CommitRights.{deleted_names, truncated_names, quota_moves, node_moved}
-use Rattle.machine_model.proofs.VictimLaws.{some_there}
 use Rattle.page_control.proofs.Looks.{stored_out}
 
 -- one node changes
@@ -228,8 +225,7 @@ module _ (s : State) (c : ℕ) (o : Outcome) (m : IsMachine s) (there : c < leng
 
   -- a transfer failed
   lost_read : (t : Transfer) → (cpu_at s.processors c).process ≡ Some k → IsReading (transfer_failed s c t o.faults)
-  lost_read t its =
-      let b = fault_told (frame_lost s c t) (Some k) o.faults in
+  lost_read t its = let b = fault_told (frame_lost s c t) (Some k) o.faults in
       let here = get_or-set_same s.processors c _ no_processor there in
       told_read b c None reply.Device (idle_read h c _ there refl)
       (subst (λ (n : ℕ). c < n) (sym (length-set s.processors c _)) there) (ap (λ (x : Processor). x.cpu.transfer) here)
@@ -318,8 +314,7 @@ module _ (s : State) (c : ℕ) (o : Outcome) (m : IsMachine s) (there : c < leng
           numbers = λ i n. cc;
           paths = λ d t n e. (rw left.nodes (paths_same nodes t.uid));
         }
-    leaves (command.Delete path) kept =
-        let u = uid_of_command s.store k (command.Delete path) in
+    leaves (command.Delete path) kept = let u = uid_of_command s.store k (command.Delete path) in
         let left = deleted_names s.store u (frames_of_owner s.owner) in record {
           numbers = λ i n. cc;
           paths = λ d t n e. paths_less nodes u t.uid m.keeps.store.accounts.tree kept.store.accounts.tree
@@ -380,9 +375,6 @@ module _ (s : State) (c : ℕ) (o : Outcome) (m : IsMachine s) (there : c < leng
   -- What is read is so for its command after each action.
   pub reading_kept : (a : Action) → MayRead s c o a → Keeps (after s c a o) → IsReading (after s c a o)
   unfolding after
-  reading_kept act.IsStopped may kept = h
-  reading_kept act.HasEnded may kept = h
-  reading_kept (act.Waits why) may kept = h
   reading_kept act.Online may kept = seat_read h c _ there refl refl
   reading_kept (act.Clear w) may kept = seat_read h c _ there refl refl
   reading_kept (act.EndTransfer t) may kept = by_end IsReading o _ _
@@ -394,11 +386,7 @@ module _ (s : State) (c : ℕ) (o : Outcome) (m : IsMachine s) (there : c < leng
   reading_kept (act.Through f r) may kept = tells (with_pages s.store (pages_after s.store.pages f r)) (Some f)
       (word_reply (old_word s.store.pages f r) r.kind) h may
   reading_kept (act.Plain r) may kept = tells s.store None r h may
-  reading_kept act.TakeSupervisor may kept = h
   reading_kept (act.Answer r) may kept = tells s.store None r h may
-  reading_kept act.GiveUp may kept = h
-  reading_kept (act.Activate u place) may kept = h
-  reading_kept (act.Connect n u) may kept = h
   reading_kept (act.Create f u q r) may kept = told_read (page_made s f u q r) c None (word_reply 0 r.kind) h there
       may.0 (elsewhere may.1)
   reading_kept (act.Start f u q) may kept = starts f u q may.0 may.1.0 may.1.1 may.1.2
@@ -406,7 +394,6 @@ module _ (s : State) (c : ℕ) (o : Outcome) (m : IsMachine s) (there : c < leng
   reading_kept (act.Empty u) may kept = reads_like (emptying s c u) h
   reading_kept (act.EmptyVictim pool chain u) may kept = reads_like (emptying_victim s c pool chain u) h
   reading_kept (act.TakeAway fs pairs w) may kept = reads_like (all_taken s c aim.Committing w fs pairs) h
-  reading_kept (act.BeginMove u volume) may kept = h
   reading_kept (act.CopyPage m q) may kept = by_end IsReading o _ _ (λ e. h)
       (λ e. told_read (fault_told (with_store s (without_move s.store))
       (Some k) o.faults) c None reply.Device h there may.0 (elsewhere may.1))
@@ -435,3 +422,4 @@ module _ (s : State) (c : ℕ) (o : Outcome) (m : IsMachine s) (there : c < leng
       by_end IsReading o _ _ (λ e. reads_like (page_left s f o.faults) h) (λ e. failed_read may)
   reading_kept (act.Deactivate u) may kept = reads_like (is_emptied s c u) h
   reading_kept act.Commit may kept = commits may (next_command s k) kept
+  reading_kept _ may kept = h

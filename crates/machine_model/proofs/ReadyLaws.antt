@@ -1,9 +1,7 @@
 -- What a tree command must have out of use is so where it takes effect, as the tables are asked.
-use Rattle.machine_model.proofs.Prelude.{◌≡◌, ◌<◌, ◌≤◌, ℕ, Bool, true, false, ◌&&◌, List, [], Option, Some, None, Ok, inl, inr, refl, sym, ap, ◌∙◌, arith, ◌/◌, ◌%◌, eqb_tells, Command, Node, branch_at, node_at, segment_at, bound_page, frame_at, started_page, Ptw, is_out_word, Sdw, IsActive, uid_at, leads, leads_at, place_of, word_of, IsCut, is_filed, is_there, pages_in, has, is_going_frame, page_of, is_out, names, holding, led_to, seen, Keeps, IsReadyFor, IsRemovable, IsTakenFrom, IsTakenPast, OwnsAll, OwnsFor, OwnsFrom, descriptor_of, frames_of_owner, is_active, uid_of_command, uid_of_node, bound_use, frame_use, read_use, State, IsTakenFor, TakesDescriptor, TakesPage, branch_found, only_found, not_both, Command as command, Frame as core_frame, Ptw as ptw, Sdw as sdw}
+use Rattle.machine_model.proofs.StepBasics.{◌≡◌, ◌<◌, ◌≤◌, ℕ, Bool, true, false, ◌&&◌, List, [], Option, Some, None, Ok, inl, inr, refl, sym, ap, ◌∙◌, arith, ◌/◌, ◌%◌, eqb_tells, Command, Node, branch_at, node_at, segment_at, bound_page, frame_at, started_page, Ptw, is_out_word, Sdw, IsActive, uid_at, leads, leads_at, place_of, word_of, IsCut, is_filed, is_there, pages_in, has, is_going_frame, page_of, is_out, names, holding, led_to, seen, Keeps, IsReadyFor, IsRemovable, IsTakenFrom, IsTakenPast, OwnsAll, OwnsFor, OwnsFrom, descriptor_of, frames_of_owner, is_active, uid_of_command, uid_of_node, bound_use, frame_use, read_use, State, IsTakenFor, TakesDescriptor, TakesPage, branch_found, only_found, not_both, Command as command, Frame as core_frame, Ptw as ptw, Sdw as sdw, active_place, map_list, stored_is, none_some, active_at, started_free}
 use Rattle.storage_ops.specs.Cut.{is_here}
-use Rattle.machine_model.proofs.Laws.{active_place, map_list, stored_is, none_some, active_at}
 use Rattle.machine_model.proofs.CommitRests.{linked_on, none_listed, page_bound}
-use Rattle.machine_model.proofs.JustLaws.{started_free}
 
 -- ---- what goes
 

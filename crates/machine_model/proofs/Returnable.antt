@@ -1,7 +1,5 @@
 -- What the owner's job has taken may come back: its pages one after the other, and then its descriptors.
-use Rattle.machine_model.proofs.Prelude.{◌≡◌, ◌<◌, ℕ, suc, Bool, true, false, ◌||◌, List, [], ◌∷◌, length, Option, Some, None, inr, refl, sym, ap, subst, ◌∙◌, length-set, Frame, bound_page, frame_at, is_bound, Ptw, frame_in, Sdw, leads, leads_at, place_of, sdws_at, word_of, has, CutDescriptor, page_at, AreApart, AreDistinct, has_cut, names, seen, here_if, with_here, with_relink, AreThere, HadRights, Keeps, cut_of_owner, descriptor_of, frames_of_owner, IsLeaving, IsRelinkable, MayComeBack, MayRelink, with_all_here, is_cut_at, State, Storage, AreNumbered, IsWorking, has_head, has_tail, not_both, or_parts, Frame as frame, Ptw as ptw, Sdw as sdw, jobs_page_or_zero as page_or_zero}
-use Rattle.machine_model.proofs.Laws.{active_place, going_word, map_list, cut_at_same, by_places, descriptors_put, not_null, words_put}
-use Rattle.machine_model.proofs.BackKept.{relink_there}
+use Rattle.machine_model.proofs.Kept.{◌≡◌, ◌<◌, ℕ, suc, Bool, true, false, ◌||◌, List, [], ◌∷◌, length, Option, Some, None, inr, refl, sym, ap, subst, ◌∙◌, length-set, Frame, bound_page, frame_at, is_bound, Ptw, frame_in, Sdw, leads, leads_at, place_of, sdws_at, word_of, has, CutDescriptor, page_at, AreApart, AreDistinct, has_cut, names, seen, here_if, with_here, with_relink, AreThere, HadRights, Keeps, cut_of_owner, descriptor_of, frames_of_owner, IsLeaving, IsRelinkable, MayComeBack, MayRelink, with_all_here, is_cut_at, State, Storage, AreNumbered, IsWorking, has_head, has_tail, not_both, or_parts, Frame as frame, Ptw as ptw, Sdw as sdw, jobs_page_or_zero as page_or_zero, active_place, going_word, map_list, cut_at_same, by_places, descriptors_put, not_null, words_put, relink_there}
 
 or_right : (a b : Bool) → b ≡ true → (a || b) ≡ true
 or_right true b h = refl
@@ -73,10 +71,7 @@ others_relink : (st : Storage) (d : CutDescriptor) (ds : List CutDescriptor) →
     → d.number < length (sdws_at st.links.descriptors d.process) → has_cut ds d.process d.number ≡ false
     → AllRelinkable st ds → AllRelinkable (with_relink st d) ds
 others_relink st d [] outer inner apart all = tt
-others_relink st d (e ∷ es) outer inner apart all = (
-  assumption still,
-  others_relink st d es outer inner parts.1 all.1,
-)
+others_relink st d (e ∷ es) outer inner apart all = (assumption still, others_relink st d es outer inner parts.1 all.1)
   where
     parts : (is_cut_at d.process d.number e ≡ false) × (has_cut es d.process d.number ≡ false)
     parts = or_parts (is_cut_at d.process d.number e) (has_cut es d.process d.number) apart
@@ -86,9 +81,8 @@ others_relink st d (e ∷ es) outer inner apart all = (
 
     still : leads_at (with_relink st d).links.descriptors e.process e.number ≡ None
     still = ap leads (descriptors_put st.links (with_relink st d).links.trailers d.process d.number word outer inner
-        e.process e.number)
-        ∙ by_places (λ (x : Sdw). leads x ≡ None) (λ a b. descriptor_of st.links a b) d.process d.number word
-        e.process e.number (λ a b. cc (cut_at_same e)) (λ m. all.0.cut)
+        e.process e.number) ∙ by_places (λ (x : Sdw). leads x ≡ None) (λ a b. descriptor_of st.links a b) d.process
+        d.number word e.process e.number (λ a b. cc (cut_at_same e)) (λ m. all.0.cut)
 
 all_relink : (st : Storage) (ds : List CutDescriptor) → AreApart ds → AreThere st ds → AllRelinkable st ds
     → MayRelink st ds
@@ -120,10 +114,7 @@ all_here_tables st (f ∷ fs) = let rest = all_here_tables (with_here st f) fs i
 relink_tables : (st : Storage) (tables : List (List Ptw)) (ds : List CutDescriptor) → AllRelinkable st ds
     → AllRelinkable (with_tables st tables) ds
 relink_tables st tables [] all = tt
-relink_tables st tables (d ∷ ds) all = (
-  assumption,
-  relink_tables st tables ds all.1,
-)
+relink_tables st tables (d ∷ ds) all = (assumption, relink_tables st tables ds all.1)
 
 there_tables : (st : Storage) (tables : List (List Ptw)) (ds : List CutDescriptor) → AreThere st ds
     → AreThere (with_tables st tables) ds
@@ -167,8 +158,7 @@ module _ (s : State) (keeps : Keeps s) where
     where
       by : (x : Sdw) → descriptor_of s.store.links k n ≡ x → leads x ≡ None
       by sdw.Fault e = refl
-      by (sdw.Present aste mode pages) e = let at = keeps.store.kept.linked.known k n aste (ap leads e) in
-          cc
+      by (sdw.Present aste mode pages) e = let at = keeps.store.kept.linked.known k n aste (ap leads e) in cc
 
   relinkable : (ds : List CutDescriptor) → AreThere s.store ds
       → HadRights s.store.accounts.nodes s.store.whos ds → AreNumbered s.store.links.known ds

@@ -1,12 +1,9 @@
 -- Each step of each processor keeps the machine's promise: along the rules in their order, what an action asks follows
 -- from the promise, but for what the store says and for what the flat store answers.
-use Rattle.machine_model.proofs.Prelude.{[], ◌≡◌, ◌<◌, ℕ, List, ◌∷◌, length, Option, Some, None, sym, ◌∙◌, What, Mover, Aim, finish_of, copy_or_commit, Outcome, seen, Keeps, cut_of_owner, shown, State, What as what, Aim as aim, Action, Action as act}
-use Rattle.machine_model.proofs.CommitKept.{idle_over, segs_over}
+use Rattle.machine_model.proofs.Kept.{[], ◌≡◌, ◌<◌, ℕ, List, ◌∷◌, length, Option, Some, None, sym, ◌∙◌, What, Mover, Aim, finish_of, copy_or_commit, Outcome, seen, Keeps, cut_of_owner, shown, State, What as what, Aim as aim, Action, Action as act, idle_over, segs_over, none_due, mover_tied_IsLook as IsLook}
 use Rattle.machine_model.proofs.DeleteKept.{gones_done, gones_idle}
-use Rattle.machine_model.proofs.Laws.{none_due, IsLook}
 use Rattle.machine_model.proofs.TruncateKept.{leaves_done, leaves_idle}
-pub use Rattle.machine_model.proofs.StepKept.{Asks, AsksCommit, AsksCreate, AsksEmpty, AsksSegment, AsksTake, AsksVictim, HasWaited, IsLooking, IsMoving, look_idle, look_still, nothing_over, process_here, wait_goes, wait_shape}
-use Rattle.machine_model.proofs.StepKept.{CanDo, IsReady}
+pub use Rattle.machine_model.proofs.StepKept.{Asks, AsksCommit, AsksCreate, AsksEmpty, AsksSegment, AsksTake, AsksVictim, HasWaited, IsLooking, IsMoving, look_idle, look_still, nothing_over, process_here, wait_goes, wait_shape, CanDo, IsReady}
 
 module _ (s : State) (c : ℕ) (o : Outcome) (k : Keeps s) (there : c < length s.processors) where
   -- ---- the owner looks
@@ -61,8 +58,7 @@ module _ (s : State) (c : ℕ) (o : Outcome) (k : Keeps s) (there : c < length s
       no_frame : (g : ℕ) × (x.owner.owner.frames ≡ g ∷ []) × (w ≡ what.Page g) × (x.owner.owner.cut ≡ []) → ⊥
       no_frame y = let no : [] ≡ y.0 ∷ [] = sym frames ∙ y.1 in cc
   finish_can aim.Evicting w (f ∷ fs) x frames asks = (fs, record { what = w; waited = x; frames = frames; asks = asks })
-  finish_can (aim.Deactivating u) w [] x frames asks =
-      record { what = w; waited = x; frames = frames; asks = asks }
+  finish_can (aim.Deactivating u) w [] x frames asks = record { what = w; waited = x; frames = frames; asks = asks }
   finish_can (aim.Deactivating u) w (f ∷ fs) x frames asks =
       (u, fs, record { what = w; waited = x; frames = frames; asks = asks })
   finish_can aim.Committing w fs x frames asks = assumption (wait_ready w x, process_here s c o k there x.owner)

@@ -1,9 +1,6 @@
 -- Each step of each processor keeps the machine's promise: along the rules in their order, what an action asks follows
 -- from the promise, but for what the store says and for what the flat store answers.
-use Rattle.machine_model.proofs.Prelude.{◌≡◌, ◌≢◌, ◌<◌, ℕ, ◌/◌, ◌*◌, Bool, true, false, not, ◌&&◌, ◌||◌, ◌==◌, cond, eqb, is_some, List, [], ◌∷◌, length, position, Option, Some, None, inl, inr, refl, sym, ap, subst, ◌∙◌, nat_le, option_map, eqb_tells, leb_tells, HeldPage, HeldSeg, What, frame_of, seg_of, reference_of, Command, Reference, Ptw, Sdw, uid_at, by_descriptor, by_page, by_seg, by_word, Move, Transfer, leads, sdws_at, word_of, table_of, next_out, new_word, permits, word_reply, HasHadItsTurn, Phase, action_of, by_move, clear_or, come_to, finish_of, go_on_with, has_had_its_turn, is_empty, load_or_idle, look_of, once_cleared, own_or_run, refer_or_take, run_process, take_or_wait, transfer_or, Outcome, names, led_to, seen, IsAtWork, Keeps, cpu_at, descriptor_of, is_due, next_command, or_zero, process_at, processor_at, shown, Processor, Owner, State, held_page, cond_both, not-true, not-false, and_parts, held_page_of as page_of, Reply as reply, Ptw as ptw, Sdw as sdw, Move as move, Phase as phase, Action, Action as act, some_same, eqb-true}
-use Rattle.machine_model.proofs.Laws.{action_by, number_new, page_new, IsNoOwner, look_is, CanFillPage}
-use Rattle.machine_model.proofs.RuleKept.{Asks, finish_can, look_can, move_can}
-use Rattle.machine_model.proofs.StepKept.{CanDo, CanLeave, IsMine, to_hold}
+use Rattle.machine_model.proofs.StepBasics.{◌≡◌, ◌≢◌, ◌<◌, ℕ, ◌/◌, ◌*◌, Bool, true, false, not, ◌&&◌, ◌||◌, ◌==◌, cond, eqb, is_some, List, [], ◌∷◌, length, position, Option, Some, None, inl, inr, refl, sym, ap, subst, ◌∙◌, nat_le, option_map, eqb_tells, leb_tells, HeldPage, HeldSeg, What, frame_of, seg_of, reference_of, Command, Reference, Ptw, Sdw, uid_at, by_descriptor, by_page, by_seg, by_word, Move, Transfer, leads, sdws_at, word_of, table_of, next_out, new_word, permits, word_reply, HasHadItsTurn, Phase, action_of, by_move, clear_or, come_to, finish_of, go_on_with, has_had_its_turn, is_empty, load_or_idle, look_of, once_cleared, own_or_run, refer_or_take, run_process, take_or_wait, transfer_or, Outcome, names, led_to, seen, IsAtWork, Keeps, cpu_at, descriptor_of, is_due, next_command, or_zero, process_at, processor_at, shown, Processor, Owner, State, held_page, cond_both, not-true, not-false, and_parts, held_page_of as page_of, Reply as reply, Ptw as ptw, Sdw as sdw, Move as move, Phase as phase, Action, Action as act, some_same, eqb-true, action_by, number_new, page_new, IsNoOwner, look_is, CanFillPage, Asks, finish_can, look_can, move_can, CanDo, CanLeave, IsMine, to_hold}
 
 -- an action can be done whose conditions hold
 abbrev Can : State → ℕ → Outcome → Action → Type 0
@@ -70,8 +67,6 @@ module _ (s : State) (c : ℕ) (o : Outcome) (k : Keeps s) (there : c < length s
         → Asks s c o (by_move s.owner r (by_word w r.kind)) → CanDo s c o (by_move s.owner r (by_word w r.kind))
     word_can h seg none ptw.Null e = pick_move s c o r (new_word 0 r.kind == 0)
         (move.Plain (word_reply 0 r.kind)) move.Fault (λ a. a) (take_can s.owner refl)
-    word_can h seg none (ptw.Out x) e = take_can s.owner refl
-    word_can h seg none (ptw.Leaving x) e = take_can s.owner refl
     word_can h seg none (ptw.Here f) e = λ asks. (
       subst (CanFillPage (seen s) c) (sym hold) (record {
         inside = rw (← k.sizes.processors) there;
@@ -86,6 +81,7 @@ module _ (s : State) (c : ℕ) (o : Outcome) (k : Keeps s) (there : c < length s
       where
         hold : held_page (cpu_at s.processors c) f r ≡ record { uid = h.uid; page = r.offset / 1024; frame = f }
         hold = cc
+    word_can h seg none _ e = take_can s.owner refl
 
     page_can_move : (h : HeldSeg) → seg_of (cpu_at s.processors c).assoc r.number ≡ Some h → (x : Option ℕ)
         → frame_of (cpu_at s.processors c).assoc h.uid (r.offset / 1024) ≡ x
@@ -126,10 +122,7 @@ module _ (s : State) (c : ℕ) (o : Outcome) (k : Keeps s) (there : c < length s
   load_can on none (n ∷ ns) e asks = (on, none, rw e refl)
 
   turn_of : (nat_le 16 p.count || p.tried) ≡ true → HasHadItsTurn ((shown (seen s)).seat c)
-  turn_of h = elim (leb_tells 16 p.count) [
-    | inl e ↦ inl e.1
-    | inr m ↦ inr (cc)
-  ]
+  turn_of h = elim (leb_tells 16 p.count) [ inl e ↦ inl e.1 | inr m ↦ inr (cc) ]
 
   not_empty : (xs : List ℕ) → not (is_empty xs) ≡ true → xs ≢ []
   not_empty [] h e = cc

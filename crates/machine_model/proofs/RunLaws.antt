@@ -9,9 +9,8 @@ ended = record { place = 0; tries = 0; ended = true; faulted = false }
 
 put_progress : (ps : List Progress) (k : ℕ) (q : Progress) (j : ℕ) → k < length ps
     → get_or (set ps k q) j ended ≡ at_put (λ i. get_or ps i ended) k q j
-put_progress ps k q j within = by_place (λ (x : Progress). get_or (set ps k q) j ended ≡ x)
-    (λ i. get_or ps i ended) k q j (λ e. cc (get_or-set_same ps k q ended within))
-    (λ n. get_or-set_other ps k j q ended n)
+put_progress ps k q j within = by_place (λ (x : Progress). get_or (set ps k q) j ended ≡ x) (λ i. get_or ps i ended) k q
+    j (λ e. cc (get_or-set_same ps k q ended within)) (λ n. get_or-set_other ps k j q ended n)
 
 -- an effect leaves how far each has come
 pub base_same : (p : Plan) (s : Store) (j : ℕ) (c : Command) (r : Reply)

@@ -1,8 +1,6 @@
 -- What the store says after each action, by what its calls say of it.
-use Rattle.machine_model.proofs.Prelude.{cond_both, ◌≡◌, ℕ, ◌+◌, ◌*◌, true, false, eqb, List, [], ◌∷◌, ◌++◌, map, length, sum, Option, Some, None, refl, sym, ap, subst, ◌∙◌, arith, ◌/◌, ◌%◌, length-set, Who, Plan, reference_of, Command, RefKind, Reference, Entry, Reply, Node, bound_page, Left, Home, evicted, referred, Plain, frame_in_pages, words_in, Transfer, effect_of, takes_effect, after_entry, store_after, store_after-push, alters, new_word, word_reply, written, written_by, Store, known_uid, Outcome, after, emptied, entries_left, eviction_begun, eviction_done, here_if, leaving_if, left_of, page_back, page_done, page_in, pages_back, seg_back, seg_gone, segs_back, segs_gone, with_choice, without_first_frame, write_failed, AreThere, HadRights, IsConserved, IsFaithful, Keeps, StoreKept, StoreSays, cut_of_owner, flat_of, frames_of_owner, home_in, is_active, next_command, process_at, run_at, Says, left_page, shown_after, through, with_made_page, without_left, CutDescriptor, Owner, State, Storage, activated_at, connected_to, fault_told, frame_lost, old_word, page_created, pages_after, started, told, told_by, transfer_failed, transferred, went_through, with_faults, append_assoc, RefKind as kind, Entry as entry, Reply as reply, Left as left, references_after_reference as after_reference, Action, Action as act}
+use Rattle.machine_model.proofs.Basics.{cond_both, ◌≡◌, ℕ, ◌+◌, ◌*◌, true, false, eqb, List, [], ◌∷◌, ◌++◌, map, length, sum, Option, Some, None, refl, sym, ap, subst, ◌∙◌, arith, ◌/◌, ◌%◌, length-set, Who, Plan, reference_of, Command, RefKind, Reference, Entry, Reply, Node, bound_page, Left, Home, evicted, referred, Plain, frame_in_pages, words_in, Transfer, effect_of, takes_effect, after_entry, store_after, store_after-push, alters, new_word, word_reply, written, written_by, Store, known_uid, Outcome, after, emptied, entries_left, eviction_begun, eviction_done, here_if, leaving_if, left_of, page_back, page_done, page_in, pages_back, seg_back, seg_gone, segs_back, segs_gone, with_choice, without_first_frame, write_failed, AreThere, HadRights, IsConserved, IsFaithful, Keeps, StoreKept, StoreSays, cut_of_owner, flat_of, frames_of_owner, home_in, is_active, next_command, process_at, run_at, Says, left_page, shown_after, through, with_made_page, without_left, CutDescriptor, Owner, State, Storage, activated_at, connected_to, fault_told, frame_lost, old_word, page_created, pages_after, started, told, told_by, transfer_failed, transferred, went_through, with_faults, append_assoc, RefKind as kind, Entry as entry, Reply as reply, Left as left, references_after_reference as after_reference, Action, Action as act, IsAlike, alike, alike_by, alike_on, alike_shown, conserved_by, done_alike, fault_alike, is_still, one_still, refused_alike, left_nodes as account_nodes}
 use Rattle.machine_model.proofs.ChoiceLaws.{choice_count}
-use Rattle.machine_model.proofs.FlatAlike.{IsAlike, alike, alike_by, alike_on, alike_shown, conserved_by, done_alike, fault_alike, is_still, one_still, refused_alike}
-use Rattle.machine_model.proofs.OutlineEnd.{left_nodes as account_nodes}
 
 -- the quotas of a flat store together
 abbrev pub quotas : Store → ℕ
@@ -127,8 +125,7 @@ nodes_through s f r t = cond_both (alters r.kind) _ t (λ x. x.nodes ≡ t.nodes
 
 word_done : (w : ℕ) (how : RefKind) → takes_effect (word_reply w how) ≡ true
 word_done w kind.Read = refl
-word_done w (kind.Write v) = refl
-word_done w (kind.Add v) = refl
+word_done w _ = refl
 
 effect_is : (p : Plan) (t : Store) (k : ℕ) (cmd : Command) (r : Reference) → reference_of cmd ≡ Some r
     → effect_of p t k cmd ≡ after_reference t k r
@@ -221,9 +218,8 @@ activated_says s c o u place k says none = says_is k says refl
 pub connected_says : (s : State) (c : ℕ) (o : Outcome) (n u : ℕ) → Keeps s → Says s c o (act.Connect n u)
     → cut_of_owner s.owner ≡ [] → StoreSays (connected_to s c n u)
 unfolding after
-connected_says s c o n u k says none = says_is k says refl
-    (still_alike s (entry.Connect (process_at s c) n u) refl) k.conserved.total
-    (none_rest s (connected_to s c n u) refl refl none)
+connected_says s c o n u k says none = says_is k says refl (still_alike s (entry.Connect (process_at s c) n u) refl)
+    k.conserved.total (none_rest s (connected_to s c n u) refl refl none)
 
 pub started_says : (s : State) (c : ℕ) (o : Outcome) (f u p : ℕ) → Keeps s → Says s c o (act.Start f u p)
     → StoreSays (started s c f u p)
@@ -240,10 +236,9 @@ leaving_pages st f (Some page) = refl
 pub evicting_says : (s : State) (c : ℕ) (o : Outcome) (f : ℕ) → Keeps s → Says s c o (act.Evict f)
     → cut_of_owner s.owner ≡ [] → StoreSays (eviction_begun s c f)
 unfolding after
-evicting_says s c o f k says none = says_is k says refl
-    (still_alike s (entry.Take f) refl) k.conserved.total (none_rest s (eviction_begun s c f) refl
-    (ap (λ (pages : Plain). length pages.core.frames) (leaving_pages (with_choice s.store f) f _)
-    ∙ choice_count s.store.pages.core f) none)
+evicting_says s c o f k says none = says_is k says refl (still_alike s (entry.Take f) refl) k.conserved.total (none_rest
+    s (eviction_begun s c f) refl (ap (λ (pages : Plain). length pages.core.frames)
+    (leaving_pages (with_choice s.store f) f _) ∙ choice_count s.store.pages.core f) none)
 
 -- ---- the end of a transfer
 

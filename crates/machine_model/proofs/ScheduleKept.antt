@@ -1,7 +1,5 @@
 -- After each action each process that goes on is at one processor, ready, or kept back by the initializer.
-use Rattle.machine_model.proofs.Prelude.{◌≡◌, ◌<◌, ℕ, ◌+◌, ◌-◌, Bool, true, false, ◌&&◌, cond, eqb, List, [], ◌∷◌, ◌++◌, drop, length, set, Option, Some, None, refl, sym, ap, subst, ◌∙◌, length-set, get_or-set_same, Plan, Command, Reply, What, is_end, word_reply, IsFront, range, released_by, Processor, Run, Outcome, after, committed_at, told_from, write_failed, without_move, cpu_at, next_command, no_processor, or_zero, process_at, processor_at, run_at, reply_of, AreScheduled, IsScheduled, State, fault_told, frame_lost, goes_on, is_its_end, left_at, old_word, page_made, run_after, told, told_by, with_store, pages_after, with_pages, no_run, append-nil, Command as command, Reply as reply, Aim as aim, Action, Action as act, cond_both}
-use Rattle.machine_model.proofs.Laws.{Stays, all_taken, emptying, is_back, is_emptied, emptying_victim, by_end, told_reads, told_online, told_process, SameSeats, end_kept, schedule_laws_leave_kept as leave_kept, schedule_laws_load_kept as load_kept, one_run, one_seat, runs_kept, seats_kept}
-use Rattle.machine_model.proofs.CommitKept.{effected}
+use Rattle.machine_model.proofs.Kept.{◌≡◌, ◌<◌, ℕ, ◌+◌, ◌-◌, Bool, true, false, ◌&&◌, cond, eqb, List, [], ◌∷◌, ◌++◌, drop, length, set, Option, Some, None, refl, sym, ap, subst, ◌∙◌, length-set, get_or-set_same, Plan, Command, Reply, What, is_end, word_reply, IsFront, range, released_by, Processor, Run, Outcome, after, committed_at, told_from, write_failed, without_move, cpu_at, next_command, no_processor, or_zero, process_at, processor_at, run_at, reply_of, AreScheduled, IsScheduled, State, fault_told, frame_lost, goes_on, is_its_end, left_at, old_word, page_made, run_after, told, told_by, with_store, pages_after, with_pages, no_run, append-nil, Command as command, Reply as reply, Aim as aim, Action, Action as act, cond_both, Stays, all_taken, emptying, is_back, is_emptied, emptying_victim, by_end, told_reads, told_online, told_process, SameSeats, schedule_laws_end_kept as end_kept, schedule_laws_leave_kept as leave_kept, schedule_laws_load_kept as load_kept, one_run, one_seat, runs_kept, seats_kept, effected}
 
 -- ---- nobody's process and run changes
 
@@ -92,9 +90,8 @@ module _ (b : State) (c k : ℕ) (r : Reply) (h : IsScheduled b) (there : c < le
   ready_is = rw ((ap or_zero its_still), get_or-set_same b.runs k run no_run known, over, next)
 
   pub ended_kept : IsScheduled (left_at (told_by b c k None r) c)
-  ended_kept = rw ready_is (end_kept b.plan b.runs b.ready ps c k _ run
-      (rw (length-set b.processors c _) there) known (seats_kept b.plan b.runs b.ready
-      b.processors ps seats h) its_still refl over)
+  ended_kept = rw ready_is (end_kept b.plan b.runs b.ready ps c k _ run (rw (length-set b.processors c _) there) known
+      (seats_kept b.plan b.runs b.ready b.processors ps seats h) its_still refl over)
 
 -- ---- each action
 
@@ -170,9 +167,6 @@ module _ (s : State) (c : ℕ) (o : Outcome) (h : IsScheduled s) (there : c < le
   -- what an action asks of the processes is all that it wants
   pub schedule_kept : (a : Action) → MaySchedule s c o a → IsScheduled (after s c a o)
   unfolding after
-  schedule_kept act.IsStopped may = h
-  schedule_kept act.HasEnded may = h
-  schedule_kept (act.Waits why) may = h
   schedule_kept act.Online may = one_changed _ refl (λ e. refl)
   schedule_kept (act.Clear w) may = one_changed _ refl (λ e. e)
   schedule_kept (act.EndTransfer t) may = by_end IsScheduled o _ _
@@ -199,30 +193,23 @@ module _ (s : State) (c : ℕ) (o : Outcome) (h : IsScheduled s) (there : c < le
           (cc) (leave_kept s.plan s.runs s.processors c _ there may.0 s.ready h may.1 refl)
   schedule_kept (act.FillSeg n) may = one_changed _ refl (λ e. e)
   schedule_kept (act.FillPage f r) may = one_changed _ refl (λ e. e)
-  schedule_kept (act.Through f r) may = told_after s
-      (with_store s (with_pages s.store (pages_after s.store.pages f r))) c (Some f)
-      (word_reply (old_word s.store.pages f r) r.kind) (still refl refl refl refl) h there may
+  schedule_kept (act.Through f r) may = told_after s (with_store s (with_pages s.store (pages_after s.store.pages f r)))
+      c (Some f) (word_reply (old_word s.store.pages f r) r.kind) (still refl refl refl refl) h there may
   schedule_kept (act.Plain r) may = told_after s s c None r (still refl refl refl refl) h there may
-  schedule_kept act.TakeSupervisor may = h
   schedule_kept (act.Answer r) may = told_after s s c None r (still refl refl refl refl) h there may
-  schedule_kept act.GiveUp may = h
-  schedule_kept (act.Activate u place) may = h
-  schedule_kept (act.Connect n u) may = h
   schedule_kept (act.Create f u p r) may = told_after s (page_made s f u p r) c None (word_reply 0 r.kind)
       (still refl refl refl refl) h there may
   schedule_kept (act.Start f u p) may = one_changed _ refl (λ e. e)
-  schedule_kept (act.Evict f) may = h
   schedule_kept (act.Empty u) may = sits_kept s _ (sits (emptying s c u)) h
   schedule_kept (act.EmptyVictim pool chain u) may = sits_kept s _ (sits (emptying_victim s c pool chain u)) h
   schedule_kept (act.TakeAway fs pairs w) may = sits_kept s _ (sits (all_taken s c aim.Committing w fs pairs)) h
-  schedule_kept (act.BeginMove u volume) may = h
   schedule_kept (act.CopyPage m p) may = by_end IsScheduled o _ _ (λ e. h)
       (λ failed. told_after s (fault_told (with_store s (without_move s.store)) (Some (process_at s c)) o.faults) c None
       reply.Device (still refl refl refl refl) h there (may failed))
-  schedule_kept (act.CommitMove m) may = h
   schedule_kept (act.Signal w) may =
       seats_kept s.plan s.runs s.ready s.processors (told_from c w 0 s.processors) (told_seats s c w) h
   schedule_kept (act.FinishEviction f) may = by_end IsScheduled o _ _ (λ e. h) (λ e. failed_kept (may e))
   schedule_kept (act.FinishPage f) may = by_end IsScheduled o _ _ (λ e. h) (λ e. failed_kept (may e))
   schedule_kept (act.Deactivate u) may = sits_kept s _ (sits (is_emptied s c u)) h
   schedule_kept act.Commit may = command_kept (next_command s (process_at s c)) may.0 may.1 may.2 (cc)
+  schedule_kept _ may = h

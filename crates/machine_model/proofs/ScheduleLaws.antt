@@ -1,6 +1,5 @@
 -- Which processes run and which are ready, where a process is loaded, leaves its processor, is answered or ends.
-use Rattle.machine_model.proofs.Prelude.{◌≡◌, ◌≢◌, ◌<◌, ◌≤◌, ℕ, zero, suc, ◌+◌, ◌-◌, Bool, true, false, ◌||◌, ◌&&◌, cond, eqb, List, [], ◌∷◌, ◌++◌, length, set, Some, None, ◌⊎◌, inl, inr, refl, sym, ap, subst, ◌∙◌, arith, eqb_tells, get_or-set_other, get_or-set_same, Plan, has, range, AreDistinct, cpu_at, no_processor, no_run, processor_at, run_at, AreScheduled, HasTurn, MayRun, Processor, Run, append-nil, not_both, or_parts, eqb_self, some_same, false_from_ne_true}
-use Rattle.machine_model.proofs.Basics.{put_list, distinct_push, push_other, push_same, by_place, none_some}
+use Rattle.machine_model.proofs.Basics.{◌≡◌, ◌≢◌, ◌<◌, ◌≤◌, ℕ, zero, suc, ◌+◌, ◌-◌, Bool, true, false, ◌||◌, ◌&&◌, cond, eqb, List, [], ◌∷◌, ◌++◌, length, set, Some, None, ◌⊎◌, inl, inr, refl, sym, ap, subst, ◌∙◌, arith, eqb_tells, get_or-set_other, get_or-set_same, Plan, has, range, AreDistinct, cpu_at, no_processor, no_run, processor_at, run_at, AreScheduled, HasTurn, MayRun, Processor, Run, append-nil, not_both, or_parts, eqb_self, some_same, false_from_ne_true, put_list, distinct_push, push_other, push_same, by_place, none_some}
 
 -- ---- nobody's process changes
 
@@ -23,9 +22,8 @@ seats_kept p runs ready old now same h = record {
 }
 
 -- one processor changes, and keeps its process
-pub one_seat : (ps : List Processor) (c : ℕ) (p : Processor) → c < length ps
-    → p.cpu.process ≡ (cpu_at ps c).process → ((cpu_at ps c).online ≡ true → p.cpu.online ≡ true)
-    → SameSeats ps (set ps c p)
+pub one_seat : (ps : List Processor) (c : ℕ) (p : Processor) → c < length ps → p.cpu.process ≡ (cpu_at ps c).process
+    → ((cpu_at ps c).online ≡ true → p.cpu.online ≡ true) → SameSeats ps (set ps c p)
 one_seat ps c p there process online = record {
   process = λ d. cc (
     put_list ps c p no_processor d there,

@@ -1,6 +1,5 @@
 -- A processor takes part, loads a process, loses it, or fills in a descriptor or a page table word.
-use Rattle.machine_model.proofs.Prelude.{◌≡◌, ℕ, ◌<◌, true, false, List, [], drop, Option, Some, None, refl, sym, ap, subst, ◌∙◌, arith, IsSomeAnd, HeldPage, HeldSeg, What, Entry, IsLawful, after_entry, progress_of, IsAllowed, MayLeave, MayTakeSeg, IsFront, Seat, has, is_current_frame, leads_to, FillsOnline, pending_after, at_put, custody_next, with_seat, reseated, taking_part, running, left, with_held_seg, with_held_page, KeepsBook, HoldsRight, IsRun, AreOfProcess, names, is_pending, Seen, flat, shown, seat_of, Processor, Entry as entry, Ptw as ptw, DescriptorUse as descriptor, queued_by as queued, changes_came_online as came_online, changes_loaded as loaded, changes_emptied as emptied, changes_seg_filled as seg_filled, changes_page_filled as page_filled}
-use Rattle.machine_model.proofs.Basics.{book_next, map_filled, filled_few, pages_filled, right_like, segs_filled, under_way_alike, like_seat, owned_like, by_place, put_map, use_bound}
+use Rattle.machine_model.proofs.Basics.{◌≡◌, ℕ, ◌<◌, true, false, List, [], drop, Option, Some, None, refl, sym, ap, subst, ◌∙◌, arith, IsSomeAnd, HeldPage, HeldSeg, What, Entry, IsLawful, after_entry, progress_of, IsAllowed, MayLeave, MayTakeSeg, IsFront, Seat, has, is_current_frame, leads_to, FillsOnline, pending_after, at_put, custody_next, with_seat, reseated, taking_part, running, left, with_held_seg, with_held_page, KeepsBook, HoldsRight, IsRun, AreOfProcess, names, is_pending, Seen, flat, shown, seat_of, Processor, Entry as entry, Ptw as ptw, DescriptorUse as descriptor, queued_by as queued, changes_came_online as came_online, changes_loaded as loaded, changes_emptied as emptied, changes_seg_filled as seg_filled, changes_page_filled as page_filled, book_next, map_filled, filled_few, pages_filled, right_like, segs_filled, under_way_alike, like_seat, owned_like, by_place, put_map, use_bound}
 
 -- one processor changes, with the ready list and the book
 pub record Reseats (v : Seen) (c : ℕ) (p : Processor) (ready : List ℕ) (e : Entry) : Type 0 where

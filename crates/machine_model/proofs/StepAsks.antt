@@ -1,26 +1,49 @@
 -- What a step asks, along the rules in their order, follows from the whole promise and from what the calls of the store
 -- say.
-use Rattle.machine_model.proofs.Prelude.{cases_Bool, inl, inr, eqb-true, and_parts, not-true, not-false, Move, [], ◌≡◌, ◌<◌, ℕ, ◌+◌, ◌*◌, true, false, not, ◌&&◌, eqb, List, ◌∷◌, get_or, length, position, Option, Some, None, refl, sym, ap, subst, ◌∙◌, arith, zero, suc, ◌/◌, ◌%◌, nat_le, cond_both, Rose, reference_of, Command, Reference, HeldSeg, What, frame_of, seg_of, Ptw, Sdw, words_in, by_descriptor, by_held, by_page, by_seg, by_word, Transfer, MayMove, word_reply, Mover, IsMovedFor, is_active, sdws_at, word_of, table_of, next_out, MayRelease, new_word, permits, words_zero, Aim, Phase, Processor, action_of, by_move, clear_or, come_to, finish_of, go_on_with, has_had_its_turn, is_empty, load_or_idle, look_of, move_of, once_cleared, own_or_run, refer_or_take, run_process, take_or_wait, transfer_or, copy_or_commit, Outcome, page_at, IsEntitledToAll, seen, are_zeros, left_of, Keeps, IsMachine, IsReading, cpu_at, cut_of_owner, descriptor_of, flat_of, frames_of_owner, is_due, next_command, or_zero, process_at, processor_at, Says, Owner, State, write_failed, StoreSays, aimed_at, going_for, IsTakenBy, TakenIn, FailsBy, FailsIn, IsWorking, MayFailBy, TakesSome, has_head, What as what, Ptw as ptw, Sdw as sdw, Left as left, Move as move, Reply as reply, Aim as aim, Phase as phase, Action, ForTransfer, Action as act}
-use Rattle.machine_model.proofs.Laws.{action_by, LookFinds, look_finds, IsIdle, bound_word, deactivated_says, eviction_failed_says, evicted_says, evicting_says, page_failed_says, page_left_says, read_says, started_says, failed_says, gone_is, fails_more, Speaks, speaks, speaks_of, takes_tree, active_at}
-use Rattle.machine_model.proofs.DeleteKept.{taken_bound}
-use Rattle.machine_model.proofs.EmptyAsks.{length_asks, victim_asks}
+use Rattle.machine_model.proofs.StepBasics.{cases_Bool, inl, inr, eqb-true, and_parts, not-true, not-false, Move, [], ◌≡◌, ◌<◌, ℕ, ◌+◌, ◌*◌, true, false, not, ◌&&◌, eqb, List, ◌∷◌, get_or, length, position, Option, Some, None, refl, sym, ap, subst, ◌∙◌, arith, zero, suc, ◌/◌, ◌%◌, nat_le, cond_both, Rose, reference_of, Command, Reference, HeldSeg, What, frame_of, seg_of, Ptw, Sdw, words_in, by_descriptor, by_held, by_page, by_seg, by_word, Transfer, MayMove, word_reply, Mover, IsMovedFor, is_active, sdws_at, word_of, table_of, next_out, MayRelease, new_word, permits, words_zero, Aim, Phase, Processor, action_of, by_move, clear_or, come_to, finish_of, go_on_with, has_had_its_turn, is_empty, load_or_idle, look_of, move_of, once_cleared, own_or_run, refer_or_take, run_process, take_or_wait, transfer_or, copy_or_commit, Outcome, page_at, IsEntitledToAll, seen, are_zeros, left_of, Keeps, IsMachine, IsReading, cpu_at, cut_of_owner, descriptor_of, flat_of, frames_of_owner, is_due, next_command, or_zero, process_at, processor_at, Says, Owner, State, write_failed, StoreSays, aimed_at, going_for, IsTakenBy, TakenIn, FailsBy, FailsIn, IsWorking, MayFailBy, TakesSome, has_head, What as what, Ptw as ptw, Sdw as sdw, Left as left, Move as move, Reply as reply, Aim as aim, Phase as phase, Action, ForTransfer, Action as act, length-map, IsTree, IsLawful, after_entry, moved, store_after-push, entry_total, modified_of, after, copy_failed, move_begun, move_committed, page_copied, without_move, run_at, fault_told, with_faults, with_store, Entry as entry, action_by, LookFinds, look_finds, IsIdle, bound_word, deactivated_says, eviction_failed_says, evicted_says, evicting_says, page_failed_says, page_left_says, read_says, started_says, failed_says, gone_is, fails_more, Speaks, speaks, speaks_of, takes_tree, active_at, taken_bound, bound_stored, length_asks as too_long_asks, no_access_asks, through_asks, zero_asks, Asks, AsksCommit, IsLooking, look_idle, look_still, process_here, HasWaited, IsMoving, IsAnswering, segs_are_gone, commit_asks, look_rests, taken_rests, look_taken, CanFailWrite, IsMine, empties_goes, alike, alike_by, alike_on, fault_alike, refused_alike, none_rest, says_is}
+use Rattle.machine_model.proofs.EmptyAsks.{length_asks, victim_asks, may_deactivate}
 use Rattle.machine_model.proofs.LackingLaws.{may_move, may_rehome}
 use Rattle.machine_model.proofs.LookAsks.{activate_asks, answer_asks, connect_asks, create_asks}
-use Rattle.machine_model.proofs.MoveAsks.{bound_stored, length_asks as too_long_asks, no_access_asks, through_asks, zero_asks}
-use Rattle.machine_model.proofs.MovingSays.{copied_says, copy_failed_says, moved_says, begun_says}
-use Rattle.machine_model.proofs.RuleKept.{Asks, AsksCommit, IsLooking, look_idle, look_still, process_here, HasWaited, IsMoving}
 use Rattle.machine_model.proofs.ReadKept.{read_fails}
-use Rattle.machine_model.proofs.ScheduleKept.{IsAnswering}
-use Rattle.machine_model.proofs.ActiveKept.{segs_are_gone}
-use Rattle.machine_model.proofs.CommandRests.{commit_rests}
-use Rattle.machine_model.proofs.CommitAsks.{commit_asks, look_rests, taken_rests}
+use Rattle.machine_model.proofs.TruncateRests.{commit_rests}
 use Rattle.machine_model.proofs.JobAsks.{read_asks, write_asks, copy_asks}
-use Rattle.machine_model.proofs.JustTaken.{look_taken}
-use Rattle.machine_model.proofs.WholeKept.{may_deactivate}
-use Rattle.machine_model.proofs.StepKept.{CanFailWrite, IsMine, empties_goes}
 use Rattle.machine_model.proofs.TakeAsks.{take_asks, takes_none}
 use Rattle.machine_model.proofs.WorkStep.{moving_fails, moving_rests}
 use Rattle.machine_model.proofs.RulesKept.{some_again}
+
+-- ---- What the store says after each step of a move, by what its calls say of it.
+
+module _ (s : State) (c : ℕ) (o : Outcome) (k : Keeps s) where
+  pub begun_says : (u volume : ℕ) → Says s c o (act.BeginMove u volume) → StoreSays (move_begun s c u volume)
+  unfolding after
+  begun_says u volume says = says_is k says refl
+      (alike (flat_of s)) k.conserved.total (none_rest s (move_begun s c u volume) refl refl refl)
+
+  pub copied_says : (m : Mover) (p : ℕ) → Says s c o (act.CopyPage m p) → o.failed ≡ false
+      → StoreSays (page_copied (with_faults s o.faults) c m p)
+  unfolding after
+  copied_says m p says h = says_is k says (cc) (alike (flat_of s)) k.conserved.total (none_rest s (page_copied
+      (with_faults s o.faults) c m p) refl refl refl)
+
+  pub copy_failed_says : (m : Mover) (p : ℕ) → Says s c o (act.CopyPage m p) → o.failed ≡ true
+      → StoreSays (copy_failed s c o.faults)
+  unfolding after
+  copy_failed_says m p says h = says_is k says (cc) (alike_on (fault_alike s.plan s.entries (Some (process_at s c)))
+      (refused_alike s.plan failing.entries (process_at s c) (run_at s.runs (process_at s c)).place c None reply.Device
+      refl)) k.conserved.total (none_rest s (copy_failed s c o.faults) refl refl refl)
+    where
+      failing : State
+      failing = fault_told (with_store s (without_move s.store)) (Some (process_at s c)) o.faults
+
+  pub moved_says : (m : Mover) → Says s c o (act.CommitMove m)
+      → MayMove s.plan (flat_of s) (process_at s c) m.uid m.to.0 → StoreSays (move_committed s c m)
+  unfolding after after_entry IsLawful
+  moved_says m says may = says_is k says refl
+      (alike_by (alike (moved (flat_of s) m.uid m.to.0)) (store_after-push s.plan s.entries
+      (entry.Moved (process_at s c) m.uid m.to.0)))
+      (cc (entry_total s.plan (flat_of s) (entry.Moved (process_at s c) m.uid m.to.0)
+      (subst IsTree (sym k.faithful.tree.nodes) k.store.accounts.tree) may))
+      (none_rest s (move_committed s c m) refl (length-map s.store.pages.core.frames (modified_of m.uid)) refl)
 
 -- ---- a page is read
 
@@ -218,10 +241,9 @@ module _ (s : State) (c : ℕ) (o : Outcome) (m : IsMachine s) (there : c < leng
   }
   finish_follows (aim.Deactivating u) w x its [] e says =
       let leaf = working.leaf u (aim_of (aim.Deactivating u) w x) in assumption (
-        may_deactivate s u m.keeps working.whole
-            (aim_of (aim.Deactivating u) w x) (cc) (segs_are_gone s (cut_of_owner s.owner)
-            m.keeps.book (empties_goes s c o m.keeps there u w [] x e)) leaf.active
-            (λ v active h. leaf.inferiors v active (cc ((gone_is s (cut_of_owner s.owner)).flat))),
+        may_deactivate s u m.keeps working.whole (aim_of (aim.Deactivating u) w x) (cc)
+            (segs_are_gone s (cut_of_owner s.owner) m.keeps.book (empties_goes s c o m.keeps there u w [] x e))
+            leaf.active (λ v active h. leaf.inferiors v active (cc ((gone_is s (cut_of_owner s.owner)).flat))),
         deactivated_says s c o u m.keeps says,
       )
   finish_follows (aim.Deactivating u) w x its (f ∷ fs) e says = record {

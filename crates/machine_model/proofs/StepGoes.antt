@@ -1,12 +1,7 @@
 -- What the rules know of their action gives what the job, the processes and the script ask of it.
-use Rattle.machine_model.proofs.Prelude.{◌≡◌, ◌<◌, ℕ, true, false, length, Some, refl, ap, Transfer, Outcome, after, AllCome, MayAnswer, IsMachine, IsReading, cpu_at, process_at, State, transferred, with_faults, ◌+◌, ◌≤◌, List, arith, Command, Keeps, uid_of_command, Action, Action as act}
-use Rattle.machine_model.proofs.ListSizes.{command_few}
-use Rattle.machine_model.proofs.Laws.{FindsTaken, all_come, come_same, tells, reader_no_owner, comes_next, by_end}
-use Rattle.machine_model.proofs.JustTaken.{look_taken}
+use Rattle.machine_model.proofs.StepBasics.{◌≡◌, ◌<◌, ℕ, true, false, length, Some, refl, ap, Transfer, Outcome, after, AllCome, MayAnswer, IsMachine, IsReading, cpu_at, process_at, State, transferred, with_faults, ◌+◌, ◌≤◌, List, arith, Command, Keeps, uid_of_command, Action, Action as act, command_few, FindsTaken, all_come, come_same, tells, reader_no_owner, comes_next, by_end, look_taken, IsAnswering, MaySchedule, CanDo, due_other, empty_other, online_other}
 use Rattle.machine_model.proofs.ReadKept.{IsPast, MayRead}
-use Rattle.machine_model.proofs.ScheduleKept.{IsAnswering, MaySchedule}
 use Rattle.machine_model.proofs.StepAsks.{reads_answering, reads_for}
-use Rattle.machine_model.proofs.StepKept.{CanDo, due_other, empty_other, online_other}
 use Rattle.machine_model.proofs.StepKnows.{AnswersOne, Knows}
 use Rattle.machine_model.proofs.WorkStep.{MayWork}
 
@@ -20,22 +15,16 @@ may_answer s c k m there its = let next = comes_next s c k m its in record {
 }
 
 answering : (s : State) (c : ℕ) → AnswersOne s c → IsAnswering s c
-answering s c a = record {
-  process = process_at s c;
-  its = a.speaks.its;
-  known = a.speaks.known;
-  more = cc;
-}
+answering s c a = record { process = process_at s c; its = a.speaks.its; known = a.speaks.known; more = cc }
 
 -- what a look takes is few
 pub few_taken : (s : State) (k : ℕ) (cmd : Command) (fs : List ℕ) (pairs : List (ℕ × ℕ)) → Keeps s
     → FindsTaken s k cmd fs pairs → length fs + length pairs ≤ 288
-few_taken s k cmd fs pairs keeps finds = let a = ap (λ (x : List ℕ). length x) finds.frames in
-    omega (
-      arith,
-      command_few s k (uid_of_command s.store k cmd) cmd keeps,
-      (ap (λ (x : List (ℕ × ℕ)). length x) finds.descriptors),
-    )
+few_taken s k cmd fs pairs keeps finds = let a = ap (λ (x : List ℕ). length x) finds.frames in omega (
+  arith,
+  command_few s k (uid_of_command s.store k cmd) cmd keeps,
+  (ap (λ (x : List (ℕ × ℕ)). length x) finds.descriptors),
+)
 
 module _ (s : State) (c : ℕ) (o : Outcome) (m : IsMachine s) (there : c < length s.processors) (reading : IsReading s)
   where
@@ -55,9 +44,6 @@ module _ (s : State) (c : ℕ) (o : Outcome) (m : IsMachine s) (there : c < leng
     may_schedule _ can knows = tt
 
     pub may_work : (a : Action) → CanDo s c o a → Knows s c a → MayWork s c o a
-    may_work act.IsStopped can knows = tt
-    may_work act.HasEnded can knows = tt
-    may_work (act.Waits why) can knows = tt
     may_work act.Online can knows = online_other s c m.keeps can
     may_work (act.Clear w) can knows = due_other s c w m.keeps can
     may_work (act.EndTransfer t) can knows = (
@@ -71,13 +57,8 @@ module _ (s : State) (c : ℕ) (o : Outcome) (m : IsMachine s) (there : c < leng
     may_work (act.FillPage f r) can knows = can.1
     may_work (act.Through f r) can knows = (knows.other, knows.one.speaks.its)
     may_work (act.Plain r) can knows = (knows.other, knows.one.speaks.its)
-    may_work act.TakeSupervisor can knows = tt
-    may_work (act.Answer r) can knows = tt
-    may_work act.GiveUp can knows = tt
     may_work (act.Activate u place) can knows = knows
     may_work (act.Connect n u) can knows = knows
-    may_work (act.Create f u p r) can knows = tt
-    may_work (act.Start f u p) can knows = tt
     may_work (act.Evict f) can knows = knows
     may_work (act.Empty u) can knows = knows
     may_work (act.EmptyVictim pool chain u) can knows = knows

@@ -1,16 +1,185 @@
 -- What the rules know where they choose an action: who owns the supervisor, and whose command it is.
-use Rattle.machine_model.proofs.Prelude.{eqb_self, not_both, eqb-true, ◌≡◌, ◌≢◌, ◌<◌, ℕ, true, false, not, ◌&&◌, eqb, List, [], ◌∷◌, length, position, Option, Some, None, inl, inr, refl, sym, ap, subst, ◌∙◌, ◌⊎◌, ◌/◌, cond_both, reference_of, Command, Reference, What, Mover, table_of, next_out, IsMovedFor, IsTakenBy, IsTakenFor, TakenIn, Transfer, Aim, Phase, Processor, action_of, by_move, clear_or, come_to, finish_of, go_on_with, has_had_its_turn, is_empty, load_or_idle, look_of, move_of, once_cleared, own_or_run, refer_or_take, run_process, take_or_wait, transfer_or, copy_or_commit, Outcome, IsMachine, flat_of, is_due, next_command, or_zero, process_at, processor_at, Owner, State, FailsIn, IsWorking, MayFailBy, TakesSome, Reply, is_end, reply_to_command, is_refusal, Move, What as what, Move as move, Aim as aim, Phase as phase, Command as command, Action, ForTransfer, Action as act}
-use Rattle.machine_model.proofs.Laws.{action_by, LookFinds, look_finds, FindsActive, FindsFull, FindsOut, FindsTaken, FindsVictim, IsIdle, Speaks, speaks, speaks_of, takes_tree, fails_more, IsNoOwner}
-use Rattle.machine_model.proofs.JustTaken.{look_taken}
+use Rattle.machine_model.proofs.StepBasics.{eqb_self, not_both, eqb-true, ◌≡◌, ◌≢◌, ◌<◌, ℕ, true, false, not, ◌&&◌, eqb, List, [], ◌∷◌, length, position, Option, Some, None, inl, inr, refl, sym, ap, subst, ◌∙◌, ◌⊎◌, ◌/◌, cond_both, reference_of, Command, Reference, What, Mover, table_of, next_out, IsMovedFor, IsTakenBy, IsTakenFor, TakenIn, Transfer, Aim, Phase, Processor, action_of, by_move, clear_or, come_to, finish_of, go_on_with, has_had_its_turn, is_empty, load_or_idle, look_of, move_of, once_cleared, own_or_run, refer_or_take, run_process, take_or_wait, transfer_or, copy_or_commit, Outcome, IsMachine, flat_of, is_due, next_command, or_zero, process_at, processor_at, Owner, State, FailsIn, IsWorking, MayFailBy, TakesSome, Reply, is_end, reply_to_command, is_refusal, Move, What as what, Move as move, Aim as aim, Phase as phase, Command as command, Action, ForTransfer, Action as act, zero, suc, Bool, cond, arith, cases_eq, Who, permits, access_of, Node, account_of, node_in, quota_in, volume_in, Counts, is_stored, is_out_of_room, is_used_up, is_volume_full, stores_page, word_reply, first_below, has_room_flat, room_for, Store, uid_of, kst_at, is_spent, Keeps, IsFirstWithRoom, LacksRecord, MovesFor, tables_of, mover_to, is_active, is_of_room, move_to, only, room_refusal, nonzero_alters, found_uid, Reply as reply, ◌+◌, count_by, eqb_tells, sum_by-cons, used_by, action_by, LookFinds, look_finds, FindsActive, FindsFull, FindsOut, FindsTaken, FindsVictim, IsIdle, Speaks, speaks, speaks_of, takes_tree, fails_more, IsNoOwner, due_is, inside_is, FindsMove, IsInside, null_word, stored_is, look_taken, IsLooking, look_idle, process_here, IsMoving, IsMine, page_fails, who_is}
 use Rattle.machine_model.proofs.LookAsks.{page_active}
-use Rattle.machine_model.proofs.MoveFound.{move_found}
 use Rattle.machine_model.proofs.ReadyLaws.{IsOutOfUse}
-use Rattle.machine_model.proofs.RuleKept.{IsLooking, look_idle, process_here, IsMoving}
-use Rattle.machine_model.proofs.StepKept.{IsMine}
-use Rattle.machine_model.proofs.WorkKept.{page_fails}
 use Rattle.machine_model.proofs.WorkStep.{IsEmptying, Looks, BeginsMove, moving_rests}
 use Rattle.machine_model.proofs.TakeAsks.{takes_none}
 use Rattle.machine_model.proofs.RulesKept.{some_again}
+use Rattle.machine_model.proofs.EmptyAsks.{unread_any}
+use Rattle.machine_model.proofs.LackingLaws.{full_is, room_same}
+
+-- ---- What a move rests on holds where a look finds that a segment moves.
+
+-- ---- Where two lists of stored pages have as many pages of each segment, they have as many of any segments.
+
+-- how many stored pages are of segments that pass a test
+abbrev pages_of : (ℕ → Bool) → List (ℕ × ℕ) → ℕ
+pages_of test xs = count_by (λ x. test x.0) xs
+
+pages_cons : (test : ℕ → Bool) (x : ℕ × ℕ) (xs : List (ℕ × ℕ)) → pages_of test (x ∷ xs)
+    ≡ cond {A = ℕ} (test x.0) 1 0 + pages_of test xs
+pages_cons test x xs = sum_by-cons (λ (y : ℕ × ℕ). cond (test y.0) 1 0) x xs
+
+-- the list without the first page of a segment
+abbrev without_one : ℕ → List (ℕ × ℕ) → List (ℕ × ℕ)
+without_one u [] = []
+without_one u (x ∷ xs) = cond (eqb x.0 u) xs (x ∷ without_one u xs)
+
+one_less : (test : ℕ → Bool) (u : ℕ) (xs : List (ℕ × ℕ)) → 0 < pages_of (λ n. eqb n u) xs
+    → pages_of test xs ≡ cond {A = ℕ} (test u) 1 0 + pages_of test (without_one u xs)
+one_less test u [] some = absurd (omega arith)
+one_less test u (x ∷ xs) some = elim (eqb_tells x.0 u) [
+  | inl same ↦ pages_cons test x xs ∙ (cc)
+  | inr other ↦ (let here = pages_cons (λ n. eqb n u) x xs ∙ ap (λ (b : Bool). cond {A = ℕ} b 1 0
+      + pages_of (λ n. eqb n u) xs) other.0 in
+      let rest = one_less test u xs (omega arith) in
+      let left = ap (λ (b : Bool). pages_of test (cond b xs (x ∷ without_one u xs))) other.0
+      ∙ pages_cons test x (without_one u xs) in
+      omega (arith, (pages_cons test x xs)))
+]
+
+own_page : (x : ℕ × ℕ) (xs : List (ℕ × ℕ)) → 0 < pages_of (λ n. eqb n x.0) (x ∷ xs)
+own_page x xs = elim (eqb_tells x.0 x.0) [
+  | inl same ↦ (omega (
+    arith,
+    (pages_cons (λ n. eqb n x.0) x xs ∙ ap (λ (b : Bool). cond {A = ℕ} b 1 0 + pages_of (λ n. eqb n x.0) xs) same.0),
+  ))
+  | inr other ↦ absurd (other.1 refl)
+]
+
+as_many : (test : ℕ → Bool) (xs ys : List (ℕ × ℕ))
+    → ((u : ℕ) → pages_of (λ n. eqb n u) xs ≡ pages_of (λ n. eqb n u) ys) → pages_of test xs ≡ pages_of test ys
+as_many test [] [] same = refl
+as_many test [] (y ∷ ys) same = let none = same y.0 in let some = own_page y ys in absurd (omega arith)
+as_many test (x ∷ xs) ys same = let some = own_page x xs in let here = same x.0 in
+    let there : 0 < pages_of (λ n. eqb n x.0) ys = omega arith in
+    let rest = as_many test xs (without_one x.0 ys) (λ u. (let one = pages_cons (λ n. eqb n u) x xs in
+    let less = one_less (λ n. eqb n u) x.0 ys there in
+    omega (arith, (same u)))) in
+    omega (arith, one_less test x.0 ys there, (pages_cons test x xs))
+
+-- each account is charged for as many pages
+pub charged_alike : (ns : List Node) (xs ys : List (ℕ × ℕ)) (account : ℕ)
+    → ((u : ℕ) → count_by (λ x. eqb x.0 u) xs ≡ count_by (λ x. eqb x.0 u) ys)
+    → used_by ns xs account ≡ used_by ns ys account
+unfolding used_by
+charged_alike ns xs ys account same = as_many (λ n. eqb (account_of ns n) account) xs ys same
+
+-- ---- the first that passes a test
+
+none_below : (test : ℕ → Bool) (n v : ℕ) → first_below test n ≡ None → v < n → test v ≡ false
+none_below test zero v none lt = absurd (omega arith)
+none_below test (suc n) v none lt = by (first_below test n) refl (none_below test n v)
+  where
+    past : (b : Bool) → test n ≡ b → cond b (Some n) None ≡ None → (v < n → test v ≡ false) → test v ≡ false
+    past true e i rest = cc
+    past false e i rest = elim (cases_eq v n) [ inl same ↦ ap test same ∙ e | inr other ↦ rest (omega arith) ]
+
+    by : (x : Option ℕ) → first_below test n ≡ x → (first_below test n ≡ None → v < n → test v ≡ false) → test v ≡ false
+    by (Some w) e rest = cc
+    by None e rest = past (test n) refl (rw e at none) (rest e)
+
+first_found : (test : ℕ → Bool) (n v : ℕ) → first_below test n ≡ Some v
+    → (test v ≡ true) × ((u : ℕ) → u < v → test u ≡ false)
+first_found test zero v h = cc
+first_found test (suc n) v h = by (first_below test n) refl (first_found test n v)
+  where
+    last : (b : Bool) → test n ≡ b → first_below test n ≡ None → cond b (Some n) None ≡ Some v
+        → (test v ≡ true) × ((u : ℕ) → u < v → test u ≡ false)
+    last true e none i = let same : n ≡ v = cc in (cc, λ u lt. none_below test n u none (omega arith))
+    last false e none i = cc
+
+    by : (x : Option ℕ) → first_below test n ≡ x
+        → (first_below test n ≡ Some v → (test v ≡ true) × ((u : ℕ) → u < v → test u ≡ false))
+        → (test v ≡ true) × ((u : ℕ) → u < v → test u ≡ false)
+    by (Some w) e rest = rest (e ∙ (rw e at h))
+    by None e rest = last (test n) refl e (rw e at h)
+
+module _ (s : State) (k : ℕ) (cmd : Command) (keeps : Keeps s) (u volume : ℕ) (finds : FindsMove s k cmd u volume)
+    (active : is_active s.store.ast u ≡ true) where
+  abbrev t : Store
+  t = flat_of s
+
+  abbrev r : Reference
+  r = finds.reference
+
+  inside : IsInside s k r u
+  inside = subst (IsInside s k r) finds.finds.uid (inside_is s k r keeps finds.finds.inside)
+
+  -- ---- where it moves
+
+  moves : (b : Bool) → is_volume_full s.plan t (volume_in t.nodes u) ≡ b
+      → cond b (room_for s.plan t u) None ≡ Some volume
+      → (is_volume_full s.plan t (volume_in t.nodes u) ≡ true) × (room_for s.plan t u ≡ Some volume)
+  moves true e i = (e, i)
+  moves false e i = cc
+
+  to : (is_volume_full s.plan t (volume_in t.nodes u) ≡ true) × (room_for s.plan t u ≡ Some volume)
+  unfolding move_to
+  to = moves (is_volume_full s.plan t (volume_in t.nodes u)) refl finds.moves
+
+  first : IsFirstWithRoom (tables_of s.store) u volume
+  first = let found = first_found (has_room_flat s.plan t u) (length s.plan.volumes) volume to.1 in record {
+    room = room_same s keeps u volume ∙ found.0;
+    before = λ v lt. room_same s keeps u v ∙ found.1 v lt;
+  }
+
+  -- ---- nothing else refuses it
+
+  unstored : is_stored t.stored u (r.offset / 1024) ≡ false
+  unstored = cc (stored_is s keeps u active (r.offset / 1024))
+
+  stores : stores_page t u r.offset r.kind ≡ true
+  stores = rw (nonzero_alters r.kind finds.word, null_word s keeps u active r.offset finds.null, finds.word, unstored)
+      refl
+
+  unspent : is_used_up t inside.node.uid ≡ false
+  unfolding room_refusal
+  unspent = by (is_used_up t inside.node.uid) (cc (stores, due_is s k r keeps u inside))
+    where
+      word : Reply
+      word = word_reply (t.words u r.offset) r.kind
+
+      by : (b : Bool) → only is_of_room (cond b reply.Quota (cond (is_out_of_room s.plan t inside.node) reply.NoRecord
+          word)) ≡ None → b ≡ false
+      by true i = cc
+      by false i = refl
+
+  lacks : LacksRecord (tables_of s.store) k u r
+  lacks = record {
+    stands = ap (λ (x : List (List (Option ℕ))). uid_of (kst_at x k) r.number) (sym keeps.faithful.known)
+        ∙ inside.known;
+    node = inside.node;
+    there = ap (λ (ns : List Node). node_in ns u) (sym keeps.faithful.tree.nodes) ∙ inside.there;
+    permitted = ap (λ (w : Who). permits (access_of w inside.node.rows) r.kind) (who_is s keeps k) ∙ inside.permitted;
+    within = inside.within;
+    word = finds.word;
+    unstored = sym (keeps.faithful.pages.stored u (r.offset / 1024)) ∙ unstored;
+    unspent = λ stored counts. spent stored counts;
+    full = full_is s keeps (volume_in s.store.accounts.nodes u)
+        ∙ (ap (λ (ns : List Node). is_volume_full s.plan t (volume_in ns u)) (sym keeps.faithful.tree.nodes) ∙ to.0);
+  }
+    where
+      same : inside.node.uid ≡ u
+      same = found_uid t.nodes u inside.node inside.there
+
+      spent : (stored : List (ℕ × ℕ)) → Counts s.store.accounts stored
+          → is_spent s.store.accounts.nodes stored u ≡ false
+      spent stored counts = ap
+          (λ (n : ℕ). eqb n (quota_in s.store.accounts.nodes (account_of s.store.accounts.nodes u))) (charged_alike
+          s.store.accounts.nodes stored t.stored (account_of s.store.accounts.nodes u)
+          (λ v. sym (counts v) ∙ keeps.faithful.tree.counts v)) ∙ (ap (λ (ns : List Node). is_spent ns t.stored u)
+          (sym keeps.faithful.tree.nodes) ∙ (ap (is_used_up t) (sym same) ∙ unspent))
+
+  moves_for : MovesFor (tables_of s.store) k (mover_to s.store u volume) cmd
+  moves_for = record { reference = r; is = finds.finds.is; lacks = lacks; first = first; its = refl }
+
+  pub move_found : (x : Option Command) → x ≡ Some cmd → IsMovedFor s.store k (mover_to s.store u volume) x
+  move_found x next = record {
+    moves = rw next moves_for;
+    active = active;
+    unread = record { none = λ f p. unread_any s.store.pages.core u finds.unread f p };
+  }
 
 -- a processor's process comes to a command that isn't its end
 pub record AnswersOne (s : State) (c : ℕ) : Type 0 where
@@ -150,12 +319,10 @@ module _ (s : State) (c : ℕ) (o : Outcome) (m : IsMachine s) (there : c < leng
       looks h = record { looking = l; idle = idle; command = cmd; next = sp.next; finds = h }
 
       look_knows : (a : Action) → LookFinds s k cmd a → Knows s c a
-      look_knows (act.Answer r) h =
-          record { command = cmd; speaks = sp; more = refused_more cmd r h.reply h.refuses }
+      look_knows (act.Answer r) h = record { command = cmd; speaks = sp; more = refused_more cmd r h.reply h.refuses }
       look_knows (act.Activate u place) h = l
       look_knows (act.Connect n u) h = l
-      look_knows (act.Create f u q r) h =
-          record { command = cmd; speaks = sp; more = reference_more cmd r h.finds.is }
+      look_knows (act.Create f u q r) h = record { command = cmd; speaks = sp; more = reference_more cmd r h.finds.is }
       look_knows (act.Evict f) h = looks h
       look_knows (act.Empty u) h = looks h
       look_knows (act.EmptyVictim pool chain u) h = looks h
@@ -200,15 +367,12 @@ module _ (s : State) (c : ℕ) (o : Outcome) (m : IsMachine s) (there : c < leng
 
     finish_knows : (q : IsMine s c) → p.cpu.process ≡ Some k → (a : Aim) (w : What) → q.owner.phase ≡ phase.Waiting a w
         → (fs : List ℕ) → Knows s c (finish_of a fs)
-    finish_knows q its aim.Evicting w e [] = tt
     finish_knows q its aim.Evicting w e (f ∷ fs) = fails_knows q its (rw e at (working.fails q.owner q.mine))
-    finish_knows q its (aim.Deactivating u) w e [] = tt
     finish_knows q its (aim.Deactivating u) w e (f ∷ fs) = (
       record { owner = q; uid = u; what = w; waits = e },
       fails_knows q its (rw e at (working.fails q.owner q.mine)),
     )
-    finish_knows q its aim.Committing w e fs =
-        let one = its_command its in
+    finish_knows q its aim.Committing w e fs = let one = its_command its in
         let some : TakesSome (Some one.0) = subst TakesSome one.1.next
         (rw q.same at (subst (λ (y : Phase). FailsIn y s.store (process_at s q.owner.cpu)
         (next_command s (process_at s q.owner.cpu))) e (working.fails q.owner q.mine))) in
@@ -222,6 +386,7 @@ module _ (s : State) (c : ℕ) (o : Outcome) (m : IsMachine s) (there : c < leng
               (next_command s (process_at s q.owner.cpu))) e (working.taken q.owner q.mine)));
           out = λ path pages is. absurd (subst TakesSome (ap (λ (x : Command). Some x) is) some);
         }
+    finish_knows q its _ w e [] = tt
 
     phase_knows : (q : IsMine s c) → p.cpu.process ≡ Some k → (x : Phase) → q.owner.phase ≡ x
         → Knows s c (go_on_with s k q.owner x)
@@ -243,8 +408,7 @@ module _ (s : State) (c : ℕ) (o : Outcome) (m : IsMachine s) (there : c < leng
         one = fails_knows q its (rw e at (working.fails q.owner q.mine))
 
         by : (y : Option ℕ) → next_out (table_of s.store.ast x.uid) x.next ≡ y → Knows s c (copy_or_commit x y)
-        by (Some n) h =
-            record { moving = moving; one = one; rests = moving_rests s c o m working x moving; next = h }
+        by (Some n) h = record { moving = moving; one = one; rests = moving_rests s c o m working x moving; next = h }
         by None h = record { moving = moving; one = one; rests = moving_rests s c o m working x moving; done = h }
 
     -- ---- the rules in their order

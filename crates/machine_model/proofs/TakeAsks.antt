@@ -1,10 +1,5 @@
 -- What a look that takes asks: what a tree command must have out of use, and what is taken of a segment.
-use Rattle.machine_model.proofs.Prelude.{◌≡◌, ◌<◌, ℕ, zero, suc, ◌+◌, Bool, true, false, ◌&&◌, cond, eqb, List, [], ◌∷◌, map, Some, inl, inr, refl, ap, ◌∙◌, arith, ◌/◌, filter, range_with_len, eqb_tells, Command, What, Sdw, leads, IsKnownAt, descriptors_taken, first_taken, frames_taken, what_taken, Outcome, seen, Keeps, descriptor_of, is_connected, or_zero, uid_of_command, uid_of_number, Says, shown, State, and-false, eqb_self, Command as command, What as what, Sdw as sdw, Aim as aim, Action as act}
-use Rattle.machine_model.proofs.Laws.{CanTakeAll, FindsTaken, IsIdle, idle_names}
-use Rattle.machine_model.proofs.CutRights.{take_away_says}
-use Rattle.machine_model.proofs.RuleKept.{AsksTake}
-use Rattle.machine_model.proofs.TakeLists.{pages_bound, pages_taken, trailers_taken}
-use Rattle.machine_model.proofs.TookKept.{ArePairs, CanTook, has_pair, is_pair}
+use Rattle.machine_model.proofs.StepBasics.{◌≡◌, ◌<◌, ℕ, zero, suc, ◌+◌, Bool, true, false, ◌&&◌, cond, eqb, List, [], ◌∷◌, map, Some, inl, inr, refl, ap, ◌∙◌, arith, ◌/◌, filter, range_with_len, eqb_tells, Command, What, Sdw, leads, IsKnownAt, descriptors_taken, first_taken, frames_taken, what_taken, Outcome, seen, Keeps, descriptor_of, is_connected, or_zero, uid_of_command, uid_of_number, Says, shown, State, and-false, eqb_self, Command as command, What as what, Sdw as sdw, Aim as aim, Action as act, CanTakeAll, FindsTaken, IsIdle, idle_names, take_away_says, AsksTake, pages_bound, pages_taken, trailers_taken, ArePairs, CanTook, has_pair, is_pair}
 
 module _ (s : State) (k : ℕ) (keeps : Keeps s) (idle : IsIdle s.owner) where
   -- where no page is taken
@@ -20,11 +15,7 @@ module _ (s : State) (k : ℕ) (keeps : Keeps s) (idle : IsIdle s.owner) where
 
   -- a job that takes nothing may take it
   pub takes_none : (w : What) → CanTook s aim.Committing w [] []
-  takes_none w = record {
-    pages = no_pages w;
-    bound = λ f h. cc;
-    pairs_are = tt;
-  }
+  takes_none w = record { pages = no_pages w; bound = λ f h. cc; pairs_are = tt }
 
   -- a descriptor that is connected leads to a segment
   connected_leads : (n : ℕ) → is_connected (descriptor_of s.store.links k n) ≡ true
@@ -34,11 +25,7 @@ module _ (s : State) (k : ℕ) (keeps : Keeps s) (idle : IsIdle s.owner) where
       by : (x : Sdw) → descriptor_of s.store.links k n ≡ x → is_connected x ≡ true
           → (u : ℕ) × ((seen s).linked k n ≡ Some u) × (uid_of_number s.store k n ≡ u)
       by sdw.Fault e i = cc
-      by (sdw.Present aste m pages) e i = (
-        at.uid,
-        cc (e, at.active),
-        ap or_zero at.known_as,
-      )
+      by (sdw.Present aste m pages) e i = (at.uid, cc (e, at.active), ap or_zero at.known_as)
         where
           at : IsKnownAt s.store.ast.entries s.store.links.known k n aste
           at = keeps.store.kept.linked.known k n aste (ap leads e)
@@ -118,11 +105,7 @@ module _ (s : State) (k : ℕ) (keeps : Keeps s) (idle : IsIdle s.owner) where
     bound = λ f h. cc;
     pairs_are = one_taken n (is_connected (descriptor_of s.store.links k n)) refl;
   }
-  command_takes command.End = record {
-    pages = no_pages what.All;
-    bound = λ f h. cc;
-    pairs_are = all_taken 0 256;
-  }
+  command_takes command.End = record { pages = no_pages what.All; bound = λ f h. cc; pairs_are = all_taken 0 256 }
   command_takes cmd = takes_none (what.Seg (uid_of_command s.store k cmd))
 
   -- A tree command may take what it must have out of use.

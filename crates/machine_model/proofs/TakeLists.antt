@@ -1,20 +1,13 @@
 -- What a job takes of a segment: the pages of its table that are here, each in a frame of its own, and the descriptors
 -- of its trailers, each once.
-use Rattle.machine_model.proofs.Prelude.{◌≡◌, ◌≤◌, ℕ, zero, suc, ◌+◌, Bool, true, false, ◌||◌, cond, eqb, count_by, List, [], ◌∷◌, drop, get_or, Option, Some, ◌⊎◌, inl, inr, refl, sym, ap, ◌∙◌, arith, eqb_tells, list_any-append, sum_by-cons, What, Ptw, Sdw, uid_at, is_trailer, trailers_of, leads, leads_at, place_of, table_of, times, has, names_frame, Aim, page_at, AreDistinct, IsAimed, names, led_to, seen, Keeps, descriptor_of, frames_from, frames_in, here_in, is_active, trailers_in, shown, CutDescriptor, State, or_cases, page_is, times_few, times_one, What as what, Ptw as ptw, Sdw as sdw, false_from_ne_true, eqb_self}
-use Rattle.machine_model.proofs.Laws.{active_place, CanTakeAll, bound_shown, names_uid, IsIdle, idle_names}
-use Rattle.machine_model.proofs.TookKept.{ArePairs, CanTook, has_pair}
+use Rattle.machine_model.proofs.Kept.{◌≡◌, ◌≤◌, ℕ, zero, suc, ◌+◌, Bool, true, false, ◌||◌, cond, eqb, count_by, List, [], ◌∷◌, drop, get_or, Option, Some, ◌⊎◌, inl, inr, refl, sym, ap, ◌∙◌, arith, eqb_tells, list_any-append, sum_by-cons, What, Ptw, Sdw, uid_at, is_trailer, trailers_of, leads, leads_at, place_of, table_of, times, has, names_frame, Aim, page_at, AreDistinct, IsAimed, names, led_to, seen, Keeps, descriptor_of, frames_from, frames_in, here_in, is_active, trailers_in, shown, CutDescriptor, State, or_cases, page_is, times_few, times_one, What as what, Ptw as ptw, Sdw as sdw, false_from_ne_true, eqb_self, active_place, CanTakeAll, bound_shown, names_uid, IsIdle, idle_names, ArePairs, CanTook, has_pair}
 
 -- ---- pages
 
 -- a word that is here
 here_word : (w : Ptw) (f : ℕ) → has (here_in w) f ≡ true → w ≡ ptw.Here f
-here_word ptw.Null f h = cc
-here_word (ptw.Out r) f h = cc
-here_word (ptw.Leaving g) f h = cc
-here_word (ptw.Here g) f h = elim (eqb_tells g f) [
-  | inl e ↦ ap (λ (x : ℕ). ptw.Here x) e.1
-  | inr n ↦ cc
-]
+here_word (ptw.Here g) f h = elim (eqb_tells g f) [ inl e ↦ ap (λ (x : ℕ). ptw.Here x) e.1 | inr n ↦ cc ]
+here_word _ f h = cc
 
 -- each frame of the list has a word
 pub frame_word : (ws : List Ptw) (f : ℕ) → has (frames_in ws) f ≡ true → (q : ℕ) × (get_or ws q ptw.Null ≡ ptw.Here f)
@@ -92,8 +85,7 @@ listed_bound s u low k f h = (
 
 pub pages_bound : (s : State) (u low : ℕ) → Keeps s → (f : ℕ) → has (frames_from s.store.ast u low) f ≡ true
     → (seen s).bound f ≡ Some (page_at (seen s) f)
-pages_bound s u low k f h = let is = (listed_bound s u low k f h).1 in
-    cc
+pages_bound s u low k f h = let is = (listed_bound s u low k f h).1 in cc
 
 -- ---- descriptors
 
@@ -148,8 +140,7 @@ pairs_of s w u place active named (x ∷ xs) few = (
 
     linked : (y : Sdw) → descriptor_of s.store.links x.0 x.1 ≡ y → led_to s.store.ast.entries y ≡ Some u
     linked sdw.Fault e = cc (e, leads_there)
-    linked (sdw.Present aste m pages) e = let same = sym (ap leads e) ∙ leads_there in
-        let is : aste ≡ place = cc in cc
+    linked (sdw.Present aste m pages) e = let same = sym (ap leads e) ∙ leads_there in let is : aste ≡ place = cc in cc
 
 pub trailers_taken : (s : State) (w : What) (u : ℕ) → Keeps s → names_uid w u ≡ true
     → ArePairs (seen s).linked w (trailers_in s.store u)

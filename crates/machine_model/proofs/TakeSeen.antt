@@ -1,7 +1,6 @@
 -- What custody sees of a machine whose job takes pages and cuts descriptors.
-use Rattle.machine_model.proofs.Prelude.{◌≡◌, ◌≢◌, ◌<◌, ℕ, true, List, [], ◌∷◌, ◌++◌, length, set, get_or, Option, Some, None, ◌⊎◌, inl, inr, refl, sym, ap, subst, ◌∙◌, leb_tells, get_or_past, length-set, What, bound_page, Ptw, frame_in, ActiveSegs, Sdw, Links, place_of, sdws_at, word_of, unlinked, worded, has, at_put_two, Aim, page_at, takes, cut, taken, with_descriptor_cut, with_frame_taken, AreDistinct, led_to, seen, cut_one, leaving_if, note_of, take_all, take_one, descriptor_of, Seen, State, with_word, has_head, has_tail, Entry as entry, Frame as frame, Ptw as ptw, Sdw as sdw}
+use Rattle.machine_model.proofs.Basics.{◌≡◌, ◌≢◌, ◌<◌, ℕ, true, List, [], ◌∷◌, ◌++◌, length, set, get_or, Option, Some, None, ◌⊎◌, inl, inr, refl, sym, ap, subst, ◌∙◌, leb_tells, get_or_past, length-set, What, bound_page, Ptw, frame_in, ActiveSegs, Sdw, Links, place_of, sdws_at, word_of, unlinked, worded, has, at_put_two, Aim, page_at, takes, cut, taken, with_descriptor_cut, with_frame_taken, AreDistinct, led_to, seen, cut_one, leaving_if, note_of, take_all, take_one, descriptor_of, Seen, State, with_word, has_head, has_tail, Entry as entry, Frame as frame, Ptw as ptw, Sdw as sdw, map_list, put_lists, within_by, put_two_map, none_some, word_laws_word_put as word_put, word_within}
 use Rattle.machine_model.proofs.ChainLaws.{here_after}
-use Rattle.machine_model.proofs.Basics.{map_list, put_lists, within_by, put_two_map, none_some, word_put, word_within}
 
 -- ---- pages
 

@@ -1,9 +1,7 @@
 -- A job that makes a segment inactive takes it whole: each of its pages that is in a frame, where none is being read
 -- into one, and each descriptor that leads to it.
-use Rattle.machine_model.proofs.Prelude.{◌≡◌, ◌≢◌, ◌≤◌, ℕ, zero, suc, Bool, true, false, ◌||◌, cond, eqb, count_by, List, [], ◌∷◌, get_or, Option, Some, None, ◌⊎◌, inl, inr, refl, sym, ap, subst, ◌∙◌, arith, list_any-append, sum_by-cons, What, Ptw, Plain, binding_at, bindings, frame_in, bound_page, reads_of, Sdw, is_trailer, trailers_of, leads_at, place_of, table_of, read_at, times, has, is_going_descriptor, is_going_frame, leads_to, page_of, uid_of_page, Aim, KeepsBook, has_cut, names, led_to, seen, cut_all, cut_one, deactivation_begun, leaving_if, note_of, segment_taken, take_all, take_one, took, Keeps, cut_of_owner, descriptor_of, frames_from, frames_in, frames_of_owner, here_in, is_active, trailers_in, bound_use, cut_uid, descriptor_use, frame_use, is_cut_at, shown, CutDescriptor, State, Storage, IsWhole, TakenWhole, aimed_at, going_for, some_same, or_cases, or_true, eqb_self, What as what, Ptw as ptw, Sdw as sdw, Aim as aim}
-use Rattle.machine_model.proofs.Laws.{active_place, IsIdle, none_some, page_used, whole_idle}
+use Rattle.machine_model.proofs.Kept.{◌≡◌, ◌≢◌, ◌≤◌, ℕ, zero, suc, Bool, true, false, ◌||◌, cond, eqb, count_by, List, [], ◌∷◌, get_or, Option, Some, None, ◌⊎◌, inl, inr, refl, sym, ap, subst, ◌∙◌, arith, list_any-append, sum_by-cons, What, Ptw, Plain, binding_at, bindings, frame_in, bound_page, reads_of, Sdw, is_trailer, trailers_of, leads_at, place_of, table_of, read_at, times, has, is_going_descriptor, is_going_frame, leads_to, page_of, uid_of_page, Aim, KeepsBook, has_cut, names, led_to, seen, cut_all, cut_one, deactivation_begun, leaving_if, note_of, segment_taken, take_all, take_one, took, Keeps, cut_of_owner, descriptor_of, frames_from, frames_in, frames_of_owner, here_in, is_active, trailers_in, bound_use, cut_uid, descriptor_use, frame_use, is_cut_at, shown, CutDescriptor, State, Storage, IsWhole, TakenWhole, aimed_at, going_for, some_same, or_cases, or_true, eqb_self, What as what, Ptw as ptw, Sdw as sdw, Aim as aim, active_place, IsIdle, none_some, page_used, whole_idle, ArePairs, CanTook, has_pair, is_pair, linked_before, pairs_left, took_keeps}
 use Rattle.machine_model.proofs.TakeLists.{segment_takes}
-use Rattle.machine_model.proofs.TookKept.{ArePairs, CanTook, has_pair, is_pair, linked_before, pairs_left, took_keeps}
 
 -- ---- what is listed
 
@@ -52,9 +50,8 @@ trailer_listed s u k n keeps active linked = cc (some_pair (trailers_of s.store.
 
 -- ---- what the owner has taken
 
-take_has : (s : State) (c : ℕ) (a : Aim) (w : What) (fs : List ℕ) (g : ℕ)
-    → (has (frames_of_owner s.owner) g ≡ true) ⊎ (has fs g ≡ true)
-    → has (frames_of_owner (take_all s c a w fs).owner) g ≡ true
+take_has : (s : State) (c : ℕ) (a : Aim) (w : What) (fs : List ℕ) (g : ℕ) → (has (frames_of_owner s.owner) g ≡ true)
+    ⊎ (has fs g ≡ true) → has (frames_of_owner (take_all s c a w fs).owner) g ≡ true
 take_has s c a w [] g (inl h) = h
 take_has s c a w [] g (inr h) = cc
 take_has s c a w (f ∷ fs) g h = take_has (take_one s c a w f) c a w fs g (by h)
@@ -138,8 +135,7 @@ cut_linked s c a w (x ∷ xs) are k n u h = linked_before s c a w x are.0.0 are.
 -- so it is once pages and descriptors are taken
 pub take_linked : (s : State) (c : ℕ) (a : Aim) (w : What) (fs : List ℕ)
     → (seen (take_all s c a w fs)).linked ≡ (seen s).linked
-take_linked s c a w fs = let rest = take_rest s c a w fs in
-    λ i j n. led_to (rest.2 i) (descriptor_of (rest.1 i) j n)
+take_linked s c a w fs = let rest = take_rest s c a w fs in λ i j n. led_to (rest.2 i) (descriptor_of (rest.1 i) j n)
 
 pub took_linked : (s : State) (c : ℕ) (a : Aim) (w : What) (fs : List ℕ) (xs : List (ℕ × ℕ))
     → ArePairs (seen s).linked w xs → (k n u : ℕ) → (seen (took s c a w fs xs)).linked k n ≡ Some u
@@ -255,11 +251,7 @@ begun_whole s c u k idle none active unread = by (frames_from s.store.ast u 0) (
 
     goes : (going_for now.owner ≡ None) ⊎ (going_for now.owner ≡ Some u)
     goes = elim (cut_goes (take_all s c a w (frames_from s.store.ast u 0)) c a w (trailers_in s.store u)) [
-      | inl e ↦ elim (take_goes s c a w (frames_from s.store.ast u 0)) [
-        | inl d ↦ inl (cc)
-        | inr d ↦
-            inr (e ∙ d)
-      ]
+      | inl e ↦ elim (take_goes s c a w (frames_from s.store.ast u 0)) [ inl d ↦ inl (cc) | inr d ↦ inr (e ∙ d) ]
       | inr e ↦ inr e
     ]
 

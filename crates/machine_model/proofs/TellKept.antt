@@ -1,8 +1,7 @@
 -- A command is answered, with what the store says of it, and the owner of the supervisor changes.
-use Rattle.machine_model.proofs.Prelude.{◌≡◌, ◌<◌, ℕ, ◌+◌, Bool, true, false, cond, List, [], ◌∷◌, ◌++◌, length, set, Option, Some, None, inl, inr, refl, sym, ap, subst, ◌∙◌, arith, slice_get, length-set, eqb_tells, Command, Reply, gone_on, is_end, tries_on, IsLawfulDo, Progress, Store, progress_of, MayDo, next_of, at_put, is_try, released_by, answered, counted, IsRun, KeepsBook, is_pending, seen, IsAtWork, Keeps, StoreSays, cut_of_owner, flat_of, next_command, no_processor, no_run, processor_at, run_at, shown, Processor, Run, CutDescriptor, Owner, State, goes_on, progress_of_run, run_after, told_by, with_owner, Command as command, Entry as entry, Reply as reply}
+use Rattle.machine_model.proofs.Basics.{◌≡◌, ◌<◌, ℕ, ◌+◌, Bool, true, false, cond, List, [], ◌∷◌, ◌++◌, length, set, Option, Some, None, inl, inr, refl, sym, ap, subst, ◌∙◌, arith, slice_get, length-set, eqb_tells, Command, Reply, gone_on, is_end, tries_on, IsLawfulDo, Progress, Store, progress_of, MayDo, next_of, at_put, is_try, released_by, answered, counted, IsRun, KeepsBook, is_pending, seen, IsAtWork, Keeps, StoreSays, cut_of_owner, flat_of, next_command, no_processor, no_run, processor_at, run_at, shown, Processor, Run, CutDescriptor, Owner, State, goes_on, progress_of_run, run_after, told_by, with_owner, Command as command, Entry as entry, Reply as reply, put_list, IsIdle}
 use Rattle.machine_model.proofs.AnswerLaws.{answer_keeps, owner_keeps}
 use Rattle.machine_model.proofs.KeepLaws.{faults_push}
-use Rattle.machine_model.proofs.Basics.{put_list, IsIdle}
 
 -- ---- how far a process has come
 

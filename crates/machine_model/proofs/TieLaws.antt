@@ -44,9 +44,8 @@ module _ (bound reads : ℕ → Option (ℕ × ℕ)) (words : ℕ → ℕ → Pt
   pub tied_gone : (w : Ptw) → names (words u p) ≡ Some f → names w ≡ None
       → IsTied (at_put bound f None) reads (at_put_two words u p w)
   tied_gone w was now = record {
-    named = λ g v q. by_place (λ (y : Option (ℕ × ℕ)). y ≡ Some (v, q)
-        → names (at_put_two words u p w v q) ≡ Some g) bound f None g (λ i h. cc)
-        (λ n h. by_places (λ (x : Ptw). names x ≡ Some g) words u p w v q
+    named = λ g v q. by_place (λ (y : Option (ℕ × ℕ)). y ≡ Some (v, q) → names (at_put_two words u p w v q) ≡ Some g)
+        bound f None g (λ i h. cc) (λ n h. by_places (λ (x : Ptw). names x ≡ Some g) words u p w v q
         (λ i j. absurd (n (let its = t.named g v q h in cc))) (λ m. t.named g v q h));
     back = λ g v q. by_places (λ (x : Ptw). names x ≡ Some g → at_put bound f None g ≡ Some (v, q)) words u p w v q
         (λ i j h. cc) (λ n h. by_place (λ (y : Option (ℕ × ℕ)). y ≡ Some (v, q)) bound f None g
@@ -65,9 +64,8 @@ module _ (bound reads : ℕ → Option (ℕ × ℕ)) (words : ℕ → ℕ → Pt
   tied_start free out none = record {
     named = t.named;
     back = t.back;
-    out = λ g v q. by_place (λ (y : Option (ℕ × ℕ)). y ≡ Some (v, q) → is_out (words v q) ≡ true) reads f
-        (Some (u, p)) g
-        (λ i h. (let same = page_is u p v q h in let one = same.0 in let two = same.1 in let is = out in cc))
+    out = λ g v q. by_place (λ (y : Option (ℕ × ℕ)). y ≡ Some (v, q) → is_out (words v q) ≡ true) reads f (Some (u, p))
+        g (λ i h. (let same = page_is u p v q h in let one = same.0 in let two = same.1 in let is = out in cc))
         (λ n h. t.out g v q h);
     alone = λ g h v q. by_place (λ (y : Option (ℕ × ℕ)). y ≡ Some (v, q) → at_put reads f (Some (u, p)) h ≡ Some (v, q)
         → g ≡ h) reads f (Some (u, p)) g
@@ -86,10 +84,9 @@ module _ (bound reads : ℕ → Option (ℕ × ℕ)) (words : ℕ → ℕ → Pt
     back = t.back;
     out = λ g v q. by_place (λ (y : Option (ℕ × ℕ)). y ≡ Some (v, q) → is_out (words v q) ≡ true) reads f None g
         (λ i h. cc) (λ n h. t.out g v q h);
-    alone = λ g h v q. by_place (λ (y : Option (ℕ × ℕ)). y ≡ Some (v, q) → at_put reads f None h ≡ Some (v, q)
-        → g ≡ h) reads f None g (λ i a. cc)
-        (λ n a. by_place (λ (y : Option (ℕ × ℕ)). y ≡ Some (v, q) → g ≡ h) reads f None h (λ j b. cc)
-        (λ m b. t.alone g h v q a b));
+    alone = λ g h v q. by_place (λ (y : Option (ℕ × ℕ)). y ≡ Some (v, q) → at_put reads f None h ≡ Some (v, q) → g ≡ h)
+        reads f None g (λ i a. cc) (λ n a. by_place (λ (y : Option (ℕ × ℕ)). y ≡ Some (v, q) → g ≡ h) reads f None h
+        (λ j b. cc) (λ m b. t.alone g h v q a b));
     unbound = λ g v q. by_place (λ (y : Option (ℕ × ℕ)). y ≡ Some (v, q) → bound g ≡ None) reads f None g
         (λ i h. cc) (λ n h. t.unbound g v q h);
   }
@@ -105,18 +102,16 @@ module _ (bound reads : ℕ → Option (ℕ × ℕ)) (words : ℕ → ℕ → Pt
         (λ n h. by_places (λ (x : Ptw). names x ≡ Some g) words u p (ptw.Here f) v q
         (λ a b. absurd (not_there g (let its = t.named g v q h in let is = none in cc))) (λ m. t.named g v q h));
     back = λ g v q. by_places (λ (x : Ptw). names x ≡ Some g → at_put bound f (Some (u, p)) g ≡ Some (v, q)) words u p
-        (ptw.Here f) v q (λ a b h. by_place (λ (y : Option (ℕ × ℕ)). y ≡ Some (v, q)) bound f (Some (u, p)) g
-        (λ i. cc) (λ n. absurd (n (cc))))
-        (λ n h. by_place (λ (y : Option (ℕ × ℕ)). y ≡ Some (v, q)) bound f (Some (u, p)) g
+        (ptw.Here f) v q (λ a b h. by_place (λ (y : Option (ℕ × ℕ)). y ≡ Some (v, q)) bound f (Some (u, p)) g (λ i. cc)
+        (λ n. absurd (n (cc)))) (λ n h. by_place (λ (y : Option (ℕ × ℕ)). y ≡ Some (v, q)) bound f (Some (u, p)) g
         (λ i. cc (t.back g v q h)) (λ m. t.back g v q h));
     out = λ g v q. by_place (λ (y : Option (ℕ × ℕ)). y ≡ Some (v, q)
         → is_out (at_put_two words u p (ptw.Here f) v q) ≡ true) reads f None g (λ i h. cc)
         (λ n h. by_places (λ (x : Ptw). is_out x ≡ true) words u p (ptw.Here f) v q (λ a b. absurd (others g n (cc)))
         (λ m. t.out g v q h));
     alone = (tied_lost).alone;
-    unbound = λ g v q. by_place (λ (y : Option (ℕ × ℕ)). y ≡ Some (v, q)
-        → at_put bound f (Some (u, p)) g ≡ None) reads f None g
-        (λ i h. cc) (λ n h. put_other bound f (Some (u, p)) g n ∙ t.unbound g v q h);
+    unbound = λ g v q. by_place (λ (y : Option (ℕ × ℕ)). y ≡ Some (v, q) → at_put bound f (Some (u, p)) g ≡ None) reads
+        f None g (λ i h. cc) (λ n h. put_other bound f (Some (u, p)) g n ∙ t.unbound g v q h);
   }
 
   -- ---- what frames are used for
@@ -134,9 +129,8 @@ module _ (bound reads : ℕ → Option (ℕ × ℕ)) (words : ℕ → ℕ → Pt
       by : (x : Option (ℕ × ℕ)) → bound g ≡ x
           → frame_use (at_put_two words u p w) x (reads g) ≡ frame_use words x (reads g)
       by None e = refl
-      by (Some page) e = by_places (λ (x : Ptw). bound_use page x
-          ≡ bound_use page (words page.0 page.1)) words u p w page.0 page.1
-          (λ i j. absurd (apart page.0 page.1 e i j)) (λ m. refl)
+      by (Some page) e = by_places (λ (x : Ptw). bound_use page x ≡ bound_use page (words page.0 page.1)) words u p w
+          page.0 page.1 (λ i j. absurd (apart page.0 page.1 e i j)) (λ m. refl)
 
   -- every other frame is used as before where the word of the page in a frame changes
   pub other_use : (w : Ptw) → names (words u p) ≡ Some f → (g : ℕ) → g ≢ f

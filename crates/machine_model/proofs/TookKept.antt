@@ -1,6 +1,6 @@
 -- The machine keeps its promise where a job takes pages and cuts descriptors.
-use Rattle.machine_model.proofs.Prelude.{◌≡◌, ℕ, Bool, true, false, ◌&&◌, eqb, count_by, List, [], ◌∷◌, ◌++◌, length, Option, Some, None, inl, inr, refl, sym, ap, subst, ◌∙◌, arith, list_any, eqb_tells, Plan, What, Sdw, NamesAllGoing, has, at_put_two, Aim, taken, page_at, takes, IsAimed, KeepsBook, waits_for, led_to, seen, cut_all, cut_one, note_of, take_all, take_one, took, IsAtWork, Keeps, StoreSays, is_fault, cut_of_owner, descriptor_of, frames_of_owner, or_zero, processor_at, Seen, shown, CutDescriptor, Owner, State, or_parts, Entry as entry, Sdw as sdw}
-use Rattle.machine_model.proofs.Laws.{CanTakeAll, HasTaken, names_linked, names_uid, takes_keep, cut_keeps, quiet_push, by_places, HasTables, cut_one_seen, take_all_seen, kept_with}
+use Rattle.machine_model.proofs.Laws.{◌≡◌, ℕ, Bool, true, false, ◌&&◌, eqb, count_by, List, [], ◌∷◌, ◌++◌, length, Option, Some, None, inl, inr, refl, sym, ap, subst, ◌∙◌, arith, list_any, eqb_tells, Plan, What, Sdw, NamesAllGoing, has, at_put_two, Aim, taken, page_at, takes, IsAimed, KeepsBook, waits_for, led_to, seen, cut_all, cut_one, note_of, take_all, take_one, took, IsAtWork, Keeps, StoreSays, is_fault, cut_of_owner, descriptor_of, frames_of_owner, or_zero, processor_at, Seen, shown, CutDescriptor, Owner, State, or_parts, Entry as entry, Sdw as sdw, CanTakeAll, chain_laws_HasTaken as HasTaken, names_linked, names_uid, takes_keep, cut_keeps, quiet_push, by_places, HasTables, cut_one_seen, take_all_seen}
+use Rattle.machine_model.proofs.TransferKept.{kept_with}
 
 -- ---- descriptors
 
@@ -54,8 +54,7 @@ note_of_pair s x u led = note_is s x.0 x.1 u (descriptor_of s.store.links x.0 x.
 -- it stands for the segment that the pair stands for
 pub noted_has : (f : ℕ → ℕ → Option ℕ) (s : State) (x : ℕ × ℕ) (u : ℕ) → (seen s).linked x.0 x.1 ≡ Some u
     → f x.0 x.1 ≡ Some u → f (noted s x).process (noted s x).number ≡ Some (noted s x).uid
-noted_has f s x u led h = let note = note_of_pair s x u led in
-    (λ i. f (note.0 i) (note.1 i)) ∙ (cc)
+noted_has f s x u led h = let note = note_of_pair s x u led in (λ i. f (note.0 i) (note.1 i)) ∙ (cc)
 
 -- once a pair is cut, a descriptor that still leads to a segment led there before
 pub linked_before : (s : State) (c : ℕ) (a : Aim) (w : What) (x : ℕ × ℕ) (u : ℕ) → (seen s).linked x.0 x.1 ≡ Some u

@@ -1,12 +1,6 @@
 -- The machine keeps its promise where a transfer begins and ends, and where a page is made.
-use Rattle.machine_model.proofs.Prelude.{◌≡◌, ◌<◌, ◌≤◌, ℕ, Bool, true, false, cond, count_by, List, [], ◌∷◌, ◌++◌, map, length, set, Option, Some, None, inl, inr, refl, sym, ap, subst, ◌∙◌, arith, eqb_tells, get_or-set_other, length-set, ◌^◌, min, Rose, Entry, started_page, ActiveSegs, entry_at, uid_at, uid_in, Segment, Transfer, is_for, MayFault, KeepsBook, is_pending, seen, IsAtWork, Keeps, StoreSays, is_fault, flat_of, is_active, no_processor, process_at, processor_at, run_at, Processor, Owner, State, fault_told, frame_lost, started, transfer_failed, transferred, with_faults, Entry as entry, Reply as reply}
-use Rattle.machine_model.proofs.ActiveSeen.{any_at}
-use Rattle.machine_model.proofs.AnswerLaws.{fault_keeps, owner_keeps}
-use Rattle.machine_model.proofs.KeepLaws.{IsNoOwner, faults_push}
-use Rattle.machine_model.proofs.Basics.{map_length, within_by, IsIdle, nobody, none_some}
+use Rattle.machine_model.proofs.Laws.{◌≡◌, ◌<◌, ◌≤◌, ℕ, Bool, true, false, cond, count_by, List, [], ◌∷◌, ◌++◌, map, length, set, Option, Some, None, inl, inr, refl, sym, ap, subst, ◌∙◌, arith, eqb_tells, get_or-set_other, length-set, ◌^◌, min, Rose, Entry, started_page, ActiveSegs, entry_at, uid_at, uid_in, Segment, Transfer, is_for, MayFault, KeepsBook, is_pending, seen, IsAtWork, Keeps, StoreSays, is_fault, flat_of, is_active, no_processor, process_at, processor_at, run_at, Processor, Owner, State, fault_told, frame_lost, started, transfer_failed, transferred, with_faults, Entry as entry, Reply as reply, any_at, fault_keeps, owner_keeps, IsNoOwner, faults_push, map_length, within_by, IsIdle, owned_laws_nobody as nobody, none_some, tell_kept_CanTell as CanTell, told_keeps, works_counted, transfer_laws_CanStart as CanStart, end_keeps, lose_keeps, start_keeps}
 use Rattle.machine_model.proofs.MoveSeen.{brought_seen, lose_seen, start_seen}
-use Rattle.machine_model.proofs.TellKept.{CanTell, told_keeps, works_counted}
-use Rattle.machine_model.proofs.TransferLaws.{CanStart, end_keeps, lose_keeps, start_keeps}
 
 -- ---- what is put together
 

@@ -1,6 +1,5 @@
 -- A page is being read into a frame, is in it, or the reading failed; a page is made in a free frame.
-use Rattle.machine_model.proofs.Prelude.{◌≡◌, ◌≢◌, ◌<◌, ℕ, true, Option, Some, None, inl, inr, refl, sym, ap, ◌∙◌, Ptw, Transfer, IsLawful, after_entry, DescriptorUse, NobodyHoldsPage, is_current_frame, is_going_frame, at_put, at_put_two, custody_next, nobody_holds_page, lost, here, with_transfer, KeepsBook, HoldsRight, AreUnderWay, names, is_out, is_pending, Seen, shown, seat_of, frame_use, Processor, page_is, Ptw as ptw, FrameUse as frame, custody_is_started as is_started, page_started as started, page_brought as brought}
-use Rattle.machine_model.proofs.Basics.{book_next, right_frame, right_like, like_frame, owned_like, by_place, one_place, put_here, put_other, put_two_here, none_some, out_none, tied_start, tied_lost, tied_here, other_use_here}
+use Rattle.machine_model.proofs.Basics.{◌≡◌, ◌≢◌, ◌<◌, ℕ, true, Option, Some, None, inl, inr, refl, sym, ap, ◌∙◌, Ptw, Transfer, IsLawful, after_entry, DescriptorUse, NobodyHoldsPage, is_current_frame, is_going_frame, at_put, at_put_two, custody_next, nobody_holds_page, lost, here, with_transfer, KeepsBook, HoldsRight, AreUnderWay, names, is_out, is_pending, Seen, shown, seat_of, frame_use, Processor, page_is, Ptw as ptw, FrameUse as frame, custody_is_started as is_started, page_started as started, page_brought as brought, book_next, right_frame, right_like, like_frame, owned_like, by_place, one_place, put_here, put_other, put_two_here, none_some, out_none, tied_start, tied_lost, tied_here, other_use_here}
 use Rattle.machine_model.proofs.FrameLaws.{in_no_frame}
 
 -- ---- processors with their transfers
@@ -29,11 +28,10 @@ under_way_more : (reads : ℕ → Option (ℕ × ℕ)) (processors : ℕ → Pro
     → AreUnderWay (at_put reads t.frame (Some (t.uid, t.page)))
     (at_put processors c (with_transfer (processors c) (Some t)))
 under_way_more reads processors c t k idle unread = record {
-  reading = λ d x. by_place (λ (p : Processor). p.cpu.transfer ≡ Some x
-      → at_put reads t.frame (Some (t.uid, t.page)) x.frame ≡ Some (x.uid, x.page))
-      processors c (with_transfer (processors c) (Some t)) d
-      (λ i h. (let same : t ≡ x = cc in rw (← same) (put_here reads t.frame (Some (t.uid, t.page)))))
-      (λ n h. by_place (λ (o : Option (ℕ × ℕ)). o ≡ Some (x.uid, x.page)) reads t.frame (Some (t.uid, t.page)) x.frame
+  reading = λ d x. by_place (λ (p : Processor). p.cpu.transfer ≡ Some x → at_put reads t.frame (Some (t.uid, t.page))
+      x.frame ≡ Some (x.uid, x.page)) processors c (with_transfer (processors c) (Some t)) d
+      (λ i h. (let same : t ≡ x = cc in rw (← same) (put_here reads t.frame (Some (t.uid, t.page))))) (λ n h. by_place
+      (λ (o : Option (ℕ × ℕ)). o ≡ Some (x.uid, x.page)) reads t.frame (Some (t.uid, t.page)) x.frame
       (λ i. cc (k.reading d x h)) (λ m. k.reading d x h));
   reader = λ f u p. by_place (λ (o : Option (ℕ × ℕ)). o ≡ Some (u, p)
       → (d : ℕ) × ((at_put processors c (with_transfer (processors c) (Some t)) d).cpu.transfer
@@ -209,9 +207,8 @@ module _ (v : Seen) (c : ℕ) (t : Transfer) (k : KeepsBook v) (mine : (v.proces
         (ap is_going_frame started_is) refl) v.owner k.going_owned;
     tied = tied_here v.bound v.reads v.words k.tied t.frame t.uid t.page read_unbound nowhere
         (λ g n h. n (k.tied.alone g t.frame t.uid t.page h being_read));
-    holding_right = transfer_right (at_put v.bound t.frame (Some (t.uid, t.page)))
-        (shown v).descriptor v.processors c None
-        (λ d. right_frame v.bound (shown v).descriptor t.frame (Some (t.uid, t.page)) (v.processors d)
+    holding_right = transfer_right (at_put v.bound t.frame (Some (t.uid, t.page))) (shown v).descriptor v.processors c
+        None (λ d. right_frame v.bound (shown v).descriptor t.frame (Some (t.uid, t.page)) (v.processors d)
         (started_nobody d) (k.holding_right d));
     under_way = under_way_less c t k.under_way mine;
     runs = k.runs;

@@ -1,8 +1,6 @@
 -- The machine keeps its promise where a `truncate` takes effect: the pages that are cut off have left their frames, and
 -- a page that keeps a word is here again.
-use Rattle.machine_model.proofs.Prelude.{[], ◌≡◌, ◌≢◌, ℕ, Bool, true, false, if◌then◌else◌, List, ◌∷◌, ◌++◌, map, Option, Some, None, ◌⊎◌, inl, inr, refl, sym, ap, subst, ◌∙◌, Path, Entry, Ptw, binding_at, bindings, reads_of, list_any, Segment, is_for, word_of, read_at, Custody, Fine, page_at, back, gone, committed, gone_entries, stays, with_truncated, IsOwned, IsTied, KeepsBook, is_out, is_pending, names, led_to, seen, Keeps, StoreSays, cut_of_owner, descriptor_of, frames_of_owner, process_at, reply_of, uid_of_command, Seen, frame_use, shown, CutDescriptor, State, Storage, with_owner, without_first_frame, append-nil, append_assoc, Command as command, Entry as entry, Ptw as ptw}
-use Rattle.machine_model.proofs.Laws.{GoesOn, HasGone, IsDone, gone_done, idle_done, chain_laws_back_on as back_on, first_finish, LeavesRest, goes_with, back_keeps, gone_keeps, IsIdle, nobody, job_over, CanTell, not_there}
-use Rattle.machine_model.proofs.CommitKept.{effected}
+use Rattle.machine_model.proofs.Kept.{[], ◌≡◌, ◌≢◌, ℕ, Bool, true, false, if◌then◌else◌, List, ◌∷◌, ◌++◌, map, Option, Some, None, ◌⊎◌, inl, inr, refl, sym, ap, subst, ◌∙◌, Path, Entry, Ptw, binding_at, bindings, reads_of, list_any, Segment, is_for, word_of, read_at, Custody, Fine, page_at, back, gone, committed, gone_entries, stays, with_truncated, IsOwned, IsTied, KeepsBook, is_out, is_pending, names, led_to, seen, Keeps, StoreSays, cut_of_owner, descriptor_of, frames_of_owner, process_at, reply_of, uid_of_command, Seen, frame_use, shown, CutDescriptor, State, Storage, with_owner, without_first_frame, append-nil, append_assoc, Command as command, Entry as entry, Ptw as ptw, GoesOn, HasGone, IsDone, gone_done, idle_done, back_on, first_finish, LeavesRest, goes_with, back_keeps, gone_keeps, IsIdle, owned_laws_nobody as nobody, job_over, tell_kept_CanTell as CanTell, not_there, effected}
 use Rattle.machine_model.proofs.DeleteKept.{told_commit}
 
 -- ---- words that custody doesn't see
@@ -26,10 +24,7 @@ module _ (v : Seen) (words : ℕ → ℕ → Ptw) (k : KeepsBook v) (quiet : Qui
       | inl e ↦ k.tied.back f w q (cc)
       | inr n ↦ absurd (not_there f (sym n.1 ∙ h))
     ];
-    out = λ f w q h. elim (quiet.each w q) [
-      | inl e ↦ ap is_out e ∙ k.tied.out f w q h
-      | inr n ↦ absurd (n.2 f h)
-    ];
+    out = λ f w q h. elim (quiet.each w q) [ inl e ↦ ap is_out e ∙ k.tied.out f w q h | inr n ↦ absurd (n.2 f h) ];
     alone = k.tied.alone;
     unbound = k.tied.unbound;
   }

@@ -1,16 +1,9 @@
 -- What a `truncate` must have out of use is so where it takes effect: the pages that it cuts off are those that its job
 -- took, and the one that keeps a word is here again.
-use Rattle.machine_model.proofs.Prelude.{cond_both, not-false, cases_Bool, not-true, nat_tests, eqb_self, ne_eqb, [], ◌≡◌, ◌≢◌, ◌<◌, ◌≤◌, ◌*◌, ℕ, zero, suc, ◌+◌, ◌-◌, ◌/◌, ◌%◌, Bool, true, false, not, ◌&&◌, cond, eqb, List, ◌∷◌, ◌++◌, length, take, replicate, get_or, set, Option, Some, None, ◌⊎◌, inl, inr, refl, sym, ap, subst, ◌∙◌, arith, nat_le, nat_lt, Result, Ok, Err, eqb_tells, leb_tells, get_or-set_same, get_or_past, length-set, Path, Reply, Node, after_reference, bound_page, started_page, Ptw, frame_in, words_in, place_of, table_of, node_at, segment_at, is_zero_page, without_words, is_lost, zero_words, has, is_going_frame, page_of, LosesNoPage, OfNode, at_put_two, page_at, first_past, pages_past, stays, with_cut, without_page, AreDistinct, names, seen, are_zeros, here_if, page_in, with_here, Keeps, cut_of_owner, flat_of, frames_of_owner, is_active, process_at, Seen, shown, use_of, State, Storage, with_owner, with_pages, IsTakenFor, only_found, and-false, binding_at, read_at, has_head, has_tail, not_both, page_is, map_kept, Command as command, Frame as frame, Ptw as ptw, effects_cut as cut, FrameUse as frame_use, page_referred}
-use Rattle.machine_model.proofs.Laws.{going_word, map_list, bound_word, pool_room_range_has as range_has, put_here, put_other, put_two_here, by_places, binding_is, words_put, none_some, active_at, word_within}
-use Rattle.machine_model.proofs.CommitAsks.{IsOut, Rests}
-use Rattle.machine_model.proofs.CommitKept.{effected}
-use Rattle.machine_model.proofs.CommitRests.{cut_led, none_cut, page_bound, path_uid}
-use Rattle.machine_model.proofs.DeleteKept.{bound_unread, taken_word}
-use Rattle.machine_model.proofs.FinishKept.{bound_within}
+use Rattle.machine_model.proofs.StepBasics.{cond_both, not-false, cases_Bool, not-true, nat_tests, eqb_self, ne_eqb, [], ◌≡◌, ◌≢◌, ◌<◌, ◌≤◌, ◌*◌, ℕ, zero, suc, ◌+◌, ◌-◌, ◌/◌, ◌%◌, Bool, true, false, not, ◌&&◌, cond, eqb, List, ◌∷◌, ◌++◌, length, take, replicate, get_or, set, Option, Some, None, ◌⊎◌, inl, inr, refl, sym, ap, subst, ◌∙◌, arith, nat_le, nat_lt, Result, Ok, Err, eqb_tells, leb_tells, get_or-set_same, get_or_past, length-set, Path, Reply, Node, after_reference, bound_page, started_page, Ptw, frame_in, words_in, place_of, table_of, node_at, segment_at, is_zero_page, without_words, is_lost, zero_words, has, is_going_frame, page_of, LosesNoPage, OfNode, at_put_two, page_at, first_past, pages_past, stays, with_cut, without_page, AreDistinct, names, seen, are_zeros, here_if, page_in, with_here, Keeps, cut_of_owner, flat_of, frames_of_owner, is_active, process_at, Seen, shown, use_of, State, Storage, with_owner, with_pages, IsTakenFor, only_found, and-false, binding_at, read_at, has_head, has_tail, not_both, page_is, map_kept, Command as command, Frame as frame, Ptw as ptw, effects_cut as cut, FrameUse as frame_use, page_referred, Command, going_word, map_list, bound_word, range_has, put_here, put_other, put_two_here, by_places, binding_is, words_put, none_some, active_at, word_within, IsOut, Rests, RestsCommit, effected, bound_unread, taken_word, bound_within, in_range_is, link_member, member_link, started_after}
+use Rattle.machine_model.proofs.CommitRests.{cut_led, none_cut, page_bound, path_uid, acl_rests, delete_rests, end_rests, terminate_rests}
 use Rattle.machine_model.proofs.PagesCut.{put_two_other, AreCutOff, HasPlaces, IsCutOff, bound_in, cut_places, page_cut_off, pages_cut_off, read_in, word_in}
-use Rattle.machine_model.proofs.VictimLaws.{in_range_is, link_member, member_link}
 use Rattle.machine_model.proofs.TruncateKept.{QuietWords, all_left, cut_store, leaf, leaves, segment}
-use Rattle.machine_model.proofs.ActiveKept.{started_after}
 
 -- ---- the page that the words cut
 
@@ -200,8 +193,7 @@ next_pages v f fs page b h = record {
   once = h.once.1;
   each = λ g i. cc (
     leaf_bound v f b g (λ e. not_both (subst (λ (x : ℕ). has fs x ≡ true) e i) h.once.0),
-    h.each g
-        (has_tail f fs g i),
+    h.each g (has_tail f fs g i),
   );
   alone = λ g i x y. h.alone g i (has_tail f fs g x) (has_tail f fs i y);
 }
@@ -327,8 +319,7 @@ module _ (s : State) (c : ℕ) (path : Path) (size : ℕ) (keeps : Keeps s)
     past : p ≤ page
 
   mine : (f : ℕ) → has fs f ≡ true → IsMine f
-  mine f e =
-      let word = taken_word s keeps f e in
+  mine f e = let word = taken_word s keeps f e in
       let taken = word_taken (page_at (seen s) f).0 (page_at (seen s) f).1 f word in record {
         page = (page_at (seen s) f).1;
         its = λ i. (taken.1 i, (page_at (seen s) f).1);
@@ -365,10 +356,7 @@ module _ (s : State) (c : ℕ) (path : Path) (size : ℕ) (keeps : Keeps s)
   past_in q i = (in_range_is first (length (table_of st.ast u) - first) q (link_member ps q i)).0
 
   unpast : (q : ℕ) → q < first → has ps q ≡ false
-  unpast q lt = elim (cases_Bool (has ps q)) [
-    | inl i ↦ (let le = past_in q i in absurd (omega arith))
-    | inr i ↦ i
-  ]
+  unpast q lt = elim (cases_Bool (has ps q)) [ inl i ↦ (let le = past_in q i in absurd (omega arith)) | inr i ↦ i ]
 
   page_is_its : (f : ℕ) → has fs f ≡ true → (m : IsMine f) → (page_in st f).1 ≡ m.page
   page_is_its f e m = cc (binding_is s f)
@@ -434,8 +422,7 @@ module _ (s : State) (c : ℕ) (path : Path) (size : ℕ) (keeps : Keeps s)
     word : word_in cut_off u m.page ≡ cond (test f) (ptw.Here f) ptw.Null
 
   left_past : (f : ℕ) → has fs f ≡ true → (m : IsMine f) → first ≤ m.page → IsLeft f m
-  left_past f e m le =
-      let off = test_past f e m le in
+  left_past f e m le = let off = test_past f e m le in
       let listed = in_past m.page le (λ n. (let no : ptw.Leaving f ≡ ptw.Null = sym m.word ∙ n in cc)) in record {
         bound = rw off (over.left f m.page listed (mid_past m.page le ∙ m.word));
         word = rw off (over.nulls m.page listed);
@@ -477,10 +464,7 @@ module _ (s : State) (c : ℕ) (path : Path) (size : ℕ) (keeps : Keeps s)
           let le = past_in q i in omega (arith, same, le, lt)
 
   is_left : (f : ℕ) → has fs f ≡ true → (m : IsMine f) → IsLeft f m
-  is_left f e m = elim (leb_tells first m.page) [
-    | inl x ↦ left_past f e m x.1
-    | inr x ↦ left_cut f e m x.1
-  ]
+  is_left f e m = elim (leb_tells first m.page) [ inl x ↦ left_past f e m x.1 | inr x ↦ left_cut f e m x.1 ]
 
   bound_now : (g : ℕ) → bound_in cut_off g ≡ (all_left s c (process_at s c) path size).bound g
   bound_now g = rw (left_bound (seen s) test fs g) (elim (cases_Bool (has fs g)) [
@@ -592,8 +576,7 @@ module _ (s : State) (c : ℕ) (path : Path) (size : ℕ) (keeps : Keeps s)
             bound_word s keeps u active f (1024 * p + i) (bound ∙ ap (λ (x : ℕ). Some (u, x))
                 (let same : p ≡ (1024 * p + i) / 1024 = omega (arith, less) in same)),
             before,
-            zero_words words u p i z
-                (omega (arith, less)),
+            zero_words words u p i z (omega (arith, less)),
           ))
         where
           before : (eqb u u && nat_le size (1024 * p + i)) ≡ false
@@ -620,8 +603,7 @@ module _ (s : State) (c : ℕ) (path : Path) (size : ℕ) (keeps : Keeps s)
   bound_whole : (f q : ℕ) → (seen s).bound f ≡ Some (u, q) → (has fs f ≡ true → test f ≡ true)
       → is_lost words u size q ≡ false
   bound_whole f q bound stays_on = elim (leb_tells p q) [
-    | inl x ↦ (let listed = (word_taken u q f (frame_word f q bound x.1)).0 in
-        stays_whole f q listed (mine f listed)
+    | inl x ↦ (let listed = (word_taken u q f (frame_word f q bound x.1)).0 in stays_whole f q listed (mine f listed)
         (page_is u (mine f listed).page u q (sym (mine f listed).bound ∙ bound)).1 (stays_on listed))
     | inr x ↦ whole_before q x.1
   ]
@@ -672,3 +654,14 @@ module _ (s : State) (c : ℕ) (path : Path) (size : ℕ) (keeps : Keeps s)
     };
     out = out;
   }
+
+-- ---- What is left of a command's premises follows from what its job took.
+
+pub commit_rests : (s : State) (c : ℕ) → Keeps s → (cmd : Command) → IsTakenFor s (process_at s c) cmd
+    → RestsCommit s c (Some cmd)
+commit_rests s c keeps (command.Acl path row m) h = acl_rests s c keeps path row m h
+commit_rests s c keeps (command.Terminate number) h = terminate_rests s c keeps number h
+commit_rests s c keeps command.End h = end_rests s c keeps h
+commit_rests s c keeps (command.Truncate path words) h = truncate_rests s c path words keeps h
+commit_rests s c keeps (command.Delete path) h = delete_rests s c path keeps h
+commit_rests s c keeps _ h = tt

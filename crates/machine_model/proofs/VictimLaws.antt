@@ -1,8 +1,8 @@
 -- The victim of a full pool: there is one, and it isn't a link of the chain for which the pool is to have room.
-use Rattle.machine_model.proofs.Prelude.{or_left, eqb_self, not-true, eqb-true, range_with_len, cases_Bool, ◌≡◌, ◌≢◌, ◌<◌, ◌≤◌, ℕ, zero, suc, ◌+◌, ◌-◌, Bool, true, false, not, cond, eqb, List, [], ◌∷◌, length, reverse, is_some, is_none, Option, Some, None, ◌⊎◌, inl, inr, refl, sym, ap, subst, ◌∙◌, arith, Contains, take, position, nat_le, list_any, cases_lt, eqb_tells, length-reverse, sum_by-cons, ArePools, Node, above, has_directory, node_in, pool_for, pool_of, step_up, AreDirectories, IsChain, IsTree, IsMember, found_member, member_found, member_left, member_parts, member_right, has_chains, above_once, depth, superior_found, chain_of, ActiveSegs, entry_at, uid_at, uid_in, IsInPool, first_of, size_of, HasOneOffChain, first_off_chain, hand_of, is_inferior_in, is_inferior_of, leaf_below, leaf_of, least_inferior, off_chain, places_from, round_pool, stead_of, victim_of, Keeps, IsMachine, first_inactive, free_place, is_active, places_in, State, not_both, passed_there, tree_laws_superior_in as superior_in, Active as Entry, same_Some}
-use Rattle.active_segs.specs.Active as active
-use Rattle.machine_model.proofs.Laws.{turned, first_idle, find_true, position_at, pool_room_range_has as range_has, none_some, active_at}
+use Rattle.machine_model.proofs.Laws.{or_left, eqb_self, not-true, eqb-true, range_with_len, cases_Bool, ◌≡◌, ◌≢◌, ◌<◌, ◌≤◌, ℕ, zero, suc, ◌+◌, ◌-◌, Bool, true, false, not, cond, eqb, List, [], ◌∷◌, length, reverse, is_some, is_none, Option, Some, None, ◌⊎◌, inl, inr, refl, sym, ap, subst, ◌∙◌, arith, Contains, take, position, nat_le, list_any, cases_lt, eqb_tells, length-reverse, sum_by-cons, ArePools, Node, above, has_directory, node_in, pool_for, pool_of, step_up, AreDirectories, IsChain, IsTree, IsMember, found_member, member_found, member_left, member_parts, member_right, has_chains, above_once, depth, superior_found, chain_of, ActiveSegs, entry_at, uid_at, uid_in, IsInPool, first_of, size_of, HasOneOffChain, first_off_chain, hand_of, is_inferior_in, is_inferior_of, leaf_below, leaf_of, least_inferior, off_chain, places_from, round_pool, stead_of, victim_of, Keeps, IsMachine, first_inactive, free_place, is_active, places_in, State, not_both, passed_there, tree_laws_superior_in as superior_in, Active as Entry, same_Some, turned, first_idle, find_true, position_at, range_has, none_some}
+use Rattle.machine_model.proofs.TransferKept.{active_at}
 use Rattle.machine_model.proofs.OffChain.{pool_one_off}
+use Rattle.active_segs.specs.Active as active
 
 -- ---- links
 

@@ -1,8 +1,6 @@
 -- A visit of the shutdown keeps the whole promise, where the call of the store does what it says; and what holds of the
 -- frames that were visited.
-use Rattle.machine_model.proofs.Prelude.{◌≡◌, ◌≤◌, ℕ, ◌+◌, ◌++◌, ◌∷◌, [], Bool, true, false, not, cond, ◌&&◌, Option, Some, None, refl, sym, ap, subst, ◌∙◌, list_any, Rose, bound_page, IsPlan, Plan, Transfer, Store, frame_in, words_in, has_process, is_empty, is_over, Outcome, AllCome, are_zeros, here_if, leaving_if, left_of, page_back, page_gone, page_in, with_here, without_first_frame, IsFaithful, Keeps, StoreKept, StoreSays, mover_of, KeepsAll, cpu_at, cut_of_owner, flat_of, home_in, IsScheduled, left_page, without_left, after_visit, page_taken, visited_if, State, fault_told, with_faults, AreIdle, What as what, Entry as entry, Aim as aim}
-use Rattle.machine_model.proofs.Laws.{IsAlike, alike, alike_by, alike_on, fault_alike, one_still, took_like, left_count, left_flat, left_nodes, none_rest, says_by, none_some}
-use Rattle.machine_model.proofs.MoverTied.{here_moving, leaving_moving}
+use Rattle.machine_model.proofs.StepBasics.{◌≡◌, ◌≤◌, ℕ, ◌+◌, ◌++◌, ◌∷◌, [], Bool, true, false, not, cond, ◌&&◌, Option, Some, None, refl, sym, ap, subst, ◌∙◌, list_any, Rose, bound_page, IsPlan, Plan, Transfer, Store, frame_in, words_in, has_process, is_empty, is_over, Outcome, AllCome, are_zeros, here_if, leaving_if, left_of, page_back, page_gone, page_in, with_here, without_first_frame, IsFaithful, Keeps, StoreKept, StoreSays, mover_of, KeepsAll, cpu_at, cut_of_owner, flat_of, home_in, IsScheduled, left_page, without_left, after_visit, page_taken, visited_if, State, fault_told, with_faults, AreIdle, What as what, Entry as entry, Aim as aim, IsAlike, alike, alike_by, alike_on, fault_alike, one_still, took_like, left_count, left_flat, says_laws_left_nodes as left_nodes, none_rest, says_by, none_some, here_moving, leaving_moving}
 use Rattle.machine_model.proofs.OverLaws.{over_bare, over_faults, over_free, over_none, over_unread}
 use Rattle.machine_model.proofs.StepAsks.{release_may}
 use Rattle.machine_model.proofs.VisitKept.{AsksVisit, visit_keeps, kept_visited}
@@ -84,9 +82,8 @@ module _ (s : State) (o : Outcome) where
   same_seats = by (bound_page (frame_in s.store.pages f))
     where
       ended : (b : Bool) → SameSeats s (record (cond b back gone) { visited = f + 1 })
-      ended true = seated refl refl refl refl
-          (back_sizes (bound_page (frame_in taken.store.pages f)) ∙ taken_sizes) refl
-          (here_moving taken.store f ∙ taken_moving)
+      ended true = seated refl refl refl refl (back_sizes (bound_page (frame_in taken.store.pages f)) ∙ taken_sizes)
+          refl (here_moving taken.store f ∙ taken_moving)
       ended false = seated refl refl refl refl taken_sizes refl taken_moving
 
       by : (x : Option (ℕ × ℕ)) → SameSeats s (record (visited_if s f o x) { visited = f + 1 })
@@ -125,9 +122,8 @@ module _ (s : State) (o : Outcome) (all : KeepsAll s) (over : is_over s ≡ true
   page_same = cc (taken_pages s o)
 
   gone_flat : flat_of (left_with false) ≡ left_page s place (flat_of s)
-  gone_flat = left_flat s.plan (s.entries ++ entry.Take place ∷ []) place
-      (left_of (words_in before.store.pages place)) (page_in before.store place)
-      ∙ ((λ i. without_left (how_same i) (page_same i) (taken_flat s o i)))
+  gone_flat = left_flat s.plan (s.entries ++ entry.Take place ∷ []) place (left_of (words_in before.store.pages place))
+      (page_in before.store place) ∙ ((λ i. without_left (how_same i) (page_same i) (taken_flat s o i)))
 
   back_alike : IsAlike (flat_of s) (flat_of (left_with true))
   back_alike = alike_by (alike_on (alike_by (alike (flat_of s)) (taken_flat s o))
@@ -173,11 +169,7 @@ module _ (s : State) (o : Outcome) (all : KeepsAll s) (over : is_over s ≡ true
       λ released. (rw (taken_flat s o) (release_may s place x.0 x.1 keeps h (cc))),
       gone_says page bound e,
     );
-    ill = λ e. (
-      says.counted e,
-      rw (taken_flat s o) (over_faults s all over),
-      back_says page bound e,
-    );
+    ill = λ e. (says.counted e, rw (taken_flat s o) (over_faults s all over), back_says page bound e);
   }
 
   visit_unbound : bound_page (frame_in s.store.pages place) ≡ None → Keeps (after_visit s o)

@@ -1,7 +1,5 @@
 -- The machine keeps its promise where the shutdown visits a frame.
-use Rattle.machine_model.proofs.Prelude.{◌≡◌, ◌≤◌, ℕ, ◌+◌, Bool, true, false, cond, count_by, List, [], ◌∷◌, ◌++◌, Option, Some, None, refl, sym, ap, subst, ◌∙◌, arith, Rose, nothing_held, bound_page, Left, frame_in, words_in, MayFault, MayRelease, Custody, has, Fine, Outcome, taken, IsOwned, KeepsBook, has_cut, names, waits_for, seen, left_of, page_back, page_gone, page_in, take_one, without_first_frame, Keeps, StoreSays, is_fault, cut_of_owner, flat_of, frames_of_owner, processor_at, Seen, cut_uid, descriptor_use, shown, after_visit, page_taken, visited_if, CutDescriptor, Owner, State, fault_told, with_faults, with_owner, What as what, Entry as entry, Ptw as ptw, Left as left, Aim as aim, Phase as phase, eqb_self}
-use Rattle.machine_model.proofs.Laws.{fault_keeps, CanFinish, back_keeps, take_keeps, finish_with, faults_push, back_seen, bound_here, idle_names, put_two_here, HasTables, binding_is, tables_kept, take_one_seen, none_some, kept_with}
-use Rattle.machine_model.proofs.FinishKept.{left_faults, left_keeps}
+use Rattle.machine_model.proofs.Kept.{◌≡◌, ◌≤◌, ℕ, ◌+◌, Bool, true, false, cond, count_by, List, [], ◌∷◌, ◌++◌, Option, Some, None, refl, sym, ap, subst, ◌∙◌, arith, Rose, nothing_held, bound_page, Left, frame_in, words_in, MayFault, MayRelease, Custody, has, Fine, Outcome, taken, IsOwned, KeepsBook, has_cut, names, waits_for, seen, left_of, page_back, page_gone, page_in, take_one, without_first_frame, Keeps, StoreSays, is_fault, cut_of_owner, flat_of, frames_of_owner, processor_at, Seen, cut_uid, descriptor_use, shown, after_visit, page_taken, visited_if, CutDescriptor, Owner, State, fault_told, with_faults, with_owner, What as what, Entry as entry, Ptw as ptw, Left as left, Aim as aim, Phase as phase, eqb_self, fault_keeps, CanFinish, back_keeps, take_keeps, finish_with, faults_push, back_seen, bound_here, idle_names, put_two_here, HasTables, binding_is, tables_kept, take_one_seen, none_some, kept_with, left_faults, left_keeps}
 
 -- no processor holds anything, or is to drop anything
 pub record AreBare (s : State) : Type 0 where
@@ -16,10 +14,7 @@ bare_fine : (v : Seen) (b : Bool) → ((d : ℕ) → (v.processors d).cpu.assoc 
 bare_fine v b bare = record {
   page = λ d f h. absurd (none_has ((shown v).seat d).pages f (cc (bare d)) h);
   seg = λ d k n its h. absurd (none_has ((shown v).seat d).segs n (cc (bare d)) h);
-  idle = λ d off. (
-    cc (bare d),
-    cc (bare d),
-  );
+  idle = λ d off. (cc (bare d), cc (bare d));
 }
 
 module _ (s : State) (f u p : ℕ) (k : Keeps s) (none : s.owner ≡ None) (bare : AreBare s)

@@ -1,7 +1,5 @@
 -- What the next command of a process wants of the tables, by what a look finds for it.
-use Rattle.machine_model.proofs.Prelude.{◌≡◌, ℕ, ◌*◌, Bool, true, false, not, cond, eqb, List, Option, Some, None, Result, Ok, Err, inl, inr, refl, sym, ap, ◌∙◌, arith, nat_le, [], ◌/◌, leb_tells, new_word, permits, Command, Reference, Who, Reply, access_of, Node, node_in, chain_of, uid_of, kst_at, segment_at, who_at, Keeps, Want, Refer, Other, runner_at, want_at, around, is_linked, outline_of, reference_in, runner_by, want_in, want_known, want_lengthened, want_of, want_of_command, want_of_reference, want_truncated, cpu_at, next_command, processor_at, State, found_uid, not_both, Command as command}
-use Rattle.machine_model.proofs.Laws.{IsInside, at_outline}
-use Rattle.machine_model.proofs.MoveAsks.{who_is}
+use Rattle.machine_model.proofs.StepBasics.{◌≡◌, ℕ, ◌*◌, Bool, true, false, not, cond, eqb, List, Option, Some, None, Result, Ok, Err, inl, inr, refl, sym, ap, ◌∙◌, arith, nat_le, [], ◌/◌, leb_tells, new_word, permits, Command, Reference, Who, Reply, access_of, Node, node_in, chain_of, uid_of, kst_at, segment_at, who_at, Keeps, Want, Refer, Other, runner_at, want_at, around, is_linked, outline_of, reference_in, runner_by, want_in, want_known, want_lengthened, want_of, want_of_command, want_of_reference, want_truncated, cpu_at, next_command, processor_at, State, found_uid, not_both, Command as command, IsInside, at_outline, who_is}
 
 -- ---- a processor that has a process
 

@@ -1,6 +1,7 @@
 -- What the owner's job rests on stays so through every action.
-use Rattle.machine_model.proofs.Prelude.{◌≡◌, ◌≤◌, ℕ, Bool, true, false, cond, List, [], ◌∷◌, ◌++◌, Option, Some, None, ◌⊎◌, inl, inr, refl, sym, ap, subst, ◌∙◌, arith, get_or, set, nat_le, Ok, leb_tells, Plan, reference_of, Command, Reference, Entry, Node, segment_at, store_after, is_stored, is_stored_from, length_reply, stored_from, is_filed, refusal, custody_after, custody_after-push, Mover, Core, reads_of, after_reference, frame_at, started_page, Aim, Phase, holding, Keeps, IsMovedFor, MovesForNext, MovesIn, Tables, tables_of, past_page, with_copy, flat_of, is_active, outside_refusal, refusal_of, uid_of_number, read_at, IsUnread, State, Storage, IsWhole, Spares, FailsBy, FailsIn, MayChange, MayFailBy, append-nil, append_assoc, Frame, Command as command, Reply as reply, core_map_with_frame as with_frame, Aim as aim, Phase as phase, Frame as frame, false_from_ne_true}
-use Rattle.machine_model.proofs.Laws.{LeadsToSegment, length_stands, truncate_stands, inside_is, map_list, FindsActive, FindsCut, FindsPage, IsAbout, set_either, whole_next}
+use Rattle.machine_model.proofs.Laws.{◌≡◌, ◌≤◌, ℕ, Bool, true, false, cond, List, [], ◌∷◌, ◌++◌, Option, Some, None, ◌⊎◌, inl, inr, refl, sym, ap, subst, ◌∙◌, arith, get_or, set, nat_le, Ok, leb_tells, Plan, reference_of, Command, Reference, Entry, Node, segment_at, store_after, is_stored, is_stored_from, length_reply, stored_from, is_filed, refusal, custody_after, custody_after-push, Mover, Core, reads_of, after_reference, frame_at, started_page, Aim, Phase, holding, Keeps, IsMovedFor, MovesForNext, MovesIn, Tables, tables_of, past_page, with_copy, flat_of, is_active, outside_refusal, refusal_of, uid_of_number, read_at, IsUnread, State, Storage, IsWhole, Spares, FailsBy, FailsIn, MayChange, MayFailBy, append-nil, append_assoc, Frame, Command as command, Reply as reply, core_map_with_frame as with_frame, Aim as aim, Phase as phase, Frame as frame, false_from_ne_true, LeadsToSegment, length_stands, truncate_stands, map_list, FindsActive, FindsCut, FindsPage, IsAbout, whole_next}
+use Rattle.machine_model.proofs.InsideLaws.{inside_is}
+use Rattle.machine_model.proofs.ReleaseSeen.{set_either}
 
 -- ---- entries that spare a segment
 
@@ -35,23 +36,13 @@ fails_less old now k None less h = absurd h
 fails_less old now k (Some c) less (inl h) = inl (
   h.0,
   h.1,
-  record {
-    uid = h.2.uid;
-    stands = cc;
-    node = h.2.node;
-    there = cc;
-    within = h.2.within;
-  },
+  record { uid = h.2.uid; stands = cc; node = h.2.node; there = cc; within = h.2.within },
 )
 fails_less old now k (Some c) less (inr h) = inr (by c h)
   where
     by : (d : Command) → MayChange old.accounts.nodes (is_filed old.accounts old.pages.vtocs) d
         → MayChange now.accounts.nodes (is_filed now.accounts now.pages.vtocs) d
-    by (command.Length path pages) x = (
-      x.0,
-      cc,
-      λ q le. less.filed x.0.uid q (x.2 q le),
-    )
+    by (command.Length path pages) x = (x.0, cc, λ q le. less.filed x.0.uid q (x.2 q le))
     by (command.Truncate path words) x = (x.0, cc)
     by _ x = absurd x
 
@@ -137,8 +128,7 @@ frame_less core f y less g page h = map_list started_page core.frames g frame.Fr
 pub referred_less : (x : Frame) (wrote : Bool) (page : ℕ × ℕ) → started_page (after_reference x wrote) ≡ Some page
     → started_page x ≡ Some page
 referred_less frame.Free wrote page h = h
-referred_less (frame.Started u q) wrote page h = h
-referred_less (frame.Bound u q used modified) wrote page h = h
+referred_less _ wrote page h = h
 
 -- ---- what a look finds
 
@@ -159,13 +149,7 @@ module _ (s : State) (k : ℕ) (cmd : Command) (keeps : Keeps s) where
   reference_fails r is inside = let h = inside_is s k r keeps inside in inl (
     r,
     is,
-    record {
-      uid = uid_of_number s.store k r.number;
-      stands = cc;
-      node = h.node;
-      there = cc;
-      within = h.within;
-    },
+    record { uid = uid_of_number s.store k r.number; stands = cc; node = h.node; there = cc; within = h.within },
   )
 
   same_path : (path : List (List ℕ)) (n : Node) → segment_at (flat_of s).nodes path ≡ Ok n
@@ -183,10 +167,7 @@ module _ (s : State) (k : ℕ) (cmd : Command) (keeps : Keeps s) where
   page_fails uid page (inr x) = truncate_fails x.path x.words x.is x.stands
 
   pub about_fails : (u : ℕ) → IsAbout s k cmd u → MayFailBy s.store k (Some cmd)
-  about_fails u h = elim h.case [
-    | inl x ↦ reference_fails x.0 x.1 x.3
-    | inr x ↦ truncate_fails x.0 x.1 x.2 x.3
-  ]
+  about_fails u h = elim h.case [ inl x ↦ reference_fails x.0 x.1 x.3 | inr x ↦ truncate_fails x.0 x.1 x.2 x.3 ]
 
   pub length_fails : (u : ℕ) → FindsActive s k cmd u → MayFailBy s.store k (Some cmd)
   length_fails u finds = rw finds.is (inr (leads.node, same_path finds.path leads.node leads.found, none_filed))
@@ -205,7 +186,4 @@ module _ (s : State) (k : ℕ) (cmd : Command) (keeps : Keeps s) where
           ))
         where
           le_tells : nat_le finds.pages q ≡ true
-          le_tells = elim (leb_tells finds.pages q) [
-            | inl e ↦ e.0
-            | inr n ↦ (let lt = n.1 in absurd (omega arith))
-          ]
+          le_tells = elim (leb_tells finds.pages q) [ inl e ↦ e.0 | inr n ↦ (let lt = n.1 in absurd (omega arith)) ]

@@ -1,18 +1,7 @@
 -- After each action the owner's job rests on what it rested on, or has another.
-use Rattle.machine_model.proofs.Prelude.{◌≡◌, ◌≢◌, ℕ, Bool, true, false, not, ◌&&◌, cond, eqb, is_some, List, [], ◌∷◌, ◌++◌, set, Option, Some, None, ◌⊎◌, inl, inr, refl, sym, ap, subst, ◌∙◌, get_or-set_other, get_or-set_same, length-append, ◌≤◌, ◌+◌, arith, length, Mover, frame_at, Bound, Free, CutDescriptor, IsMovedFor, MovesIn, tables_of, move_begun, mover_to, moving, page_copied, past_page, with_copy, with_move, frames_of_owner, ◌%◌, Reference, referred, word_put, HasNoInferior, uid_at, alters, new_word, leaving_if, phase_signalled, with_choice, with_left, old_word, command_at, Command, What, Entry, Reply, Node, node_in, Transfer, Left, words_in, Segment, AccountMaps, Plain, is_for, IsUnread, list_any, first_off_chain, hand_past, is_stored, word_reply, is_stored-without, is_filed, superior_in, Phase, Processor, Run, any_page, Outcome, after, committed_at, holding, seen, deactivation_begun, emptied, entries_left, eviction_begun, left_of, owner_signalled, page_done, page_in, segment_taken, signalled, took, victim_taken, with_hand_moved, without_first_frame, Keeps, IsMachine, cpu_at, cut_of_owner, flat_of, frame_reading, frames_from, is_active, next_command, no_processor, no_run, or_zero, process_at, run_at, trailers_in, without_left, Owner, State, Storage, fault_told, frame_lost, looking, pages_after, told, transfer_failed, transferred, with_faults, with_pages, with_store, TakenWhole, goes_in, going_for, GoesJust, IsTakenBy, TakenIn, AreNumbered, OwnsFew, FailsIn, IsLeaf, IsWorking, MayFailBy, TakesSome, append_assoc, some_same, What as what, Entry as entry, Reply as reply, Left as left, Ptw as ptw, FrameUse as frame, Aim as aim, Phase as phase, Action, Action as act, eqb_self, Aim, and-false}
-use Rattle.machine_model.proofs.Laws.{by_end, LeadsToSegment, length_stands, leaf_inferiors, victim_leaf, within_by, FindsActive, FindsFull, FindsVictim, active_at, IsNoOwner, HasTakenFrames, LooksLike, took_like, took_owner, IsIdle, left_flat, cut_less, stands_on, none_some, started_spares, whole_idle}
+use Rattle.machine_model.proofs.StepBasics.{◌≡◌, ◌≢◌, ℕ, Bool, true, false, not, ◌&&◌, cond, eqb, is_some, List, [], ◌∷◌, ◌++◌, set, Option, Some, None, ◌⊎◌, inl, inr, refl, sym, ap, subst, ◌∙◌, get_or-set_other, get_or-set_same, length-append, ◌≤◌, ◌+◌, arith, length, Mover, frame_at, Bound, Free, CutDescriptor, IsMovedFor, MovesIn, tables_of, move_begun, mover_to, moving, page_copied, past_page, with_copy, with_move, frames_of_owner, ◌%◌, Reference, referred, word_put, HasNoInferior, uid_at, alters, new_word, leaving_if, phase_signalled, with_choice, with_left, old_word, command_at, Command, What, Entry, Reply, Node, node_in, Transfer, Left, words_in, Segment, AccountMaps, Plain, is_for, IsUnread, list_any, first_off_chain, hand_past, is_stored, word_reply, is_stored-without, is_filed, superior_in, Phase, Processor, Run, any_page, Outcome, after, committed_at, holding, seen, deactivation_begun, emptied, entries_left, eviction_begun, left_of, owner_signalled, page_done, page_in, segment_taken, signalled, took, victim_taken, with_hand_moved, without_first_frame, Keeps, IsMachine, cpu_at, cut_of_owner, flat_of, frame_reading, frames_from, is_active, next_command, no_processor, no_run, or_zero, process_at, run_at, trailers_in, without_left, Owner, State, Storage, fault_told, frame_lost, looking, pages_after, told, transfer_failed, transferred, with_faults, with_pages, with_store, TakenWhole, goes_in, going_for, GoesJust, IsTakenBy, TakenIn, AreNumbered, OwnsFew, FailsIn, IsLeaf, IsWorking, MayFailBy, TakesSome, append_assoc, some_same, What as what, Entry as entry, Reply as reply, Left as left, Ptw as ptw, FrameUse as frame, Aim as aim, Phase as phase, Action, Action as act, eqb_self, Aim, and-false, by_end, LeadsToSegment, length_stands, leaf_inferiors, victim_leaf, within_by, FindsActive, FindsFull, FindsVictim, active_at, IsNoOwner, HasTakenFrames, LooksLike, took_like, took_owner, IsIdle, left_flat, cut_less, stands_on, none_some, started_spares, whole_idle, hand_kept, IsMine, about_fails, length_fails, page_fails, AllSpare, IsLess, fails_in_less, fails_less, whole_on, frame_less, moved_on, moves_in_on, past_moved, referred_less, same_less, unread_less, LeavesMove, NoneOut, word_out, AllStay, LeavesTaken, just_on, started_free, taken_in, frames_from_few, trailers_few, IsLooking, IsMoving, told_seats, segment_takes, begun_whole, ArePairs}
 use Rattle.machine_model.proofs.EmptyAsks.{hand_says, segment_inferiors, unread_any}
-use Rattle.machine_model.proofs.StepKept.{hand_kept, IsMine}
-use Rattle.machine_model.proofs.WorkKept.{about_fails, length_fails, page_fails, AllSpare, IsLess, fails_in_less, fails_less, whole_on, frame_less, moved_on, moves_in_on, past_moved, referred_less, same_less, unread_less, LeavesMove}
-use Rattle.machine_model.proofs.OutLaws.{NoneOut, word_out}
-use Rattle.machine_model.proofs.JustLaws.{AllStay, LeavesTaken, just_on, started_free, taken_in}
-use Rattle.machine_model.proofs.ListSizes.{frames_from_few, trailers_few}
 use Rattle.machine_model.proofs.NumberLaws.{cut_signalled, less_few, signalled_few, took_few, took_numbered}
-use Rattle.machine_model.proofs.RuleKept.{IsLooking, IsMoving}
-use Rattle.machine_model.proofs.ScheduleKept.{told_seats}
-use Rattle.machine_model.proofs.TakeLists.{segment_takes}
-use Rattle.machine_model.proofs.TakeWhole.{begun_whole}
-use Rattle.machine_model.proofs.TookKept.{ArePairs}
 
 -- ---- the owner makes nothing inactive
 
@@ -230,11 +219,10 @@ module _ (s : State) (c u : ℕ) (k : Keeps s) (idle : IsIdle s.owner) (none : g
 
   pub begun_work : IsWorking (deactivation_begun s c u)
   begun_work = by_lists (frames_from s.store.ast u 0) (trailers_in s.store u)
-      (begun_whole s c u k idle none active (unread_any s.store.pages.core u unread))
-      (took_numbered s c (aim.Deactivating u) (what.Seg u) (frames_from s.store.ast u 0) (trailers_in s.store u) k
-      (rw idle.cut tt) (segment_takes s (aim.Deactivating u) (what.Seg u) u 0 k idle (eqb_self u)
-      (λ gs cs. refl)).pairs_are)
-      (took_few s c (aim.Deactivating u) (what.Seg u) (frames_from s.store.ast u 0) (trailers_in s.store u) idle
+      (begun_whole s c u k idle none active (unread_any s.store.pages.core u unread)) (took_numbered s c
+      (aim.Deactivating u) (what.Seg u) (frames_from s.store.ast u 0) (trailers_in s.store u) k (rw idle.cut tt)
+      (segment_takes s (aim.Deactivating u) (what.Seg u) u 0 k idle (eqb_self u) (λ gs cs. refl)).pairs_are) (took_few s
+      c (aim.Deactivating u) (what.Seg u) (frames_from s.store.ast u 0) (trailers_in s.store u) idle
       (omega (arith, frames_from_few s u 0 k, trailers_few s u k)))
 
 -- ---- the owner goes on
@@ -259,9 +247,7 @@ module _ (s : State) (c : ℕ) (k : Keeps s) (w : IsWorking s) where
 
   rests_signalled : (x : Phase) (now : State) (j : ℕ) → RestsOn x now j → RestsOn (phase_signalled x) now j
   rests_signalled (phase.Taken a v) now j h = record { fails = h.fails; taken = h.taken; moves = tt }
-  rests_signalled phase.Looking now j h = h
-  rests_signalled (phase.Waiting a v) now j h = h
-  rests_signalled (phase.Moving m) now j h = h
+  rests_signalled _ now j h = h
 
   signal_work : (what : What) → IsMine s c → Keeps (signalled s c what) → IsWorking (signalled s c what)
   signal_work what mine kept = owner_work now _ (ap owner_signalled mine.mine) (record {
@@ -593,12 +579,8 @@ module _ (s : State) (c : ℕ) (o : Outcome) (m : IsMachine s) (w : IsWorking s)
       (pages_unread f r (alters r.kind)) (λ u. refl) (λ u q e. e) kept
   work_kept (act.Plain r) may kept = other_told s.store None r may.0 may.1 refl (λ u h. h) (λ u. refl) (λ u q e. e) kept
   work_kept act.TakeSupervisor may kept = looking_work _ (looking c) refl refl tt (omega arith)
-  work_kept (act.Answer r) may kept = none_work _ refl
-  work_kept act.GiveUp may kept = none_work _ refl
   work_kept (act.Activate u place) may kept = looking_work _ may.owner.owner may.owner.mine may.looks w.numbered w.few
   work_kept (act.Connect n u) may kept = looking_work _ may.owner.owner may.owner.mine may.looks w.numbered w.few
-  work_kept (act.Create f u p r) may kept = none_work _ refl
-  work_kept (act.Start f u p) may kept = none_work _ refl
   work_kept (act.Evict f) may kept = idle_work _ refl refl
       (rw (taking_less f).known w.numbered) (let a = ap (λ (fs : List ℕ). length fs) may.idle.frames in
       let b = ap (λ (ds : List CutDescriptor). length ds) may.idle.cut in one_few f (omega arith)) (record {
@@ -623,9 +605,8 @@ module _ (s : State) (c : ℕ) (o : Outcome) (m : IsMachine s) (w : IsWorking s)
   work_kept (act.BeginMove u volume) may kept = move_work (move_begun s c u volume) (mover_to s.store u volume) refl
       (fails_less s.store (with_move s.store (mover_to s.store u volume)) (process_at s c)
       (next_command s (process_at s c)) (same_less s.store (with_move s.store (mover_to s.store u volume)) refl)
-      may.fails)
-      (moved_on s.store (with_move s.store (mover_to s.store u volume)) (process_at s c) (mover_to s.store u volume)
-      (next_command s (process_at s c)) (assumption) may.moves)
+      may.fails) (moved_on s.store (with_move s.store (mover_to s.store u volume)) (process_at s c)
+      (mover_to s.store u volume) (next_command s (process_at s c)) (assumption) may.moves)
   work_kept (act.CopyPage m page) may kept = by_end (λ x. Keeps x → IsWorking x) o _ _
       (λ e h. move_work (page_copied (with_faults s o.faults) c m page) (past_page m page) refl
       (fails_less s.store (with_copy s.store m page) (process_at s c) (next_command s (process_at s c))
@@ -640,3 +621,4 @@ module _ (s : State) (c : ℕ) (o : Outcome) (m : IsMachine s) (w : IsWorking s)
       (λ e h. page_work s c keeps w f o.faults may h) (λ e h. none_work _ refl) kept
   work_kept (act.Deactivate u) may kept = looking_work _ (looking c) refl refl tt (omega arith)
   work_kept act.Commit may kept = commits (next_command s (process_at s c))
+  work_kept _ may kept = none_work _ refl
