@@ -6,17 +6,17 @@ use Rattle.machine_model.proofs.TransferKept.{kept_with, quiet_faults}
 
 -- ---- a segment becomes active
 
-pub activate_kept : (s : State) (u place : ℕ) → Keeps s → MayActivate s.plan (flat_of s) (shown (seen s)) u
+pub activate_kept : {s : State} {u : ℕ} (place : ℕ) → Keeps s → MayActivate s.plan (flat_of s) (shown (seen s)) u
     → entry_at s.store.ast.entries place ≡ None → place < length s.store.ast.entries
     → StoreSays (activated_at s u place) → Keeps (activated_at s u place)
-activate_kept s u place k may free within says = kept_with (activated_at s u place)
+activate_kept {s} {u} place k may free within says = kept_with (activated_at s u place)
     (subst KeepsBook (sym (activate_seen s u place _ _ free within tables may.inactive live))
-    (activate_keeps (seen s) u _ k.book (record {
+    (activate_keeps u _ k.book (record {
       may = may;
       blank = inactive_blank s.store.ast u tables may.inactive;
       others = λ w q n. words_more s.store.ast u place _ _ free within tables may.inactive w q n;
       nowhere = words_new s.store.ast u place _ _ free within tables may.inactive (names_table _ _);
-    }))) says (quiet_faults s (entry.Activate u) s.faults k refl
+    }))) says (quiet_faults (entry.Activate u) s.faults k refl
     (omega arith)) k.sizes.processors k.sizes.processes k.at_work
   where
     tables : length s.store.ast.tables ≡ length s.store.ast.entries
@@ -28,16 +28,15 @@ activate_kept s u place k may free within says = kept_with (activated_at s u pla
 
 -- ---- a descriptor is connected
 
-pub connect_kept : (s : State) (c n u : ℕ) → Keeps s → CanConnect (seen s) (process_at s c) n u
+pub connect_kept : {s : State} (c : ℕ) {n u : ℕ} → Keeps s → CanConnect (seen s) (process_at s c) n u
     → process_at s c < length s.store.links.descriptors
     → n < length (sdws_at s.store.links.descriptors (process_at s c))
     → uid_at s.store.ast.entries (place_of s.store.ast.entries u) ≡ Some u → StoreSays (connected_to s c n u)
     → Keeps (connected_to s c n u)
-connect_kept s c n u k can outer inner active says = kept_with (connected_to s c n u)
-    (subst KeepsBook (sym (connect_seen s (process_at s c) n u _ _ outer inner active))
-    (connect_keeps (seen s) (process_at s c) n u k.book can)) says
-    (quiet_faults s (entry.Connect (process_at s c) n u) s.faults k refl
-    (omega arith)) k.sizes.processors k.sizes.processes k.at_work
+connect_kept {s} c {n} {u} k can outer inner active says = kept_with (connected_to s c n u)
+    (subst KeepsBook (sym (connect_seen s (process_at s c) n u _ _ outer inner active)) (connect_keeps k.book can)) says
+    (quiet_faults (entry.Connect (process_at s c) n u) s.faults k refl (omega arith)) k.sizes.processors
+    k.sizes.processes k.at_work
 
 -- ---- a segment is active no more
 
@@ -70,20 +69,20 @@ segs_are_gone s (d ∷ ds) k on = segs_are_gone (seg_gone s d) ds (subst KeepsBo
     one = refl
 
     book : KeepsBook (gone_seg (seen s) d (without_first_cut s.owner))
-    book = gone_seg_keeps (seen s) d (without_first_cut s.owner) k (first_finish_seg (seen s) [] d ds on)
+    book = gone_seg_keeps (seen s) d (without_first_cut s.owner) k (first_finish_seg d ds on)
 
     still : GoesOn (gone_seg (seen s) d (without_first_cut s.owner)) [] ds
-    still = uncut_on (seen s) (gone_seg (seen s) d (without_first_cut s.owner)) [] d ds on on.none refl
+    still = uncut_on (gone_seg (seen s) d (without_first_cut s.owner)) d ds on on.none refl
 
 -- an owner that looks
 pub looks_idle : (c : ℕ) → IsIdle (Some (looking c))
 looks_idle c = assumption ((refl, refl))
 
-pub deactivate_over : (s : State) (u : ℕ) (owner : Option Owner) → IsOver s
-    → length s.store.ast.tables ≡ length s.store.ast.entries
-    → IsOneToOne s.store.ast.entries → MayDeactivate (flat_of s) (shown (seen s)) u → IsIdle owner
-    → is_pending owner ≡ false → KeepsBook (seen (with_owner (deactivated_one s u) owner))
-deactivate_over s u owner over tables once may idle quiet =
+pub deactivate_over : {s : State} {u : ℕ} {owner : Option Owner} → IsOver s
+    → length s.store.ast.tables ≡ length s.store.ast.entries → IsOneToOne s.store.ast.entries
+    → MayDeactivate (flat_of s) (shown (seen s)) u → IsIdle owner → is_pending owner ≡ false
+    → KeepsBook (seen (with_owner (deactivated_one s u) owner))
+deactivate_over {s} {u} {owner} over tables once may idle quiet =
     job_over (seen (deactivated_one s u)) owner book over.frames over.cut over.none over.still idle quiet
   where
     none : (j n : ℕ) → (seen s).linked j n ≢ Some u
@@ -91,18 +90,18 @@ deactivate_over s u owner over tables once may idle quiet =
 
     book : KeepsBook (seen (deactivated_one s u))
     book = subst KeepsBook (sym (deactivate_seen s u may.active once tables none))
-        (deactivate_keeps (seen s) u _ over.book (record {
+        (deactivate_keeps u _ over.book (record {
           may = may;
           others = λ w q n. words_less s.store.ast u may.active once tables w q n;
           blank = blank_less s.store.ast u may.active once tables;
         }))
 
-pub emptied_kept : (s : State) (c u : ℕ) (o : Owner) → Keeps s → s.owner ≡ Some o → o.cpu ≡ c
+pub emptied_kept : {s : State} {c u : ℕ} {o : Owner} → Keeps s → s.owner ≡ Some o → o.cpu ≡ c
     → IsOver (segs_gone s (cut_of_owner s.owner))
     → MayDeactivate (flat_of (segs_gone s (cut_of_owner s.owner))) (shown (seen (segs_gone s (cut_of_owner s.owner)))) u
     → StoreSays (emptied s c u) → Keeps (emptied s c u)
-emptied_kept s c u o k mine same over may says = kept_with (emptied s c u)
-    (deactivate_over now u (Some (looking c)) over (rw rest.4 k.store.kept.places)
+emptied_kept {s} {c} {u} {o} k mine same over may says = kept_with (emptied s c u)
+    (deactivate_over over (rw rest.4 k.store.kept.places)
     (subst (λ (st : Storage). IsOneToOne st.ast.entries) (sym rest.4) k.store.kept.tree.once) may
     (looks_idle c) refl) says (let two = faults_push now.entries (entry.Deactivate u) in
     let few = k.few_faults in
@@ -123,12 +122,12 @@ emptied_kept s c u o k mine same over may says = kept_with (emptied s c u)
 
 -- ---- a page is made
 
-pub created_kept : (s : State) (c f u p : ℕ) (r : Reference) → Keeps s → CanMake (seen s) f u p
+pub created_kept : {s : State} {c : ℕ} (f u p : ℕ) (r : Reference) → Keeps s → CanMake (seen s) f u p
     → f < length s.store.pages.core.frames → place_of s.store.ast.entries u < length s.store.ast.entries
     → p < length (table_of s.store.ast u) → IsIdle s.owner → is_pending s.owner ≡ false
     → CanTell (page_made s f u p r) c (process_at s c) None (word_reply 0 r.kind) → StoreSays (page_created s c f u p r)
     → Keeps (page_created s c f u p r)
-created_kept s c f u p r k can within active inner idle quiet tell says = kept_with (page_created s c f u p r)
+created_kept {s} {c} f u p r k can within active inner idle quiet tell says = kept_with (page_created s c f u p r)
     (owner_keeps
     (told_keeps book tell) idle nobody quiet) says (omega (
       arith,
@@ -143,7 +142,7 @@ created_kept s c f u p r k can within active inner idle quiet tell says = kept_w
 
     book : KeepsBook (seen now)
     book = subst KeepsBook (sym (made_seen s f u p (r.offset % 1024) (new_word 0 r.kind) within active
-        (rw k.store.kept.places active) inner)) (here_keeps (seen s) f u p k.book can)
+        (rw k.store.kept.places active) inner)) (here_keeps k.book can)
 
 -- ---- a word is reached through a frame
 
@@ -170,10 +169,10 @@ through_seen s f r = by (alters r.kind)
     by true = marked true
     by false = marked false
 
-pub through_kept : (s : State) (c f : ℕ) (r : Reference) → Keeps s
+pub through_kept : {s : State} {c : ℕ} (f : ℕ) (r : Reference) → Keeps s
     → CanTell (with_store s (with_pages s.store (pages_after s.store.pages f r))) c (process_at s c) (Some f)
     (word_reply (old_word s.store.pages f r) r.kind) → StoreSays (went_through s c f r) → Keeps (went_through s c f r)
-through_kept s c f r k can says = kept_with (went_through s c f r)
+through_kept {s} {c} f r k can says = kept_with (went_through s c f r)
     (told_keeps (subst KeepsBook (sym (through_seen s f r)) k.book) can) says
     (omega (
       arith,

@@ -8,7 +8,7 @@ pub record ChangesSegment (v : Seen) (u : ℕ) (words : ℕ → ℕ → Ptw) : T
   pub after : (q : ℕ) → names (words u q) ≡ None
   pub unread : (f q : ℕ) → v.reads f ≢ Some (u, q)
 
-module _ (v : Seen) (u : ℕ) (words : ℕ → ℕ → Ptw) (k : KeepsBook v) (change : ChangesSegment v u words) where
+module _ {v : Seen} {u : ℕ} {words : ℕ → ℕ → Ptw} (k : KeepsBook v) (change : ChangesSegment v u words) where
   -- a page of another segment has the word that it had
   kept : (f w q : ℕ) → v.bound f ≡ Some (w, q) → words w q ≡ v.words w q
   kept f w q h = change.others w q (λ e. not_there f (cc (change.before q, k.tied.named f w q h)))
@@ -36,24 +36,23 @@ module _ (v : Seen) (u : ℕ) (words : ℕ → ℕ → Ptw) (k : KeepsBook v) (c
       by (Some page) e = cc (kept f page.0 page.1 e)
 
 -- the segment is active, or is it no more, by an entry that says so and nothing else
-activity_keeps : (v : Seen) (u : ℕ) (words : ℕ → ℕ → Ptw) (active : Bool) (e : Entry) → KeepsBook v
+activity_keeps : {v : Seen} {u : ℕ} {words : ℕ → ℕ → Ptw} (active : Bool) (e : Entry) → KeepsBook v
     → ChangesSegment v u words → IsLawful v.plan (flat v) e → IsAllowed v.plan (flat v) (shown v) e
     → FillsOnline (shown v) e
     → custody_next v.plan (flat v) (shown v) e ≡ record (shown v) { active = at_put v.active u active }
     → pending_after (is_pending v.owner) e ≡ is_pending v.owner
     → ((j : ℕ) → IsRun (progress_of (after_entry v.plan (flat v) e) j) (v.runs j))
     → KeepsBook (record v { active = at_put v.active u active; words = words; entries = v.entries ++ e ∷ [] })
-activity_keeps v u words active e k change lawful allowed online next pending runs = book_next refl refl k
+activity_keeps {v} {u} {words} active e k change lawful allowed online next pending runs = book_next refl refl k
     (assumption (
       (λ i. record (shown v) {
         active = at_put v.active u active;
-        frame = λ f. uses_same v u words k change f i;
+        frame = λ f. uses_same k change f i;
       }) ∙ sym next,
       sym pending,
       subst (λ (c : Custody). IsOwned c v.owner) (sym next)
-          (owned_like (shown v) (record (shown v) { active = at_put v.active u active })
-          (like_active (shown v) (at_put v.active u active)) v.owner k.going_owned),
-      tied_segment v u words k change,
+          (owned_like (like_active (shown v) (at_put v.active u active)) k.going_owned),
+      tied_segment k change,
     ))
 
 -- a segment whose words all said that it has no page
@@ -75,11 +74,11 @@ activates v u words k can = record {
   unread = λ f q h. (let no = sym (ap is_out (can.blank q)) ∙ k.tied.out f u q h in cc);
 }
 
-pub activate_keeps : (v : Seen) (u : ℕ) (words : ℕ → ℕ → Ptw) → KeepsBook v → CanActivate v u words
+pub activate_keeps : {v : Seen} (u : ℕ) (words : ℕ → ℕ → Ptw) → KeepsBook v → CanActivate v u words
     → KeepsBook (activated v u words)
 unfolding IsLawful after_entry custody_next
-activate_keeps v u words k can =
-    activity_keeps v u words true (entry.Activate u) k (activates v u words k can) tt can.may tt refl refl k.runs
+activate_keeps {v} u words k can =
+    activity_keeps true (entry.Activate u) k (activates v u words k can) tt can.may tt refl refl k.runs
 
 -- a segment that may become inactive, whose words all say then that it has no page
 pub record CanDeactivate (v : Seen) (u : ℕ) (words : ℕ → ℕ → Ptw) : Type 0 where
@@ -87,7 +86,7 @@ pub record CanDeactivate (v : Seen) (u : ℕ) (words : ℕ → ℕ → Ptw) : Ty
   pub others : (w q : ℕ) → w ≢ u → words w q ≡ v.words w q
   pub blank : IsBlank words u
 
-module _ (v : Seen) (u : ℕ) (k : KeepsBook v) (pages : HasNoPage (shown v) u) where
+module _ {v : Seen} (u : ℕ) (k : KeepsBook v) (pages : HasNoPage (shown v) u) where
   uid_bound : (f q : ℕ) → v.bound f ≡ Some (u, q) → uid_of_page (page_of ((shown v).frame f)) ≡ Some u
   uid_bound f q h = cc (page_used (u, q) (v.words u q))
 
@@ -101,16 +100,16 @@ module _ (v : Seen) (u : ℕ) (k : KeepsBook v) (pages : HasNoPage (shown v) u) 
       by None e = refl
       by (Some f) e = absurd (pages f (uid_bound f q (k.tied.back f u q e)))
 
-pub deactivate_keeps : (v : Seen) (u : ℕ) (words : ℕ → ℕ → Ptw) → KeepsBook v → CanDeactivate v u words
+pub deactivate_keeps : {v : Seen} (u : ℕ) (words : ℕ → ℕ → Ptw) → KeepsBook v → CanDeactivate v u words
     → KeepsBook (deactivated v u words)
 unfolding IsLawful after_entry custody_next
-deactivate_keeps v u words k can =
-    activity_keeps v u words false (entry.Deactivate u) k change tt can.may tt refl refl k.runs
+deactivate_keeps {v} u words k can =
+    activity_keeps false (entry.Deactivate u) k change tt can.may tt refl refl k.runs
   where
     change : ChangesSegment v u words
     change = record {
       others = can.others;
-      before = nowhere_before v u k can.may.pages;
+      before = nowhere_before u k can.may.pages;
       after = λ q. ap names (can.blank q);
-      unread = λ f q h. can.may.pages f (uid_read v u k can.may.pages f q h);
+      unread = λ f q h. can.may.pages f (uid_read u k can.may.pages f q h);
     }

@@ -92,8 +92,7 @@ module _ (ast : ActiveSegs) (u place : ℕ) (superior : Option ℕ) (table : Lis
   active_more v = by_place (λ (b : Bool). is_active now v ≡ b) (λ x. is_active ast x) u true v (λ e. cc (
     any_set (is_for v) ast.entries place (Some (record { uid = u; superior = superior })) None within (cc),
     own e,
-  ))
-      (λ n. any_same (is_for v) ast.entries place (Some (record { uid = u; superior = superior })) None (for_new v n))
+  )) (λ n. any_same (is_for v) ast.entries place (Some (record { uid = u; superior = superior })) None (for_new v n))
     where
       own : v ≡ u → eqb u v ≡ true
       own e = elim (eqb_tells u v) [ inl a ↦ a.0 | inr n ↦ absurd (n.1 (sym e)) ]

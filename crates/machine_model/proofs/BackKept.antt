@@ -52,7 +52,7 @@ pages_are_back s (f ∷ fs) ds tables k on there = let rest =
     p = (page_at (seen s) f).1
 
     can : CanFinish (seen s) f u p (without_first_frame s.owner)
-    can = first_finish (seen s) f fs ds k on
+    can = first_finish f fs k on
 
     one : seen now ≡ back (seen s) f u p (without_first_frame s.owner)
     one = back_seen s f u p (without_first_frame s.owner) tables k can.leaving
@@ -109,10 +109,10 @@ segs_are_back s (d ∷ ds) tables k on there = let rest = segs_are_back now ds t
     one = back_seg_seen s d (without_first_cut s.owner) there.0.0 there.0.1 (active_place s.store.ast d.uid there.0.2).1
 
     book : KeepsBook (back_seg (seen s) d (without_first_cut s.owner))
-    book = back_seg_keeps (seen s) d (without_first_cut s.owner) k (first_finish_seg (seen s) [] d ds on)
+    book = back_seg_keeps (seen s) d (without_first_cut s.owner) k (first_finish_seg d ds on)
 
     still : GoesOn (back_seg (seen s) d (without_first_cut s.owner)) [] ds
-    still = uncut_on (seen s) (back_seg (seen s) d (without_first_cut s.owner)) [] d ds on on.none refl
+    still = uncut_on (back_seg (seen s) d (without_first_cut s.owner)) d ds on on.none refl
 
 -- ---- the process is told
 
@@ -192,12 +192,11 @@ module _ (s : State) (c faults : ℕ) (fs : List ℕ) (ds : List CutDescriptor) 
       over = job_over (seen now) None segs.book segs.on.frames segs.on.cut segs.on.none segs.on.still nobody refl
 
   -- an evicted page comes back
-  pub eviction_failed_kept : (f u p : ℕ) → frames_of_owner s.owner ≡ f ∷ [] → cut_of_owner s.owner ≡ [] → fs ≡ f ∷ []
+  pub eviction_failed_kept : {f u p : ℕ} → frames_of_owner s.owner ≡ f ∷ [] → cut_of_owner s.owner ≡ [] → fs ≡ f ∷ []
       → ds ≡ [] → CanFinish (seen s) f u p (Some (looking c))
-      → CanTell (with_owner (all_back s c faults (f ∷ []) []) None) c
-      (process_at (all_back s c faults (f ∷ []) []) c) None reply.Device
-      → StoreSays (write_failed s c faults) → Keeps (write_failed s c faults)
-  eviction_failed_kept f u p frames cut fs_is ds_is can tell says = subst Keeps (sym same)
+      → CanTell (with_owner (all_back s c faults (f ∷ []) []) None) c (process_at (all_back s c faults (f ∷ []) []) c)
+      None reply.Device → StoreSays (write_failed s c faults) → Keeps (write_failed s c faults)
+  eviction_failed_kept {f} {u} {p} frames cut fs_is ds_is can tell says = subst Keeps (sym same)
       (failed_with now (λ i. all_back s c faults (sym fs_is i) (sym ds_is i)) over tell (subst StoreSays same says))
     where
       now : State

@@ -229,7 +229,7 @@ committed_booked s c (Some cmd) few = commit_booked s c (process_at s c) cmd few
 
 -- ---- each action
 
-module _ (s : State) (c : ℕ) (o : Outcome) (keeps : Keeps s) (few : OwnsFew s.owner) where
+module _ {s : State} (c : ℕ) (o : Outcome) (keeps : Keeps s) (few : OwnsFew s.owner) where
   none : {now : State} → now.entries ≡ s.entries → now.spare ≡ s.spare → IsQuietly s now 320
   none {now} entries spare = booked_less (booked_none s now entries spare) (omega arith)
 
@@ -237,8 +237,8 @@ module _ (s : State) (c : ℕ) (o : Outcome) (keeps : Keeps s) (few : OwnsFew s.
       → IsQuietly s now 320
   one e quiet entries spare = booked_less (one_booked (e ∷ []) entries spare (cc quiet)) (omega arith)
 
-  plainly : (now : State) → IsQuietly s now 320 → IsBooked s now c 320 false o.failed
-  plainly now h = record { booked = h.booked; tale = inl (h.quiet, λ calls. cc calls) }
+  plainly : {now : State} → IsQuietly s now 320 → IsBooked s now c 320 false o.failed
+  plainly h = record { booked = h.booked; tale = inl (h.quiet, λ calls. cc calls) }
 
   by_end : (well ill : State) → IsQuietly s well 320 → ((f : Bool) → f ≡ true → IsBooked s ill c 320 true f)
       → IsBooked s (cond o.failed ill well) c 320 true o.failed
@@ -286,39 +286,39 @@ module _ (s : State) (c : ℕ) (o : Outcome) (keeps : Keeps s) (few : OwnsFew s.
       (failed_booked s c o.faults few)
   end_booked (act.CopyPage m page) k plain = by_end (page_copied (with_faults s o.faults) c m page)
       (copy_failed s c o.faults) (none refl refl) copy_booked
-  end_booked act.Online k plain = plainly _ (one (entry.Online c) refl refl refl)
-  end_booked (act.Clear w) k plain = plainly _ (one (entry.Clear c w) refl refl refl)
-  end_booked (act.Load n) k plain = plainly _ (one (entry.Load c n) refl refl refl)
-  end_booked act.Leave k plain = plainly _ (one (entry.Leave c) refl refl refl)
-  end_booked (act.FillSeg n) k plain = plainly _ (one (entry.FillSeg c n) refl refl refl)
-  end_booked (act.FillPage f r) k plain = plainly _ (one (entry.FillPage c f) refl refl refl)
-  end_booked (act.Through f r) k plain = plainly _ (one (entry.Do (process_at s c) _ c (Some f) _)
+  end_booked act.Online k plain = plainly (one (entry.Online c) refl refl refl)
+  end_booked (act.Clear w) k plain = plainly (one (entry.Clear c w) refl refl refl)
+  end_booked (act.Load n) k plain = plainly (one (entry.Load c n) refl refl refl)
+  end_booked act.Leave k plain = plainly (one (entry.Leave c) refl refl refl)
+  end_booked (act.FillSeg n) k plain = plainly (one (entry.FillSeg c n) refl refl refl)
+  end_booked (act.FillPage f r) k plain = plainly (one (entry.FillPage c f) refl refl refl)
+  end_booked (act.Through f r) k plain = plainly (one (entry.Do (process_at s c) _ c (Some f) _)
       (ap not (word_plain (old_word s.store.pages f r) r.kind)) refl refl)
-  end_booked (act.Plain r) k plain = plainly _ (one (entry.Do (process_at s c) _ c None r) (ap not plain) refl refl)
-  end_booked (act.Answer r) k plain = plainly _ (one (entry.Do (process_at s c) _ c None r) (ap not plain) refl refl)
-  end_booked (act.Activate u place) k plain = plainly _ (one (entry.Activate u) refl refl refl)
-  end_booked (act.Connect n u) k plain = plainly _ (one (entry.Connect (process_at s c) n u) refl refl refl)
-  end_booked (act.Create f u q r) k plain = plainly _ (booked_less
+  end_booked (act.Plain r) k plain = plainly (one (entry.Do (process_at s c) _ c None r) (ap not plain) refl refl)
+  end_booked (act.Answer r) k plain = plainly (one (entry.Do (process_at s c) _ c None r) (ap not plain) refl refl)
+  end_booked (act.Activate u place) k plain = plainly (one (entry.Activate u) refl refl refl)
+  end_booked (act.Connect n u) k plain = plainly (one (entry.Connect (process_at s c) n u) refl refl refl)
+  end_booked (act.Create f u q r) k plain = plainly (booked_less
       (then_booked {mid = page_made s f u q r} (entry.Here f u q) refl refl refl
       (one_booked (entry.Do (process_at s c) _ c None _ ∷ []) refl refl
       (told_quiet 0 0 c None _ (word_plain 0 r.kind)))) (omega arith))
-  end_booked (act.Start f u q) k plain = plainly _ (one (entry.Start f u q) refl refl refl)
-  end_booked (act.Evict f) k plain = plainly _ (one (entry.Take f) refl refl refl)
-  end_booked (act.Empty u) k plain = plainly _ (segment_booked s c u (frames_from s.store.ast u 0)
+  end_booked (act.Start f u q) k plain = plainly (one (entry.Start f u q) refl refl refl)
+  end_booked (act.Evict f) k plain = plainly (one (entry.Take f) refl refl refl)
+  end_booked (act.Empty u) k plain = plainly (segment_booked s c u (frames_from s.store.ast u 0)
       (trailers_in s.store u) few (few_of u))
-  end_booked (act.EmptyVictim pool chain u) k plain = plainly _ (victim_booked pool chain u)
-  end_booked (act.TakeAway fs pairs w) k plain = plainly _ (booked_less (took_booked s c aim.Committing w fs pairs)
-      (omega (arith, few_taken s (process_at s c) k.4.command fs pairs keeps k.4.finds)))
-  end_booked (act.CommitMove m) k plain = plainly _ (one (entry.Moved (process_at s c) m.uid m.to.0) refl refl refl)
-  end_booked (act.Signal w) k plain = plainly _ (one (entry.Signal c w) refl refl refl)
-  end_booked (act.Deactivate u) k plain = plainly _ (booked_less (emptied_booked s c u) (omega arith))
-  end_booked act.Commit k plain = plainly _ (committed_booked s c (next_command s (process_at s c)) few)
-  end_booked _ k plain = plainly _ (none refl refl)
+  end_booked (act.EmptyVictim pool chain u) k plain = plainly (victim_booked pool chain u)
+  end_booked (act.TakeAway fs pairs w) k plain = plainly (booked_less (took_booked s c aim.Committing w fs pairs)
+      (omega (arith, few_taken keeps k.4.finds)))
+  end_booked (act.CommitMove m) k plain = plainly (one (entry.Moved (process_at s c) m.uid m.to.0) refl refl refl)
+  end_booked (act.Signal w) k plain = plainly (one (entry.Signal c w) refl refl refl)
+  end_booked (act.Deactivate u) k plain = plainly (booked_less (emptied_booked s c u) (omega arith))
+  end_booked act.Commit k plain = plainly (committed_booked s c (next_command s (process_at s c)) few)
+  end_booked _ k plain = plainly (none refl refl)
 
 -- A step appends 320 entries at the most, and there is room for so many less; and what it tells of the drives.
 pub told_after : (s : State) (c : ℕ) (o : Outcome) → KeepsAll s → c < length s.processors
     → IsBooked s (after s c (action_of s c) o) c 320 (calls_drive (action_of s c)) o.failed
-told_after s c o all there = end_booked s c o all.machine.keeps all.working.few (action_of s c)
+told_after s c o all there = end_booked c o all.machine.keeps all.working.few (action_of s c)
     (step_knows s c o all.machine there all.working) (plain_action s c)
 
 pub entries_after : (s : State) (c : ℕ) (o : Outcome) → KeepsAll s → c < length s.processors

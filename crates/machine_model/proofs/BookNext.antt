@@ -34,12 +34,12 @@ book_next {v} {e} {now} plan entries k b = record {
     flat_is = rw (plan, entries) (store_after-push v.plan v.entries e)
 
 -- an entry of which custody and the tables show nothing
-pub book_apart : (v : Seen) (e : Entry) → KeepsBook v → IsLawful v.plan (flat v) e
+pub book_apart : {v : Seen} (e : Entry) → KeepsBook v → IsLawful v.plan (flat v) e
     → IsAllowed v.plan (flat v) (shown v) e → FillsOnline (shown v) e
     → custody_next v.plan (flat v) (shown v) e ≡ shown v → pending_after (is_pending v.owner) e ≡ is_pending v.owner
     → ((j : ℕ) → IsRun (progress_of (after_entry v.plan (flat v) e) j) (v.runs j))
     → KeepsBook (record v { entries = v.entries ++ e ∷ [] })
-book_apart v e k lawful allowed online next pending runs = book_next refl refl k (assumption (
+book_apart {v} e k lawful allowed online next pending runs = book_next refl refl k (assumption (
   lawful,
   allowed,
   online,

@@ -92,9 +92,9 @@ module _ (ns : List Node) (t : IsTree ns) (ast : ActiveSegs) where
   chain_active u h = active_of u (none_turned idle (u ∷ above ns u) h).0
 
   -- what is above the first link that isn't active is active
-  pub superior_active : (u v : ℕ) (n : Node) → first_inactive ast (chain_of ns u) ≡ Some v → node_in ns v ≡ Some n
+  pub superior_active : (u : ℕ) {v : ℕ} {n : Node} → first_inactive ast (chain_of ns u) ≡ Some v → node_in ns v ≡ Some n
       → IfSome n.superior (λ w. is_active ast w ≡ true)
-  superior_active u v n h at = by n.superior (superior_found ns v n at)
+  superior_active u {v} {n} h at = by n.superior (superior_found ns v n at)
     where
       by : (o : Option ℕ) → superior_in ns v ≡ o → IfSome o (λ w. is_active ast w ≡ true)
       by None e = tt
@@ -108,8 +108,8 @@ module _ (ns : List Node) (t : IsTree ns) (ast : ActiveSegs) where
   link_there [] dirs u v there (inr m) = absurd m
   link_there (x ∷ xs) dirs u v there (inr m) = link_there xs dirs.1 x v (directory_there ns x dirs.0) m
 
-  found_turned : (xs : List ℕ) (v : ℕ) → find idle (reverse xs) ≡ Some v → IsMember v xs
-  found_turned xs v h = turn xs (found_member idle (reverse xs) v h)
+  found_turned : (xs : List ℕ) {v : ℕ} → find idle (reverse xs) ≡ Some v → IsMember v xs
+  found_turned xs {v} h = turn xs (found_member idle (reverse xs) v h)
     where
       turn : (ys : List ℕ) → IsMember v (reverse ys) → IsMember v ys
       turn [] m = m
@@ -120,4 +120,4 @@ module _ (ns : List Node) (t : IsTree ns) (ast : ActiveSegs) where
 
   pub first_there : (u v : ℕ) → is_some (node_in ns u) ≡ true → first_inactive ast (chain_of ns u) ≡ Some v
       → is_some (node_in ns v) ≡ true
-  first_there u v there h = link_there (above ns u) (chains.directories u) u v there (found_turned (u ∷ above ns u) v h)
+  first_there u v there h = link_there (above ns u) (chains.directories u) u v there (found_turned (u ∷ above ns u) h)

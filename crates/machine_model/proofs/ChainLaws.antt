@@ -77,7 +77,7 @@ takes_keep v c aim w (f ∷ fs) k can = takes_keep now c aim w fs book (record {
     now = taken v c aim w f u p
 
     book : KeepsBook now
-    book = take_keeps v c aim w f u p k (assumption (
+    book = take_keeps c aim w f u p k (assumption (
       can.here f (has_head f fs),
       can.named f (has_head f fs),
       can.aimed (frames_of_owner v.owner ++ f ∷ []) (cut_of_owner v.owner),
@@ -94,10 +94,10 @@ names_uid what.All u = true
 names_uid (what.Page g) u = false
 names_uid (what.Seg v) u = is_uid v (Some u)
 
-pub names_linked : (v : Seen) (w : What) (k n u : ℕ) → v.linked k n ≡ Some u
+pub names_linked : (v : Seen) (w : What) (k n : ℕ) {u : ℕ} → v.linked k n ≡ Some u
     → names_descriptor (shown v) w k n ≡ names_uid w u
-names_linked v (what.Seg x) k n u h = rw (h)
-names_linked v _ k n u h = refl
+names_linked v (what.Seg x) k n h = rw (h)
+names_linked v _ k n h = refl
 
 -- some descriptors are connected, and named
 abbrev pub AreLinked : (ℕ → ℕ → Option ℕ) → What → List CutDescriptor → Type 0
@@ -176,9 +176,9 @@ left_first_cut o d ds cut quiet steady = left_by ds cut (cc ((cut_goes o).cut))
     (cut_goes o).frames ((cut_goes o).says ∙ quiet) (shaped_steady (without_first_cut o) ((cut_goes o).steady steady))
 
 -- a frame that is going has a page whose word says so
-pub going_word : (v : Seen) (f : ℕ) → KeepsBook v → is_going_frame ((shown v).frame f) ≡ true
+pub going_word : {v : Seen} (f : ℕ) → KeepsBook v → is_going_frame ((shown v).frame f) ≡ true
     → v.words (page_at v f).0 (page_at v f).1 ≡ ptw.Leaving f
-going_word v f k going = by (v.bound f) refl going
+going_word {v} f k going = by (v.bound f) refl going
   where
     word : (page : ℕ × ℕ) (w : Ptw) → names w ≡ Some f → is_going_frame (bound_use page w) ≡ true → w ≡ ptw.Leaving f
     word page (ptw.Leaving g) n h = cc
@@ -197,13 +197,13 @@ pub record HasGone (v : Seen) (fs : List ℕ) (ds : List CutDescriptor) : Type 0
   pub book : KeepsBook v
   pub on : GoesOn v fs ds
 
-module _ (v : Seen) (f : ℕ) (fs : List ℕ) (ds : List CutDescriptor) (k : KeepsBook v) (on : GoesOn v (f ∷ fs) ds) where
+module _ {v : Seen} (f : ℕ) (fs : List ℕ) {ds : List CutDescriptor} (k : KeepsBook v) (on : GoesOn v (f ∷ fs) ds) where
   first_going : is_going_frame ((shown v).frame f) ≡ true
   first_going = cc (k.going_owned.frames f, has_head f fs)
 
   pub first_finish : CanFinish v f (page_at v f).0 (page_at v f).1 (without_first_frame v.owner)
   first_finish = assumption (
-    going_word v f k first_going,
+    going_word f k first_going,
     (frame_goes v.owner).pending ∙ on.still,
     left_first v.owner f fs on.frames on.quiet on.steady,
   )
@@ -219,23 +219,23 @@ back_on v f fs ds on = assumption (
   (frame_goes v.owner).steady on.steady,
 )
 
-pub gones_keep : (v : Seen) (fs : List ℕ) (ds : List CutDescriptor) → KeepsBook v → GoesOn v fs ds
+pub gones_keep : (v : Seen) (fs : List ℕ) {ds : List CutDescriptor} → KeepsBook v → GoesOn v fs ds
     → HasGone (gones v fs) [] ds
-gones_keep v [] ds k on = assumption
-gones_keep v (f ∷ fs) ds k on = gones_keep (gone v f (page_at v f).0 (page_at v f).1 ptw.Null
-    (without_first_frame v.owner)) fs ds (gone_keeps v f (page_at v f).0 (page_at v f).1 (without_first_frame v.owner) k
-    (first_finish v f fs ds k on) ptw.Null refl) (goes_with refl on.none (back_on v f fs ds on))
+gones_keep v [] k on = assumption
+gones_keep v (f ∷ fs) {ds} k on = gones_keep (gone v f (page_at v f).0 (page_at v f).1 ptw.Null
+    (without_first_frame v.owner)) fs (gone_keeps v f (page_at v f).0 (page_at v f).1 (without_first_frame v.owner) k
+    (first_finish f fs k on) ptw.Null refl) (goes_with refl on.none (back_on v f fs ds on))
 
-pub first_finish_seg : (v : Seen) (fs : List ℕ) (d : CutDescriptor) (ds : List CutDescriptor) → GoesOn v fs (d ∷ ds)
+pub first_finish_seg : {v : Seen} {fs : List ℕ} (d : CutDescriptor) (ds : List CutDescriptor) → GoesOn v fs (d ∷ ds)
     → CanFinishSeg v d (without_first_cut v.owner)
-first_finish_seg v fs d ds on = assumption (
+first_finish_seg {v} d ds on = assumption (
   (cut_goes v.owner).pending ∙ on.still,
   left_first_cut v.owner d ds on.cut on.quiet on.steady,
 )
 
-pub uncut_on : (v now : Seen) (fs : List ℕ) (d : CutDescriptor) (ds : List CutDescriptor) → GoesOn v fs (d ∷ ds)
-    → NoneDue (shown now) → now.owner ≡ without_first_cut v.owner → GoesOn now fs ds
-uncut_on v now fs d ds on none same = record {
+pub uncut_on : {v : Seen} (now : Seen) {fs : List ℕ} (d : CutDescriptor) (ds : List CutDescriptor)
+    → GoesOn v fs (d ∷ ds) → NoneDue (shown now) → now.owner ≡ without_first_cut v.owner → GoesOn now fs ds
+uncut_on {v} now d ds on none same = record {
   frames = cc ((cut_goes v.owner).frames);
   cut = cc ((cut_goes v.owner).cut);
   none = none;
@@ -254,8 +254,8 @@ segs_keep : (step : Seen → CutDescriptor → Option Owner → Seen)
 segs_keep step owner none keeps v fs [] k on = assumption
 segs_keep step owner none keeps v fs (d ∷ ds) k on =
     let now = step v d (without_first_cut v.owner) in
-    segs_keep step owner none keeps now fs ds (keeps v d (without_first_cut v.owner) k (first_finish_seg v fs d ds on))
-    (uncut_on v now fs d ds on (none v d (without_first_cut v.owner) on.none) (owner v d (without_first_cut v.owner)))
+    segs_keep step owner none keeps now fs ds (keeps v d (without_first_cut v.owner) k (first_finish_seg d ds on))
+    (uncut_on now d ds on (none v d (without_first_cut v.owner) on.none) (owner v d (without_first_cut v.owner)))
 
 pub gone_segs_keep : (v : Seen) (fs : List ℕ) (ds : List CutDescriptor) → KeepsBook v → GoesOn v fs ds
     → HasGone (gone_segs v ds) fs []
@@ -272,5 +272,5 @@ pub record IsDone (v : Seen) : Type 0 where
 pub gone_done : (v : Seen) → HasGone v [] [] → IsDone v
 gone_done v gone = assumption
 
-pub idle_done : (v : Seen) → KeepsBook v → IsIdle v.owner → is_pending v.owner ≡ false → IsDone v
-idle_done v k idle still = assumption (none_due (shown v) v.owner k.going_owned idle.waits, still)
+pub idle_done : {v : Seen} → KeepsBook v → IsIdle v.owner → is_pending v.owner ≡ false → IsDone v
+idle_done {v} k idle still = assumption (none_due (shown v) v.owner k.going_owned idle.waits, still)

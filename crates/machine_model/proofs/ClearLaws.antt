@@ -5,12 +5,12 @@ use Rattle.machine_model.proofs.DueLaws.{HasSaid, none_due, owned_signal, owned_
 -- ---- what custody sees of what is dropped
 
 -- the page in a frame that is bound
-pub page_in_use : (v : Seen) (f : ℕ) (page : ℕ × ℕ) → v.bound f ≡ Some page → bound_page ((shown v).frame f) ≡ Some page
-page_in_use v f page h = cc (bound_used page (v.words page.0 page.1))
+pub page_in_use : (v : Seen) (f : ℕ) {page : ℕ × ℕ} → v.bound f ≡ Some page → bound_page ((shown v).frame f) ≡ Some page
+page_in_use v f {page} h = cc (bound_used page (v.words page.0 page.1))
 
 page_named : (v : Seen) (w : What) (e : HeldPage) → v.bound e.frame ≡ Some (e.uid, e.page)
     → names_frame (shown v) w e.frame ≡ names_page w e
-page_named v (what.Seg u) e h = rw (page_in_use v e.frame (e.uid, e.page) h)
+page_named v (what.Seg u) e h = rw (page_in_use v e.frame h)
 page_named v _ e h = refl
 
 seg_named : (v : Seen) (w : What) (k : ℕ) (e : HeldSeg) → leads_to ((shown v).descriptor k e.number) ≡ Some e.uid
@@ -40,9 +40,9 @@ segs_of_process : (v : Seen) (w : What) (o : Option ℕ) (es : List HeldSeg) →
 segs_of_process v w None es held = rw held refl
 segs_of_process v w (Some k) es held = segs_dropped v w k es held
 
-dropped_seat : (v : Seen) (w : What) (p : Processor) → HoldsRight v.bound (shown v).descriptor p
+dropped_seat : (v : Seen) (w : What) {p : Processor} → HoldsRight v.bound (shown v).descriptor p
     → seat_of (dropped p w) ≡ cleared (shown v) w (seat_of p)
-dropped_seat v w p right = λ i. record (seat_of p) {
+dropped_seat v w {p} right = λ i. record (seat_of p) {
   segs = segs_of_process v w p.cpu.process p.cpu.assoc.segs right.segs i;
   pages = pages_dropped v w p.cpu.assoc.pages right.pages i;
 }
@@ -54,7 +54,7 @@ told_seat v c w d right = by (eqb d c) (v.processors d).cpu.online
     by : (b online : Bool) → seat_of (cond b (dropped (v.processors d) w)
         (cond online (warned (v.processors d) w) (v.processors d))) ≡ cond b (cleared (shown v) w ((shown v).seat d))
         (cond online (record ((shown v).seat d) { due = Some w }) ((shown v).seat d))
-    by true online = dropped_seat v w (v.processors d) right
+    by true online = dropped_seat v w right
     by false true = refl
     by false false = refl
 
@@ -63,9 +63,9 @@ segs_right : (descriptor : ℕ → ℕ → DescriptorUse) (w : What) (o : Option
 segs_right descriptor w None es held = rw held refl
 segs_right descriptor w (Some k) es held = segs_kept descriptor k (λ e. not (names_seg w e)) es held
 
-dropped_right : (bound : ℕ → Option (ℕ × ℕ)) (descriptor : ℕ → ℕ → DescriptorUse) (w : What) (p : Processor)
+dropped_right : {bound : ℕ → Option (ℕ × ℕ)} {descriptor : ℕ → ℕ → DescriptorUse} (w : What) {p : Processor}
     → HoldsRight bound descriptor p → HoldsRight bound descriptor (dropped p w)
-dropped_right bound descriptor w p right = record {
+dropped_right {bound} {descriptor} w {p} right = record {
   pages = pages_kept bound (λ e. not (names_page w e)) p.cpu.assoc.pages right.pages;
   segs = segs_right descriptor w p.cpu.process p.cpu.assoc.segs right.segs;
   few_pages = omega (arith, (few_kept (λ e. not (names_page w e)) p.cpu.assoc.pages));
@@ -79,7 +79,7 @@ told_right bound descriptor c w d p right = by (eqb d c) p.cpu.online refl
   where
     by : (b online : Bool) → p.cpu.online ≡ online
         → HoldsRight bound descriptor (cond b (dropped p w) (cond online (warned p w) p))
-    by true online e = dropped_right bound descriptor w p right
+    by true online e = dropped_right w right
     by false true e = right_like p (warned p w) right refl refl (λ v h. e)
     by false false e = right
 
@@ -94,9 +94,9 @@ told_transfer c w d p = by (eqb d c) p.cpu.online
 -- ---- the entries
 
 -- an owner that is to say something waits for nothing yet
-pub says_waits : (o : Option Owner) (w : What) → says o ≡ Some w → waits_for o ≡ None
-says_waits None w h = refl
-says_waits (Some o) w h = by o.phase h
+pub says_waits : (o : Option Owner) {w : What} → says o ≡ Some w → waits_for o ≡ None
+says_waits None h = refl
+says_waits (Some o) {w} h = by o.phase h
   where
     by : (x : Phase) → says (Some (record o { phase = x })) ≡ Some w → waits_for (Some (record o { phase = x })) ≡ None
     by (phase.Waiting aim w) h = cc
@@ -110,10 +110,10 @@ pub record CanSignal (v : Seen) (c : ℕ) (w : What) (owner : Option Owner) : Ty
   pub said : HasSaid v.owner owner w
   pub still : is_pending owner ≡ false
 
-pub signal_keeps : (v : Seen) (c : ℕ) (w : What) (owner : Option Owner) → KeepsBook v → CanSignal v c w owner
+pub signal_keeps : {v : Seen} (c : ℕ) (w : What) (owner : Option Owner) → KeepsBook v → CanSignal v c w owner
     → KeepsBook (signalled v c w owner)
 unfolding IsLawful after_entry custody_next
-signal_keeps v c w owner k can = book_next refl refl k (record {
+signal_keeps {v} c w owner k can = book_next refl refl k (record {
   lawful = tt;
   allowed = record { online = can.online; none_due = none; something = goes.0; all = goes.1 };
   online = tt;
@@ -125,12 +125,12 @@ signal_keeps v c w owner k can = book_next refl refl k (record {
     seat = λ d. told_seat v c w d (k.holding_right d) i;
   };
   pending = can.still;
-  going_owned = owned_signal (shown v) v.owner owner c w k.going_owned none goes.0 can.said;
+  going_owned = owned_signal c k.going_owned none goes.0 can.said;
   tied = k.tied;
   holding_right = λ d. subst (λ (x : ℕ → ℕ → DescriptorUse). HoldsRight v.bound x (told_at c w d (v.processors d)))
       (λ i. λ j n. descriptor_use (v.linked j n) (cut_uid (sym can.said.cut i) j n))
       (told_right v.bound (shown v).descriptor c w d (v.processors d) (k.holding_right d));
-  under_way = under_way_alike v.reads v.processors (λ d. told_at c w d (v.processors d))
+  under_way = under_way_alike (λ d. told_at c w d (v.processors d))
       (λ d. told_transfer c w d (v.processors d)) k.under_way;
   runs = k.runs;
 })
@@ -139,12 +139,12 @@ signal_keeps v c w owner k can = book_next refl refl k (record {
     goes = k.going_owned.says w can.says
 
     none : NoneDue (shown v)
-    none = none_due (shown v) v.owner k.going_owned (says_waits v.owner w can.says)
+    none = none_due (shown v) v.owner k.going_owned (says_waits v.owner can.says)
 
-pub clear_keeps : (v : Seen) (c : ℕ) (w : What) → KeepsBook v → (v.processors c).cpu.due ≡ Some w
+pub clear_keeps : {v : Seen} (c : ℕ) {w : What} → KeepsBook v → (v.processors c).cpu.due ≡ Some w
     → KeepsBook (cleared_at v c w)
 unfolding IsLawful after_entry custody_next
-clear_keeps v c w k due = book_next refl refl k (record {
+clear_keeps {v} c {w} k due = book_next refl refl k (record {
   lawful = tt;
   allowed = due;
   online = tt;
@@ -153,11 +153,11 @@ clear_keeps v c w k due = book_next refl refl k (record {
         ∙ ap (λ (x : Seat). at_put (shown v).seat c x d) seat_is) i;
   };
   pending = refl;
-  going_owned = owned_clear (shown v) v.owner c w k.going_owned;
+  going_owned = owned_clear c w k.going_owned;
   tied = k.tied;
   holding_right = λ d. by_place (λ (x : Processor). HoldsRight v.bound (shown v).descriptor x) v.processors c
       (done_dropping (v.processors c) w) d (λ i. right) (λ n. k.holding_right d);
-  under_way = under_way_alike v.reads v.processors (at_put v.processors c (done_dropping (v.processors c) w))
+  under_way = under_way_alike (at_put v.processors c (done_dropping (v.processors c) w))
       (λ d. by_place (λ (x : Processor). x.cpu.transfer ≡ (v.processors d).cpu.transfer) v.processors c
       (done_dropping (v.processors c) w) d (λ i. cc) (λ n. refl)) k.under_way;
   runs = k.runs;
@@ -165,8 +165,8 @@ clear_keeps v c w k due = book_next refl refl k (record {
   where
     seat_is : seat_of (done_dropping (v.processors c) w)
         ≡ record (cleared (shown v) w ((shown v).seat c)) { due = None }
-    seat_is = ap (λ (x : Seat). record x { due = None }) (dropped_seat v w (v.processors c) (k.holding_right c))
+    seat_is = ap (λ (x : Seat). record x { due = None }) (dropped_seat v w (k.holding_right c))
 
     right : HoldsRight v.bound (shown v).descriptor (done_dropping (v.processors c) w)
     right = right_like (dropped (v.processors c) w) (done_dropping (v.processors c) w)
-        (dropped_right v.bound (shown v).descriptor w (v.processors c) (k.holding_right c)) refl refl (λ v h. cc)
+        (dropped_right w (k.holding_right c)) refl refl (λ v h. cc)

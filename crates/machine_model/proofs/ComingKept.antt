@@ -147,4 +147,4 @@ all_come s c a o plan come may = elim (tale s c a o) [
     answered_come : WasTold s c (after s c a o) → MayAnswer s c → AllCome (after s c a o)
     answered_come was by = let k = by.process in let same = was.here by.can.within ∙ ap or_zero by.can.process in
         come_same (told_by s c k None was.reply) (after s c a o) was.plan (cc)
-        (told_come s c k None was.reply by.command plan come by.can.there by.can.planned by.can.on)
+        (told_come s c k None was.reply plan come by.can.there by.can.planned by.can.on)

@@ -49,10 +49,10 @@ pub comes_at_first : (volumes : ℕ) (cs : List Command) → list_all (is_comman
     → ends_once cs ≡ true → Comes cs (record { place = 0; tries = 0; ended = false })
 comes_at_first volumes cs are once = comes_to volumes cs 0 are (some_there cs once)
 
-pub comes_after : (volumes : ℕ) (cs : List Command) (run : Run) (c : Command) (r : Reply)
+pub comes_after : (volumes : ℕ) {cs : List Command} {run : Run} {c : Command} (r : Reply)
     → list_all (is_command volumes) cs ≡ true → ends_once cs ≡ true → GoesOn cs run c
     → (run_after run (Some c) r).ended ≡ false → Comes cs (run_after run (Some c) r)
-comes_after volumes cs run c r are once on =
+comes_after volumes {cs} {run} {c} r are once on =
     by (goes_on run (Some c) r) (is_its_end (Some c)) (tries_less (progress_of_run run) c r) (λ e. e)
   where
     then : Bool → Bool → Run
@@ -87,8 +87,8 @@ process_commands : (volumes : ℕ) (x : ProcessPlan) → is_process volumes x �
 unfolding is_process
 process_commands volumes x h = and_parts _ _ (and_parts _ _ h).1
 
-pub scripts_are : (p : Plan) → IsPlan p → AreScripts p
-scripts_are p h = record {
+pub scripts_are : {p : Plan} → IsPlan p → AreScripts p
+scripts_are {p} h = record {
   ranges = λ (k : ℕ) (lt : k < length p.processes). (of k lt).0;
   ends = λ (k : ℕ) (lt : k < length p.processes). (of k lt).1;
 }
@@ -99,13 +99,13 @@ scripts_are p h = record {
         (process_there (length p.volumes) p.processes k h.each lt)
 
 -- at first
-pub booted_come : (p : Plan) (words : List (List ℕ)) (disks : List (List (List ℕ))) → IsPlan p
+pub booted_come : {p : Plan} (words : List (List ℕ)) (disks : List (List (List ℕ))) → IsPlan p
     → AllCome (booted p words disks)
 unfolding AllCome
-booted_come p words disks h k lt more = at_first
+booted_come {p} words disks h k lt more = at_first
   where
     scripts : AreScripts p
-    scripts = scripts_are p h
+    scripts = scripts_are h
 
     within : k < length p.processes
     within = omega (arith, length-replicate (length p.processes) first_run)
@@ -118,11 +118,11 @@ booted_come p words disks h k lt more = at_first
         (scripts.ends k within))
 
 -- after an answer
-pub told_come : (s : State) (c k : ℕ) (f : Option ℕ) (r : Reply) (command : Command) → IsPlan s.plan → AllCome s
+pub told_come : (s : State) (c k : ℕ) (f : Option ℕ) (r : Reply) {command : Command} → IsPlan s.plan → AllCome s
     → k < length s.runs → k < length s.plan.processes → GoesOn (commands_of s.plan k) (run_at s.runs k) command
     → AllCome (told_by s c k f r)
 unfolding AllCome
-told_come s c k f r command h come there planned on j lt more =
+told_come s c k f r {command} h come there planned on j lt more =
     elim (eqb_tells j k) [ inl e ↦ at_it e.1 more | inr e ↦ elsewhere e.1 more ]
   where
     after : List Run
@@ -132,8 +132,8 @@ told_come s c k f r command h come there planned on j lt more =
     at_it same going =
         subst (λ (i : ℕ). (run_at after i).ended ≡ false → Comes (commands_of s.plan i) (run_at after i)) (sym same)
         (rw (get_or-set_same s.runs k (run_after (run_at s.runs k) (next_command s k) r) no_run there)
-        (rw on.next (comes_after (length s.plan.volumes) (commands_of s.plan k) (run_at s.runs k) command r
-        ((scripts_are s.plan h).ranges k planned) ((scripts_are s.plan h).ends k planned) on))) going
+        (rw on.next (comes_after (length s.plan.volumes) r
+        ((scripts_are h).ranges k planned) ((scripts_are h).ends k planned) on))) going
 
     elsewhere : j ≢ k → (run_at after j).ended ≡ false → Comes (commands_of s.plan j) (run_at after j)
     elsewhere other going =

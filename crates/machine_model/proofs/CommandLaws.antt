@@ -15,9 +15,9 @@ reads_rule s d r k none reading =
     rw (online, due, (ap (λ (o : Option Transfer). is_some o) reading)) refl
 
 -- a frame that a page is read into is of no page
-not_of : (s : Outline) (d : ℕ) (r : Transfer) → IsKept s → (runner_at s.runners d).reading ≡ Some r → (uid page : ℕ)
+not_of : {s : Outline} (d : ℕ) {r : Transfer} → IsKept s → (runner_at s.runners d).reading ≡ Some r → (uid page : ℕ)
     → is_of uid page (frame_in s.frames r.frame) ≡ false
-not_of s d r k reading uid page = cc ((k.tied.read d r reading).0)
+not_of d {r} k reading uid page = cc ((k.tied.read d r reading).0)
 
 -- the measure falls where a transfer ends, and the owner goes on with its look
 ended_falls : {s t : Outline} (c d : ℕ) (x : Runner) → IsKept s → IsKept t → IsIn s c Look → t.owner ≡ s.owner
@@ -37,8 +37,8 @@ ended_falls {s} {t} c d x k l look owner idle r reading runners over all fits =
     let looks = owner ∙ look in
     let rank_s = ranked s c Look look in
     let rank_t = ranked t c Look looks in
-    let less = falls_reading (parts_of s (runner_at s.runners c) Look) (parts_of t (runner_at t.runners c) Look)
-    (small_of t c Look l looks) (omega arith) in (
+    let less = falls_reading (parts_of s (runner_at s.runners c) Look)
+    (small_of c Look l looks) (omega arith) in (
       omega arith,
       record {
         stage = Look;
@@ -50,11 +50,11 @@ ended_falls {s} {t} c d x k l look owner idle r reading runners over all fits =
       },
     )
 
-bound_falls : (s : Outline) (c d : ℕ) (r : Transfer) (used modified : Bool) → IsKept s
+bound_falls : {s : Outline} (c d : ℕ) {r : Transfer} (used modified : Bool) → IsKept s
     → IsKept (not_reading (with_bound s r used modified) d) → IsIn s c Look → (runner_at s.runners c).reading ≡ None
     → (runner_at s.runners d).reading ≡ Some r → (job_rank (not_reading (with_bound s r used modified) d) < job_rank s)
     × IsUnderWay s (not_reading (with_bound s r used modified) d) c
-bound_falls s c d r used modified k l look idle reading =
+bound_falls {s} c d {r} used modified k l look idle reading =
     let within = inside s.runners d (k.tied.runners_online d (k.tied.readers_run d r reading)) in
     let t : Outline = not_reading (with_bound s r used modified) d in
     ended_falls c d (record (runner_at s.runners d) { reading = None })
@@ -62,22 +62,22 @@ bound_falls s c d r used modified k l look idle reading =
     (all_set s (not_reading (with_bound s r used modified) d) d (record (runner_at s.runners d) { reading = None })
     within refl refl refl refl refl) (λ w q h. wanted_more s (not_reading (with_bound s r used modified) d) w q q
     (λ uid page makes there. here_more s.frames r.frame uid page (frame.Bound r.uid r.page used modified)
-    (k.tied.read d r reading).1 (not_of s d r k reading uid page) there) (λ uid page there. inr there)
+    (k.tied.read d r reading).1 (not_of d k reading uid page) there) (λ uid page there. inr there)
     (λ uid page out. out) h)
 
-lost_falls : (s : Outline) (c d : ℕ) (r : Transfer) (x : Runner) (left : ℕ) → IsKept s
+lost_falls : {s : Outline} (c d : ℕ) {r : Transfer} {x : Runner} (left : ℕ) → IsKept s
     → IsKept (record (with_runner (with_frame s r.frame frame.Free) d x) { left = left }) → IsIn s c Look
     → (runner_at s.runners c).reading ≡ None → (runner_at s.runners d).reading ≡ Some r
     → HasLost (runner_at s.runners d) x → left < s.left
-    → (job_rank (record (with_runner (with_frame s r.frame frame.Free) d x) { left = left }) < job_rank s)
-    × IsUnderWay s (record (with_runner (with_frame s r.frame frame.Free) d x) { left = left }) c
-lost_falls s c d r x left k l look idle reading lost fewer =
-    let all = all_fewer s (record (with_runner (with_frame s r.frame frame.Free) d x) { left = left }) l.sizes fewer in
+    → (job_rank (record (with_runner (with_frame s r.frame frame.Free) d x) { left = left }) < job_rank s) × IsUnderWay
+    s (record (with_runner (with_frame s r.frame frame.Free) d x) { left = left }) c
+lost_falls {s} c d {r} {x} left k l look idle reading lost fewer =
+    let all = all_fewer s l.sizes fewer in
     ended_falls c d x k l look refl
     idle r reading refl lost.reading (omega arith)
     (λ w q h. wanted_more s (record (with_runner (with_frame s r.frame frame.Free) d x) { left = left }) w q q
     (λ uid page makes there. here_same s.frames r.frame uid page frame.Free (k.tied.read d r reading).1
-    (not_of s d r k reading uid page) refl ∙ there) (λ uid page there. inr there) (λ uid page out. out) h)
+    (not_of d k reading uid page) refl ∙ there) (λ uid page there. inr there) (λ uid page out. out) h)
 
 -- the processor whose transfer is awaited does nothing else
 reads_only : {s : Outline} {c f d : ℕ} {r : Rule} → IsKept s → AwaitsTransfer s c f → IsReader s f d → rule_of s d ≡ r
@@ -85,34 +85,34 @@ reads_only : {s : Outline} {c f d : ℕ} {r : Rule} → IsKept s → AwaitsTrans
 reads_only {s = s} {c = c} {d = d} k awaits reader h =
     sym (reads_rule s d _ k (k.job.fits c Look awaits.look) reader.reading) ∙ h
 
-pub read_step : (s : Outline) (c f d : ℕ) (turn : Turn) (t : Outline) → IsKept s → IsKept t → AwaitsTransfer s c f
+pub read_step : {s : Outline} {c f d : ℕ} {turn : Turn} {t : Outline} → IsKept s → IsKept t → AwaitsTransfer s c f
     → IsReader s f d → Step s d turn t → (job_rank t < job_rank s) × IsUnderWay s t c
-read_step s c f d turn t k l awaits reader (ends ended) =
+read_step {s} {c} k l awaits reader (ends ended) =
     cc ((k.job.at_work c Look awaits.look).running, ended.running c)
-read_step s c f d turn t k l awaits reader (comes h) = let no = reads_only k awaits reader h in absurd cc
-read_step s c f d turn t k l awaits reader (clears x h cleared) = let no = reads_only k awaits reader h in absurd cc
-read_step s c f d turn t k l awaits reader (reads r used modified h is) =
-    bound_falls s c d r used modified k l awaits.look (k.job.at_work c Look awaits.look).idle is
-read_step s c f d turn t k l awaits reader (loses r x left h is lost fewer) =
-    lost_falls s c d r x left k l awaits.look (k.job.at_work c Look awaits.look).idle is lost fewer
-read_step s c f d turn t k l awaits reader (works _ h step) = let no = reads_only k awaits reader h in absurd cc
-read_step s c f d turn t k l awaits reader (awaits_clear w e h waiting online due) =
+read_step k l awaits reader (comes h) = let no = reads_only k awaits reader h in absurd cc
+read_step k l awaits reader (clears x h cleared) = let no = reads_only k awaits reader h in absurd cc
+read_step {s} {c} {f} {d} k l awaits reader (reads r used modified h is) =
+    bound_falls c d used modified k l awaits.look (k.job.at_work c Look awaits.look).idle is
+read_step {s} {c} {f} {d} k l awaits reader (loses r x left h is lost fewer) =
+    lost_falls c d left k l awaits.look (k.job.at_work c Look awaits.look).idle is lost fewer
+read_step k l awaits reader (works _ h step) = let no = reads_only k awaits reader h in absurd cc
+read_step k l awaits reader (awaits_clear w e h waiting online due) =
     let no = reads_only k awaits reader h in absurd cc
-read_step s c f d turn t k l awaits reader (awaits_transfer g uid page h look started) =
+read_step k l awaits reader (awaits_transfer g uid page h look started) =
     let no = reads_only k awaits reader h in absurd cc
-read_step s c f d turn t k l awaits reader (loads x h some loaded) = let no = reads_only k awaits reader h in absurd cc
-read_step s c f d turn t k l awaits reader (idles busy h none) = let no = reads_only k awaits reader h in absurd cc
-read_step s c f d turn t k l awaits reader (leaves x h left) = let no = reads_only k awaits reader h in absurd cc
-read_step s c f d turn t k l awaits reader (fills x h filled) = let no = reads_only k awaits reader h in absurd cc
-read_step s c f d turn t k l awaits reader (replies _ h replied) = let no = reads_only k awaits reader h in absurd cc
-read_step s c f d turn t k l awaits reader (faults chain uid page makes h none want lacks) =
+read_step k l awaits reader (loads x h some loaded) = let no = reads_only k awaits reader h in absurd cc
+read_step k l awaits reader (idles busy h none) = let no = reads_only k awaits reader h in absurd cc
+read_step k l awaits reader (leaves x h left) = let no = reads_only k awaits reader h in absurd cc
+read_step k l awaits reader (fills x h filled) = let no = reads_only k awaits reader h in absurd cc
+read_step k l awaits reader (replies _ h replied) = let no = reads_only k awaits reader h in absurd cc
+read_step k l awaits reader (faults chain uid page makes h none want lacks) =
     let no = reads_only k awaits reader h in absurd cc
-read_step s c f d turn t k l awaits reader (enters h none want) = let no = reads_only k awaits reader h in absurd cc
-read_step s c f d turn t k l awaits reader (waits o h some) = let no = reads_only k awaits reader h in absurd cc
+read_step k l awaits reader (enters h none want) = let no = reads_only k awaits reader h in absurd cc
+read_step k l awaits reader (waits o h some) = let no = reads_only k awaits reader h in absurd cc
 
 -- nothing is due while nobody owns the supervisor, so no processor clears
-not_clears : (s : Outline) (c : ℕ) → IsKept s → s.owner ≡ None → rule_of s c ≡ Clears → ⊥
-not_clears s c k none h =
+not_clears : {s : Outline} (c : ℕ) → IsKept s → s.owner ≡ None → rule_of s c ≡ Clears → ⊥
+not_clears {s} c k none h =
     let told = tells s c Clears h in
     not_both told.1 (none_due s.runners c (inside s.runners c told.0) (k.job.quiet none))
 
@@ -152,9 +152,9 @@ read_fits s t r used modified w lt started frames stored h =
     (λ uid page read. inl (cc (here_now s.frames r.frame uid page (frame.Bound r.uid r.page used modified) lt
     (cc) read))) (λ uid page out. cc) h
 
-read_nearer : (s : Outline) (c : ℕ) (r : Transfer) (used modified : Bool) → IsKept s → s.owner ≡ None
+read_nearer : {s : Outline} (c : ℕ) {r : Transfer} (used modified : Bool) → IsKept s → s.owner ≡ None
     → (runner_at s.runners c).reading ≡ Some r → IsNearer s (not_reading (with_bound s r used modified) c) c
-read_nearer s c r used modified k none reading =
+read_nearer {s} c {r} used modified k none reading =
     let online = k.tied.runners_online c (k.tied.readers_run c r reading) in
     let tie = k.tied.read c r reading in
     let x : Runner = runner_at s.runners c in
@@ -167,9 +167,9 @@ read_nearer s c r used modified k none reading =
     nearer_by s (not_reading (with_bound s r used modified) c) c (record (runner_at s.runners c) { reading = None })
     (inside s.runners c online) none refl refl refl refl refl refl refl refl (omega arith)
 
-fill_nearer : (s : Outline) (c : ℕ) (x : Runner) → c < length s.runners → s.owner ≡ None
+fill_nearer : (s : Outline) (c : ℕ) {x : Runner} → c < length s.runners → s.owner ≡ None
     → IsFilled (runner_at s.runners c) x → IsNearer s (with_runner s c x) c
-fill_nearer s c x within none filled =
+fill_nearer s c {x} within none filled =
     let lacks : lack (with_runner s c x) x ≡ lack s (runner_at s.runners c) =
     rw (filled.want, filled.linked, filled.reading) refl in
     let bit : cond {A = ℕ} (is_some x.reading) 1 0 ≡ cond (is_some (runner_at s.runners c).reading) 1 0 =
@@ -191,28 +191,28 @@ left_past s c x l within none turn left =
     record {
       owner = none;
       gone = gone_from (runner_at (set s.runners c x) c) (runner_at s.runners c).since (λ h. cc);
-      all = all_turn s (record (with_runner s c x) { ready = s.ready + 1 }) l.sizes refl (omega arith);
+      all = all_turn s l.sizes refl (omega arith);
     }
 
-lost_past : (s : Outline) (c : ℕ) (r : Transfer) (x : Runner) (left : ℕ) → IsKept s
+lost_past : {s : Outline} (c : ℕ) {r : Transfer} {x : Runner} (left : ℕ) → IsKept s
     → IsKept (record (with_runner (with_frame s r.frame frame.Free) c x) { left = left }) → s.owner ≡ None
     → (runner_at s.runners c).reading ≡ Some r → HasLost (runner_at s.runners c) x → left < s.left
     → IsPast s (record (with_runner (with_frame s r.frame frame.Free) c x) { left = left }) c
-lost_past s c r x left k l none reading lost fewer =
+lost_past {s} c {r} {x} left k l none reading lost fewer =
     let online = k.tied.runners_online c (k.tied.readers_run c r reading) in
     let same : runner_at (set s.runners c x) c ≡ x =
     get_or-set_same s.runners c x no_runner (inside s.runners c online) in
     record {
       owner = none;
       gone = gone_from (runner_at (set s.runners c x) c) (runner_at s.runners c).since (λ h. cc);
-      all = all_fewer s (record (with_runner (with_frame s r.frame frame.Free) c x) { left = left }) l.sizes fewer;
+      all = all_fewer s l.sizes fewer;
     }
 
-replied_past : (s t : Outline) (c : ℕ) → IsKept t → s.owner ≡ None → IsReplied s c t → IsPast s t c
-replied_past s t c l none replied = record {
+replied_past : {s t : Outline} {c : ℕ} → IsKept t → s.owner ≡ None → IsReplied s c t → IsPast s t c
+replied_past {s} {t} {c} l none replied = record {
   owner = cc;
   gone = gone_from (runner_at t.runners c) (runner_at s.runners c).since (λ h. replied.since);
-  all = all_fewer s t l.sizes replied.fewer;
+  all = all_fewer s l.sizes replied.fewer;
 }
 
 is_no_reference : (w : Want) → ((chain : List ℕ) (uid page : ℕ) (makes : Bool) → w ≢ Refer chain uid page makes)
@@ -226,40 +226,40 @@ turn_over s c h = (and_parts (is_over (runner_at s.runners c)) (nat_lt 0 s.ready
 
 -- ---- a step
 
-pub command_step : (s : Outline) (c : ℕ) (turn : Turn) (t : Outline) → IsKept s → IsKept t → s.owner ≡ None
+pub command_step : {s : Outline} {c : ℕ} {turn : Turn} {t : Outline} → IsKept s → IsKept t → s.owner ≡ None
     → (runner_at s.runners c).running ≡ true → Step s c turn t → CommandStep turn s t c
-command_step s c turn t k l none running (ends ended) = not_both running (ended.running c)
-command_step s c turn t k l none running (comes h) = cc (k.tied.runners_online c running, tells s c Comes h)
-command_step s c turn t k l none running (clears x h cleared) = absurd (not_clears s c k none h)
-command_step s c turn t k l none running (reads r used modified h is) =
-    inr (inr (read_nearer s c r used modified k none is))
-command_step s c turn t k l none running (loses r x left h is lost fewer) =
-    inr (inl (lost_past s c r x left k l none is lost fewer))
-command_step s c turn t k l none running (works _ h step) = absurd (not_works s c none h)
-command_step s c turn t k l none running (awaits_clear w e h waiting online due) = not_works s c none h
-command_step s c turn t k l none running (awaits_transfer g uid page h look started) = not_works s c none h
-command_step s c turn t k l none running (loads x h some loaded) = absurd (not_loads s c running h)
-command_step s c turn t k l none running (idles busy h zero_ready) = not_loads s c running h
-command_step s c turn t k l none running (leaves x h left) =
+command_step {s} {c} k l none running (ends ended) = not_both running (ended.running c)
+command_step {s} {c} k l none running (comes h) = cc (k.tied.runners_online c running, tells s c Comes h)
+command_step {s} {c} k l none running (clears x h cleared) = absurd (not_clears c k none h)
+command_step {s} {c} k l none running (reads r used modified h is) =
+    inr (inr (read_nearer c used modified k none is))
+command_step {s} {c} k l none running (loses r x left h is lost fewer) =
+    inr (inl (lost_past c left k l none is lost fewer))
+command_step {s} {c} k l none running (works _ h step) = absurd (not_works s c none h)
+command_step {s} {c} k l none running (awaits_clear w e h waiting online due) = not_works s c none h
+command_step {s} {c} k l none running (awaits_transfer g uid page h look started) = not_works s c none h
+command_step {s} {c} k l none running (loads x h some loaded) = absurd (not_loads s c running h)
+command_step {s} {c} k l none running (idles busy h zero_ready) = not_loads s c running h
+command_step {s} {c} k l none running (leaves x h left) =
     inr (inl (left_past s c x l (inside s.runners c (k.tied.runners_online c running)) none (turn_over s c h) left))
-command_step s c turn t k l none running (fills x h filled) =
-    inr (inr (fill_nearer s c x (inside s.runners c (k.tied.runners_online c running)) none filled))
-command_step s c turn t k l none running (replies _ h replied) = inr (inl (replied_past s t c l none replied))
-command_step s c turn t k l none running (faults chain uid page makes h free want lacks) =
+command_step {s} {c} k l none running (fills x h filled) =
+    inr (inr (fill_nearer s c (inside s.runners c (k.tied.runners_online c running)) none filled))
+command_step {s} {c} {turn} {t} k l none running (replies _ h replied) = inr (inl (replied_past l none replied))
+command_step k l none running (faults chain uid page makes h free want lacks) =
     inl (record { now = refl; why = inl lacks })
-command_step s c turn t k l none running (enters h free want) =
+command_step {s} {c} k l none running (enters h free want) =
     inl (record { now = refl; why = inr (is_no_reference (want_at s c) want) })
-command_step s c turn t k l none running (waits o h some) = let no : None ≡ Some o = sym none ∙ some in absurd cc
+command_step k l none running (waits o h some) = let no : None ≡ Some o = sym none ∙ some in absurd cc
 
 -- ---- no processor has a process
 
-loaded_round : (s : Outline) (c : ℕ) (x : Runner) → IsKept (record (with_runner s c x) { ready = s.ready - 1 })
+loaded_round : (s : Outline) (c : ℕ) {x : Runner} → IsKept (record (with_runner s c x) { ready = s.ready - 1 })
     → c < length s.runners → 0 < s.ready → (runner_at s.runners c).running ≡ false → HasLoaded x
     → all_rank (record (with_runner s c x) { ready = s.ready - 1 }) < all_rank s
-loaded_round s c x l within some idle loaded =
+loaded_round s c {x} l within some idle loaded =
     let count = over_set s.runners c x within in
     let now : cond {A = ℕ} (is_over x) 1 0 ≡ 0 = rw (loaded.running, loaded.since, loaded.tried) refl in
-    all_loaded s (record (with_runner s c x) { ready = s.ready - 1 }) l.sizes refl (omega arith) (omega arith)
+    all_loaded s l.sizes refl (omega arith) (omega arith)
 
 online_round : (s : Outline) (c : ℕ) → c < length s.runners → (runner_at s.runners c).online ≡ false
     → all_rank (with_runner s c (record (runner_at s.runners c) { online = true })) < all_rank s
@@ -271,25 +271,25 @@ online_round s c within off =
     all_online s (with_runner s c (record (runner_at s.runners c) { online = true })) refl (omega arith) refl
     (omega arith)
 
-pub idle_step : (s : Outline) (c : ℕ) (turn : Turn) (t : Outline) → IsKept s → IsKept t → c < length s.runners
+pub idle_step : {s : Outline} {c : ℕ} {turn : Turn} {t : Outline} → IsKept s → IsKept t → c < length s.runners
     → s.owner ≡ None → ((d : ℕ) → (runner_at s.runners d).running ≡ false) → (IsEnded s → ⊥) → Step s c turn t
     → (t.owner ≡ None) × (all_rank t < all_rank s)
-idle_step s c turn t k l within none idle more (ends ended) = absurd (more ended)
-idle_step s c turn t k l within none idle more (comes h) = (none, online_round s c within (tells s c Comes h))
-idle_step s c turn t k l within none idle more (clears x h cleared) = absurd (not_clears s c k none h)
-idle_step s c turn t k l within none idle more (reads r used modified h is) = cc (k.tied.readers_run c r is, idle c)
-idle_step s c turn t k l within none idle more (loses r x left h is lost fewer) = cc (k.tied.readers_run c r is, idle c)
-idle_step s c turn t k l within none idle more (works _ h step) = absurd (not_works s c none h)
-idle_step s c turn t k l within none idle more (awaits_clear w e h waiting online due) = absurd (not_works s c none h)
-idle_step s c turn t k l within none idle more (awaits_transfer g uid page h look started) =
+idle_step k l within none idle more (ends ended) = absurd (more ended)
+idle_step {s} {c} k l within none idle more (comes h) = (none, online_round s c within (tells s c Comes h))
+idle_step {s} {c} k l within none idle more (clears x h cleared) = absurd (not_clears c k none h)
+idle_step {s} {c} k l within none idle more (reads r used modified h is) = cc (k.tied.readers_run c r is, idle c)
+idle_step {s} {c} k l within none idle more (loses r x left h is lost fewer) = cc (k.tied.readers_run c r is, idle c)
+idle_step {s} {c} k l within none idle more (works _ h step) = absurd (not_works s c none h)
+idle_step {s} {c} k l within none idle more (awaits_clear w e h waiting online due) = absurd (not_works s c none h)
+idle_step {s} {c} k l within none idle more (awaits_transfer g uid page h look started) =
     absurd (not_works s c none h)
-idle_step s c turn t k l within none idle more (loads x h some loaded) =
-    (none, loaded_round s c x l within some (idle c) loaded)
-idle_step s c turn t k l within none idle more (idles busy h zero_ready) = absurd (more (assumption))
-idle_step s c turn t k l within none idle more (leaves x h left) = cc ((tells s c Leaves h).3, idle c)
-idle_step s c turn t k l within none idle more (fills x h filled) = cc ((tells s c Commands h).3, idle c)
-idle_step s c turn t k l within none idle more (replies _ h replied) = cc ((tells s c Commands h).3, idle c)
-idle_step s c turn t k l within none idle more (faults chain uid page makes h free want lacks) =
+idle_step {s} {c} k l within none idle more (loads x h some loaded) =
+    (none, loaded_round s c l within some (idle c) loaded)
+idle_step k l within none idle more (idles busy h zero_ready) = absurd (more (assumption))
+idle_step {s} {c} k l within none idle more (leaves x h left) = cc ((tells s c Leaves h).3, idle c)
+idle_step {s} {c} k l within none idle more (fills x h filled) = cc ((tells s c Commands h).3, idle c)
+idle_step {s} {c} k l within none idle more (replies _ h replied) = cc ((tells s c Commands h).3, idle c)
+idle_step {s} {c} k l within none idle more (faults chain uid page makes h free want lacks) =
     cc ((tells s c Commands h).3, idle c)
-idle_step s c turn t k l within none idle more (enters h free want) = cc ((tells s c Commands h).3, idle c)
-idle_step s c turn t k l within none idle more (waits o h some) = cc ((tells s c Commands h).3, idle c)
+idle_step {s} {c} k l within none idle more (enters h free want) = cc ((tells s c Commands h).3, idle c)
+idle_step {s} {c} k l within none idle more (waits o h some) = cc ((tells s c Commands h).3, idle c)

@@ -90,7 +90,7 @@ module _ (s : State) (c : ℕ) (o : Outcome) (keeps : Keeps s) (cmd : Command) (
       (store_after s.plan ((s.entries ++ gone) ++ answer ∷ []))
   told_like = cond_both (takes_effect (reply_of s k cmd)) (effect_of s.plan (flat_of s) k cmd) (flat_of s)
       (λ t. IsAlike t (store_after s.plan ((s.entries ++ gone) ++ answer ∷ [])))
-      (λ e. (rw (← still) (done_alike s.plan (s.entries ++ gone) k (run_at s.runs k).place c None (reply_of s k cmd) cmd
+      (λ e. (rw (← still) (done_alike s.plan (s.entries ++ gone) k (run_at s.runs k).place c None (reply_of s k cmd)
       sp.next e)))
       (λ e. rw (← still) (refused_alike s.plan (s.entries ++ gone) k (run_at s.runs k).place c None (reply_of s k cmd)
       e))
@@ -122,7 +122,7 @@ module _ (s : State) (c : ℕ) (o : Outcome) (keeps : Keeps s) (cmd : Command) (
 
   -- It may be answered, where what it takes away is out of use.
   commit_tell : IsOut s c cmd → CanTell b c k None (reply_of s k cmd)
-  commit_tell out = can_tell b c k cmd None (reply_of s k cmd) speaks_still (inl (record {
+  commit_tell out = can_tell None (reply_of s k cmd) speaks_still (inl (record {
     own = cc (is_reply, still);
     free = tree_free s.plan (flat_of b) k cmd tree;
   })) (rw tree (record { without = refl; out = λ e. rw still out }))
@@ -134,23 +134,23 @@ module _ (s : State) (c : ℕ) (o : Outcome) (keeps : Keeps s) (cmd : Command) (
 -- ---- what the command rests on
 
 -- a path that leads to a segment that isn't active
-length_out : (s : State) (c : ℕ) (path : List (List ℕ)) (pages : ℕ) → Keeps s
+length_out : {s : State} (c : ℕ) (path : List (List ℕ)) (pages : ℕ) → Keeps s
     → refusal_of s (process_at s c) (command.Length path pages) ≡ None
     → is_active s.store.ast (uid_of_command s.store (process_at s c) (command.Length path pages)) ≡ false
     → IsOut s c (command.Length path pages)
-length_out s c path pages keeps stands off = let leads = length_stands s (process_at s c) keeps path pages stands in
+length_out {s} c path pages keeps stands off = let leads = length_stands s (process_at s c) keeps path pages stands in
     rw leads.found (ap (is_active s.store.ast) (sym leads.uid) ∙ off)
 
-pub look_rests : (s : State) (c : ℕ) → Keeps s → frames_of_owner s.owner ≡ [] → (cmd : Command)
+pub look_rests : {s : State} (c : ℕ) → Keeps s → frames_of_owner s.owner ≡ [] → (cmd : Command)
     → FindsTaken s (process_at s c) cmd [] [] → RestsCommit s c (Some cmd) → Rests s c cmd
-look_rests s c keeps none (command.Acl path row m) h rests = rests
-look_rests s c keeps none (command.Terminate n) h rests = rests
-look_rests s c keeps none command.End h rests = rests
-look_rests s c keeps none (command.Truncate path words) h rests = rests
-look_rests s c keeps none (command.Delete path) h rests = rests
-look_rests s c keeps none (command.Length path pages) h rests =
-    assumption (length_out s c path pages keeps h.stands (h.inactive path pages refl))
-look_rests s c keeps none _ h rests = assumption
+look_rests c keeps none (command.Acl path row m) h rests = rests
+look_rests c keeps none (command.Terminate n) h rests = rests
+look_rests c keeps none command.End h rests = rests
+look_rests c keeps none (command.Truncate path words) h rests = rests
+look_rests c keeps none (command.Delete path) h rests = rests
+look_rests {s} c keeps none (command.Length path pages) h rests =
+    assumption (length_out c path pages keeps h.stands (h.inactive path pages refl))
+look_rests c keeps none _ h rests = assumption
 
 pub taken_rests : (s : State) (c : ℕ) (cmd : Command) → TakesSome (Some cmd) → RestsCommit s c (Some cmd)
     → Rests s c cmd

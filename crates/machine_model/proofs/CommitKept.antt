@@ -4,31 +4,30 @@ use Rattle.machine_model.proofs.TransferKept.{kept_with}
 
 -- ---- a process leaves its processor
 
-queue_same : (t : Store) (run : Run) (ready : List ℕ) (k : ℕ) (o : Option ℕ) → o ≡ Some k → IsRun (progress_of t k) run
+queue_same : (t : Store) {run : Run} (ready : List ℕ) {k : ℕ} {o : Option ℕ} → o ≡ Some k → IsRun (progress_of t k) run
     → queued_by t ready o ≡ queued run ready k
-queue_same t run ready k o h is = cc
+queue_same t ready h is = cc
 
 -- the ready list by the runs is that by the flat store
-pub ready_left : (s : State) (c k : ℕ) → KeepsBook (seen s) → (processor_at s.processors c).cpu.process ≡ Some k
-    → queued (run_at s.runs (process_at s c)) s.ready (process_at s c)
-    ≡ queued_by (flat_of s) s.ready (processor_at s.processors c).cpu.process
-ready_left s c k book process = cc (queue_same (flat_of s) (run_at s.runs k) s.ready k
-    (processor_at s.processors c).cpu.process process (book.runs k))
+pub ready_left : (s : State) (c : ℕ) {k : ℕ} → KeepsBook (seen s) → (processor_at s.processors c).cpu.process ≡ Some k
+    → queued (run_at s.runs (process_at s c)) s.ready (process_at s c) ≡ queued_by (flat_of s) s.ready
+    (processor_at s.processors c).cpu.process
+ready_left s c {k} book process = cc (queue_same (flat_of s) s.ready process (book.runs k))
 
 -- what custody sees of a process that leaves its processor
-pub left_seen : (s : State) (c k : ℕ) → KeepsBook (seen s) → c < length s.processors
+pub left_seen : (s : State) (c : ℕ) {k : ℕ} → KeepsBook (seen s) → c < length s.processors
     → (processor_at s.processors c).cpu.process ≡ Some k → seen (left_at s c) ≡ left (seen s) c
-left_seen s c k book there process = cc (
+left_seen s c {k} book there process = cc (
   reseated_seen s c (emptied (processor_at s.processors c))
       (queued (run_at s.runs (process_at s c)) s.ready (process_at s c)) (entry.Leave c) there,
-  ready_left s c k book process,
+  ready_left s c book process,
 )
 
-pub left_keeps_book : (s : State) (c k : ℕ) → KeepsBook (seen s) → c < length s.processors
-    → (processor_at s.processors c).cpu.process ≡ Some k
-    → MayLeave (flat_of s) (shown (seen s)) c → KeepsBook (seen (left_at s c))
-left_keeps_book s c k book there process may =
-    subst KeepsBook (sym (left_seen s c k book there process)) (leave_keeps (seen s) c book may)
+pub left_keeps_book : (s : State) (c : ℕ) {k : ℕ} → KeepsBook (seen s) → c < length s.processors
+    → (processor_at s.processors c).cpu.process ≡ Some k → MayLeave (flat_of s) (shown (seen s)) c
+    → KeepsBook (seen (left_at s c))
+left_keeps_book s c {k} book there process may =
+    subst KeepsBook (sym (left_seen s c book there process)) (leave_keeps c book may)
 
 -- ---- descriptors that were cut are gone
 
@@ -150,7 +149,7 @@ module _ (s : State) (c k : ℕ) (keeps : Keeps s) (none : frames_of_owner s.own
   pub end_kept : CanTell ending c k None (reply_of s k command.End) → StoreSays (committed s c k command.End)
       → Keeps (committed s c k command.End)
   end_kept tell says = subst Keeps (sym same) (kept_with (left_at ended c)
-      (left_keeps_book ended c k book there process_still may) (subst StoreSays same says)
+      (left_keeps_book ended c book there process_still may) (subst StoreSays same says)
       (let one = faults_push (effected s k command.End).entries
       (entry.Do k (run_at s.runs k).place c None (reply_of s k command.End)) in
       let two = cut_faults s.entries (cut_of_owner s.owner) in

@@ -25,4 +25,4 @@ committing s c all there is x next = rw (← (some_same knows.command x (sym kno
     knows = subst (Knows s c) is (step_knows s c (no_call s) all.machine there all.working)
 
     ready : IsReadyFor s.store (process_at s c) knows.command × OwnsFor s.store (frames_of_owner s.owner) knows.command
-    ready = ready_by s (process_at s c) all.machine.keeps knows.command knows.taken knows.out
+    ready = ready_by (process_at s c) all.machine.keeps knows.command knows.taken knows.out

@@ -43,13 +43,14 @@ module _ (s : State) (k : ℕ) (cmd : Command) (keeps : Keeps s) (h : IsTakenFor
       let at = going_led ((shown (seen s)).descriptor j n) going in (at.0, at.1, going)
 
   -- a descriptor that is connected wasn't cut
-  pub linked_on : (j n v : ℕ) → (seen s).linked j n ≡ Some v → (leads_to ((shown (seen s)).descriptor j n) ≡ Some v)
-      × (is_going_descriptor ((shown (seen s)).descriptor j n) ≡ false)
-  linked_on j n v e = (cc, cc)
+  pub linked_on : (j n : ℕ) {v : ℕ} → (seen s).linked j n ≡ Some v
+      → (leads_to ((shown (seen s)).descriptor j n) ≡ Some v) ×
+      (is_going_descriptor ((shown (seen s)).descriptor j n) ≡ false)
+  linked_on j n e = (cc, cc)
 
-pub path_uid : (s : State) (path : List (List ℕ)) (n : Node) → Keeps s → node_at (flat_of s).nodes path ≡ Ok n
+pub path_uid : {s : State} (path : List (List ℕ)) (n : Node) → Keeps s → node_at (flat_of s).nodes path ≡ Ok n
     → uid_at_path s.store path ≡ n.uid
-path_uid s path n keeps h = cc keeps.faithful.tree.nodes
+path_uid path n keeps h = cc keeps.faithful.tree.nodes
 
 -- ---- descriptors alone
 
@@ -74,32 +75,32 @@ module _ (s : State) (c : ℕ) (keeps : Keeps s) where
           (shown (seen (with_owner (effected s k (command.Acl path row m)) None))) n.uid) x
       by (Err r) e = tt
       by (Ok n) e = λ j i led. (let was = led_now ((seen s).linked j i) n.uid led in
-          let at = linked_on s k (command.Acl path row m) keeps h j i n.uid was in
+          let at = linked_on s k (command.Acl path row m) keeps h j i was in
           not_both (h.just.descriptors j i n.uid at.0
-          (sym (path_uid s path n keeps (only_found (node_at (flat_of s).nodes path) n e).0))) at.1)
+          (sym (path_uid path n keeps (only_found (node_at (flat_of s).nodes path) n e).0))) at.1)
 
   pub terminate_rests : (number : ℕ) → IsTakenFor s k (command.Terminate number) → Rests s c (command.Terminate number)
   terminate_rests number h = record {
     settled = no_frames (command.Terminate number) h (λ f u q e on. h.just.its_pages f u q e on);
     out = free_now ((seen s).linked k number)
-        (λ v e. (let at = linked_on s k (command.Terminate number) keeps h k number v e in
+        (λ v e. (let at = linked_on s k (command.Terminate number) keeps h k number e in
         not_both (h.just.descriptors k number v at.0 (refl, refl)) at.1));
   }
 
   pub end_rests : IsTakenFor s k command.End → Rests s c command.End
   end_rests h = record {
     settled = no_frames command.End h (λ f u q e on. h.just.its_pages f u q e on);
-    out = λ n. free_now ((seen s).linked k n) (λ v e. (let at = linked_on s k command.End keeps h k n v e in
+    out = λ n. free_now ((seen s).linked k n) (λ v e. (let at = linked_on s k command.End keeps h k n e in
         not_both (h.just.descriptors k n v at.0 refl) at.1));
   }
 
 -- ---- a node is deleted
 
 -- what is left of frames once some are freed
-freed_was : (b : ℕ → Option (ℕ × ℕ)) (fs : List ℕ) (g : ℕ) (page : ℕ × ℕ) → freed b fs g ≡ Some page
+freed_was : (b : ℕ → Option (ℕ × ℕ)) (fs : List ℕ) (g : ℕ) {page : ℕ × ℕ} → freed b fs g ≡ Some page
     → (b g ≡ Some page) × (has fs g ≡ false)
-freed_was b [] g page h = (h, refl)
-freed_was b (f ∷ fs) g page h = let rest = freed_was (at_put b f None) fs g page h in
+freed_was b [] g h = (h, refl)
+freed_was b (f ∷ fs) g {page} h = let rest = freed_was (at_put b f None) fs g h in
     by_place (λ (x : Option (ℕ × ℕ)). x ≡ Some page → (b g ≡ Some page) × (has (f ∷ fs) g ≡ false)) b f None g
     (λ e i. cc) (λ n i. (i, other n rest.1)) rest.0
   where
@@ -107,11 +108,11 @@ freed_was b (f ∷ fs) g page h = let rest = freed_was (at_put b f None) fs g pa
     other n e = elim (eqb_tells f g) [ inl i ↦ absurd (n (sym i.1)) | inr i ↦ ap (λ (b : Bool). b || has fs g) i.0 ∙ e ]
 
 -- the page of a frame
-page_cases : (words : ℕ → ℕ → Ptw) (x y : Option (ℕ × ℕ)) (u : ℕ) → uid_of_page (page_of (frame_use words x y)) ≡ Some u
+page_cases : (words : ℕ → ℕ → Ptw) (x y : Option (ℕ × ℕ)) {u : ℕ} → uid_of_page (page_of (frame_use words x y)) ≡ Some u
     → ((q : ℕ) × (x ≡ Some (u, q))) ⊎ ((q : ℕ) × (x ≡ None) × (y ≡ Some (u, q)))
-page_cases words None None u h = cc
-page_cases words None (Some page) u h = inr (page.1, refl, (λ i. Some (some_same page.0 u h i, page.1)))
-page_cases words (Some page) y u h =
+page_cases words None None h = cc
+page_cases words None (Some page) {u} h = inr (page.1, refl, (λ i. Some (some_same page.0 u h i, page.1)))
+page_cases words (Some page) y {u} h =
     inl (page.1, (λ i. Some (some_same page.0 u (by (words page.0 page.1) h) i, page.1)))
   where
     by : (w : Ptw) → uid_of_page (page_of (bound_use page w)) ≡ Some u → Some page.0 ≡ Some u
@@ -172,7 +173,7 @@ module _ (s : State) (c : ℕ) (path : Path) (keeps : Keeps s) (h : IsTakenFor s
     ds = cut_of_owner s.owner
 
     within : (f : ℕ) → has fs f ≡ true → f < length s.store.pages.core.frames
-    within f e = bound_within s f (page_at (seen s) f) (taken_bound s keeps f e)
+    within f e = bound_within s f (page_at (seen s) f) (taken_bound keeps f e)
 
     -- a page of the node is in a frame that the job took
     bound_taken : (f q : ℕ) → (seen s).bound f ≡ Some (u, q) → has fs f ≡ true
@@ -187,19 +188,19 @@ module _ (s : State) (c : ℕ) (path : Path) (keeps : Keeps s) (h : IsTakenFor s
     -- so none is left once those frames are freed
     none_left : (words : ℕ → ℕ → Ptw) (f : ℕ)
         → uid_of_page (page_of (frame_use words (freed (seen s).bound fs f) ((seen s).reads f))) ≡ Some u → ⊥
-    none_left words f e = elim (page_cases words (freed (seen s).bound fs f) ((seen s).reads f) u e) [
-      | inl x ↦ (let was = freed_was (seen s).bound fs f (u, x.0) x.1 in not_both (bound_taken f x.0 was.0) was.1)
+    none_left words f e = elim (page_cases words (freed (seen s).bound fs f) ((seen s).reads f) e) [
+      | inl x ↦ (let was = freed_was (seen s).bound fs f x.1 in not_both (bound_taken f x.0 was.0) was.1)
       | inr x ↦ not_read f x.0 x.2
     ]
 
     its : (f : ℕ) → has fs f ≡ true → (page_at (seen s) f).0 ≡ u
     its f e = h.just.its_pages f (page_at (seen s) f).0 (page_at (seen s) f).1
-        (cc (taken_bound s keeps f e, page_bound (seen s).words (page_at (seen s) f) ((seen s).reads f)))
+        (cc (taken_bound keeps f e, page_bound (seen s).words (page_at (seen s) f) ((seen s).reads f)))
         (keeps.book.going_owned.frames f ∙ e)
 
     -- no descriptor leads to it
     not_linked : (i n : ℕ) → (seen s).linked i n ≡ Some u → ⊥
-    not_linked i n e = let at = linked_on s j (command.Delete path) keeps h i n u e in
+    not_linked i n e = let at = linked_on s j (command.Delete path) keeps h i n e in
         not_both (h.just.descriptors i n u at.0 refl) at.1
 
     -- ---- before its table goes
@@ -246,13 +247,13 @@ module _ (s : State) (c : ℕ) (path : Path) (keeps : Keeps s) (h : IsTakenFor s
         (λ x. x.pages ≡ freed_store.pages) (λ e. refl) (λ e. refl)
 
     no_page_now : HasNoPage (shown now) u
-    no_page_now f e = elim (page_cases now.words (freed (seen s).bound fs f) (freed (seen s).reads fs f) u
+    no_page_now f e = elim (page_cases now.words (freed (seen s).bound fs f) (freed (seen s).reads fs f)
         ((λ i. uid_of_page (page_of (frame_use now.words
         (sym (ap (λ (p : Plain). binding_at (bindings p.core) f) pages_now ∙ freed_bound s.store.pages fs within f) i)
         (sym (ap (λ (p : Plain). read_at (reads_of p.core) f) pages_now ∙ freed_reads s.store.pages fs within f) i))))
         ∙ e)) [
-          | inl x ↦ (let was = freed_was (seen s).bound fs f (u, x.0) x.1 in not_both (bound_taken f x.0 was.0) was.1)
-          | inr x ↦ not_read f x.0 ((freed_was (seen s).reads fs f (u, x.0) x.2).0)
+          | inl x ↦ (let was = freed_was (seen s).bound fs f x.1 in not_both (bound_taken f x.0 was.0) was.1)
+          | inr x ↦ not_read f x.0 ((freed_was (seen s).reads fs f x.2).0)
         ]
 
     no_link_now : HasNoDescriptor (shown now) u
@@ -268,15 +269,14 @@ module _ (s : State) (c : ℕ) (path : Path) (keeps : Keeps s) (h : IsTakenFor s
         by : (x : Result Node Reply) → branch_at (flat_of s).nodes path ≡ x
             → OfNode (λ n. IsOutOfUse (shown now) n.uid) x
         by (Err r) e = tt
-        by (Ok n) e = subst (IsOutOfUse (shown now)) (path_uid s path n keeps
-            (branch_found (flat_of s).nodes path n e).0)
+        by (Ok n) e = subst (IsOutOfUse (shown now)) (path_uid path n keeps (branch_found (flat_of s).nodes path n e).0)
             (record { pages = no_page_now; descriptors = no_link_now; inactive = inactive_now })
 
     -- ---- where it isn't active
 
     no_frames_left : is_active s.store.ast u ≡ false → fs ≡ []
     no_frames_left off = none_listed fs (λ f e. (let at = keeps.store.kept.paged.bound f u (page_at (seen s) f).1
-        (taken_bound s keeps f e ∙ ap (λ (x : ℕ). Some (x, (page_at (seen s) f).1)) (its f e)) in
+        (taken_bound keeps f e ∙ ap (λ (x : ℕ). Some (x, (page_at (seen s) f).1)) (its f e)) in
         not_both (active_at s.store.ast at.0 u at.1) off))
 
     no_cut_left : is_active s.store.ast u ≡ false → ds ≡ []

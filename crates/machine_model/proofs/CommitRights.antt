@@ -30,10 +30,10 @@ from_less ns v next = record {
   ];
 }
 
-module _ (old now : List Node) (whos : List Who) (known : List (List (Option ℕ))) (next : ℕ)
+module _ {old now : List Node} (whos : List Who) (known : List (List (Option ℕ))) {next : ℕ}
     (from : HaveFrom old now next) (older : (k number u : ℕ) → uid_of (kst_at known k) number ≡ Some u → u < next) where
-  one_from : (k : ℕ) (e : HeldSeg) → IsEntitled old whos known k e → IsEntitled now whos known k e
-  one_from k e h = record {
+  one_from : {k : ℕ} {e : HeldSeg} → IsEntitled old whos known k e → IsEntitled now whos known k e
+  one_from {k} {e} h = record {
     stands = h.stands;
     mode = λ n at. (let m = from.each e.uid n (older k e.number e.uid h.stands) at in cc (h.mode m.0 m.1));
     pages = λ n at. (let m = from.each e.uid n (older k e.number e.uid h.stands) at in h.pages m.0 m.1 ∙ sym m.3);
@@ -41,10 +41,10 @@ module _ (old now : List Node) (whos : List Who) (known : List (List (Option ℕ
 
   all_from : (k : ℕ) (es : List HeldSeg) → AreEntitled old whos known k es → AreEntitled now whos known k es
   all_from k [] h = tt
-  all_from k (e ∷ es) h = (one_from k e h.0, all_from k es h.1)
+  all_from k (e ∷ es) h = (one_from h.0, all_from k es h.1)
 
-  pub hold_from : (ps : List Processor) → HoldEntitled old whos known ps → HoldEntitled now whos known ps
-  hold_from ps h = record { each = λ d k at. all_from k (cpu_at ps d).assoc.segs (h.each d k at) }
+  pub hold_from : {ps : List Processor} → HoldEntitled old whos known ps → HoldEntitled now whos known ps
+  hold_from {ps} h = record { each = λ d k at. all_from k (cpu_at ps d).assoc.segs (h.each d k at) }
 
 -- a node that is there once each is changed, but for its uid, was there
 was_mapped : (change : Node → Node) → ((n : Node) → (change n).uid ≡ n.uid) → (ns : List Node) (u : ℕ) (n : Node)
@@ -100,8 +100,8 @@ pub record LeavesNames (old now : Storage) : Type 0 where
   pub whos : now.whos ≡ old.whos
   pub known : now.links.known ≡ old.links.known
 
-then_names : (a b c : Storage) → LeavesNames a b → LeavesNames b c → LeavesNames a c
-then_names a b c x y = assumption (y.nodes ∙ x.nodes, y.whos ∙ x.whos, y.known ∙ x.known)
+then_names : {a b c : Storage} → LeavesNames a b → LeavesNames b c → LeavesNames a c
+then_names x y = assumption (y.nodes ∙ x.nodes, y.whos ∙ x.whos, y.known ∙ x.known)
 
 page_names : (st : Storage) (u p : ℕ) (w : Ptw) → LeavesNames st (without_page st u p w)
 page_names st u p ptw.Null = assumption
@@ -109,7 +109,7 @@ page_names st u p _ = assumption
 
 pub truncated_names : (st : Storage) (u words : ℕ) → LeavesNames st (with_truncated st u words)
 truncated_names st u words = truncated_has (LeavesNames st) (record {
-  without = λ t u p w h. then_names st t (without_page t u p w) h (page_names t u p w);
+  without = λ t u p w h. then_names h (page_names t u p w);
   shortened = λ t f at h. assumption;
   here = λ t f u p h. assumption;
 }) st u words (assumption)
@@ -128,9 +128,9 @@ module _ (now : State) (k : Keeps now) (none : now.owner ≡ None) where
       → led_to now.store.ast.entries (descriptor_of now.store.links j n) ≡ Some u
   linked_now j n u h = led_now (led_to now.store.ast.entries (descriptor_of now.store.links j n)) u (rw none at h)
 
-  stands_now : (j n u : ℕ) → leads_to ((shown (seen now)).descriptor j n) ≡ Some u
+  stands_now : (j n : ℕ) {u : ℕ} → leads_to ((shown (seen now)).descriptor j n) ≡ Some u
       → uid_of (kst_at now.store.links.known j) n ≡ Some u
-  stands_now j n u h = by (descriptor_of now.store.links j n) refl
+  stands_now j n {u} h = by (descriptor_of now.store.links j n) refl
     where
       by : (y : Sdw) → descriptor_of now.store.links j n ≡ y → uid_of (kst_at now.store.links.known j) n ≡ Some u
       by sdw.Fault e = cc (linked_now j n u h)
@@ -141,14 +141,11 @@ module _ (now : State) (k : Keeps now) (none : now.owner ≡ None) where
       → AreHeldSegs (shown (seen now)).descriptor j es → AreEntitled now.store.accounts.nodes now.store.whos known j es
       → AreEntitled now.store.accounts.nodes now.store.whos now.store.links.known j es
   segs_again known j [] held h = tt
-  segs_again known j (e ∷ es) held h = (
-    assumption (stands_now j e.number e.uid held.0),
-    segs_again known j es held.1 h.1,
-  )
+  segs_again known j (e ∷ es) held h = (assumption (stands_now j e.number held.0), segs_again known j es held.1 h.1)
 
-  pub held_again : (known : List (List (Option ℕ)))
+  pub held_again : {known : List (List (Option ℕ))}
       → HoldEntitled now.store.accounts.nodes now.store.whos known now.processors → IsEntitledToAll now
-  held_again known h = record {
+  held_again {known} h = record {
     each = λ d j at. segs_again known j (cpu_at now.processors d).assoc.segs (rw at at (k.book.holding_right d).segs)
         (h.each d j at);
   }
@@ -174,7 +171,7 @@ module _ (s now : State) (old : Keeps s) (k : Keeps now) (none : now.owner ≡ N
             → IsEntitled now.store.accounts.nodes now.store.whos now.store.links.known j e
         by sdw.Fault i = cc
         by (sdw.Present place mode pages) i = record {
-          stands = stands_now now k none j e.number e.uid held;
+          stands = stands_now now k none j e.number held;
           mode = λ n at. (let m = older e.uid n at in h.mode m.0 m.1
               ∙ (sym (old.store.counted.rights.modes j e.number place pages e.uid mode m.0 was active_was m.1)
               ∙ k.store.counted.rights.modes j e.number place pages e.uid mode n i active at));
@@ -207,14 +204,13 @@ module _ (s now : State) (old : Keeps s) (k : Keeps now) (none : now.owner ≡ N
 
 module _ (s : State) (c : ℕ) (k : Keeps s) (there : c < length s.processors) (h : IsEntitledToAll s) where
   -- nodes that are as they were, with a processor that holds what it held
-  by_nodes : (now : List Node) (p : Processor) → HaveFrom s.store.accounts.nodes now s.store.accounts.next
+  by_nodes : {now : List Node} (p : Processor) → HaveFrom s.store.accounts.nodes now s.store.accounts.next
       → p.cpu ≡ cpu_at s.processors c → HoldEntitled now s.store.whos s.store.links.known (set s.processors c p)
-  by_nodes now p from same = set_entitled now s.store.whos s.store.links.known s.processors c p there all
+  by_nodes {now} p from same = set_entitled now s.store.whos s.store.links.known c p there all
       (λ j e. (rw same (all.each c j (cc))))
     where
       all : HoldEntitled now s.store.whos s.store.links.known s.processors
-      all = hold_from s.store.accounts.nodes now s.store.whos s.store.links.known s.store.accounts.next from
-          k.store.counted.known.older s.processors h
+      all = hold_from s.store.whos s.store.links.known from k.store.counted.known.older h
 
   abbrev j : ℕ
   j = process_at s c
@@ -226,37 +222,37 @@ module _ (s : State) (c : ℕ) (k : Keeps s) (there : c < length s.processors) (
   by_store : (now : Storage) (p : Processor) → HaveFrom s.store.accounts.nodes now.accounts.nodes s.store.accounts.next
       → now.whos ≡ s.store.whos → now.links.known ≡ s.store.links.known → p.cpu ≡ cpu_at s.processors c
       → HoldEntitled now.accounts.nodes now.whos now.links.known (set s.processors c p)
-  by_store now p from whos known same = rw (whos, known) (by_nodes now.accounts.nodes p from same)
+  by_store now p from whos known same = rw (whos, known) (by_nodes p from same)
 
   made : (directory : Bool) (pages volume : ℕ) (rows : List Row) (x : Option (List (List ℕ) × List ℕ)) (p : Processor)
       → p.cpu ≡ cpu_at s.processors c → HoldEntitled (with_made s.store directory pages volume rows x).accounts.nodes
       (with_made s.store directory pages volume rows x).whos
       (with_made s.store directory pages volume rows x).links.known (set s.processors c p)
-  made directory pages volume rows None p same = by_nodes s.store.accounts.nodes p same_nodes same
-  made directory pages volume rows (Some parts) p same = by_nodes _ p
+  made directory pages volume rows None p same = by_nodes p same_nodes same
+  made directory pages volume rows (Some parts) p same = by_nodes p
       (from_more s.store.accounts.nodes _ s.store.accounts.next refl) same
 
   -- What processors hold stays so once a segment has moved.
   pub moved_entitled : (m : Mover) → IsEntitledToAll (move_committed s c m)
-  moved_entitled m = hold_from s.store.accounts.nodes _ s.store.whos s.store.links.known s.store.accounts.next
-      (from_moved s.store.accounts.nodes m.uid m.to.0 s.store.accounts.next) k.store.counted.known.older s.processors h
+  moved_entitled m = hold_from s.store.whos s.store.links.known
+      (from_moved s.store.accounts.nodes m.uid m.to.0 s.store.accounts.next) k.store.counted.known.older h
 
   -- What processors hold stays so after a command.
   pub commit_entitled : (x : Option Command) → Keeps (committed_at s c x) → IsEntitledToAll (committed_at s c x)
   commit_entitled None kept = h
   commit_entitled (Some (command.Acl path row m)) kept = right_again s (committed s c j (command.Acl path row m)) k kept
       refl refl refl _ (λ n. cond_both _ _ n (λ x. x.uid ≡ n.uid) (λ h. refl) (λ h. refl)) refl
-      (by_nodes s.store.accounts.nodes _ same_nodes refl)
+      (by_nodes _ same_nodes refl)
   commit_entitled (Some (command.Length path pages)) kept = right_again s (committed s c j (command.Length path pages))
       k kept refl refl refl _ (λ n. cond_both _ _ n (λ x. x.uid ≡ n.uid) (λ h. refl) (λ h. refl)) refl
-      (by_nodes s.store.accounts.nodes _ same_nodes refl)
+      (by_nodes _ same_nodes refl)
   commit_entitled (Some (command.Move path amount)) kept = right_again s (committed s c j (command.Move path amount)) k
       kept refl refl refl _ (λ n. cc (quota_moves s.store.accounts.nodes (uid_of_command s.store j
-      (command.Move path amount)) amount n)) refl (by_nodes s.store.accounts.nodes _ same_nodes refl)
+      (command.Move path amount)) amount n)) refl (by_nodes _ same_nodes refl)
   commit_entitled (Some (command.Initiate path)) kept = held_again (committed s c j (command.Initiate path)) kept
-      refl s.store.links.known (by_nodes s.store.accounts.nodes _ same_nodes refl)
+      refl (by_nodes _ same_nodes refl)
   commit_entitled (Some (command.Terminate n)) kept = held_again (committed s c j (command.Terminate n)) kept
-      refl s.store.links.known (by_nodes s.store.accounts.nodes _ same_nodes refl)
+      refl (by_nodes _ same_nodes refl)
   commit_entitled (Some (command.MkDir path volume)) kept = made true 0 volume [] (parts_of path) _ refl
   commit_entitled (Some (command.MkSeg path pages volume)) kept = made false pages volume _ (parts_of path) _ refl
   commit_entitled (Some (command.Truncate path words)) kept =
@@ -267,7 +263,6 @@ module _ (s : State) (c : ℕ) (k : Keeps s) (there : c < length s.processors) (
       let names = deleted_names s.store u (frames_of_owner s.owner) in
       by_store (with_deleted s.store u (frames_of_owner s.owner)) _
       (from_less s.store.accounts.nodes u s.store.accounts.next) names.whos names.known refl
-  commit_entitled (Some command.End) kept = set_entitled s.store.accounts.nodes s.store.whos s.store.links.known
-      (told (effected s j command.End) c None (reply_of s j command.End)).processors c _
-      (rw (length-set s.processors c _) there) (by_nodes s.store.accounts.nodes _ same_nodes refl) (λ i e. cc)
-  commit_entitled _ kept = by_nodes s.store.accounts.nodes _ same_nodes refl
+  commit_entitled (Some command.End) kept = set_entitled s.store.accounts.nodes s.store.whos s.store.links.known c _
+      (rw (length-set s.processors c _) there) (by_nodes _ same_nodes refl) (λ i e. cc)
+  commit_entitled _ kept = by_nodes _ same_nodes refl

@@ -16,9 +16,9 @@ pub record IsRightNote (nodes : List Node) (whos : List Who) (d : CutDescriptor)
   pub mode : (n : Node) → node_in nodes d.uid ≡ Some n → d.mode ≡ access_of (who_at whos d.process) n.rows
   pub pages : (n : Node) → node_in nodes d.uid ≡ Some n → d.pages ≡ n.pages
 
-push_rights : (nodes : List Node) (whos : List Who) (ds : List CutDescriptor) (d : CutDescriptor)
+push_rights : {nodes : List Node} {whos : List Who} {ds : List CutDescriptor} (d : CutDescriptor)
     → HadRights nodes whos ds → IsRightNote nodes whos d → HadRights nodes whos (ds ++ d ∷ [])
-push_rights nodes whos ds d h right = record {
+push_rights {nodes} {whos} {ds} d h right = record {
   modes = λ i e n at there. elim (push_cases ds d i e at) [
     | inl old ↦ h.modes i e n old there
     | inr new ↦ (rw new at (right.mode n)) there
@@ -99,12 +99,12 @@ record Parts (s : State) (k n : ℕ) (x : Sdw) : Type 0 where
   cut : AreThere (record s.store { links = unlinked s.store.links k n (leads x) })
       (cut_of_owner s.owner ++ note_of s.store k n x ∷ [])
 
-module _ (s : State) (k n u : ℕ) (cuts : Cuts s) (linked : (seen s).linked k n ≡ Some u) where
+module _ {s : State} (k n : ℕ) {u : ℕ} (cuts : Cuts s) (linked : (seen s).linked k n ≡ Some u) where
   parts : (x : Sdw) → descriptor_of s.store.links k n ≡ x → Parts s k n x
-  parts sdw.Fault e = absurd (led_place s k n u linked e)
+  parts sdw.Fault e = absurd (led_place s k n linked e)
   parts (sdw.Present aste m pages) e = record {
     have = still_rights s.store k n aste pages m e s.store.accounts.nodes s.store.whos cuts.have;
-    had = push_rights s.store.accounts.nodes s.store.whos (cut_of_owner s.owner) note cuts.had (record {
+    had = push_rights note cuts.had (record {
       mode = λ x at. cuts.have.modes k n aste pages u m x e leads_there (its x at);
       pages = λ x at. cuts.have.lengths k n aste pages u m x e leads_there (its x at);
     });
@@ -136,7 +136,7 @@ module _ (s : State) (k n u : ℕ) (cuts : Cuts s) (linked : (seen s).linked k n
 pub all_cut : (s : State) (c : ℕ) (a : Aim) (w : What) (pairs : List (ℕ × ℕ)) → Cuts s
     → ArePairs (seen s).linked w pairs → Cuts (cut_all s c a w pairs)
 all_cut s c a w [] cuts are = cuts
-all_cut s c a w (x ∷ xs) cuts are = all_cut (cut_one s c a w x) c a w xs (one_cut s x.0 x.1 are.0.0 cuts are.0.1 c a w)
+all_cut s c a w (x ∷ xs) cuts are = all_cut (cut_one s c a w x) c a w xs (one_cut x.0 x.1 cuts are.0.1 c a w)
     (pairs_left s c a w x xs are)
 
 -- what a job that takes leaves as it is
@@ -161,9 +161,9 @@ page_taken s c a w (f ∷ fs) = taken_on (assumption (
 )) (page_taken (take_one s c a w f) c a w fs)
 
 -- pages leave the tree, the descriptors and the places as they are
-leaving_cuts : (s now : State) (f : ℕ) (x : Option (ℕ × ℕ)) → now.store ≡ leaving_if s.store f x
+leaving_cuts : {s : State} (now : State) (f : ℕ) (x : Option (ℕ × ℕ)) → now.store ≡ leaving_if s.store f x
     → cut_of_owner now.owner ≡ cut_of_owner s.owner → (seen now).linked ≡ (seen s).linked → Cuts s → Cuts now
-leaving_cuts s now f x store cut linked cuts = record {
+leaving_cuts {s} now f x store cut linked cuts = record {
   have = rw store (by_have x);
   had = rw store (rw cut (by_had x));
   cut = rw store (rw cut (by_cut x));
@@ -186,12 +186,12 @@ leaving_cuts s now f x store cut linked cuts = record {
 
 take_cuts : (s : State) (c : ℕ) (a : Aim) (w : What) (fs : List ℕ) → Cuts s → Cuts (take_all s c a w fs)
 take_cuts s c a w [] cuts = cuts
-take_cuts s c a w (f ∷ fs) cuts = take_cuts (take_one s c a w f) c a w fs (leaving_cuts s (take_one s c a w f) f
+take_cuts s c a w (f ∷ fs) cuts = take_cuts (take_one s c a w f) c a w fs (leaving_cuts (take_one s c a w f) f
     (bound_page (frame_in s.store.pages f)) refl refl (take_linked s c a w (f ∷ [])) cuts)
 
 -- ---- the store says so
 
-module _ (s : State) (c : ℕ) (a : Aim) (w : What) (fs : List ℕ) (pairs : List (ℕ × ℕ)) (k : Keeps s)
+module _ {s : State} (c : ℕ) (a : Aim) (w : What) (fs : List ℕ) (pairs : List (ℕ × ℕ)) (k : Keeps s)
     (are : ArePairs (seen s).linked w pairs) where
   abbrev after_take : State
   after_take = took s c a w fs pairs
@@ -204,10 +204,10 @@ module _ (s : State) (c : ℕ) (a : Aim) (w : What) (fs : List ℕ) (pairs : Lis
   took_is = taken_on (page_taken s c a w fs) (cut_taken (take_all s c a w fs) c a w pairs)
 
   pub took_says : StoreKept after_take.store → IsFaithful s.plan (flat_of s) after_take.store → StoreSays after_take
-  took_says kept shown = says_by s after_take (flat_of s) k kept shown
+  took_says kept shown = says_by after_take k kept shown
       (alike_by (alike (flat_of s)) took_is.flat) k.conserved.total (assumption
       (ap (λ (pages : Plain). length pages.core.frames) took_is.pages, took_is.plan, took_cuts.had, took_cuts.cut))
 
-  pub take_away_says : (o : Outcome) → a ≡ aim.Committing → Says s c o (act.TakeAway fs pairs w) → StoreSays after_take
+  pub take_away_says : {o : Outcome} → a ≡ aim.Committing → Says s c o (act.TakeAway fs pairs w) → StoreSays after_take
   unfolding after
-  take_away_says o same says = took_says (rw same says.store) (rw same (says.shown (flat_of s) k.faithful))
+  take_away_says same says = took_says (rw same says.store) (rw same (says.shown (flat_of s) k.faithful))

@@ -142,12 +142,12 @@ no_faults es (e ∷ more) h = let both = and_parts (not (is_fault e)) (list_all 
 )
 
 -- A command is told, and the supervisor given up, where the book keeps custody once what was taken is gone.
-pub told_commit : (s : State) (c k : ℕ) (cmd : Command) → Keeps s
+pub told_commit : {s : State} {c : ℕ} (k : ℕ) (cmd : Command) → Keeps s
     → KeepsBook (seen (with_owner (effected s k cmd) None))
     → CanTell (with_owner (effected s k cmd) None) c (process_at s c) None (reply_of s k cmd)
     → StoreSays (with_owner (told (effected s k cmd) c None (reply_of s k cmd)) None)
     → Keeps (with_owner (told (effected s k cmd) c None (reply_of s k cmd)) None)
-told_commit s c k cmd keeps book tell says =
+told_commit {s} {c} k cmd keeps book tell says =
     kept_with (with_owner (told (effected s k cmd) c None (reply_of s k cmd)) None) (told_keeps book tell) says
     (let one = faults_push (effected s k cmd).entries
     (entry.Do (process_at s c) (run_at s.runs (process_at s c)).place c None (reply_of s k cmd)) in
@@ -160,18 +160,18 @@ told_commit s c k cmd keeps book tell says =
 -- ---- the frames that a job took
 
 -- such a frame has a page, whose word names it
-pub taken_word : (s : State) → Keeps s → (f : ℕ) → has (frames_of_owner s.owner) f ≡ true
+pub taken_word : {s : State} → Keeps s → (f : ℕ) → has (frames_of_owner s.owner) f ≡ true
     → (seen s).words (page_at (seen s) f).0 (page_at (seen s) f).1 ≡ ptw.Leaving f
-taken_word s k f h = going_word (seen s) f k.book (k.book.going_owned.frames f ∙ h)
+taken_word {s} k f h = going_word f k.book (k.book.going_owned.frames f ∙ h)
 
-pub taken_bound : (s : State) → Keeps s → (f : ℕ) → has (frames_of_owner s.owner) f ≡ true
+pub taken_bound : {s : State} → Keeps s → (f : ℕ) → has (frames_of_owner s.owner) f ≡ true
     → (seen s).bound f ≡ Some (page_at (seen s) f)
-taken_bound s k f h = k.book.tied.back f (page_at (seen s) f).0 (page_at (seen s) f).1 (ap names (taken_word s k f h))
+taken_bound {s} k f h = k.book.tied.back f (page_at (seen s) f).0 (page_at (seen s) f).1 (ap names (taken_word k f h))
 
 -- a frame with a page isn't being read into
-pub bound_unread : (s : State) → Keeps s → (f : ℕ) (page : ℕ × ℕ) → (seen s).bound f ≡ Some page
+pub bound_unread : {s : State} → Keeps s → (f : ℕ) {page : ℕ × ℕ} → (seen s).bound f ≡ Some page
     → (seen s).reads f ≡ None
-bound_unread s k f page h = by ((seen s).reads f) refl
+bound_unread {s} k f h = by ((seen s).reads f) refl
   where
     by : (x : Option (ℕ × ℕ)) → (seen s).reads f ≡ x → x ≡ None
     by None e = refl
@@ -182,14 +182,14 @@ bound_unread s k f page h = by ((seen s).reads f) refl
 -- a job that took pages and descriptors, or nothing, is done once they are gone
 pub gones_done : (s : State) → KeepsBook (seen s) → GoesOn (seen s) (frames_of_owner s.owner) (cut_of_owner s.owner)
     → IsDone (gone_segs (gones (seen s) (frames_of_owner s.owner)) (cut_of_owner s.owner))
-gones_done s k on = let first = gones_keep (seen s) (frames_of_owner s.owner) (cut_of_owner s.owner) k on in
+gones_done s k on = let first = gones_keep (seen s) (frames_of_owner s.owner) k on in
     gone_done (gone_segs (gones (seen s) (frames_of_owner s.owner)) (cut_of_owner s.owner))
     (gone_segs_keep (gones (seen s) (frames_of_owner s.owner)) [] (cut_of_owner s.owner) first.book first.on)
 
 pub gones_idle : (s : State) → KeepsBook (seen s) → IsIdle s.owner → is_pending s.owner ≡ false
     → IsDone (gone_segs (gones (seen s) (frames_of_owner s.owner)) (cut_of_owner s.owner))
 gones_idle s k idle still = subst IsDone (λ i. gone_segs (gones (seen s) (sym idle.frames i)) (sym idle.cut i))
-    (idle_done (seen s) k idle still)
+    (idle_done k idle still)
 
 module _ (s : State) (c k : ℕ) (path : Path) where
   abbrev pub node : ℕ
@@ -235,7 +235,7 @@ module _ (s : State) (c k : ℕ) (path : Path) where
     )
 
     inactive : KeepsBook (no_more_active all_gone node words)
-    inactive = deactivate_keeps all_gone node words done.book (record {
+    inactive = deactivate_keeps node words done.book (record {
       may = whole.may;
       others = others;
       blank = blank_less s.store.ast node whole.active keeps.store.kept.tree.once keeps.store.kept.places;
@@ -246,10 +246,10 @@ module _ (s : State) (c k : ℕ) (path : Path) where
         done.still nobody refl
 
     within : (f : ℕ) → has fs f ≡ true → f < length s.store.pages.core.frames
-    within f h = bound_within s f (page_at (seen s) f) (taken_bound s keeps f h)
+    within f h = bound_within s f (page_at (seen s) f) (taken_bound keeps f h)
 
     unread : (f : ℕ) → has fs f ≡ true → (seen s).reads f ≡ None
-    unread f h = bound_unread s keeps f (page_at (seen s) f) (taken_bound s keeps f h)
+    unread f h = bound_unread keeps f (taken_bound keeps f h)
 
     unlinked : (j n : ℕ) → (seen s).linked j n ≢ Some node
     unlinked j n h = whole.may.descriptors j n (cc rest)
@@ -289,7 +289,7 @@ module _ (s : State) (c k : ℕ) (path : Path) where
     pub delete_kept : CanTell (with_owner (effected s k (command.Delete path)) None) c (process_at s c) None
         (reply_of s k (command.Delete path))
         → StoreSays (committed s c k (command.Delete path)) → Keeps (committed s c k (command.Delete path))
-    delete_kept tell says = told_commit s c k (command.Delete path) keeps (subst KeepsBook (sym deleted_seen) over) tell
+    delete_kept tell says = told_commit k (command.Delete path) keeps (subst KeepsBook (sym deleted_seen) over) tell
         says
 
   -- ---- a node that isn't active
@@ -304,7 +304,7 @@ module _ (s : State) (c k : ℕ) (path : Path) where
       → CanTell (with_owner (effected s k (command.Delete path)) None) c (process_at s c) None
       (reply_of s k (command.Delete path))
       → StoreSays (committed s c k (command.Delete path)) → Keeps (committed s c k (command.Delete path))
-  delete_inactive_kept keeps none done tell says = told_commit s c k (command.Delete path) keeps (subst KeepsBook
+  delete_inactive_kept keeps none done tell says = told_commit k (command.Delete path) keeps (subst KeepsBook
       (sym seen_is) (job_over (seen s) None keeps.book none.frames none.cut done.none done.still nobody refl)) tell says
     where
       entries_are : s.entries ++ gone_entries s node (command.Delete path) ≡ s.entries

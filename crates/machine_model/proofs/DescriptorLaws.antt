@@ -32,8 +32,8 @@ unlinked_going None y h = refl
 unlinked_going (Some u) y h = cc
 
 -- a descriptor's use by the segment that it leads to
-use_linked : (v : Seen) (k n u : ℕ) → v.linked k n ≡ Some u → (shown v).descriptor k n ≡ descriptor.Current u
-use_linked v k n u h = cc
+use_linked : (v : Seen) (k n : ℕ) {u : ℕ} → v.linked k n ≡ Some u → (shown v).descriptor k n ≡ descriptor.Current u
+use_linked v k n h = cc
 
 -- ---- cut
 
@@ -50,18 +50,18 @@ leads_cut : (x : DescriptorUse) → leads_to (descriptor_cut x) ≡ leads_to x
 leads_cut descriptor.Free = refl
 leads_cut _ = refl
 
-pub cut_keeps : (v : Seen) (c : ℕ) (aim : Aim) (w : What) (d : CutDescriptor) → KeepsBook v → CanCut v aim w d
+pub cut_keeps : {v : Seen} (c : ℕ) (aim : Aim) (w : What) (d : CutDescriptor) → KeepsBook v → CanCut v aim w d
     → KeepsBook (cut v c aim w d)
 unfolding IsLawful after_entry custody_next
-cut_keeps v c aim w d k can = book_next refl refl k (record {
+cut_keeps {v} c aim w d k can = book_next refl refl k (record {
   lawful = tt;
   allowed = current;
   online = tt;
   next = λ i. record (shown v) { descriptor = λ j n. next_at j n i };
   pending = refl;
-  going_owned = owned_cut (shown v) v.owner c d aim w k.going_owned current can.still can.others can.this can.aimed;
+  going_owned = owned_cut c d aim k.going_owned current can.still can.others can.this can.aimed;
   tied = k.tied;
-  holding_right = λ e. right_alike v.bound (shown v).descriptor now (v.processors e) (λ j n. cc (
+  holding_right = λ e. right_alike now (λ j n. cc (
     next_at j n,
     by_places (λ (x : DescriptorUse). leads_to x ≡ leads_to ((shown v).descriptor j n)) (shown v).descriptor d.process
         d.number made j n (λ a b. leads_cut ((shown v).descriptor d.process d.number) ∙ rw (a, b) refl) (λ m. refl),
@@ -74,7 +74,7 @@ cut_keeps v c aim w d k can = book_next refl refl k (record {
     ds = cut_of_owner v.owner
 
     is : (shown v).descriptor d.process d.number ≡ descriptor.Current d.uid
-    is = use_linked v d.process d.number d.uid can.linked
+    is = use_linked v d.process d.number can.linked
 
     current : is_current_descriptor ((shown v).descriptor d.process d.number) ≡ true
     current = ap is_current_descriptor is
@@ -153,11 +153,10 @@ module _ (v : Seen) (d : CutDescriptor) (owner : Option Owner) (k : KeepsBook v)
     online = online;
     next = (λ i. record (shown v) { descriptor = λ j n. next_at j n i }) ∙ sym next;
     pending = cc;
-    going_owned = rw next (owned_left_cut (shown v) v.owner owner d made k.going_owned can.none can.first goes);
+    going_owned = rw next (owned_left_cut owner d made k.going_owned can.none can.first goes);
     tied = k.tied;
     holding_right = λ c. subst (λ (x : ℕ → ℕ → DescriptorUse). HoldsRight v.bound x (v.processors c))
-        (λ i. λ j n. sym (next_at j n) i) (right_descriptor v.bound (shown v).descriptor d.process d.number made
-        (v.processors c) (cut_nobody c) (k.holding_right c));
+        (λ i. λ j n. sym (next_at j n) i) (right_descriptor d.process d.number made (cut_nobody c) (k.holding_right c));
     under_way = k.under_way;
     runs = runs;
   })
@@ -198,21 +197,19 @@ pub record CanConnect (v : Seen) (k n u : ℕ) : Type 0 where
   pub unlinked : v.linked k n ≡ None
   pub uncut : has_cut (cut_of_owner v.owner) k n ≡ false
 
-pub connect_keeps : (v : Seen) (j n u : ℕ) → KeepsBook v → CanConnect v j n u → KeepsBook (connected v j n u)
+pub connect_keeps : {v : Seen} {j n u : ℕ} → KeepsBook v → CanConnect v j n u → KeepsBook (connected v j n u)
 unfolding IsLawful after_entry custody_next
-connect_keeps v j n u k can = book_next refl refl k (record {
+connect_keeps {v} {j} {n} {u} k can = book_next refl refl k (record {
   lawful = tt;
   allowed = record { known = can.known; active = can.active; free = is };
   online = tt;
   next = λ i. record (shown v) { descriptor = λ x y. next_at x y i };
   pending = refl;
-  going_owned = owned_like (shown v) (record
-      (shown v) { descriptor = at_put_two (shown v).descriptor j n (descriptor.Current u) })
-      (like_descriptor (shown v) j n (descriptor.Current u) (ap is_going_descriptor is) refl) v.owner k.going_owned;
+  going_owned = owned_like
+      (like_descriptor (shown v) j n (descriptor.Current u) (ap is_going_descriptor is) refl) k.going_owned;
   tied = k.tied;
   holding_right = λ e. subst (λ (x : ℕ → ℕ → DescriptorUse). HoldsRight v.bound x (v.processors e))
-      (λ i. λ x y. sym (next_at x y) i) (right_descriptor v.bound (shown v).descriptor j n (descriptor.Current u)
-      (v.processors e) (nobody e) (k.holding_right e));
+      (λ i. λ x y. sym (next_at x y) i) (right_descriptor j n (descriptor.Current u) (nobody e) (k.holding_right e));
   under_way = k.under_way;
   runs = k.runs;
 })

@@ -30,9 +30,9 @@ pub record HasSaid (o q : Option Owner) (w : What) : Type 0 where
   pub shaped : IsShaped q
 
 -- the signal is given
-pub owned_signal : (c : Custody) (o q : Option Owner) (d : ℕ) (w : What) → IsOwned c o → NoneDue c → SomethingGoes c
+pub owned_signal : {c : Custody} {o q : Option Owner} (d : ℕ) {w : What} → IsOwned c o → NoneDue c → SomethingGoes c
     → HasSaid o q w → IsOwned (signalled c d w) q
-owned_signal c o q d w k none goes said = record {
+owned_signal {c} d {w} k none goes said = record {
   frames = λ f. cc (k.frames f);
   cuts = λ j n. cc (k.cuts j n);
   once = subst AreDistinct (sym said.frames) k.once;
@@ -50,8 +50,8 @@ owned_signal c o q d w k none goes said = record {
     due_is e v _ _ h = cc (none e)
 
 -- a processor clears
-pub owned_clear : (c : Custody) (o : Option Owner) (d : ℕ) (w : What) → IsOwned c o → IsOwned (answered_clear c d w) o
-owned_clear c o d w k = record {
+pub owned_clear : {c : Custody} {o : Option Owner} (d : ℕ) (w : What) → IsOwned c o → IsOwned (answered_clear c d w) o
+owned_clear {c} d w k = record {
   frames = k.frames;
   cuts = k.cuts;
   once = k.once;
@@ -95,9 +95,9 @@ head_not : (fs : List ℕ) (f g : ℕ) → g ≢ f → has (f ∷ fs) g ≡ has 
 head_not fs f g h = elim (eqb_tells f g) [ inl e ↦ absurd (h (sym e.1)) | inr n ↦ ap (λ (b : Bool). b || has fs g) n.0 ]
 
 -- the first frame is gone or back
-pub owned_left : (c : Custody) (o q : Option Owner) (f : ℕ) (x : FrameUse) → IsOwned c o → NoneDue c → HasLeft o q f
+pub owned_left : {c : Custody} {o q : Option Owner} {f : ℕ} (x : FrameUse) → IsOwned c o → NoneDue c → HasLeft o q f
     → is_going_frame x ≡ false → IsOwned (with_frame c f x) q
-owned_left c o q f x k none left still = record {
+owned_left {c} {o} {q} {f} x k none left still = record {
   frames = λ g. by_place (λ (y : FrameUse). is_going_frame y ≡ has (frames_of_owner q) g) c.frame f x g
       (λ e. cc (still, e, left.left, once.0)) (λ n. cc (k.frames g, left.first, head_not left.rest f g n, left.left));
   cuts = λ j n. cc (k.cuts j n);
@@ -120,9 +120,10 @@ head_cut_not ds d k n h = by (is_cut_at k n d) refl
     by false e = refl
     by true e = let both = cut_at_tells k n d e in absurd (h both.0 both.1)
 
-pub owned_left_cut : (c : Custody) (o q : Option Owner) (d : CutDescriptor) (x : DescriptorUse) → IsOwned c o
-    → NoneDue c → HasLeftCut o q d → is_going_descriptor x ≡ false → IsOwned (with_descriptor c d.process d.number x) q
-owned_left_cut c o q d x k none left still = record {
+pub owned_left_cut : {c : Custody} {o : Option Owner} (q : Option Owner) (d : CutDescriptor) (x : DescriptorUse)
+    → IsOwned c o → NoneDue c → HasLeftCut o q d → is_going_descriptor x ≡ false
+    → IsOwned (with_descriptor c d.process d.number x) q
+owned_left_cut {c} q d x k none left still = record {
   frames = λ g. cc (k.frames g);
   cuts = λ i j. by_places (λ (y : DescriptorUse). is_going_descriptor y
       ≡ has_cut (cut_of_owner q) i j) c.descriptor d.process d.number x i j

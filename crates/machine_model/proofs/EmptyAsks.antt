@@ -58,19 +58,16 @@ unread_any core u h f p e = no_and passes (position_none
 
 -- ---- a segment
 
-module _ (s : State) (c u : ℕ) (k : Keeps s) (idle : IsIdle s.owner) (still : is_pending s.owner ≡ false) where
+module _ {s : State} (c u : ℕ) (k : Keeps s) (idle : IsIdle s.owner) (still : is_pending s.owner ≡ false) where
   segment_asks : (fs : List ℕ) (pairs : List (ℕ × ℕ)) → StoreKept (segment_taken s c u fs pairs).store
       → IsFaithful s.plan (flat_of s) (segment_taken s c u fs pairs).store → ArePairs (seen s).linked (what.Seg u) pairs
       → (fs ≡ [] → pairs ≡ [] → MayDeactivate (flat_of (segs_gone s (cut_of_owner s.owner)))
       (shown (seen (segs_gone s (cut_of_owner s.owner)))) u) → AsksSegment s c u fs pairs
-  segment_asks [] [] kept shown_is are may = assumption (
-    may refl refl,
-    emptied_says s c u (emptied s c u).store k kept shown_is refl,
-  )
+  segment_asks [] [] kept shown_is are may = assumption (may refl refl, emptied_says c u k kept shown_is refl)
   segment_asks [] (x ∷ xs) kept shown_is are may =
-      took_says s c (aim.Deactivating u) (what.Seg u) [] (x ∷ xs) k are kept shown_is
+      took_says c (aim.Deactivating u) (what.Seg u) [] (x ∷ xs) k are kept shown_is
   segment_asks (f ∷ fs) pairs kept shown_is are may =
-      took_says s c (aim.Deactivating u) (what.Seg u) (f ∷ fs) pairs k are kept shown_is
+      took_says c (aim.Deactivating u) (what.Seg u) (f ∷ fs) pairs k are kept shown_is
 
   -- where it is active, not being read, and without inferior
   empty_asks : StoreKept (deactivation_begun s c u).store
@@ -81,7 +78,7 @@ module _ (s : State) (c u : ℕ) (k : Keeps s) (idle : IsIdle s.owner) (still : 
   empty_asks kept shown_is active unread inferiors = segment_asks (frames_from s.store.ast u 0) (trailers_in s.store u)
       kept shown_is (trailers_taken s (what.Seg u) u k (eqb_self u)) (λ none none_cut. whole_may s u k
       (nothing_whole s c u k idle active (unread_any s.store.pages.core u unread) none none_cut) idle.frames
-      (nothing_over s k idle still) active (rw idle.cut inferiors))
+      (nothing_over k idle still) active (rw idle.cut inferiors))
 
 -- ---- for its length
 
@@ -111,7 +108,7 @@ segment_inferiors s u n k at segment v h = by (node_in s.store.accounts.nodes v)
 pub length_asks : (s : State) (c : ℕ) (o : Outcome) (j u : ℕ) (cmd : Command) → Keeps s → IsIdle s.owner
     → is_pending s.owner ≡ false → FindsActive s j cmd u → Says s c o (act.Empty u) → AsksEmpty s c u
 unfolding after
-length_asks s c o j u cmd k idle still finds says = empty_asks s c u k idle still says.store
+length_asks s c o j u cmd k idle still finds says = empty_asks c u k idle still says.store
     (says.shown (flat_of s) k.faithful) finds.active finds.unread (λ v active. segment_inferiors s u leads.node k
     (ap (node_in s.store.accounts.nodes) (sym same) ∙ leads.there) leads.segment v)
   where
@@ -125,15 +122,15 @@ length_asks s c o j u cmd k idle still finds says = empty_asks s c u k idle stil
 -- ---- the victim of a pool
 
 -- the hands of the pools are seen by nobody
-pub hand_says : (s : State) (pool : ℕ) (chain : List ℕ) → Keeps s
+pub hand_says : {s : State} (pool : ℕ) (chain : List ℕ) → Keeps s
     → StoreSays (with_store s (with_hand_moved s.store pool chain))
-hand_says s pool chain k = by (first_off_chain s.store.ast pool chain)
+hand_says {s} pool chain k = by (first_off_chain s.store.ast pool chain)
   where
     by : (x : Option ℕ) → StoreSays (with_store s (record s.store { ast = hand_past s.store.ast pool x }))
-    by None = says_by s s (flat_of s) k k.store k.faithful (alike (flat_of s)) k.conserved.total
-        (same_rest s s k (is_same refl refl refl refl refl (λ u e. e) refl))
-    by (Some place) = says_by s now (flat_of s) k kept shown_is (alike (flat_of s)) k.conserved.total
-        (same_rest s now k (is_same refl refl refl refl refl (λ u e. e) refl))
+    by None = says_by s k k.store k.faithful (alike (flat_of s)) k.conserved.total
+        (same_rest k (is_same refl refl refl refl refl (λ u e. e) refl))
+    by (Some place) = says_by now k kept shown_is (alike (flat_of s)) k.conserved.total
+        (same_rest k (is_same refl refl refl refl refl (λ u e. e) refl))
       where
         now : State
         now = with_store s (record s.store { ast = hand_past s.store.ast pool (Some place) })
@@ -144,13 +141,13 @@ hand_says s pool chain k = by (first_off_chain s.store.ast pool chain)
         shown_is : IsFaithful s.plan (flat_of s) now.store
         shown_is = assumption
 
-pub victim_asks : (s : State) (c : ℕ) (o : Outcome) (j pool : ℕ) (chain : List ℕ) (u : ℕ) (cmd : Command) → Keeps s
+pub victim_asks : {s : State} {c : ℕ} {o : Outcome} {j pool : ℕ} {chain : List ℕ} {u : ℕ} {cmd : Command} → Keeps s
     → IsIdle s.owner → is_pending s.owner ≡ false → FindsVictim s j cmd pool chain u
     → Says s c o (act.EmptyVictim pool chain u) → AsksVictim s c pool chain u
 unfolding after
-victim_asks s c o j pool chain u cmd k idle still finds says = record {
+victim_asks {s} {c} {o} {j} {pool} {chain} {u} k idle still finds says = record {
   says = hand;
-  asks = empty_asks now c u (hand_kept s pool chain k hand) idle still says.store
+  asks = empty_asks c u (hand_kept pool chain k hand) idle still says.store
       (says.shown (flat_of s) k.faithful) (moved_active (first_off_chain s.store.ast pool chain) active) finds.unread
       (λ v h. leaf_inferiors s finds.place u k at leaf.2 v (was_active v (first_off_chain s.store.ast pool chain) h));
 }
@@ -159,7 +156,7 @@ victim_asks s c o j pool chain u cmd k idle still finds says = record {
     now = with_store s (with_hand_moved s.store pool chain)
 
     hand : StoreSays (with_store s (with_hand_moved s.store pool chain))
-    hand = hand_says s pool chain k
+    hand = hand_says pool chain k
 
     leaf : (w : ℕ) × (uid_at s.store.ast.entries finds.place ≡ Some w) × HasNoInferior s.store.ast.entries finds.place
     leaf = victim_leaf s.store.ast pool chain finds.place k.store.kept.tree finds.victim

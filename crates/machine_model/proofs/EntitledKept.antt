@@ -10,14 +10,14 @@ module _ (nodes : List Node) (whos : List Who) (known : List (List (Option ℕ))
   rest_entitled k [] h = tt
   rest_entitled k (e ∷ es) h = h.1
 
-  push_entitled : (k : ℕ) (es : List HeldSeg) (e : HeldSeg) → AreEntitled nodes whos known k es
+  push_entitled : {k : ℕ} (es : List HeldSeg) {e : HeldSeg} → AreEntitled nodes whos known k es
       → IsEntitled nodes whos known k e → AreEntitled nodes whos known k (es ++ e ∷ [])
-  push_entitled k [] e h i = (i, tt)
-  push_entitled k (x ∷ xs) e h i = (h.0, push_entitled k xs e h.1 i)
+  push_entitled [] h i = (i, tt)
+  push_entitled {k} (x ∷ xs) {e} h i = (h.0, push_entitled xs h.1 i)
 
   filled_entitled : (k : ℕ) (es : List HeldSeg) (e : HeldSeg) → AreEntitled nodes whos known k es
       → IsEntitled nodes whos known k e → AreEntitled nodes whos known k (filled es e)
-  filled_entitled k es e h i = push_entitled k _ e (cond_both (eqb (length es) 16) (drop 1 es) es
+  filled_entitled k es e h i = push_entitled _ (cond_both (eqb (length es) 16) (drop 1 es) es
       (AreEntitled nodes whos known k) (λ j. rest_entitled k es h) (λ j. h)) i
 
   kept_entitled : (k : ℕ) (test : HeldSeg → Bool) (es : List HeldSeg) → AreEntitled nodes whos known k es
@@ -27,10 +27,10 @@ module _ (nodes : List Node) (whos : List Who) (known : List (List (Option ℕ))
       (filter test es) (AreEntitled nodes whos known k) (λ i. (h.0, rest)) (λ i. rest)
 
   -- one processor is another
-  pub set_entitled : (ps : List Processor) (c : ℕ) (p : Processor) → c < length ps → HoldEntitled nodes whos known ps
+  pub set_entitled : {ps : List Processor} (c : ℕ) (p : Processor) → c < length ps → HoldEntitled nodes whos known ps
       → ((k : ℕ) → p.cpu.process ≡ Some k → AreEntitled nodes whos known k p.cpu.assoc.segs)
       → HoldEntitled nodes whos known (set ps c p)
-  set_entitled ps c p there h one = record { each = λ d k i. by d k i (eqb_tells c d) }
+  set_entitled {ps} c p there h one = record { each = λ d k i. by d k i (eqb_tells c d) }
     where
       by : (d k : ℕ) → (cpu_at (set ps c p) d).process ≡ Some k → ((eqb c d ≡ true) × (c ≡ d))
           ⊎ ((eqb c d ≡ false) × (c ≢ d)) → AreEntitled nodes whos known k (cpu_at (set ps c p) d).assoc.segs
@@ -40,9 +40,9 @@ module _ (nodes : List Node) (whos : List Who) (known : List (List (Option ℕ))
           (sym (get_or-set_other ps c d p no_processor (λ e. other.1 (sym e))))
           (h.each d k (cc (get_or-set_other ps c d p no_processor (λ e. other.1 (sym e)))))
 
-  told_entitled : (c : ℕ) (w : What) (ps : List Processor) → HoldEntitled nodes whos known ps
+  told_entitled : (c : ℕ) (w : What) {ps : List Processor} → HoldEntitled nodes whos known ps
       → HoldEntitled nodes whos known (told_from c w 0 ps)
-  told_entitled c w ps h = record {
+  told_entitled c w {ps} h = record {
     each = λ d k i. (rw (← (told_reads c w ps 0 d)) at (by (0 + d) (processor_at ps d) k
         (h.each d k (cc (told_process c w (0 + d) (processor_at ps d), told_reads c w ps 0 d)))));
   }
@@ -72,18 +72,18 @@ module _ (s : State) (c : ℕ) (o : Outcome) (k : Keeps s) (there : c < length s
   one : (p : Processor) → ((j : ℕ) → p.cpu.process ≡ Some j
       → AreEntitled nodes s.store.whos s.store.links.known j p.cpu.assoc.segs)
       → HoldEntitled nodes s.store.whos s.store.links.known (set s.processors c p)
-  one p each = set_entitled nodes s.store.whos s.store.links.known s.processors c p there h each
+  one p each = set_entitled nodes s.store.whos s.store.links.known c p there h each
 
   abbrev held : (j : ℕ) → (cpu_at s.processors c).process ≡ Some j
       → AreEntitled nodes s.store.whos s.store.links.known j (cpu_at s.processors c).assoc.segs
   held j e = h.each c j e
 
   -- what a descriptor gives
-  to_hold_is : (n j : ℕ) (y : Sdw) → descriptor_of s.store.links j n ≡ y → (held_seg s.store n y).number ≡ n
+  to_hold_is : {n : ℕ} (j : ℕ) (y : Sdw) → descriptor_of s.store.links j n ≡ y → (held_seg s.store n y).number ≡ n
       → led_to s.store.ast.entries (descriptor_of s.store.links j n) ≡ Some (held_seg s.store n y).uid
       → IsEntitled nodes s.store.whos s.store.links.known j (held_seg s.store n y)
-  to_hold_is n j sdw.Fault e number linked = cc
-  to_hold_is n j (sdw.Present place mode pages) e number linked = let known = k.store.kept.linked.known j n place
+  to_hold_is j sdw.Fault e number linked = cc
+  to_hold_is {n} j (sdw.Present place mode pages) e number linked = let known = k.store.kept.linked.known j n place
       (ap leads e) in let same = ap or_zero known.active in record {
         stands = cc;
         mode = λ x at. k.store.counted.rights.modes j n place pages known.uid mode x e known.active
@@ -100,11 +100,10 @@ module _ (s : State) (c : ℕ) (o : Outcome) (k : Keeps s) (there : c < length s
       (held_seg s.store n (descriptor_of s.store.links (process_at s c) n)))
   fills n can j e = filled_entitled nodes s.store.whos s.store.links.known j (cpu_at s.processors c).assoc.segs
       (held_seg s.store n (descriptor_of s.store.links (process_at s c) n)) (held j e) (rw (← (ap or_zero e))
-      (to_hold_is n (process_at s c) (descriptor_of s.store.links (process_at s c) n) refl can.number (cc)))
+      (to_hold_is (process_at s c) (descriptor_of s.store.links (process_at s c) n) refl can.number (cc)))
 
   failed : IsEntitledToAll (write_failed s c o.faults)
-  failed = set_entitled _ _ _ (all_back s c o.faults).processors c _
-      (rw names.processors there) back (λ j e. back.each c j e)
+  failed = set_entitled _ _ _ c _ (rw names.processors there) back (λ j e. back.each c j e)
     where
       names : Stays s (all_back s c o.faults)
       names = is_back s c o.faults
@@ -121,7 +120,7 @@ module _ (s : State) (c : ℕ) (o : Outcome) (k : Keeps s) (there : c < length s
   entitled_kept (act.EndTransfer t) can may = by_end IsEntitledToAll o _ _ (λ e. one _ held) (λ e. ill)
     where
       ill : IsEntitledToAll (transfer_failed s c t o.faults)
-      ill = set_entitled nodes s.store.whos s.store.links.known (frame_lost s c t).processors c _
+      ill = set_entitled nodes s.store.whos s.store.links.known c _
           (rw (length-set s.processors c _) there) (one _ held) (λ j e. (one _ held).each c j e)
   entitled_kept (act.Load n) can may = one _ (λ j e. tt)
   entitled_kept act.Leave can may = one _ (λ j e. tt)
@@ -138,7 +137,7 @@ module _ (s : State) (c : ℕ) (o : Outcome) (k : Keeps s) (there : c < length s
   entitled_kept (act.TakeAway fs pairs w) can may = names_kept (all_taken s c aim.Committing w fs pairs) h
   entitled_kept (act.CopyPage m p) can may = by_end IsEntitledToAll o _ _ (λ e. h) (λ e. one _ held)
   entitled_kept (act.CommitMove m) can may = may
-  entitled_kept (act.Signal w) can may = told_entitled nodes s.store.whos s.store.links.known c w s.processors h
+  entitled_kept (act.Signal w) can may = told_entitled nodes s.store.whos s.store.links.known c w h
   entitled_kept (act.FinishEviction f) can may =
       by_end IsEntitledToAll o _ _ (λ e. names_kept (evicted s c f o.faults) h) (λ e. failed)
   entitled_kept (act.FinishPage f) can may =

@@ -18,11 +18,11 @@ bound_within s f page h = rw (← (map_length bound_page s.store.pages.core.fram
     (within_by (map bound_page s.store.pages.core.frames) f None (λ e. none_some (sym e ∙ h)))
 
 -- a page leaves its frame; one of zeros is released
-pub left_keeps : (s : State) (f u p : ℕ) (how : Left) (owner : Option Owner) → HasTables s → KeepsBook (seen s)
+pub left_keeps : (s : State) {f u p : ℕ} (how : Left) {owner : Option Owner} → HasTables s → KeepsBook (seen s)
     → CanFinish (seen s) f u p owner → (how ≡ left.Released → MayRelease (flat_of s) u p)
-    → KeepsBook (seen (with_owner (booked (with_store s (with_left s.store f how (u, p)))
-    (entries_left f how (u, p))) owner))
-left_keeps s f u p how owner tables k can zeros = by how zeros
+    → KeepsBook
+    (seen (with_owner (booked (with_store s (with_left s.store f how (u, p))) (entries_left f how (u, p))) owner))
+left_keeps s {f} {u} {p} how {owner} tables k can zeros = by how zeros
   where
     within : f < length s.store.pages.core.frames
     within = bound_within s f (u, p) (k.tied.back f u p (ap names can.leaving))
@@ -32,7 +32,7 @@ left_keeps s f u p how owner tables k can zeros = by how zeros
         (entries_left f x (u, p))) owner))
     by left.Kept z = subst KeepsBook (sym (gone_seen s f u p left.Kept owner tables k within can.leaving)) (gone_keeps
         (seen s) f u p owner k can (word_of_left left.Kept (record_of s.store.pages (home_in s.store u) p)) refl)
-    by left.Released z = subst KeepsBook (sym whole) (release_keeps now u p book may nowhere)
+    by left.Released z = subst KeepsBook (sym whole) (release_keeps book may nowhere)
       where
         now : Seen
         now = gone (seen s) f u p ptw.Null owner
@@ -47,7 +47,7 @@ left_keeps s f u p how owner tables k can zeros = by how zeros
         unread g h = let no = sym (ap is_out can.leaving) ∙ k.tied.out g u p h in cc
 
         nowhere : IsInNoFrame (shown now) u p
-        nowhere = in_no_frame now u p book (ap names (put_two_here (seen s).words u p ptw.Null)) unread
+        nowhere = in_no_frame u p book (ap names (put_two_here (seen s).words u p ptw.Null)) unread
 
         whole : seen (with_owner (booked (with_store s (with_left s.store f left.Released (u, p)))
             (entries_left f left.Released (u, p))) owner) ≡ released now u p
@@ -76,17 +76,17 @@ module _ (s : State) (f u p faults : ℕ) (owner : Option Owner) (k : Keeps s) (
       → ((o : Owner) → owner ≡ Some o → IsAtWork (processor_at s.processors o.cpu))
       → Keeps (with_owner (page_gone (with_faults s faults) f) owner)
   gone_kept zeros says works = kept_with (with_owner (page_gone (with_faults s faults) f) owner)
-      (rw page_is (left_keeps s f u p how owner k.store.kept.places k.book can zeros)) says
+      (rw page_is (left_keeps s how k.store.kept.places k.book can zeros)) says
       (omega (arith, left_faults s.entries f how (page_in s.store f))) k.sizes.processors k.sizes.processes works
 
 -- ---- the owner goes on
 
 -- after an eviction the look is made again
-pub eviction_kept : (s : State) (c f u p faults : ℕ) (o : Owner) → Keeps s → s.owner ≡ Some o → o.cpu ≡ c
+pub eviction_kept : {s : State} {c f u p : ℕ} (faults : ℕ) {o : Owner} → Keeps s → s.owner ≡ Some o → o.cpu ≡ c
     → s.faults ≤ faults → CanFinish (seen s) f u p (Some (looking c))
     → (left_of (words_in s.store.pages f) ≡ left.Released → MayRelease (flat_of s) u p)
     → StoreSays (eviction_done (with_faults s faults) c f) → Keeps (eviction_done (with_faults s faults) c f)
-eviction_kept s c f u p faults o k mine same rose can zeros says =
+eviction_kept {s} {c} {f} {u} {p} faults {o} k mine same rose can zeros says =
     gone_kept s f u p faults (Some (looking c)) k can rose zeros says
     (λ q h. (rw (same ∙ ap (λ (x : Owner). x.cpu) (let is : looking c ≡ q = cc in is)) at (k.at_work o mine)))
 
@@ -102,4 +102,4 @@ pub page_kept : (s : State) (f faults : ℕ) (fs : List ℕ) (ds : List CutDescr
     → StoreSays (page_done (with_faults s faults) f) → Keeps (page_done (with_faults s faults) f)
 page_kept s f faults fs ds o k mine rose on zeros says =
     gone_kept s f (page_at (seen s) f).0 (page_at (seen s) f).1 faults (without_first_frame s.owner) k
-    (first_finish (seen s) f fs ds k.book on) rose zeros says (λ q h. (rw (cpu_of_rest o q (cc)) at (k.at_work o mine)))
+    (first_finish f fs k.book on) rose zeros says (λ q h. (rw (cpu_of_rest o q (cc)) at (k.at_work o mine)))

@@ -19,25 +19,25 @@ outline_entries : (s now : State) → entries_of now ≡ entries_of s → (outli
 unfolding outline_of
 outline_entries s now same = same
 
-work_stays : (s now : State) (d : ℕ) (fs : List ℕ) (a : Aim) → StaysFor s now d
+work_stays : {s now : State} {d : ℕ} (fs : List ℕ) (a : Aim) → StaysFor s now d
     → FitsWork (outline_of s) (want_at (outline_of s) d) (work_of (entries_of s) fs a)
     → FitsWork (outline_of now) (want_at (outline_of now) d) (work_of (entries_of now) fs a)
-work_stays s now d fs a stays h = rw (← stays.entries) at (fits_alike (outline_of s) (outline_of now)
+work_stays {s} {now} {d} fs a stays h = rw (← stays.entries) at (fits_alike (outline_of s) (outline_of now)
     (want_at (outline_of s) d) (want_at (outline_of now) d) (work_of (entries_of s) fs a) stays.want stays.frames
     (outline_entries s now stays.entries) h)
 
 -- an owner whose work stays goes on
-pub fits_on : (s now : State) → Keeps now → IsFitting s → now.owner ≡ s.owner
+pub fits_on : {s now : State} → Keeps now → IsFitting s → now.owner ≡ s.owner
     → ((q : Owner) → s.owner ≡ Some q → StaysFor s now q.cpu) → IsFitting now
-fits_on s now kept fitting owner stays = record { fits = λ q h. by q h q.phase refl }
+fits_on {s} {now} kept fitting owner stays = record { fits = λ q h. by q h q.phase refl }
   where
     by : (q : Owner) → now.owner ≡ Some q → (x : Phase) → q.phase ≡ x
         → FitsStage (outline_of now) (want_at (outline_of now) q.cpu) (stage_of (entries_of now) q.frames q.phase)
     by q h phase.Looking e = rw e (none_due now kept (cc))
-    by q h (phase.Taken a w) e = rw e (work_stays s now q.cpu q.frames a (stays q (cc))
+    by q h (phase.Taken a w) e = rw e (work_stays q.frames a (stays q (cc))
         (subst (λ (x : Phase). FitsStage (outline_of s) (want_at (outline_of s) q.cpu) (stage_of (entries_of s) q.frames
         x)) e (fitting.fits q (cc))))
-    by q h (phase.Waiting a w) e = rw e (work_stays s now q.cpu q.frames a (stays q (cc))
+    by q h (phase.Waiting a w) e = rw e (work_stays q.frames a (stays q (cc))
         (subst (λ (x : Phase). FitsStage (outline_of s) (want_at (outline_of s) q.cpu) (stage_of (entries_of s) q.frames
         x)) e (fitting.fits q (cc))))
     by q h (phase.Moving m) e = rw e (none_due now kept (cc), omega arith)
@@ -75,12 +75,7 @@ module _ (s now : State) (same : SameAround s now) where
 
       by : (x : Option ℕ) → (cpu_at s.processors d).process ≡ x → want_at (outline_of now) d ≡ want_at (outline_of s) d
       by None e = nothing now (process ∙ e) ∙ sym (nothing s e)
-      by (Some k) e = cc (
-        want_here now d k (process ∙ e),
-        want_same k (next_command now k),
-        next k e,
-        want_here s d k e,
-      )
+      by (Some k) e = cc (want_here now d (process ∙ e), want_same k (next_command now k), next k e, want_here s d e)
 
 -- ---- another processor than the owner's
 
@@ -107,16 +102,16 @@ frames_by s now same = same
 module _ (s : State) (c : ℕ) (o : Outcome) (m : IsMachine s) (working : IsWorking s) (fitting : IsFitting s)
     (other : IsNoOwner s c) where
   -- a processor that changes nothing but itself, the ready list and the book
-  seat_fits : (now : State) (p : Processor) → Keeps now → now.owner ≡ s.owner → now.plan ≡ s.plan
-      → now.store ≡ s.store → now.runs ≡ s.runs → now.processors ≡ set s.processors c p → IsFitting now
-  seat_fits now p kept owner plan store runs ps = fits_on s now kept fitting owner (λ q h. record {
+  seat_fits : {now : State} (p : Processor) → Keeps now → now.owner ≡ s.owner → now.plan ≡ s.plan → now.store ≡ s.store
+      → now.runs ≡ s.runs → now.processors ≡ set s.processors c p → IsFitting now
+  seat_fits {now} p kept owner plan store runs ps = fits_on kept fitting owner (λ q h. record {
     frames = frames_by s now (cc);
     entries = cc;
     want = want_stays s now (assumption (
       ap (λ (st : Storage). st.accounts.nodes) store,
       ap (λ (st : Storage). st.whos) store,
       ap (λ (st : Storage). st.links.known) store,
-    )) q.cpu (cc (set_process s c m.keeps working other p q h))
+    )) q.cpu (cc (set_process s c m.keeps working other p h))
         (λ k e. (λ i. command_at (plan i) k (run_at (runs i) k).place));
   })
 
@@ -125,12 +120,12 @@ module _ (s : State) (c : ℕ) (o : Outcome) (m : IsMachine s) (working : IsWork
       → map bare st.pages.core.frames ≡ map bare s.store.pages.core.frames → st.ast ≡ s.store.ast
       → st.accounts.nodes ≡ s.store.accounts.nodes → st.whos ≡ s.store.whos → st.links.known ≡ s.store.links.known
       → Keeps (told (with_store s st) c f r) → IsFitting (told (with_store s st) c f r)
-  told_fits st f r its frames ast nodes whos known kept = fits_on s (told (with_store s st) c f r) kept fitting refl
+  told_fits st f r its frames ast nodes whos known kept = fits_on kept fitting refl
       (λ q h. record {
         frames = frames_by s (told (with_store s st) c f r) frames;
         entries = cc;
         want = want_stays s (told (with_store s st) c f r) (assumption)
-            q.cpu (set_process s c m.keeps working other _ q h)
+            q.cpu (set_process s c m.keeps working other _ h)
             (λ k e. (rw (← (ap or_zero e)) (other_next s c m.keeps working other q _ h m its)));
       })
 
@@ -153,7 +148,7 @@ module _ (s : State) (c : ℕ) (o : Outcome) (m : IsMachine s) (working : IsWork
         (pages_frames s f r) refl refl refl refl kept
     move_fits its r (move.Plain answer) kept = told_fits s.store None answer its refl refl refl refl refl kept
     move_fits its r move.Fault kept = take_fits s.owner refl kept
-    move_fits its r _ kept = seat_fits _ _ kept refl refl refl refl refl
+    move_fits its r _ kept = seat_fits _ kept refl refl refl refl refl
 
     come_fits : p.cpu.process ≡ Some (process_at s c) → (x : Option Command) → Fits (come_to s p.cpu (process_at s c) x)
     come_fits its None kept = take_fits s.owner refl kept
@@ -169,9 +164,9 @@ module _ (s : State) (c : ℕ) (o : Outcome) (m : IsMachine s) (working : IsWork
       where
         by : (xs : List ℕ) → Fits (load_or_idle s xs)
         by [] i = fitting
-        by (k ∷ ks) i = seat_fits _ _ i refl refl refl refl refl
+        by (k ∷ ks) i = seat_fits _ i refl refl refl refl refl
     run_fits (Some n) e kept = cond_both (has_had_its_turn p && not (is_empty s.ready)) act.Leave
-        (come_to s p.cpu n (next_command s n)) Fits (λ h i. seat_fits _ _ i refl refl refl refl refl)
+        (come_to s p.cpu n (next_command s n)) Fits (λ h i. seat_fits _ i refl refl refl refl refl)
         (λ h. rw (← (ap or_zero e)) (come_fits (e ∙ ap (λ (x : Option ℕ). Some (or_zero x)) (sym e))
         (next_command s (process_at s c)))) kept
 
@@ -189,21 +184,21 @@ module _ (s : State) (c : ℕ) (o : Outcome) (m : IsMachine s) (working : IsWork
 
     clear_fits : (x : Option What) → Fits (clear_or s c p x)
     unfolding after
-    clear_fits (Some w) kept = seat_fits _ _ kept refl refl refl refl refl
+    clear_fits (Some w) kept = seat_fits _ kept refl refl refl refl refl
     clear_fits None kept = transfer_fits p.cpu.transfer refl kept
 
     -- a processor that doesn't own the supervisor, and reads nothing, leaves the job as it was
     pub other_fits : Fits (action_of s c)
     unfolding after
     other_fits = action_by Fits s c (λ kept. fitting) (λ kept. fitting)
-        (λ off kept. seat_fits _ _ kept refl refl refl refl refl) (λ on. clear_fits p.cpu.due)
+        (λ off kept. seat_fits _ kept refl refl refl refl refl) (λ on. clear_fits p.cpu.due)
 
 -- ---- each step
 
-stopped_fits : (s : State) (c : ℕ) (o : Outcome) → IsFitting s → s.stopped ≡ true
+stopped_fits : {s : State} (c : ℕ) (o : Outcome) → IsFitting s → s.stopped ≡ true
     → IsFitting (after s c (action_of s c) o)
 unfolding after action_of
-stopped_fits s c o fitting e = subst (λ (b : Bool). IsFitting (after s c (cond b act.IsStopped (cond (is_over s)
+stopped_fits {s} c o fitting e = subst (λ (b : Bool). IsFitting (after s c (cond b act.IsStopped (cond (is_over s)
     act.HasEnded (cond (not (processor_at s.processors c).cpu.online) act.Online (clear_or s c
     (processor_at s.processors c) (processor_at s.processors c).cpu.due)))) o)) (sym e) fitting
 
@@ -243,12 +238,11 @@ module _ (s : State) (c : ℕ) (o : Outcome) (m : IsMachine s) (entitled : IsEnt
       }
         where
           kept : IsKept (outline_of now)
-          kept = step_keeps (outline_of s) c (turn_of (action_of s c)) (outline_of now) (kept_seen s m reading fitting)
-              (rw (long_outline s) there) (sizes_seen now after_m)
-              (λ i. kept_seen now after_m after_reading (none_fits now (no_owner now i.owner)))
-              (λ h i. kept_seen now after_m after_reading (replied h i))
-              (step_outlined s c o going (foresees s c m entitled reading working fitting there))
+          kept = step_keeps (kept_seen m reading fitting) (rw (long_outline s) there) (sizes_seen after_m)
+              (λ i. kept_seen after_m after_reading (none_fits now (no_owner now i.owner)))
+              (λ h i. kept_seen after_m after_reading (replied h i))
+              (step_outlined o going (foresees s c m entitled reading working fitting there))
 
       by : (b : Bool) → s.stopped ≡ b → IsFitting now
-      by true e = stopped_fits s c o fitting e
+      by true e = stopped_fits c o fitting e
       by false e = on e

@@ -21,8 +21,9 @@ pub alike_by : {t u v : Store} → IsAlike t u → v ≡ u → IsAlike t v
 alike_by {t} a e = rw e a
 
 -- a store shows each of them, or none
-pub alike_shown : (p : Plan) (t u : Store) (st : Storage) → IsAlike t u → IsFaithful p t st → IsFaithful p u st
-alike_shown p t u st a is = record {
+pub alike_shown : {p : Plan} {t : Store} (u : Store) {st : Storage} → IsAlike t u → IsFaithful p t st
+    → IsFaithful p u st
+alike_shown u a is = record {
   tree = record { nodes = cc; next = cc; counts = λ s. cc (is.tree.counts s) };
   known = cc;
   pages = record {
@@ -108,20 +109,20 @@ unfolding after_entry
 refused_alike p es k place c f r h = alike_by (do_refused p (store_after p es) k r (command_at p k place) h)
     (store_after-push p es (entry.Do k place c f r))
 
-pub done_alike : (p : Plan) (es : List Entry) (k place c : ℕ) (f : Option ℕ) (r : Reply) (cmd : Command)
+pub done_alike : (p : Plan) (es : List Entry) (k place c : ℕ) (f : Option ℕ) (r : Reply) {cmd : Command}
     → command_at p k place ≡ Some cmd → takes_effect r ≡ true
     → IsAlike (effect_of p (store_after p es) k cmd) (store_after p (es ++ entry.Do k place c f r ∷ []))
 unfolding after_entry
-done_alike p es k place c f r cmd next h = alike_by (do_done p (store_after p es) k r cmd h)
+done_alike p es k place c f r {cmd} next h = alike_by (do_done p (store_after p es) k r cmd h)
     (cc (store_after-push p es (entry.Do k place c f r), next))
 
 -- ---- what the accounts say
 
 -- each account of the flat store that is shown is within its quota
-pub within_all : (t : Store) (a : AccountMaps) → ShowsTree t a → AreAccounts a → list_all (is_within t) t.nodes ≡ true
-within_all t a shows are = all_within t (subst IsTree (sym shows.nodes) are.tree)
+pub within_all : {t : Store} {a : AccountMaps} → ShowsTree t a → AreAccounts a → list_all (is_within t) t.nodes ≡ true
+within_all {t} shows are = all_within t (subst IsTree (sym shows.nodes) are.tree)
     (λ account. (rw shows.nodes (are.within t.stored shows.counts account)))
 
 pub conserved_by : (p : Plan) (t : Store) (st : Storage) → IsFaithful p t st → AreAccounts st.accounts
     → sum (map (λ n. n.quota) t.nodes) ≡ p.quota → IsConserved p t
-conserved_by p t st shows are total = assumption (within_all t st.accounts shows.tree are)
+conserved_by p t st shows are total = assumption (within_all shows.tree are)

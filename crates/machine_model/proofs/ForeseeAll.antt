@@ -34,11 +34,11 @@ module _ (s : State) (c : ℕ) (m : IsMachine s) (entitled : IsEntitledToAll s) 
   keeps = m.keeps
 
   -- no page of a word that faults fits
-  word_lacks : (u p : ℕ) (makes : Bool) (w : Ptw) → is_active s.store.ast u ≡ true → word_of s.store.ast u p ≡ w
+  word_lacks : (u p : ℕ) {makes : Bool} (w : Ptw) → is_active s.store.ast u ≡ true → word_of s.store.ast u p ≡ w
       → not (eqb (new_word 0 r.kind) 0) ≡ makes → by_word w r.kind ≡ move.Fault
       → page_fits (outline_of s) None u p makes ≡ false
   unfolding is_fault
-  word_lacks u p makes ptw.Null active e same h = ap (λ (b : Bool). b || (false || (not ((outline_of s).stored u p)
+  word_lacks u p {makes} ptw.Null active e same h = ap (λ (b : Bool). b || (false || (not ((outline_of s).stored u p)
       && not makes))) (not_here s keeps u p (ap names e))
       ∙ (ap (λ (b : Bool). not ((outline_of s).stored u p) && not b) (sym same) ∙ by (eqb (new_word 0 r.kind) 0) h)
     where
@@ -46,12 +46,12 @@ module _ (s : State) (c : ℕ) (m : IsMachine s) (entitled : IsEntitledToAll s) 
           → (not ((outline_of s).stored u p) && not (not b)) ≡ false
       by true i = cc
       by false i = and-false (not ((outline_of s).stored u p))
-  word_lacks u p makes (ptw.Out n) active e same h = cc (
+  word_lacks u p (ptw.Out n) active e same h = cc (
     not_here s keeps u p (ap names e),
     stored_outlined s keeps u p active,
   )
-  word_lacks u p makes (ptw.Here f) active e same h = cc
-  word_lacks u p makes (ptw.Leaving f) active e same h = cc (ap is_leaving (sym e ∙ bound_here (seen s) f u p keeps.book
+  word_lacks u p (ptw.Here f) active e same h = cc
+  word_lacks u p (ptw.Leaving f) active e same h = cc (ap is_leaving (sym e ∙ bound_here (seen s) f u p keeps.book
       (ap frames_of_owner none) (keeps.book.tied.back f u p (ap names e))))
     where
       is_leaving : Ptw → Bool
@@ -74,7 +74,7 @@ module _ (s : State) (c : ℕ) (m : IsMachine s) (entitled : IsEntitledToAll s) 
             (by_page o (word_of s.store.ast e.uid (r.offset / 1024)) r.kind)) ≡ move.Fault
             → page_fits (outline_of s) None u p makes ≡ false
         by false false None j = (λ n. page_fits (outline_of s) None (sym (held_same e h) n) (sym to.page_is n) makes)
-            ∙ word_lacks e.uid (r.offset / 1024) makes (word_of s.store.ast e.uid (r.offset / 1024))
+            ∙ word_lacks e.uid (r.offset / 1024) (word_of s.store.ast e.uid (r.offset / 1024))
             (held_active s c keeps entitled cmd sp r is e h) refl to.makes_is j
         by _ _ _ j = cc
 
@@ -99,10 +99,10 @@ module _ (s : State) (c : ℕ) (m : IsMachine s) (entitled : IsEntitledToAll s) 
   -- ---- a reference that faults
 
   want_is : want_at (outline_of s) c ≡ want_of_reference (around s) k r
-  want_is = cc (want_here s c k sp.its)
+  want_is = cc (want_here s c sp.its)
 
   linked_is : (runner_at (outline_of s).runners c).linked ≡ is_connected (descriptor_of s.store.links k r.number)
-  linked_is = cc (linked_here s c k sp.its)
+  linked_is = cc (linked_here s c sp.its)
 
   reading_none : (runner_at (outline_of s).runners c).reading ≡ None
   reading_none = cc (at_outline s c, seen_reading (around s) (processor_at s.processors c))
@@ -119,7 +119,7 @@ module _ (s : State) (c : ℕ) (m : IsMachine s) (entitled : IsEntitledToAll s) 
       )
       by _ e = inr (λ xs v q b i. (let off = ap is_refer (sym (want_is ∙ e) ∙ i) in cc))
 
-module _ (s : State) (c : ℕ) (m : IsMachine s) (entitled : IsEntitledToAll s) (there : c < length s.processors) where
+module _ {s : State} (c : ℕ) (m : IsMachine s) (entitled : IsEntitledToAll s) (there : c < length s.processors) where
   -- a processor without a process wants nothing
   nothing_wanted : (cpu_at s.processors c).process ≡ None → want_at (outline_of s) c ≡ Other
   nothing_wanted none = ap (λ (x : Runner). x.want) (at_outline s c)
@@ -134,7 +134,7 @@ module _ (s : State) (c : ℕ) (m : IsMachine s) (entitled : IsEntitledToAll s) 
       command_enters : (cmd : Command) → Speaks s c (process_at s c) cmd → (x : Option Reference) → reference_of cmd ≡ x
           → refer_or_take s (cpu_at s.processors c) (process_at s c) x ≡ act.TakeSupervisor → MayEnter s c
       command_enters cmd sp None is h = inr (λ xs v q b i. tree_wants s.store.accounts.nodes cmd xs v q b
-          (cc (want_here s c (process_at s c) sp.its)))
+          (cc (want_here s c sp.its)))
       command_enters cmd sp (Some r) is h = reference_enters s c m entitled none rest cmd sp r is
           (take_faults s.owner r (move_of s (cpu_at s.processors c) (process_at s c) r) h)
 
@@ -160,7 +160,7 @@ module _ (s : State) (c : ℕ) (m : IsMachine s) (entitled : IsEntitledToAll s) 
           here = may.can.process;
           only = λ d other is. other (m.scheduled.alone d c may.process is may.can.process);
         };
-        more = fails_more s may.process (flat_of s) m.keeps.faithful may.command
+        more = fails_more s may.process m.keeps.faithful may.command
             (subst (MayFailBy s.store may.process) may.can.on.next (rw (← (ap or_zero may.can.process)) reads.may));
       }
         where
@@ -260,7 +260,7 @@ module _ (s : State) (keeps : Keeps s) (k : ℕ) (m : Mover) (cmd : Command)
     uid = m.uid;
     page = moves.reference.offset / 1024;
     want = cc (
-      want_here s c k its,
+      want_here s c its,
       refer_wants s k keeps moves.reference m.uid (inside s keeps k m.uid moves.reference active lacks),
     );
     lacked = full_seen;
@@ -296,14 +296,14 @@ module _ (s : State) (c : ℕ) (m : IsMachine s) (entitled : IsEntitledToAll s) 
 
   pub foresees : Foresees s c
   foresees = record {
-    kept = kept_seen s m reading fitting;
-    quiet = off_quiet s m.keeps;
-    answers = has_answer s c m there;
-    loses = may_lose s c m entitled there reading;
-    looking = looks_empty s m.keeps;
+    kept = kept_seen m reading fitting;
+    quiet = off_quiet m.keeps;
+    answers = has_answer c m there;
+    loses = may_lose c m entitled there reading;
+    looking = looks_empty m.keeps;
     evicts = evicts;
     looks = looks;
-    leaves = leaves_may s m.keeps;
+    leaves = leaves_may m.keeps;
     moves = moves;
-    enters = may_enter s c m entitled there;
+    enters = may_enter c m entitled there;
   }

@@ -3,26 +3,26 @@ use Rattle.machine_model.proofs.StepBasics.{◌≡◌, ◌<◌, ℕ, true, false
 use Rattle.machine_model.proofs.StepGoes.{may_answer}
 
 -- what doesn't take part has nothing to drop
-pub off_quiet : (s : State) → Keeps s → (d : ℕ) → (cpu_at s.processors d).online ≡ false
+pub off_quiet : {s : State} → Keeps s → (d : ℕ) → (cpu_at s.processors d).online ≡ false
     → (cpu_at s.processors d).due ≡ None
-off_quiet s k d off = by (cpu_at s.processors d).due refl
+off_quiet {s} k d off = by (cpu_at s.processors d).due refl
   where
     by : (x : Option What) → (cpu_at s.processors d).due ≡ x → x ≡ None
     by None e = refl
     by (Some w) e = cc (sym ((k.book.holding_right d).warned w e) ∙ off)
 
 -- a process that is at a processor may be answered
-pub has_answer : (s : State) (c : ℕ) → IsMachine s → c < length s.processors
+pub has_answer : {s : State} (c : ℕ) → IsMachine s → c < length s.processors
     → is_some (cpu_at s.processors c).process ≡ true → MayAnswer s c
-has_answer s c m there h = may_answer s c (process_at s c) m there (by (cpu_at s.processors c).process h)
+has_answer {s} c m there h = may_answer s c (process_at s c) m there (by (cpu_at s.processors c).process h)
   where
     by : (x : Option ℕ) → is_some x ≡ true → x ≡ Some (or_zero x)
     by None e = cc
     by (Some n) e = refl
 
 -- a look has taken nothing yet
-pub looks_empty : (s : State) → Keeps s → (o : Owner) → s.owner ≡ Some o → o.phase ≡ phase.Looking → o.frames ≡ []
-looks_empty s k o mine looks = (looking_idle (shown (seen s)) o (rw (← mine) k.book.going_owned) looks).frames
+pub looks_empty : {s : State} → Keeps s → (o : Owner) → s.owner ≡ Some o → o.phase ≡ phase.Looking → o.frames ≡ []
+looks_empty {s} k o mine looks = (looking_idle (shown (seen s)) o (rw (← mine) k.book.going_owned) looks).frames
 
 -- a transfer that a look waits for is under way
 pub waits_reading : (s : State) (k : ℕ) (cmd : Command) (f : ℕ) → LookFinds s k cmd (act.Waits (ForTransfer f))

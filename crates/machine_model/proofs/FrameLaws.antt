@@ -3,9 +3,9 @@ use Rattle.machine_model.proofs.Basics.{◌≡◌, ◌≢◌, ℕ, true, false, 
 use Rattle.machine_model.proofs.DueLaws.{HasLeft, owned_left}
 
 -- the frame that a word names is that of its page, and is used as the word says
-tied_at : (v : Seen) (f u p : ℕ) (w : Ptw) → KeepsBook v → names w ≡ Some f → v.words u p ≡ w
+tied_at : {v : Seen} (f u p : ℕ) {w : Ptw} → KeepsBook v → names w ≡ Some f → v.words u p ≡ w
     → (names (v.words u p) ≡ Some f) × (v.bound f ≡ Some (u, p)) × ((shown v).frame f ≡ bound_use (u, p) w)
-tied_at v f u p w k named word = (name, bound, use_bound v.bound v.reads v.words k.tied f u p w bound word)
+tied_at {v} f u p {w} k named word = (name, bound, use_bound k.tied f u p bound word)
   where
     name : names (v.words u p) ≡ Some f
     name = cc
@@ -22,21 +22,20 @@ pub record CanTake (v : Seen) (aim : Aim) (w : What) (f u p : ℕ) : Type 0 wher
   pub this : names_frame (shown v) w f ≡ true
   pub aimed : IsAimed aim w (frames_of_owner v.owner ++ f ∷ []) (cut_of_owner v.owner)
 
-pub take_keeps : (v : Seen) (c : ℕ) (aim : Aim) (w : What) (f u p : ℕ) → KeepsBook v → CanTake v aim w f u p
+pub take_keeps : {v : Seen} (c : ℕ) (aim : Aim) (w : What) (f u p : ℕ) → KeepsBook v → CanTake v aim w f u p
     → KeepsBook (taken v c aim w f u p)
 unfolding IsLawful after_entry custody_next
-take_keeps v c aim w f u p k can = book_next refl refl k (record {
+take_keeps {v} c aim w f u p k can = book_next refl refl k (record {
   lawful = tt;
   allowed = current;
   online = tt;
   next = λ i. record (shown v) {
     frame = λ g. one_place (shown v).frame (λ h. frame_use words (v.bound h) (v.reads h)) f
-        (page_taken ((shown v).frame f)) here
-        (λ h n. other_use v.bound v.reads v.words k.tied f u p (ptw.Leaving f) at.0 h n) g i;
+        (page_taken ((shown v).frame f)) here (λ h n. other_use k.tied f u p (ptw.Leaving f) at.0 h n) g i;
   };
   pending = refl;
-  going_owned = owned_take (shown v) v.owner c f aim w k.going_owned current can.still can.others can.this can.aimed;
-  tied = tied_word v.bound v.reads v.words k.tied f u p (ptw.Leaving f) at.0 refl;
+  going_owned = owned_take c f aim k.going_owned current can.still can.others can.this can.aimed;
+  tied = tied_word k.tied f u p (ptw.Leaving f) at.0 refl;
   holding_right = k.holding_right;
   under_way = k.under_way;
   runs = k.runs;
@@ -46,7 +45,7 @@ take_keeps v c aim w f u p k can = book_next refl refl k (record {
     words = at_put_two v.words u p (ptw.Leaving f)
 
     at : (names (v.words u p) ≡ Some f) × (v.bound f ≡ Some (u, p)) × ((shown v).frame f ≡ frame.Current u p)
-    at = tied_at v f u p (ptw.Here f) k refl can.here
+    at = tied_at f u p k refl can.here
 
     current : is_current_frame ((shown v).frame f) ≡ true
     current = ap is_current_frame at.2
@@ -77,7 +76,7 @@ finish_with {f = f} {owner = owner} word same none can = record {
 
 module _ (v : Seen) (f u p : ℕ) (owner : Option Owner) (k : KeepsBook v) (can : CanFinish v f u p owner) where
   leaving : (names (v.words u p) ≡ Some f) × (v.bound f ≡ Some (u, p)) × ((shown v).frame f ≡ frame.Going u p)
-  leaving = tied_at v f u p (ptw.Leaving f) k refl can.leaving
+  leaving = tied_at f u p k refl can.leaving
 
   leaving_nobody : NobodyHoldsPage (shown v) f
   leaving_nobody = nobody_holds_going_page (shown v) f (rw (← can.still) k.stale_due) can.none
@@ -106,8 +105,8 @@ module _ (v : Seen) (f u p : ℕ) (owner : Option Owner) (k : KeepsBook v) (can 
       seat = (shown v).seat;
     };
     pending = cc;
-    going_owned = owned_left (shown v) v.owner owner f frame.Free k.going_owned can.none can.first refl;
-    tied = tied_gone v.bound v.reads v.words k.tied f u p word leaving.0 nowhere;
+    going_owned = owned_left frame.Free k.going_owned can.none can.first refl;
+    tied = tied_gone k.tied f u p word leaving.0 nowhere;
     holding_right = λ d. right_frame v.bound
         (λ j n. descriptor_use (v.linked j n) (cut_uid (cut_of_owner owner) j n)) f None (v.processors d)
         (leaving_nobody d) (subst (λ (x : ℕ → ℕ → DescriptorUse). HoldsRight v.bound x (v.processors d))
@@ -123,7 +122,7 @@ module _ (v : Seen) (f u p : ℕ) (owner : Option Owner) (k : KeepsBook v) (can 
       here = cc (put_here v.bound f None, not_read)
 
       other : (h : ℕ) → h ≢ f → frame_use words (at_put v.bound f None h) (v.reads h) ≡ (shown v).frame h
-      other h n = cc (put_other v.bound f None h n, other_use v.bound v.reads v.words k.tied f u p word leaving.0 h n)
+      other h n = cc (put_other v.bound f None h n, other_use k.tied f u p word leaving.0 h n)
 
   -- it stays
   pub back_keeps : KeepsBook (back v f u p owner)
@@ -135,16 +134,14 @@ module _ (v : Seen) (f u p : ℕ) (owner : Option Owner) (k : KeepsBook v) (can 
     next = λ i. record {
       active = v.active;
       frame = λ g. one_place (shown v).frame (λ h. frame_use words (v.bound h) (v.reads h)) f
-          (given_back ((shown v).frame f)) here
-          (λ h n. other_use v.bound v.reads v.words k.tied f u p (ptw.Here f) leaving.0 h n) g i;
+          (given_back ((shown v).frame f)) here (λ h n. other_use k.tied f u p (ptw.Here f) leaving.0 h n) g i;
       descriptor = λ j n. descriptor_use (v.linked j n) (cut_uid (can.first.same i) j n);
       ready = v.ready;
       seat = (shown v).seat;
     };
     pending = cc;
-    going_owned = owned_left (shown v) v.owner owner f (given_back ((shown v).frame f)) k.going_owned can.none can.first
-        (cc (leaving.2));
-    tied = tied_word v.bound v.reads v.words k.tied f u p (ptw.Here f) leaving.0 refl;
+    going_owned = owned_left (given_back ((shown v).frame f)) k.going_owned can.none can.first (cc (leaving.2));
+    tied = tied_word k.tied f u p (ptw.Here f) leaving.0 refl;
     holding_right = λ d. subst (λ (x : ℕ → ℕ → DescriptorUse). HoldsRight v.bound x (v.processors d))
         (λ i. λ j n. descriptor_use (v.linked j n) (cut_uid (sym can.first.same i) j n)) (k.holding_right d);
     under_way = k.under_way;
@@ -160,15 +157,15 @@ module _ (v : Seen) (f u p : ℕ) (owner : Option Owner) (k : KeepsBook v) (can 
 -- ---- stored no more
 
 -- a page in no frame, which is all zeros, is given up
-pub release_keeps : (v : Seen) (u p : ℕ) → KeepsBook v → MayRelease (flat v) u p → IsInNoFrame (shown v) u p
+pub release_keeps : {v : Seen} {u p : ℕ} → KeepsBook v → MayRelease (flat v) u p → IsInNoFrame (shown v) u p
     → KeepsBook (released v u p)
 unfolding IsLawful after_entry custody_next
-release_keeps v u p k may nowhere = book_apart v (entry.Release u p) k may nowhere tt refl refl k.runs
+release_keeps {v} {u} {p} k may nowhere = book_apart (entry.Release u p) k may nowhere tt refl refl k.runs
 
 -- a page whose word names no frame and isn't on its record alone is in none
-pub in_no_frame : (v : Seen) (u p : ℕ) → KeepsBook v → names (v.words u p) ≡ None → ((g : ℕ) → v.reads g ≢ Some (u, p))
+pub in_no_frame : {v : Seen} (u p : ℕ) → KeepsBook v → names (v.words u p) ≡ None → ((g : ℕ) → v.reads g ≢ Some (u, p))
     → IsInNoFrame (shown v) u p
-in_no_frame v u p k nowhere unread f h = by (v.bound f) (v.reads f) refl refl h
+in_no_frame {v} u p k nowhere unread f h = by (v.bound f) (v.reads f) refl refl h
   where
     by : (x y : Option (ℕ × ℕ)) → v.bound f ≡ x → v.reads f ≡ y → page_of (frame_use v.words x y) ≡ Some (u, p) → ⊥
     by (Some page) y e r g = none_some (sym nowhere ∙ k.tied.named f u p (cc (page_used page (v.words page.0 page.1))))

@@ -47,21 +47,21 @@ unfolding all_rank
 all_le s t left turns ready off = omega arith
 
 -- a command less to come
-pub all_fewer : (s t : Outline) → HasSizes t → t.left < s.left → all_rank t < all_rank s
+pub all_fewer : (s : Outline) {t : Outline} → HasSizes t → t.left < s.left → all_rank t < all_rank s
 unfolding all_rank
-all_fewer s t sizes fewer = omega (arith, over_few t.runners, offline_few t.runners)
+all_fewer s {t} sizes fewer = omega (arith, over_few t.runners, offline_few t.runners)
 
 -- a process has had its turn less
-pub all_turn : (s t : Outline) → HasSizes t → t.left ≡ s.left → over t.runners < over s.runners
+pub all_turn : (s : Outline) {t : Outline} → HasSizes t → t.left ≡ s.left → over t.runners < over s.runners
     → all_rank t < all_rank s
 unfolding all_rank
-all_turn s t sizes left turn = omega (arith, offline_few t.runners)
+all_turn s {t} sizes left turn = omega (arith, offline_few t.runners)
 
 -- a process less is ready
-pub all_loaded : (s t : Outline) → HasSizes t → t.left ≡ s.left → over t.runners ≤ over s.runners → t.ready < s.ready
-    → all_rank t < all_rank s
+pub all_loaded : (s : Outline) {t : Outline} → HasSizes t → t.left ≡ s.left → over t.runners ≤ over s.runners
+    → t.ready < s.ready → all_rank t < all_rank s
 unfolding all_rank
-all_loaded s t sizes left turns ready = omega (arith, offline_few t.runners)
+all_loaded s {t} sizes left turns ready = omega (arith, offline_few t.runners)
 
 -- a processor more takes part
 pub all_online : (s t : Outline) → t.left ≡ s.left → over t.runners ≤ over s.runners → t.ready ≡ s.ready
@@ -80,20 +80,20 @@ same_self s t c same all = record {
   all = all;
 }
 
-all_alike : (s t : Outline) (c : ℕ) → AreAlike s.runners t.runners c → t.left ≡ s.left → t.ready ≡ s.ready
+all_alike : (s t : Outline) {c : ℕ} → AreAlike s.runners t.runners c → t.left ≡ s.left → t.ready ≡ s.ready
     → all_rank t ≤ all_rank s
-all_alike s t c alike left ready = all_le s t left (le_of_eq (over_like s.runners t.runners alike.count (λ d.
+all_alike s t alike left ready = all_le s t left (le_of_eq (over_like s.runners t.runners alike.count (λ d.
     over_same (runner_at s.runners d) (runner_at t.runners d) (alike.running d) (alike.since d) (alike.tried d)))) ready
     (le_of_eq (offline_like s.runners t.runners alike.count alike.online))
 
-same_alike : (s t : Outline) (c : ℕ) → AreAlike s.runners t.runners c → t.left ≡ s.left → t.ready ≡ s.ready
+same_alike : (s t : Outline) {c : ℕ} → AreAlike s.runners t.runners c → t.left ≡ s.left → t.ready ≡ s.ready
     → IsSameCommand s t c
-same_alike s t c alike left ready = assumption (alike.since c, alike.running c, all_alike s t c alike left ready)
+same_alike s t {c} alike left ready = assumption (alike.since c, alike.running c, all_alike s t alike left ready)
 
-lack_alike : (s t : Outline) (c : ℕ) → AreAlike s.runners t.runners c
+lack_alike : (s t : Outline) {c : ℕ} → AreAlike s.runners t.runners c
     → wanted_fits t (want_at s c) (runner_at s.runners c).reading ≡ wanted_fits s (want_at s c)
     (runner_at s.runners c).reading → lack_at t c ≤ lack_at s c
-lack_alike s t c alike fits =
+lack_alike s t {c} alike fits =
     let w : Want = want_at s c in
     let same : lack_at t c ≡ want_lack t w (runner_at s.runners c).linked (runner_at s.runners c).reading =
     rw (alike.want, alike.linked, alike.reading c) refl in
@@ -108,8 +108,8 @@ under_way : (s t : Outline) (c : ℕ) (stage : Stage) → IsIn t c stage → Are
 under_way s t c stage owner alike left ready fits = inl (record {
   stage = stage;
   in_job = owner;
-  same = same_alike s t c alike left ready;
-  lack = lack_alike s t c alike fits;
+  same = same_alike s t alike left ready;
+  lack = lack_alike s t alike fits;
 })
 
 -- a frame that was taken is free
@@ -120,17 +120,17 @@ freed : (s : Outline) (c f : ℕ) (stored : ℕ → ℕ → Bool) (full : ℕ �
 freed s c f stored full stage fits = inl (record {
   stage = stage;
   in_job = refl;
-  same = same_alike s (with_stored (at_stage (with_frame s f frame.Free) c stage) stored full) c
+  same = same_alike s (with_stored (at_stage (with_frame s f frame.Free) c stage) stored full)
       (alike_self s.runners c) refl refl;
   lack = lack_le s (with_stored (with_frame s f frame.Free) stored full) (want_at s c) (runner_at s.runners c).linked
       (runner_at s.runners c).linked (runner_at s.runners c).reading (runner_at s.runners c).reading (λ h. h) fits;
 })
 
 -- what fits a command that makes a page doesn't ask whether the page is stored
-made_fits : (s : Outline) (c : ℕ) (stored : ℕ → ℕ → Bool) (full : ℕ → Bool) → HasMoved s c full
-    → wanted_fits (with_stored s stored full) (want_at s c) (runner_at s.runners c).reading
-    ≡ wanted_fits s (want_at s c) (runner_at s.runners c).reading
-made_fits s c stored full has = by (want_at s c) has.want
+made_fits : {s : Outline} {c : ℕ} (stored : ℕ → ℕ → Bool) {full : ℕ → Bool} → HasMoved s c full
+    → wanted_fits (with_stored s stored full) (want_at s c) (runner_at s.runners c).reading ≡ wanted_fits s
+    (want_at s c) (runner_at s.runners c).reading
+made_fits {s} {c} stored {full} has = by (want_at s c) has.want
   where
     made : (b : Bool) → b && not true ≡ false
     made false = refl
@@ -201,9 +201,9 @@ started_fits s _ linked f uid page h = absurd h
 abbrev reading : ℕ → ℕ → ℕ → Transfer
 reading f uid page = record { frame = f; uid = uid; page = page }
 
-starts_goes : (s : Outline) (c f uid page : ℕ) → c < length s.runners → CanStart s c f uid page
+starts_goes : {s : Outline} {c f uid page : ℕ} → c < length s.runners → CanStart s c f uid page
     → IsMended s (without_owner (now_reading s c f uid page)) c
-starts_goes s c f uid page within can = record {
+starts_goes {s} {c} {f} {uid} {page} within can = record {
   owner = refl;
   same = record {
     want = ap (λ (x : Runner). x.want) same;
@@ -237,11 +237,11 @@ gone_from x since h = by x.running refl
       | inr n ↦ n.0
     ]
 
-answers_goes : (s t : Outline) (c : ℕ) → IsKept t → IsAnswered s c t → IsPast s t c
-answers_goes s t c kept given = record {
+answers_goes : {s t : Outline} {c : ℕ} → IsKept t → IsAnswered s c t → IsPast s t c
+answers_goes {s} {t} {c} kept given = record {
   owner = given.owner;
   gone = gone_from (runner_at t.runners c) (runner_at s.runners c).since given.over;
-  all = all_fewer s t kept.sizes given.fewer;
+  all = all_fewer s kept.sizes given.fewer;
 }
 
 -- ---- each step
@@ -265,11 +265,11 @@ goes s c t k l (signals w runners owner alike) =
 goes s c t k l (frees_frame f stored full owner due may) =
     let taken = (k.job.fits c (Waiting (EvictFrame f)) owner).0 in
     freed s c f stored full Look
-    (freed_fits s f stored full (want_at s c) (runner_at s.runners c).reading taken.0 taken.1 may)
+    (freed_fits (want_at s c) (runner_at s.runners c).reading taken.0 taken.1 may)
 goes s c t k l (frees_page place f rest stored full owner due may) =
     let taken = (k.job.fits c (Waiting (EmptyPlace place (f ∷ rest))) owner).0.0 in
     freed s c f stored full (Waiting (EmptyPlace place rest))
-    (freed_fits s f stored full (want_at s c) (runner_at s.runners c).reading taken.0 taken.1 may)
+    (freed_fits (want_at s c) (runner_at s.runners c).reading taken.0 taken.1 may)
 goes s c t k l (empties place runners owner due alike none) =
     under_way s (with_runners (at_stage (with_entry s place None) c Look) runners) c Look refl alike refl refl refl
 goes s c t k l (empties_at_once place can) =
@@ -280,13 +280,12 @@ goes s c t k l (copies left fewer owner less) =
     under_way s (at_stage s c (Copying fewer)) c (Copying fewer) refl (alike_self s.runners c) refl refl refl
 goes s c t k l (commits_move left stored full owner has) =
     under_way s (with_stored (at_stage s c Look) stored full) c Look refl (alike_self s.runners c) refl refl
-    (made_fits s c stored full has)
+    (made_fits stored has)
 goes s c t k l (gives_up chain uid page makes owner want fits) = inr (inr (record {
   owner = refl;
   same = same_self s (without_owner s) c refl (all_le s (without_owner s) refl (le_refl _) refl (le_refl _));
   now = fits;
   before = inr (subst IsReference (sym want) tt);
 }))
-goes s c t k l (starts f uid page can) = inr (inr (starts_goes s c f uid page (k.job.at_work c Look can.look).within
-    can))
-goes s c t k l (answers stage _ owner due given) = inr (inl (answers_goes s t c l given))
+goes s c t k l (starts f uid page can) = inr (inr (starts_goes (k.job.at_work c Look can.look).within can))
+goes s c t k l (answers stage _ owner due given) = inr (inl (answers_goes l given))

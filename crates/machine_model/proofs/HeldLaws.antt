@@ -148,9 +148,10 @@ segs_alike : (old new : ℕ → ℕ → DescriptorUse) (k : ℕ) (es : List Held
 segs_alike old new k [] same held = tt
 segs_alike old new k (e ∷ es) same held = (same e.number ∙ held.0, segs_alike old new k es same held.1)
 
-pub right_alike : (bound : ℕ → Option (ℕ × ℕ)) (old new : ℕ → ℕ → DescriptorUse) (p : Processor)
-    → ((k n : ℕ) → leads_to (new k n) ≡ leads_to (old k n)) → HoldsRight bound old p → HoldsRight bound new p
-right_alike bound old new p same right = assumption (by p.cpu.process right.segs)
+pub right_alike : {bound : ℕ → Option (ℕ × ℕ)} {old : ℕ → ℕ → DescriptorUse} (new : ℕ → ℕ → DescriptorUse)
+    {p : Processor} → ((k n : ℕ) → leads_to (new k n) ≡ leads_to (old k n)) → HoldsRight bound old p
+    → HoldsRight bound new p
+right_alike {bound} {old} new {p} same right = assumption (by p.cpu.process right.segs)
   where
     by : (o : Option ℕ) → AreOfProcess old o p.cpu.assoc.segs → AreOfProcess new o p.cpu.assoc.segs
     by None h = h
@@ -162,11 +163,10 @@ pub right_frame : (bound : ℕ → Option (ℕ × ℕ)) (descriptor : ℕ → �
 right_frame bound descriptor f x p none right = assumption (pages_elsewhere bound f x p.cpu.assoc.pages none
     right.pages)
 
-pub right_descriptor : (bound : ℕ → Option (ℕ × ℕ)) (descriptor : ℕ → ℕ → DescriptorUse) (k n : ℕ) (x : DescriptorUse)
-    (p : Processor)
-    → (p.cpu.process ≡ Some k → has (map (λ e. e.number) p.cpu.assoc.segs) n ≡ false) → HoldsRight bound descriptor p
-    → HoldsRight bound (at_put_two descriptor k n x) p
-right_descriptor bound descriptor k n x p none right = assumption (by p.cpu.process refl right.segs)
+pub right_descriptor : {bound : ℕ → Option (ℕ × ℕ)} {descriptor : ℕ → ℕ → DescriptorUse} (k n : ℕ) (x : DescriptorUse)
+    {p : Processor} → (p.cpu.process ≡ Some k → has (map (λ e. e.number) p.cpu.assoc.segs) n ≡ false)
+    → HoldsRight bound descriptor p → HoldsRight bound (at_put_two descriptor k n x) p
+right_descriptor {bound} {descriptor} k n x {p} none right = assumption (by p.cpu.process refl right.segs)
   where
     by : (o : Option ℕ) → p.cpu.process ≡ o → AreOfProcess descriptor o p.cpu.assoc.segs
         → AreOfProcess (at_put_two descriptor k n x) o p.cpu.assoc.segs
@@ -174,9 +174,9 @@ right_descriptor bound descriptor k n x p none right = assumption (by p.cpu.proc
     by (Some j) e h = segs_elsewhere descriptor k n x j p.cpu.assoc.segs (λ i. none (cc)) h
 
 -- transfers are under way as before
-pub under_way_alike : (reads : ℕ → Option (ℕ × ℕ)) (old new : ℕ → Processor)
+pub under_way_alike : {reads : ℕ → Option (ℕ × ℕ)} {old : ℕ → Processor} (new : ℕ → Processor)
     → ((d : ℕ) → (new d).cpu.transfer ≡ (old d).cpu.transfer) → AreUnderWay reads old → AreUnderWay reads new
-under_way_alike reads old new same k = record {
+under_way_alike new same k = record {
   reading = λ d t h. k.reading d t (sym (same d) ∙ h);
   reader = λ f u p h. (let r = k.reader f u p h in (r.0, same r.0 ∙ r.1));
   alone = λ d e t v h i. k.alone d e t v (sym (same d) ∙ h) (sym (same e) ∙ i);

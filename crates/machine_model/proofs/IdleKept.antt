@@ -16,8 +16,8 @@ set_idle {ps} c p there h one = record { held = λ d i. by d i (eqb_tells c d) }
         (sym (get_or-set_other ps c d p no_processor (λ e. other.1 (sym e))))
         (h.held d (cc (get_or-set_other ps c d p no_processor (λ e. other.1 (sym e)))))
 
-told_idle : (c : ℕ) (w : What) (ps : List Processor) → AreIdle ps → AreIdle (told_from c w 0 ps)
-told_idle c w ps h = record {
+told_idle : (c : ℕ) (w : What) {ps : List Processor} → AreIdle ps → AreIdle (told_from c w 0 ps)
+told_idle c w {ps} h = record {
   held = λ d i. subst (λ (x : Processor). x.cpu.assoc ≡ nothing_held) (sym (told_reads c w ps 0 d))
       (by (0 + d) (processor_at ps d) (h.held d (cc (
         told_process c w (0 + d) (processor_at ps d),
@@ -86,7 +86,7 @@ module _ (s : State) (c : ℕ) (o : Outcome) (there : c < length s.processors) (
   idle_kept (act.EmptyVictim pool chain u) busy = same (emptying_victim s c pool chain u)
   idle_kept (act.TakeAway fs pairs w) busy = same (all_taken s c aim.Committing w fs pairs)
   idle_kept (act.CopyPage m page) busy = by_end (λ x. AreIdle x.processors) o _ _ (λ e. h) (λ e. one _ own)
-  idle_kept (act.Signal w) busy = told_idle c w s.processors h
+  idle_kept (act.Signal w) busy = told_idle c w h
   idle_kept (act.FinishEviction f) busy =
       by_end (λ x. AreIdle x.processors) o _ _ (λ e. same (evicted s c f o.faults)) (λ e. failed)
   idle_kept (act.FinishPage f) busy =

@@ -6,8 +6,8 @@ module _ (s : State) (k : ℕ) (r : Reference) (keeps : Keeps s) where
   t = flat_of s
 
   -- what a number stands for, by the tables
-  known_is : (v : ℕ) → known_uid t k r.number ≡ Some v → uid_of_number s.store k r.number ≡ v
-  known_is v e = cc keeps.faithful.known
+  known_is : {v : ℕ} → known_uid t k r.number ≡ Some v → uid_of_number s.store k r.number ≡ v
+  known_is e = cc keeps.faithful.known
 
   less : (a b : ℕ) → nat_le a b ≡ false → b < a
   less a b h = elim (leb_tells a b) [
@@ -43,7 +43,7 @@ module _ (s : State) (k : ℕ) (r : Reference) (keeps : Keeps s) where
       by : (x : Option ℕ) → known_uid t k r.number ≡ x → only is_outside (reply_of s.plan t k r.offset r.kind x) ≡ None
           → IsInside s k r (uid_of_number s.store k r.number)
       by None e i = cc
-      by (Some v) e i = rw (known_is v e) (node v e (node_in t.nodes v) refl i)
+      by (Some v) e i = rw (known_is e) (node v e (node_in t.nodes v) refl i)
 
   module _ (u : ℕ) (inside : IsInside s k r u) where
     abbrev word : Reply

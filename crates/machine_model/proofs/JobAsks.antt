@@ -7,10 +7,9 @@ use Rattle.machine_model.proofs.ScheduleKept.{IsAnswering, Sits, still}
 -- ---- a failure is told
 
 -- a process of which a failure was told may be answered so
-pub device_tell : (b : State) (c k : ℕ) (cmd : Command) → Speaks b c k cmd → (progress_of (flat_of b) k).faulted ≡ true
+pub device_tell : {b : State} {c k : ℕ} {cmd : Command} → Speaks b c k cmd → (progress_of (flat_of b) k).faulted ≡ true
     → may_fail cmd (reply_to_command b.plan (flat_of b) k cmd) ≡ true → CanTell b c k None reply.Device
-device_tell b c k cmd sp faulted may = can_tell b c k cmd None reply.Device sp
-    (inr (assumption)) (by (reference_of cmd))
+device_tell {b} {c} {k} {cmd} sp faulted may = can_tell None reply.Device sp (inr (assumption)) (by (reference_of cmd))
   where
     off : (x : Bool) → (x && false) ≡ true → ⊥
     off true h = let none = h in cc
@@ -34,7 +33,7 @@ unfolding after_entry
 fault_is s k = store_after-push s.plan s.entries (entry.Fault (Some k))
 
 -- the machine after the failure was told of a process, and steps that leave all of it as it is
-module _ (s b : State) (c k : ℕ) (cmd : Command) (keeps : Keeps s) (sp : Speaks s c k cmd) (same : Sits s b)
+module _ {s b : State} {c k : ℕ} {cmd : Command} (keeps : Keeps s) (sp : Speaks s c k cmd) (same : Sits s b)
     (flat : flat_of b ≡ after_fault (flat_of s) (Some k)) (may : MayFailBy s.store k (Some cmd)) where
   speaks_still : Speaks b c k cmd
   speaks_still = record {
@@ -49,16 +48,16 @@ module _ (s b : State) (c k : ℕ) (cmd : Command) (keeps : Keeps s) (sp : Speak
   }
 
   shown_still : IsFaithful s.plan (flat_of b) s.store
-  shown_still = alike_shown s.plan (flat_of s) (flat_of b) s.store
+  shown_still = alike_shown (flat_of b)
       (rw (← (fault_is s k ∙ sym flat)) (fault_alike s.plan s.entries (Some k))) keeps.faithful
 
   pub failure_tell : CanTell b c k None reply.Device
-  failure_tell = device_tell b c k cmd speaks_still (cc (faulted_now (flat_of s) k ((sp.runs k).ended ∙ sp.going)))
-      (rw (← same.plan) at (may_fail_is s k (flat_of b) shown_still cmd may))
+  failure_tell = device_tell speaks_still (cc (faulted_now (flat_of s) k ((sp.runs k).ended ∙ sp.going)))
+      (rw (← same.plan) at (may_fail_is s k shown_still cmd may))
 
 -- ---- a write fails
 
-module _ (s : State) (c : ℕ) (o : Outcome) (cmd : Command) (keeps : Keeps s) (sp : Speaks s c (process_at s c) cmd)
+module _ {s : State} {c : ℕ} (o : Outcome) {cmd : Command} (keeps : Keeps s) (sp : Speaks s c (process_at s c) cmd)
     (may : MayFailBy s.store (process_at s c) (Some cmd)) where
   abbrev back : State
   back = with_owner (all_back s c o.faults (frames_of_owner s.owner) (cut_of_owner s.owner)) None
@@ -81,27 +80,25 @@ module _ (s : State) (c : ℕ) (o : Outcome) (cmd : Command) (keeps : Keeps s) (
       may = (sp.runs (process_at s c)).ended ∙ sp.going;
       tell = subst (λ (j : ℕ). CanTell back c j None reply.Device)
           (sym (ap (λ (ps : List Processor). or_zero (processor_at ps c).cpu.process) back_sits.processors))
-          (failure_tell s back c (process_at s c) cmd keeps sp back_sits back_flat may);
+          (failure_tell keeps sp back_sits back_flat may);
       says = says;
     },
     record {
       process = process_at s c;
       its = sp.its;
       known = sp.known;
-      more = ap (λ (x : Option Command). is_its_end x) sp.next
-          ∙ fails_more s (process_at s c) (flat_of s) keeps.faithful cmd may;
+      more = ap (λ (x : Option Command). is_its_end x) sp.next ∙ fails_more s (process_at s c) keeps.faithful cmd may;
     },
   )
 
 -- ---- a page of a segment that moves can't be copied
 
-pub copy_asks : (s : State) (c : ℕ) (o : Outcome) (cmd : Command) → Keeps s → Speaks s c (process_at s c) cmd
+pub copy_asks : {s : State} {c : ℕ} (o : Outcome) {cmd : Command} → Keeps s → Speaks s c (process_at s c) cmd
     → MayFailBy s.store (process_at s c) (Some cmd) → Rose s.faults o.faults → StoreSays (copy_failed s c o.faults)
     → CanFailCopy s c o
-copy_asks s c o cmd keeps sp may rose says = assumption (
+copy_asks {s} {c} o {cmd} keeps sp may rose says = assumption (
   (sp.runs (process_at s c)).ended ∙ sp.going,
-  failure_tell s (copy_failing s c o.faults) c (process_at s c) cmd keeps sp (still refl refl refl refl)
-      (fault_is s (process_at s c)) may,
+  failure_tell keeps sp (still {t = copy_failing s c o.faults} refl refl refl refl) (fault_is s (process_at s c)) may,
 )
 
 -- ---- a page can't be read in
@@ -136,7 +133,7 @@ module _ (s : State) (c : ℕ) (o : Outcome) (t : Transfer) (cmd : Command) (kee
   }
 
   lost_shown : IsFaithful s.plan (flat_of lost) s.store
-  lost_shown = alike_shown s.plan (flat_of s) (flat_of lost) s.store
+  lost_shown = alike_shown (flat_of lost)
       (rw (← (fault_is s k ∙ sym lost_flat)) (fault_alike s.plan s.entries (Some k))) keeps.faithful
 
   pub read_asks : Rose s.faults o.faults → StoreSays (transfer_failed s c t o.faults)
@@ -146,13 +143,13 @@ module _ (s : State) (c : ℕ) (o : Outcome) (t : Transfer) (cmd : Command) (kee
       ap (λ (x : Store). (progress_of x k).ended) (one_still s.plan s.entries (entry.Lose t.frame) refl)
           ∙ ((sp.runs k).ended ∙ sp.going),
       subst (λ (j : ℕ). CanTell lost c j None reply.Device) (sym (ap (λ (x : Cpu). or_zero x.process) lost_here))
-          (device_tell lost c k cmd lost_speaks (ap (λ (x : Store). (progress_of x k).faulted) lost_flat ∙ faulted_now
-          (flat_of s) k ((sp.runs k).ended ∙ sp.going)) (may_fail_is s k (flat_of lost) lost_shown cmd may)),
+          (device_tell lost_speaks (ap (λ (x : Store). (progress_of x k).faulted) lost_flat ∙ faulted_now
+          (flat_of s) k ((sp.runs k).ended ∙ sp.going)) (may_fail_is s k lost_shown cmd may)),
     ),
     record {
       process = k;
       its = sp.its;
       known = sp.known;
-      more = ap (λ (x : Option Command). is_its_end x) sp.next ∙ fails_more s k (flat_of s) keeps.faithful cmd may;
+      more = ap (λ (x : Option Command). is_its_end x) sp.next ∙ fails_more s k keeps.faithful cmd may;
     },
   )

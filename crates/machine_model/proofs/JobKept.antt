@@ -14,18 +14,18 @@ choice_seen s f = λ i. record (seen s) {
 
 -- ---- an eviction begins
 
-pub evict_kept : (s : State) (c f u p : ℕ) (o : Owner) → Keeps s → s.owner ≡ Some o → o.cpu ≡ c → IsIdle s.owner
+pub evict_kept : {s : State} {c : ℕ} (f u p : ℕ) {o : Owner} → Keeps s → s.owner ≡ Some o → o.cpu ≡ c → IsIdle s.owner
     → (seen s).bound f ≡ Some (u, p) → StoreSays (eviction_begun s c f) → Keeps (eviction_begun s c f)
-evict_kept s c f u p o k mine same idle bound says = kept_with (eviction_begun s c f)
+evict_kept {s} {c} f u p {o} k mine same idle bound says = kept_with (eviction_begun s c f)
     (subst KeepsBook (sym (take_one_seen now c aim.Evicting
     (what.Page f) f u p k.store.kept.places bound_still here_still))
-    (take_keeps (seen now) c aim.Evicting (what.Page f) f u p book (record {
+    (take_keeps c aim.Evicting (what.Page f) f u p book (record {
       here = here_still;
       still = idle.waits;
-      others = idle_names (shown (seen now)) s.owner (what.Page f) book.going_owned idle.frames idle.cut;
+      others = idle_names (what.Page f) book.going_owned idle.frames idle.cut;
       this = own;
       aimed = (f, cc, refl, idle.cut);
-    }))) says (quiet_faults s (entry.Take f) s.faults k refl (omega arith)) k.sizes.processors k.sizes.processes
+    }))) says (quiet_faults (entry.Take f) s.faults k refl (omega arith)) k.sizes.processors k.sizes.processes
     (λ q h. rw (← (same ∙ ap (λ (x : Owner). x.cpu) (let is : made ≡ q = cc in is))) (k.at_work o mine))
   where
     now : State
@@ -72,11 +72,11 @@ told_length : (c : ℕ) (w : What) (from : ℕ) (ps : List Processor) → length
 told_length c w from [] = refl
 told_length c w from (p ∷ ps) = cc (told_length c w (from + 1) ps)
 
-pub signal_kept : (s : State) (c : ℕ) (o : Owner) (a : Aim) (w : What) → Keeps s → s.owner ≡ Some o → o.cpu ≡ c
+pub signal_kept : {s : State} {c : ℕ} {o : Owner} (a : Aim) (w : What) → Keeps s → s.owner ≡ Some o → o.cpu ≡ c
     → o.phase ≡ phase.Taken a w → Keeps (signalled s c w)
-signal_kept s c o a w k mine same taken_phase = record {
+signal_kept {s} {c} {o} a w k mine same taken_phase = record {
   book = subst KeepsBook (sym (signal_seen s c w (owner_signalled s.owner)))
-      (signal_keeps (seen s) c w (owner_signalled s.owner) k.book (record {
+      (signal_keeps c w (owner_signalled s.owner) k.book (record {
         online = subst (λ (d : ℕ). (processor_at s.processors d).cpu.online ≡ true) same (k.at_work o mine).online;
         says = ap says mine ∙ ap says_in taken_phase;
         said = subst (λ (x : Option Owner). HasSaid x (owner_signalled x) w) (sym mine)
@@ -89,7 +89,7 @@ signal_kept s c o a w k mine same taken_phase = record {
   rights = subst (HadRights s.store.accounts.nodes s.store.whos) (cut_same s.owner) k.rights;
   cut = subst (AreThere s.store) (cut_same s.owner) k.cut;
   conserved = subst (IsConserved s.plan) (sym flat_same) k.conserved;
-  few_faults = quiet_faults s (entry.Signal c w) s.faults k refl (omega arith);
+  few_faults = quiet_faults (entry.Signal c w) s.faults k refl (omega arith);
   sizes = assumption (told_length c w 0 s.processors ∙ k.sizes.processors);
   at_work = λ q h. works q (subst (λ (x : Option Owner). owner_signalled x ≡ Some q) mine h);
 }

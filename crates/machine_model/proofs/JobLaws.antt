@@ -4,31 +4,31 @@ use Rattle.machine_model.proofs.CountLaws.{activation_falls, emptying_off, empty
 
 -- ---- The measure of a job falls where one of its parts falls and none before it rises.
 
-pub falls_reading : (p q : Parts) → IsSmall q → q.reading < p.reading → rank_of q < rank_of p
-falls_reading p q small less = omega arith
+pub falls_reading : (p : Parts) {q : Parts} → IsSmall q → q.reading < p.reading → rank_of q < rank_of p
+falls_reading p small less = omega arith
 
-pub falls_idle : (p q : Parts) → IsSmall q → q.reading ≤ p.reading → q.idle < p.idle → rank_of q < rank_of p
-falls_idle p q small reading less = omega arith
+pub falls_idle : (p : Parts) {q : Parts} → IsSmall q → q.reading ≤ p.reading → q.idle < p.idle → rank_of q < rank_of p
+falls_idle p small reading less = omega arith
 
-pub falls_off : (p q : Parts) → IsSmall q → q.reading ≤ p.reading → q.idle ≤ p.idle → q.off < p.off
+pub falls_off : (p : Parts) {q : Parts} → IsSmall q → q.reading ≤ p.reading → q.idle ≤ p.idle → q.off < p.off
     → rank_of q < rank_of p
-falls_off p q small reading idle less = omega arith
+falls_off p small reading idle less = omega arith
 
-pub falls_link : (p q : Parts) → IsSmall q → q.reading ≤ p.reading → q.idle ≤ p.idle → q.off ≤ p.off → q.link < p.link
-    → rank_of q < rank_of p
-falls_link p q small reading idle off less = omega arith
+pub falls_link : (p : Parts) {q : Parts} → IsSmall q → q.reading ≤ p.reading → q.idle ≤ p.idle → q.off ≤ p.off
+    → q.link < p.link → rank_of q < rank_of p
+falls_link p small reading idle off less = omega arith
 
-pub falls_room : (p q : Parts) → IsSmall q → q.reading ≤ p.reading → q.idle ≤ p.idle → q.off ≤ p.off → q.link ≤ p.link
-    → q.room < p.room → rank_of q < rank_of p
-falls_room p q small reading idle off link less = omega arith
+pub falls_room : (p : Parts) {q : Parts} → IsSmall q → q.reading ≤ p.reading → q.idle ≤ p.idle → q.off ≤ p.off
+    → q.link ≤ p.link → q.room < p.room → rank_of q < rank_of p
+falls_room p small reading idle off link less = omega arith
 
-pub falls_frame : (p q : Parts) → IsSmall q → q.reading ≤ p.reading → q.idle ≤ p.idle → q.off ≤ p.off → q.link ≤ p.link
-    → q.room ≤ p.room → q.frame < p.frame → rank_of q < rank_of p
-falls_frame p q small reading idle off link room less = omega arith
+pub falls_frame : (p : Parts) {q : Parts} → IsSmall q → q.reading ≤ p.reading → q.idle ≤ p.idle → q.off ≤ p.off
+    → q.link ≤ p.link → q.room ≤ p.room → q.frame < p.frame → rank_of q < rank_of p
+falls_frame p small reading idle off link room less = omega arith
 
-pub falls_stage : (p q : Parts) → IsSmall q → q.reading ≤ p.reading → q.idle ≤ p.idle → q.off ≤ p.off → q.link ≤ p.link
-    → q.room ≤ p.room → q.frame ≤ p.frame → q.stage < p.stage → rank_of q < rank_of p
-falls_stage p q small reading idle off link room frame less = omega arith
+pub falls_stage : (p : Parts) {q : Parts} → IsSmall q → q.reading ≤ p.reading → q.idle ≤ p.idle → q.off ≤ p.off
+    → q.link ≤ p.link → q.room ≤ p.room → q.frame ≤ p.frame → q.stage < p.stage → rank_of q < rank_of p
+falls_stage p small reading idle off link room frame less = omega arith
 
 pub falls_due : (p q : Parts) → q.reading ≤ p.reading → q.idle ≤ p.idle → q.off ≤ p.off → q.link ≤ p.link
     → q.room ≤ p.room → q.frame ≤ p.frame → q.stage ≤ p.stage → q.due < p.due → rank_of q < rank_of p
@@ -74,9 +74,9 @@ stage_small s w (Taken work) fits = omega (arith, work_small s w work fits)
 stage_small s w (Waiting work) fits = omega (arith, work_small s w work fits)
 stage_small s w _ fits = omega arith
 
-pub small_of : (t : Outline) (c : ℕ) (stage : Stage) → IsKept t → IsIn t c stage
+pub small_of : {t : Outline} (c : ℕ) (stage : Stage) → IsKept t → IsIn t c stage
     → IsSmall (parts_of t (runner_at t.runners c) stage)
-small_of t c stage kept owner =
+small_of {t} c stage kept owner =
     let chain = chain_of (want_at t c) in
     let idle = idle_few t.entries chain in
     let links = kept.sizes.few_links c in
@@ -108,12 +108,12 @@ over_falls s t c a owner none = omega (arith, ranked s c a owner, ranked_none t 
 link_like : (x y : Runner) → y.want ≡ x.want → y.linked ≡ x.linked → unlinked y.want y.linked ≤ unlinked x.want x.linked
 link_like x y want linked = rw (want, linked) (le_refl _)
 
-link_falls : (w : Want) (b : Bool) (chain : List ℕ) (uid page : ℕ) (makes : Bool) → w ≡ Refer chain uid page makes
+link_falls : {w : Want} {b : Bool} (chain : List ℕ) (uid page : ℕ) (makes : Bool) → w ≡ Refer chain uid page makes
     → b ≡ false → unlinked w true < unlinked w b
-link_falls w b chain uid page makes is off = rw (is, off) (omega arith)
+link_falls chain uid page makes is off = rw (is, off) (omega arith)
 
-room_like : (full : ℕ → Bool) (v w : Want) → v ≡ w → room_lack full v ≤ room_lack full w
-room_like full v w h = rw h (le_refl _)
+room_like : (full : ℕ → Bool) {v w : Want} → v ≡ w → room_lack full v ≤ room_lack full w
+room_like full h = rw h (le_refl _)
 
 -- no volume has fewer free records
 room_less : (s : Outline) (now : ℕ → Bool) (w : Want) → ((uid : ℕ) → now uid ≡ true → s.full uid ≡ true)
@@ -126,13 +126,13 @@ room_less s now (Refer chain uid page makes) less = by makes (now uid) (s.full u
     by false a b h = le_refl _
 room_less s now _ less = le_refl _
 
-idle_like : (entries : List (Option Entry)) (v w : Want) → v ≡ w
+idle_like : (entries : List (Option Entry)) {v w : Want} → v ≡ w
     → idle_links entries (chain_of v) ≤ idle_links entries (chain_of w)
-idle_like entries v w h = rw h (le_refl _)
+idle_like entries h = rw h (le_refl _)
 
-off_like : (entries : List (Option Entry)) (v w : Want) → v ≡ w
+off_like : (entries : List (Option Entry)) {v w : Want} → v ≡ w
     → off_links entries (chain_of v) ≤ off_links entries (chain_of w)
-off_like entries v w h = rw h (le_refl _)
+off_like entries h = rw h (le_refl _)
 
 pub alike_self : (xs : List Runner) (c : ℕ) → AreAlike xs xs c
 alike_self xs c = assumption
@@ -143,11 +143,11 @@ stage_falls : (s : Outline) {c : ℕ} {runners : List Runner} (a b : Stage) → 
     → stage_left b < stage_left a → job_rank (with_runners (at_stage s c b) runners) < job_rank s
 stage_falls s {c} {runners} a b owner alike kept frame less =
     between s (with_runners (at_stage s c b) runners) c a b owner refl
-    (falls_stage _ _ (small_of (with_runners (at_stage s c b) runners) c b kept refl)
+    (falls_stage _ (small_of c b kept refl)
     (le_of_eq (readers_like s.runners runners alike.count alike.reading))
-    (idle_like s.entries _ _ alike.want) (off_like s.entries _ _ alike.want)
+    (idle_like s.entries alike.want) (off_like s.entries alike.want)
     (link_like (runner_at s.runners c) (runner_at runners c) alike.want alike.linked)
-    (room_like s.full _ _ alike.want) frame less)
+    (room_like s.full alike.want) frame less)
 
 full_lacks : (frames : List Frame) → has_free frames ≡ false → 1 ≤ frame_lack Look frames
 full_lacks frames full = rw full (omega arith)
@@ -155,10 +155,10 @@ full_lacks frames full = rw full (omega arith)
 freed_lacks : (frames : List Frame) (f : ℕ) → f < length frames → frame_lack Look (set frames f frame.Free) ≡ 0
 freed_lacks frames f lt = cc (freed_is_free frames f lt)
 
-connect_falls : (s : Outline) (c : ℕ) (chain : List ℕ) (uid page : ℕ) (makes : Bool) → IsKept s → IsKept (with_link s c)
+connect_falls : {s : Outline} (c : ℕ) (chain : List ℕ) (uid page : ℕ) (makes : Bool) → IsKept s → IsKept (with_link s c)
     → IsIn s c Look → want_at s c ≡ Refer chain uid page makes → (runner_at s.runners c).linked ≡ false
     → job_rank (with_link s c) < job_rank s
-connect_falls s c chain uid page makes kept now owner want off = between s (with_link s c) c Look Look owner owner
+connect_falls {s} c chain uid page makes kept now owner want off = between s (with_link s c) c Look Look owner owner
     (rw same less)
   where
     linked : Runner
@@ -171,72 +171,71 @@ connect_falls s c chain uid page makes kept now owner want off = between s (with
     same = get_or-set_same s.runners c (record (runner_at s.runners c) { linked = true }) no_runner within
 
     small : IsSmall (parts_of (with_link s c) (record (runner_at s.runners c) { linked = true }) Look)
-    small = rw same at (small_of (with_link s c) c Look now owner)
+    small = rw same at (small_of c Look now owner)
 
     reading : readers (with_link s c).runners ≤ readers s.runners
     reading = omega (arith, (readers_set s.runners c (record (runner_at s.runners c) { linked = true }) within))
 
     less : rank_of (parts_of (with_link s c) (record (runner_at s.runners c) { linked = true }) Look)
         < rank_of (parts_of s (runner_at s.runners c) Look)
-    less = falls_link _ _ small reading (le_refl _) (le_refl _)
-        (link_falls (want_at s c) (runner_at s.runners c).linked chain uid page makes want off)
+    less = falls_link _ small reading (le_refl _) (le_refl _) (link_falls chain uid page makes want off)
 
 -- a segment has moved to a volume where a record is free
-room_falls : (s : Outline) (c : ℕ) (full : ℕ → Bool) → HasMoved s c full
+room_falls : {s : Outline} {c : ℕ} {full : ℕ → Bool} → HasMoved s c full
     → room_lack full (want_at s c) < room_lack s.full (want_at s c)
-room_falls s c full h = rw (h.want, h.lacked, h.has) (omega arith)
+room_falls h = rw (h.want, h.lacked, h.has) (omega arith)
 
 -- Each step of the owner makes the measure of its job fall.
-pub job_falls : (s : Outline) (c : ℕ) (t : Outline) → IsKept s → IsKept t → JobStep s c t → job_rank t < job_rank s
-job_falls s c t k l (activates place uid superior can) = between s _ c Look Look can.look can.look
-    (falls_idle _ _ (small_of _ c Look l can.look) (le_refl _)
+pub job_falls : {s : Outline} {c : ℕ} {t : Outline} → IsKept s → IsKept t → JobStep s c t → job_rank t < job_rank s
+job_falls {s} {c} k l (activates place uid superior can) = between s _ c Look Look can.look can.look
+    (falls_idle _ (small_of c Look l can.look) (le_refl _)
     (activation_falls s.entries place uid superior (chain_of (want_at s c)) can.member can.idle can.free can.within))
-job_falls s c t k l (connects chain uid page makes owner want off) =
-    connect_falls s c chain uid page makes k l owner want off
-job_falls s c t k l (takes_segment place frames runners can of few alike) =
+job_falls {s} {c} k l (connects chain uid page makes owner want off) =
+    connect_falls c chain uid page makes k l owner want off
+job_falls {s} k l (takes_segment place frames runners can of few alike) =
     stage_falls s Look (Taken (EmptyPlace place frames)) can.look alike l (le_refl _) (omega arith)
-job_falls s c t k l (takes_frame f can) = stage_falls s Look (Taken (EvictFrame f)) can.look (alike_self s.runners c) l
+job_falls {s} {c} k l (takes_frame f can) = stage_falls s Look (Taken (EvictFrame f)) can.look (alike_self s.runners c) l
     (full_lacks s.frames can.full) (omega arith)
-job_falls s c t k l (takes_for_commit runners owner alike) =
+job_falls {s} k l (takes_for_commit runners owner alike) =
     stage_falls s Look (Taken CommitCommand) owner alike l (le_refl _) (omega arith)
-job_falls s c t k l (signals (EvictFrame f) runners owner alike) =
+job_falls {s} k l (signals (EvictFrame f) runners owner alike) =
     stage_falls s (Taken (EvictFrame f)) (Waiting (EvictFrame f)) owner alike l (le_refl _) (omega arith)
-job_falls s c t k l (signals (EmptyPlace place rest) runners owner alike) =
+job_falls {s} k l (signals (EmptyPlace place rest) runners owner alike) =
     stage_falls s (Taken (EmptyPlace place rest)) (Waiting (EmptyPlace place rest)) owner alike l (le_refl _)
     (omega arith)
-job_falls s c t k l (signals CommitCommand runners owner alike) =
+job_falls {s} k l (signals CommitCommand runners owner alike) =
     stage_falls s (Taken CommitCommand) (Waiting CommitCommand) owner alike l (le_refl _) (omega arith)
-job_falls s c t k l (frees_frame f stored full owner due may) =
+job_falls {s} {c} k l (frees_frame f stored full owner due may) =
     let lacks = freed_lacks s.frames f ((k.job.fits c (Waiting (EvictFrame f)) owner).0.0) in
     between s _ c (Waiting (EvictFrame f)) Look owner refl
-    (falls_frame _ _ (small_of _ c Look l refl) (le_refl _) (le_refl _) (le_refl _) (le_refl _)
+    (falls_frame _ (small_of c Look l refl) (le_refl _) (le_refl _) (le_refl _) (le_refl _)
     (room_less s full (want_at s c) may.room) (omega arith))
-job_falls s c t k l (frees_page place f rest stored full owner due may) =
+job_falls {s} {c} k l (frees_page place f rest stored full owner due may) =
     let lacks = freed_lacks s.frames f ((k.job.fits c (Waiting (EmptyPlace place (f ∷ rest))) owner).0.0.0) in
     between s _ c (Waiting (EmptyPlace place (f ∷ rest))) (Waiting (EmptyPlace place rest)) owner refl
-    (falls_stage _ _ (small_of _ c (Waiting (EmptyPlace place rest)) l refl) (le_refl _) (le_refl _) (le_refl _)
+    (falls_stage _ (small_of c (Waiting (EmptyPlace place rest)) l refl) (le_refl _) (le_refl _) (le_refl _)
     (le_refl _) (room_less s full (want_at s c) may.room) (omega arith) (omega arith))
-job_falls s c t k l (empties place runners owner due alike none) =
+job_falls {s} {c} k l (empties place runners owner due alike none) =
     let fits = k.job.fits c (Waiting (EmptyPlace place [])) owner in
     let chain = chain_of (want_at s c) in
     let idle = emptying_idle s.entries place chain fits.3 fits.2 in
     let off = emptying_off s.entries place chain fits.3 fits.2 in
-    let like_idle = idle_like (set s.entries place None) (runner_at runners c).want (want_at s c) alike.want in
-    let like_off = off_like (set s.entries place None) (runner_at runners c).want (want_at s c) alike.want in
+    let like_idle = idle_like (set s.entries place None) alike.want in
+    let like_off = off_like (set s.entries place None) alike.want in
     between s _ c (Waiting (EmptyPlace place [])) Look owner refl
-    (falls_off _ _ (small_of _ c Look l refl) (le_of_eq (readers_like s.runners runners alike.count alike.reading))
+    (falls_off _ (small_of c Look l refl) (le_of_eq (readers_like s.runners runners alike.count alike.reading))
     (omega arith) (omega arith))
-job_falls s c t k l (empties_at_once place can) =
+job_falls {s} {c} k l (empties_at_once place can) =
     let chain = chain_of (want_at s c) in
     between s _ c Look Look can.look can.look
-    (falls_off _ _ (small_of _ c Look l can.look) (le_refl _) (emptying_idle s.entries place chain can.off can.within)
+    (falls_off _ (small_of c Look l can.look) (le_refl _) (emptying_idle s.entries place chain can.off can.within)
     (emptying_off s.entries place chain can.off can.within))
-job_falls s c t k l (begins_move left owner few) =
+job_falls {s} {c} k l (begins_move left owner few) =
     stage_falls s Look (Copying left) owner (alike_self s.runners c) l (le_refl _) (omega arith)
-job_falls s c t k l (copies left fewer owner less) =
+job_falls {s} {c} k l (copies left fewer owner less) =
     stage_falls s (Copying left) (Copying fewer) owner (alike_self s.runners c) l (le_refl _) (omega arith)
-job_falls s c t k l (commits_move left stored full owner has) = between s _ c (Copying left) Look owner refl (falls_room
-    _ _ (small_of _ c Look l refl) (le_refl _) (le_refl _) (le_refl _) (le_refl _) (room_falls s c full has))
-job_falls s c t k l (gives_up chain uid page makes owner want fits) = over_falls s _ c Look owner refl
-job_falls s c t k l (starts f uid page can) = over_falls s _ c Look can.look refl
-job_falls s c t k l (answers stage _ owner due given) = over_falls s t c stage owner given.owner
+job_falls {s} {c} k l (commits_move left stored full owner has) = between s _ c (Copying left) Look owner refl (falls_room
+    _ (small_of c Look l refl) (le_refl _) (le_refl _) (le_refl _) (le_refl _) (room_falls has))
+job_falls {s} {c} k l (gives_up chain uid page makes owner want fits) = over_falls s _ c Look owner refl
+job_falls {s} {c} k l (starts f uid page can) = over_falls s _ c Look can.look refl
+job_falls {s} {c} {t} k l (answers stage _ owner due given) = over_falls s t c stage owner given.owner

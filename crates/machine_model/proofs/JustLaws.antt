@@ -43,9 +43,9 @@ AllStay Page (e ∷ es) = Stays Page e × AllStay Page es
 
 module _ (Page : ℕ → ℕ → Type 0) (Descriptor : ℕ → ℕ → ℕ → Type 0) where
   -- one frame is used otherwise, and isn't on its way out
-  frame_just : (c : Custody) (f : ℕ) (x : FrameUse) → GoesJust c Page Descriptor → is_going_frame x ≡ false
+  frame_just : {c : Custody} (f : ℕ) (x : FrameUse) → GoesJust c Page Descriptor → is_going_frame x ≡ false
       → ((u q : ℕ) → page_of x ≡ Some (u, q) → Page u q → ⊥) → GoesJust (with_frame c f x) Page Descriptor
-  frame_just c f x j off none = record {
+  frame_just {c} f x j off none = record {
     pages = λ g u q. by_place (λ (y : FrameUse). page_of y ≡ Some (u, q) → Page u q → is_going_frame y ≡ true)
         c.frame f x g (λ e h i. absurd (none u q h i)) (λ n. j.pages g u q);
     its_pages = λ g u q. by_place (λ (y : FrameUse). page_of y ≡ Some (u, q) → is_going_frame y ≡ true → Page u q)
@@ -54,55 +54,55 @@ module _ (Page : ℕ → ℕ → Type 0) (Descriptor : ℕ → ℕ → ℕ → T
     its_descriptors = j.its_descriptors;
   }
 
-  seat_just : (c e : Custody) → e.frame ≡ c.frame → e.descriptor ≡ c.descriptor → GoesJust c Page Descriptor
+  seat_just : {c : Custody} (e : Custody) → e.frame ≡ c.frame → e.descriptor ≡ c.descriptor → GoesJust c Page Descriptor
       → GoesJust e Page Descriptor
-  seat_just c e f d j = record {
+  seat_just e f d j = record {
     pages = rw f j.pages;
     its_pages = rw f j.its_pages;
     descriptors = rw d j.descriptors;
     its_descriptors = rw d j.its_descriptors;
   }
 
-  just_next : (p : Plan) (s : Store) (c : Custody) (e : Entry) → GoesJust c Page Descriptor → Stays Page e
+  just_next : (p : Plan) (s : Store) {c : Custody} (e : Entry) → GoesJust c Page Descriptor → Stays Page e
       → GoesJust (custody_next p s c e) Page Descriptor
   unfolding custody_next
-  just_next p s c (entry.Do k i d f r) j h = seat_just c (custody_next p s c (entry.Do k i d f r)) refl refl j
-  just_next p s c (entry.Release v q) j h = j
-  just_next p s c (entry.Fault k) j h = j
-  just_next p s c (entry.Moved k u w) j h = j
-  just_next p s c (entry.Online d) j h = seat_just c (custody_next p s c (entry.Online d)) refl refl j
-  just_next p s c (entry.Load d k) j h = seat_just c (custody_next p s c (entry.Load d k)) refl refl j
-  just_next p s c (entry.Leave d) j h = seat_just c (custody_next p s c (entry.Leave d)) refl refl j
-  just_next p s c (entry.Activate v) j h = seat_just c (custody_next p s c (entry.Activate v)) refl refl j
-  just_next p s c (entry.Deactivate v) j h = seat_just c (custody_next p s c (entry.Deactivate v)) refl refl j
-  just_next p s c (entry.Lose f) j h = frame_just c f frame.Free j refl (λ u q e. cc)
-  just_next p s c (entry.Here f v q) j h = frame_just c f (frame.Current v q) j refl
+  just_next p s {c} (entry.Do k i d f r) j h = seat_just (custody_next p s c (entry.Do k i d f r)) refl refl j
+  just_next p s (entry.Release v q) j h = j
+  just_next p s (entry.Fault k) j h = j
+  just_next p s (entry.Moved k u w) j h = j
+  just_next p s {c} (entry.Online d) j h = seat_just (custody_next p s c (entry.Online d)) refl refl j
+  just_next p s {c} (entry.Load d k) j h = seat_just (custody_next p s c (entry.Load d k)) refl refl j
+  just_next p s {c} (entry.Leave d) j h = seat_just (custody_next p s c (entry.Leave d)) refl refl j
+  just_next p s {c} (entry.Activate v) j h = seat_just (custody_next p s c (entry.Activate v)) refl refl j
+  just_next p s {c} (entry.Deactivate v) j h = seat_just (custody_next p s c (entry.Deactivate v)) refl refl j
+  just_next p s {c} (entry.Lose f) j h = frame_just f frame.Free j refl (λ u q e. cc)
+  just_next p s {c} (entry.Here f v q) j h = frame_just f (frame.Current v q) j refl
       (λ u p e i. h (let same = page_is v q u p e in
       rw (same.0, same.1) i))
-  just_next p s c (entry.Signal d x) j h = seat_just c (custody_next p s c (entry.Signal d x)) refl refl j
-  just_next p s c (entry.Clear d x) j h = seat_just c (custody_next p s c (entry.Clear d x)) refl refl j
-  just_next p s c (entry.FillSeg d n) j h = seat_just c (custody_next p s c (entry.FillSeg d n)) refl refl j
-  just_next p s c (entry.FillPage d f) j h = seat_just c (custody_next p s c (entry.FillPage d f)) refl refl j
-  just_next p s c _ j h = absurd h
+  just_next p s {c} (entry.Signal d x) j h = seat_just (custody_next p s c (entry.Signal d x)) refl refl j
+  just_next p s {c} (entry.Clear d x) j h = seat_just (custody_next p s c (entry.Clear d x)) refl refl j
+  just_next p s {c} (entry.FillSeg d n) j h = seat_just (custody_next p s c (entry.FillSeg d n)) refl refl j
+  just_next p s {c} (entry.FillPage d f) j h = seat_just (custody_next p s c (entry.FillPage d f)) refl refl j
+  just_next p s _ j h = absurd h
 
   just_list : (p : Plan) (es more : List Entry) → GoesJust (custody_after p es) Page Descriptor → AllStay Page more
       → GoesJust (custody_after p (es ++ more)) Page Descriptor
   just_list p es [] j stay =
       subst (λ (xs : List Entry). GoesJust (custody_after p xs) Page Descriptor) (sym (append-nil es)) j
   just_list p es (e ∷ more) j stay = rw (append_assoc es (e ∷ []) more) at (just_list p (es ++ e ∷ []) more
-      (rw (custody_after-push p es e) (just_next p (store_after p es) (custody_after p es) e j stay.0)) stay.1)
+      (rw (custody_after-push p es e) (just_next p (store_after p es) e j stay.0)) stay.1)
 
   -- what goes is just that still
-  pub just_on : (s now : State) (more : List Entry) → Keeps s → Keeps now → now.plan ≡ s.plan
+  pub just_on : {s now : State} (more : List Entry) → Keeps s → Keeps now → now.plan ≡ s.plan
       → now.entries ≡ s.entries ++ more → GoesJust (holding s) Page Descriptor → AllStay Page more
       → GoesJust (holding now) Page Descriptor
-  just_on s now more k kept plan entries j stay = rw (kept.book.held ∙ λ i. custody_after (plan i) (entries i))
+  just_on {s} more k kept plan entries j stay = rw (kept.book.held ∙ λ i. custody_after (plan i) (entries i))
       (just_list s.plan s.entries more (rw (← k.book.held) j) stay)
 
   -- a page that is being read isn't taken
-  pub started_free : (c : Custody) (f v q : ℕ) → GoesJust c Page Descriptor → c.frame f ≡ frame.Started v q
-      → Page v q → ⊥
-  started_free c f v q j started h = let no : false ≡ true = sym (ap is_going_frame started)
+  pub started_free : {c : Custody} (f v q : ℕ) → GoesJust c Page Descriptor → c.frame f ≡ frame.Started v q → Page v q
+      → ⊥
+  started_free f v q j started h = let no : false ≡ true = sym (ap is_going_frame started)
       ∙ (j.pages f v q (ap page_of started) h) in cc
 
 -- ---- the segment of the command
@@ -151,9 +151,9 @@ brought_on old now u (command.Truncate path words) active out h = (
 )
 brought_on old now u _ active out h = tt
 
-taken_for : (s now : State) (k : ℕ) (c : Command) → LeavesTaken s now → TakesSome (Some c) → IsTakenFor s k c
+taken_for : {s now : State} {k : ℕ} {c : Command} → LeavesTaken s now → TakesSome (Some c) → IsTakenFor s k c
     → IsTakenFor now k c
-taken_for s now k c l some h = record {
+taken_for {s} {now} {k} {c} l some h = record {
   just = rw same (l.just (TakesPage c (uid_of_command s.store k c)) (TakesDescriptor c k (uid_of_command s.store k c))
       h.just);
   alone = rw same (alone_same now.store.accounts.nodes (uid_of_command s.store k c) c l.nodes h.alone);
@@ -167,15 +167,15 @@ taken_for s now k c l some h = record {
 taken_by : (s now : State) (k : ℕ) (x : Option Command) → LeavesTaken s now → TakesSome x → IsTakenBy s k x
     → IsTakenBy now k x
 taken_by s now k None l some h = tt
-taken_by s now k (Some c) l some h = taken_for s now k c l some h
+taken_by s now k (Some c) l some h = taken_for l some h
 
-taken_to : (a : Aim) (s now : State) (k : ℕ) (x : Option Command) → LeavesTaken s now → FailsBy a s.store k x
+taken_to : (a : Aim) {s now : State} (k : ℕ) (x : Option Command) → LeavesTaken s now → FailsBy a s.store k x
     → TakenTo a s k x → TakenTo a now k x
-taken_to aim.Committing s now k x l fails h = taken_by s now k x l fails h
-taken_to _ s now k x l fails h = tt
+taken_to aim.Committing {s} {now} k x l fails h = taken_by s now k x l fails h
+taken_to _ k x l fails h = tt
 
-pub taken_in : (ph : Phase) (s now : State) (k : ℕ) (x : Option Command) → LeavesTaken s now → FailsIn ph s.store k x
+pub taken_in : (ph : Phase) {s now : State} (k : ℕ) (x : Option Command) → LeavesTaken s now → FailsIn ph s.store k x
     → TakenIn ph s k x → TakenIn ph now k x
-taken_in (phase.Taken a w) s now k x l fails h = taken_to a s now k x l fails h
-taken_in (phase.Waiting a w) s now k x l fails h = taken_to a s now k x l fails h
-taken_in _ s now k x l fails h = tt
+taken_in (phase.Taken a w) {s} {now} k x l fails h = taken_to a k x l fails h
+taken_in (phase.Waiting a w) {s} {now} k x l fails h = taken_to a k x l fails h
+taken_in _ k x l fails h = tt

@@ -17,8 +17,8 @@ or_second : (a : Bool) {b : Bool} → b ≡ true → (a || b) ≡ true
 or_second true h = refl
 or_second false h = h
 
-pair_own : (k n m : ℕ) → n ≡ m → is_pair k n (k, m) ≡ true
-pair_own k n m same = rw (eqb_self k) (cc (eqb_self m))
+pair_own : (k : ℕ) {n m : ℕ} → n ≡ m → is_pair k n (k, m) ≡ true
+pair_own k {n} {m} same = rw (eqb_self k) (cc (eqb_self m))
 
 pair_tells : (k n : ℕ) (x : ℕ × ℕ) → is_pair k n x ≡ true → (x.0 ≡ k) × (x.1 ≡ n)
 pair_tells k n x h = elim (eqb_tells x.0 k) [
@@ -60,10 +60,10 @@ notes_push : (linked : ℕ → ℕ → Option ℕ) (ds : List CutDescriptor) (d 
 notes_push linked [] d led h = (h, tt)
 notes_push linked (x ∷ xs) d led h = (led.0, notes_push linked xs d led.1 h)
 
-notes_led : (linked : ℕ → ℕ → Option ℕ) (ds : List CutDescriptor) (k n u : ℕ) → NotesLed linked ds
+notes_led : (linked : ℕ → ℕ → Option ℕ) (ds : List CutDescriptor) (k n : ℕ) {u : ℕ} → NotesLed linked ds
     → cut_uid ds k n ≡ Some u → linked k n ≡ Some u
-notes_led linked [] k n u led h = cc
-notes_led linked (d ∷ ds) k n u led h = by (is_cut_at k n d) refl h (λ i. notes_led linked ds k n u led.1 i)
+notes_led linked [] k n led h = cc
+notes_led linked (d ∷ ds) k n {u} led h = by (is_cut_at k n d) refl h (λ i. notes_led linked ds k n led.1 i)
   where
     by : (b : Bool) → is_cut_at k n d ≡ b → cond b (Some d.uid) (cut_uid ds k n) ≡ Some u
         → (cut_uid ds k n ≡ Some u → linked k n ≡ Some u) → linked k n ≡ Some u
@@ -75,8 +75,8 @@ cut_notes : (s : State) (c : ℕ) (a : Aim) (w : What) (xs : List (ℕ × ℕ)) 
     → NotesLed linked (cut_of_owner s.owner) → NotesLed linked (cut_of_owner (cut_all s c a w xs).owner)
 cut_notes s c a w [] linked are less led = led
 cut_notes s c a w (x ∷ xs) linked are less led = cut_notes (cut_one s c a w x) c a w xs linked
-    (pairs_left s c a w x xs are) (λ k n u h. less k n u (linked_before s c a w x are.0.0 are.0.1 k n u h)) (notes_push
-    linked (cut_of_owner s.owner) (noted s x) led (noted_has linked s x are.0.0 are.0.1 (less x.0 x.1 are.0.0 are.0.1)))
+    (pairs_left s c a w x xs are) (λ k n u h. less k n u (linked_before s c a w x are.0.1 k n h)) (notes_push
+    linked (cut_of_owner s.owner) (noted s x) led (noted_has linked s x are.0.1 (less x.0 x.1 are.0.0 are.0.1)))
 
 -- ---- what goes is what was listed
 
@@ -99,7 +99,7 @@ module _ (s : State) (c : ℕ) (a : Aim) (w : What) (fs : List ℕ) (xs : List (
   now = took s c a w fs xs
 
   book : KeepsBook (seen now)
-  book = (took_keeps s c a w fs xs k.store.kept.places k.book can).book
+  book = (took_keeps c k.store.kept.places k.book can).book
 
   pages_same : now.store.pages ≡ s.store.pages
   pages_same = cut_pages mid c a w xs ∙ (take_rest s c a w fs).0
@@ -146,12 +146,12 @@ module _ (s : State) (c : ℕ) (a : Aim) (w : What) (fs : List ℕ) (xs : List (
           → (seen s).linked j n ≡ Some u
       by None None e d g i = cc
       by None (Some v) e d g i = cc
-      by (Some v) y e d g i = took_linked s c a w fs xs can.pairs_are j n u (e ∙ g)
+      by (Some v) y e d g i = took_linked s c a w fs xs can.pairs_are j n (e ∙ g)
 
   -- a descriptor that was cut led to what is remembered of it
   cut_led : (j n u : ℕ) → leads_to ((shown (seen now)).descriptor j n) ≡ Some u
       → is_going_descriptor ((shown (seen now)).descriptor j n) ≡ true → (seen s).linked j n ≡ Some u
-  cut_led j n u h on = notes_led (seen s).linked (cut_of_owner now.owner) j n u led (by ((seen now).linked j n)
+  cut_led j n u h on = notes_led (seen s).linked (cut_of_owner now.owner) j n led (by ((seen now).linked j n)
       (cut_uid (cut_of_owner now.owner) j n) refl refl h on)
     where
       by : (x y : Option ℕ) → (seen now).linked j n ≡ x → cut_uid (cut_of_owner now.owner) j n ≡ y
@@ -200,7 +200,7 @@ unread_from core u low f q h e le = not_both passes (position_none
     passes = ap (is_page_of u (λ p. nat_le low p)) (sym (map_list started_page core.frames f frame.Free) ∙ e)
         ∙ rw (eqb_self u, above) refl
 
-module _ (s : State) (k : ℕ) (keeps : Keeps s) where
+module _ {s : State} (k : ℕ) (keeps : Keeps s) where
   -- the pages of a segment from a number on
   pages_from : (u low f q : ℕ) → (seen s).words u q ≡ ptw.Here f → low ≤ q
       → has (frames_from s.store.ast u low) f ≡ true
@@ -216,31 +216,33 @@ module _ (s : State) (k : ℕ) (keeps : Keeps s) where
       (same.0, (omega arith))
 
   -- the descriptors of a segment
-  linked_active : (j n u : ℕ) → (seen s).linked j n ≡ Some u → is_active s.store.ast u ≡ true
-  linked_active j n u h = by (descriptor_of s.store.links j n) h
+  linked_active : (j n : ℕ) {u : ℕ} → (seen s).linked j n ≡ Some u → is_active s.store.ast u ≡ true
+  linked_active j n {u} h = by (descriptor_of s.store.links j n) h
     where
       by : (x : Sdw) → led_to s.store.ast.entries x ≡ Some u → is_active s.store.ast u ≡ true
       by sdw.Fault e = cc
       by (sdw.Present aste mode pages) e = active_at s.store.ast aste u e
 
-  trailers_all : (u j n v : ℕ) → (seen s).linked j n ≡ Some v → v ≡ u → has_pair (trailers_in s.store u) j n ≡ true
-  trailers_all u j n v h same = let is = h ∙ ap (λ (x : ℕ). Some x) same in
-      trailer_listed s u j n keeps (linked_active j n u is) is
+  trailers_all : {u : ℕ} (j n : ℕ) {v : ℕ} → (seen s).linked j n ≡ Some v → v ≡ u
+      → has_pair (trailers_in s.store u) j n ≡ true
+  trailers_all {u} j n h same = let is = h ∙ ap (λ (x : ℕ). Some x) same in
+      trailer_listed j n keeps (linked_active j n is) is
 
-  pair_named : (w : What) (xs : List (ℕ × ℕ)) (j n v : ℕ) → ArePairs (seen s).linked w xs → has_pair xs j n ≡ true
+  pair_named : (w : What) (xs : List (ℕ × ℕ)) (j n : ℕ) {v : ℕ} → ArePairs (seen s).linked w xs → has_pair xs j n ≡ true
       → (seen s).linked j n ≡ Some v → names_uid w v ≡ true
-  pair_named w [] j n v are h l = cc
-  pair_named w (x ∷ xs) j n v are h l = elim (or_cases (is_pair j n x) (has_pair xs j n) h) [
+  pair_named w [] j n are h l = cc
+  pair_named w (x ∷ xs) j n {v} are h l = elim (or_cases (is_pair j n x) (has_pair xs j n) h) [
     | inl e ↦ (let at = pair_tells j n x e in
         let same = some_same are.0.0 v (sym are.0.1 ∙ ((λ i. (seen s).linked (at.0 i) (at.1 i)) ∙ l)) in
         cc)
-    | inr e ↦ pair_named w xs j n v are.2 e l
+    | inr e ↦ pair_named w xs j n are.2 e l
   ]
 
-  trailers_its : (u j n v : ℕ) → has_pair (trailers_in s.store u) j n ≡ true → (seen s).linked j n ≡ Some v → v ≡ u
-  trailers_its u j n v h l = elim (eqb_tells v u) [
+  trailers_its : (u j n : ℕ) {v : ℕ} → has_pair (trailers_in s.store u) j n ≡ true → (seen s).linked j n ≡ Some v
+      → v ≡ u
+  trailers_its u j n {v} h l = elim (eqb_tells v u) [
     | inl e ↦ e.1
-    | inr m ↦ absurd (not_both (pair_named (what.Seg u) (trailers_in s.store u) j n v
+    | inr m ↦ absurd (not_both (pair_named (what.Seg u) (trailers_in s.store u) j n
         (trailers_taken s (what.Seg u) u keeps (eqb_self u)) h l) m.0)
   ]
 
@@ -253,16 +255,16 @@ module _ (s : State) (k : ℕ) (keeps : Keeps s) where
       by (sdw.Present aste mode pages) e = refl
 
   -- each process has 256 descriptors
-  number_within : (j n v : ℕ) → (seen s).linked j n ≡ Some v → n < 256
-  number_within j n v h = rw (← (keeps.store.kept.linked.lists.words j
+  number_within : (j n : ℕ) {v : ℕ} → (seen s).linked j n ≡ Some v → n < 256
+  number_within j n h = rw (← (keeps.store.kept.linked.lists.words j
       (rw (← keeps.store.kept.linked.lists.processes) within.0))) within.1
     where
       within : (j < length s.store.links.descriptors) × (n < length (sdws_at s.store.links.descriptors j))
       within = linked_within s.store.links j n (λ e. none_some (sym (cc) ∙ h))
 
-  one_all : (number n v : ℕ) → (seen s).linked k n ≡ Some v → n ≡ number
+  one_all : {number n : ℕ} (v : ℕ) → (seen s).linked k n ≡ Some v → n ≡ number
       → has_pair (cond (is_connected (descriptor_of s.store.links k number)) ((k, number) ∷ []) []) k n ≡ true
-  one_all number n v h same = cc (same, is_linked k n v h, pair_own k n number same)
+  one_all {number} {n} v h same = cc (same, is_linked k n v h, pair_own k same)
 
   one_its : (number j n : ℕ) (b : Bool) → has_pair (cond b ((k, number) ∷ []) []) j n ≡ true → (j ≡ k) × (n ≡ number)
   one_its number j n false h = cc
@@ -288,7 +290,7 @@ module _ (s : State) (k : ℕ) (keeps : Keeps s) where
           → has_pair (map (λ i. (k, i)) (cond b (from ∷ filter (λ i. is_connected (descriptor_of s.store.links k i))
           (range_with_len (from + 1) count)) (filter (λ i. is_connected (descriptor_of s.store.links k i))
           (range_with_len (from + 1) count)))) k n ≡ true
-      by true e (inl same) later = cc (pair_own k n from (sym same.1))
+      by true e (inl same) later = cc (pair_own k (sym same.1))
       by true e (inr other) later = or_second (is_pair k n (k, from)) (later (omega arith) (omega arith))
       by false e (inl same) later = cc (is_linked k n v h)
       by false e (inr other) later = later (omega arith) (omega arith)
@@ -309,15 +311,15 @@ module _ (s : State) (k : ℕ) (keeps : Keeps s) where
     pages = λ f v q h p. absurd p;
     its_pages = λ f v q h b. absurd (none_has f h);
     unread = λ f v q h p. p;
-    descriptors = λ j n v h same. trailers_all u j n v h same;
-    its_descriptors = λ j n v h l. trailers_its u j n v h l;
+    descriptors = λ j n v h same. trailers_all j n h same;
+    its_descriptors = λ j n v h l. trailers_its u j n h l;
   }
   command_lists (command.Delete path) u is unread = record {
     pages = λ f v q h same. pages_from u 0 f q (cc) (omega arith);
     its_pages = λ f v q h b. (from_pages u 0 f v q h b).0;
     unread = λ f v q h same. unread_from s.store.pages.core u 0 f q unread (cc) (omega arith);
-    descriptors = λ j n v h same. trailers_all u j n v h same;
-    its_descriptors = λ j n v h l. trailers_its u j n v h l;
+    descriptors = λ j n v h same. trailers_all j n h same;
+    its_descriptors = λ j n v h l. trailers_its u j n h l;
   }
   command_lists (command.Truncate path words) u is unread = record {
     pages = λ f v q h p. pages_from u (words / 1024) f q (cc) p.1;
@@ -330,14 +332,14 @@ module _ (s : State) (k : ℕ) (keeps : Keeps s) where
     pages = λ f v q h p. absurd p;
     its_pages = λ f v q h b. absurd (none_has f h);
     unread = λ f v q h p. p;
-    descriptors = λ j n v h p. (rw p.0 (one_all number n v (cc) p.1));
+    descriptors = λ j n v h p. (rw p.0 (one_all v (cc) p.1));
     its_descriptors = λ j n v h l. one_its number j n (is_connected (descriptor_of s.store.links k number)) h;
   }
   command_lists command.End u is unread = record {
     pages = λ f v q h p. absurd p;
     its_pages = λ f v q h b. absurd (none_has f h);
     unread = λ f v q h p. p;
-    descriptors = λ j n v h same. (rw same (end_all 0 256 n v (cc) (omega arith) (number_within j n v h)));
+    descriptors = λ j n v h same. (rw same (end_all 0 256 n v (cc) (omega arith) (number_within j n h)));
     its_descriptors = λ j n v h l. end_its _ j n h;
   }
   command_lists cmd u is unread = record {
@@ -355,18 +357,18 @@ module _ (s : State) (k : ℕ) (keeps : Keeps s) where
   alone_found cmd stands = tt
 
 -- what a `truncate` wants is there before it takes
-brought_found : (s : State) → Keeps s → (u : ℕ) (cmd : Command) → IsBrought s u cmd → WasBrought s.store u cmd
-brought_found s keeps u (command.Truncate path words) h =
+brought_found : {s : State} → Keeps s → (u : ℕ) (cmd : Command) → IsBrought s u cmd → WasBrought s.store u cmd
+brought_found {s} keeps u (command.Truncate path words) h =
     (chain_active s.store.accounts.nodes keeps.store.accounts.tree s.store.ast u h.0, h.1)
-brought_found s keeps u _ h = tt
+brought_found keeps u _ h = tt
 
 -- ---- the look
 
-module _ (s : State) (c k : ℕ) (cmd : Command) (w : What) (fs : List ℕ) (pairs : List (ℕ × ℕ)) (keeps : Keeps s)
+module _ {s : State} (c : ℕ) {k : ℕ} {cmd : Command} {w : What} {fs : List ℕ} {pairs : List (ℕ × ℕ)} (keeps : Keeps s)
     (idle : IsIdle s.owner) (finds : FindsTaken s k cmd fs pairs) (can : CanTook s aim.Committing w fs pairs) where
   lists : AreListed s fs pairs (TakesPage cmd (uid_of_command s.store k cmd))
       (TakesDescriptor cmd k (uid_of_command s.store k cmd))
-  lists = rw finds.frames (rw finds.descriptors (command_lists s k keeps cmd (uid_of_command s.store k cmd) refl
+  lists = rw finds.frames (rw finds.descriptors (command_lists k keeps cmd (uid_of_command s.store k cmd) refl
       finds.unread))
 
   -- What a look takes for a command is just what the command takes.
@@ -374,11 +376,11 @@ module _ (s : State) (c k : ℕ) (cmd : Command) (w : What) (fs : List ℕ) (pai
   look_taken = record {
     just = rw same (took_just s c aim.Committing w fs pairs (TakesPage cmd (uid_of_command s.store k cmd))
         (TakesDescriptor cmd k (uid_of_command s.store k cmd)) keeps idle can lists);
-    alone = rw (same, like.accounts) (alone_found s k keeps cmd finds.stands);
+    alone = rw (same, like.accounts) (alone_found k keeps cmd finds.stands);
     brought = rw same (brought_on s.store now.store (uid_of_command s.store k cmd) cmd
         (λ e. ap (λ (es : List (Option Segment)). list_any (is_for (uid_of_command s.store k cmd)) es) like.entries ∙ e)
         (took_out s c aim.Committing w fs pairs)
-        (brought_found s keeps (uid_of_command s.store k cmd) cmd finds.brought));
+        (brought_found keeps (uid_of_command s.store k cmd) cmd finds.brought));
     stands = took_stands s c aim.Committing w fs pairs k cmd finds.stands;
   }
     where

@@ -27,16 +27,12 @@ IsNoOwner s c = (o : Owner) → s.owner ≡ Some o → o.cpu ≢ c
 
 -- A processor that doesn't own the supervisor is otherwise, with the ready list, and the entry leaves the flat store
 -- alone.
-pub reseat_kept : (s : State) (c : ℕ) (p : Processor) (ready : List ℕ) (e : Entry) (spare : ℕ) → Keeps s
-    → c < length s.processors
-    → KeepsBook (reseated (seen s) c p ready e) → after_entry s.plan (flat_of s) e ≡ flat_of s → is_fault e ≡ false
-    → IsNoOwner s c → Keeps (record s {
-      processors = set s.processors c p;
-      ready = ready;
-      entries = s.entries ++ e ∷ [];
-      spare = spare;
-    })
-reseat_kept s c p ready e spare k within book still quiet other = record {
+pub reseat_kept : {s : State} (c : ℕ) (p : Processor) (ready : List ℕ) (e : Entry) (spare : ℕ) → Keeps s
+    → c < length s.processors → KeepsBook (reseated (seen s) c p ready e) → after_entry s.plan (flat_of s) e ≡ flat_of s
+    → is_fault e ≡ false → IsNoOwner s c
+    → Keeps
+    (record s { processors = set s.processors c p; ready = ready; entries = s.entries ++ e ∷ []; spare = spare })
+reseat_kept {s} c p ready e spare k within book still quiet other = record {
   book = subst KeepsBook (sym (reseated_seen s c p ready e within)) book;
   store = k.store;
   faithful = rw same k.faithful;
@@ -69,37 +65,37 @@ module _ (s : State) (c : ℕ) (spare : ℕ) (k : Keeps s) (within : c < length 
   pub online_kept : (processor_at s.processors c).cpu.online ≡ false
       → Keeps (reseat (taking_part (processor_at s.processors c)) s.ready (entry.Online c))
   unfolding after_entry
-  online_kept off = reseat_kept s c (taking_part (processor_at s.processors c)) s.ready (entry.Online c) spare k within
-      (online_keeps (seen s) c k.book inside off) refl refl other
+  online_kept off = reseat_kept c (taking_part (processor_at s.processors c)) s.ready (entry.Online c) spare k within
+      (online_keeps c k.book inside off) refl refl other
 
   pub load_kept : (n : ℕ) → (processor_at s.processors c).cpu.online ≡ true
       → (processor_at s.processors c).cpu.process ≡ None → IsFront s.ready n
       → Keeps (reseat (running (processor_at s.processors c) n) (drop 1 s.ready) (entry.Load c n))
   unfolding after_entry
-  load_kept n on none front = reseat_kept s c (running (processor_at s.processors c) n) (drop 1 s.ready)
-      (entry.Load c n) spare k within (load_keeps (seen s) c n k.book on none front) refl refl other
+  load_kept n on none front = reseat_kept c (running (processor_at s.processors c) n) (drop 1 s.ready)
+      (entry.Load c n) spare k within (load_keeps c n k.book on none front) refl refl other
 
   pub leave_kept : MayLeave (flat_of s) (shown (seen s)) c → Keeps (reseat (emptied (processor_at s.processors c))
       (queued (flat_of s) s.ready (processor_at s.processors c).cpu.process) (entry.Leave c))
   unfolding after_entry
-  leave_kept may = reseat_kept s c (emptied (processor_at s.processors c))
+  leave_kept may = reseat_kept c (emptied (processor_at s.processors c))
       (queued (flat_of s) s.ready (processor_at s.processors c).cpu.process)
-      (entry.Leave c) spare k within (leave_keeps (seen s) c k.book may) refl refl other
+      (entry.Leave c) spare k within (leave_keeps c k.book may) refl refl other
 
-  pub fill_seg_kept : (n : ℕ) (e : HeldSeg) → CanFillSeg (seen s) c n e
+  pub fill_seg_kept : {n : ℕ} {e : HeldSeg} → CanFillSeg (seen s) c n e
       → Keeps (reseat (with_held_seg (processor_at s.processors c) e) s.ready (entry.FillSeg c e.number))
   unfolding after_entry
-  fill_seg_kept n e can = reseat_kept s c (with_held_seg (processor_at s.processors c) e) s.ready
-      (entry.FillSeg c e.number) spare k within (fill_seg_keeps (seen s) c n e k.book can) refl refl other
+  fill_seg_kept {n} {e} can = reseat_kept c (with_held_seg (processor_at s.processors c) e) s.ready
+      (entry.FillSeg c e.number) spare k within (fill_seg_keeps k.book can) refl refl other
 
-  pub fill_page_kept : (e : HeldPage) → CanFillPage (seen s) c e
+  pub fill_page_kept : {e : HeldPage} → CanFillPage (seen s) c e
       → Keeps (reseat (with_held_page (processor_at s.processors c) e) s.ready (entry.FillPage c e.frame))
   unfolding after_entry
-  fill_page_kept e can = reseat_kept s c (with_held_page (processor_at s.processors c) e) s.ready
-      (entry.FillPage c e.frame) spare k within (fill_page_keeps (seen s) c e k.book can) refl refl other
+  fill_page_kept {e} can = reseat_kept c (with_held_page (processor_at s.processors c) e) s.ready
+      (entry.FillPage c e.frame) spare k within (fill_page_keeps k.book can) refl refl other
 
-  pub clear_kept : (w : What) → (processor_at s.processors c).cpu.due ≡ Some w
+  pub clear_kept : {w : What} → (processor_at s.processors c).cpu.due ≡ Some w
       → Keeps (reseat (done_dropping (processor_at s.processors c) w) s.ready (entry.Clear c w))
   unfolding after_entry
-  clear_kept w due = reseat_kept s c (done_dropping (processor_at s.processors c) w) s.ready
-      (entry.Clear c w) spare k within (clear_keeps (seen s) c w k.book due) refl refl other
+  clear_kept {w} due = reseat_kept c (done_dropping (processor_at s.processors c) w) s.ready
+      (entry.Clear c w) spare k within (clear_keeps c k.book due) refl refl other

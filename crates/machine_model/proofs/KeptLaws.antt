@@ -27,10 +27,10 @@ at_set xs c x d lt P here other = elim (cases_eq d c) [
   | inr n ↦ subst P (sym (get_or-set_other xs c d x no_runner n)) (other n)
 ]
 
-pub ties_set : (xs : List Runner) (c : ℕ) (x : Runner) → c < length xs
+pub ties_set : {xs : List Runner} (c : ℕ) (x : Runner) → c < length xs
     → ((runner_at xs c).online ≡ true → x.online ≡ true) → x.running ≡ (runner_at xs c).running
     → x.reading ≡ (runner_at xs c).reading → SameTies xs (set xs c x)
-ties_set xs c x lt online running reading = record {
+ties_set {xs} c x lt online running reading = record {
   count = length-set xs c x;
   online = λ d h. at_set xs c x d lt (λ y. y.online ≡ true) (λ e. online (rw (← e) h)) (λ n. h);
   running = λ d. at_set xs c x d lt (λ y. y.running ≡ (runner_at xs d).running) (λ e. cc) (λ n. refl);
@@ -49,9 +49,9 @@ tied_same same tied = record {
 }
 
 -- a processor that doesn't read takes up, or gives up, a process
-pub tied_quiet : (xs : List Runner) (c : ℕ) (x : Runner) (frames : List Frame) → c < length xs → x.online ≡ true
+pub tied_quiet : {xs : List Runner} (c : ℕ) (x : Runner) {frames : List Frame} → c < length xs → x.online ≡ true
     → x.reading ≡ None → (runner_at xs c).reading ≡ None → AreTied xs frames → AreTied (set xs c x) frames
-tied_quiet xs c x frames lt online reading idle tied = record {
+tied_quiet {xs} c x lt online reading idle tied = record {
   runners_online = λ d. at_set xs c x d lt (λ y. y.running ≡ true → y.online ≡ true) (λ e h. online)
       (λ n h. tied.runners_online d h);
   readers_run = λ d r h. at_set xs c x d lt (λ y. y.running ≡ true) (λ e. absurd (quiet (runner_at xs d).reading r (cc)
@@ -91,9 +91,9 @@ frame_at_set frames f x g lt P here other = elim (cases_eq g f) [
 ]
 
 -- a frame that nobody reads into becomes another that nobody reads into
-pub tied_frame : (xs : List Runner) (frames : List Frame) (f : ℕ) (x : Frame) → f < length frames
+pub tied_frame : {xs : List Runner} {frames : List Frame} (f : ℕ) (x : Frame) → f < length frames
     → is_started (frame_in frames f) ≡ false → is_started x ≡ false → AreTied xs frames → AreTied xs (set frames f x)
-tied_frame xs frames f x lt was now tied = record {
+tied_frame {xs} {frames} f x lt was now tied = record {
   runners_online = tied.runners_online;
   readers_run = tied.readers_run;
   started = λ g uid page h. tied.started g uid page (before g uid page h);
@@ -129,15 +129,15 @@ started_same u q uid page h = (
 none_some : (r : Transfer) (o : Option Transfer) → o ≡ None → o ≢ Some r
 none_some r o none h = let no : true ≡ false = sym (cc) ∙ ap (λ (x : Option Transfer). is_some x) none in cc
 
-module _ (xs : List Runner) (frames : List Frame) (c f uid page : ℕ) (x : Runner) (within : c < length xs)
+module _ {xs : List Runner} {frames : List Frame} (c f uid page : ℕ) (x : Runner) (within : c < length xs)
     (room : f < length frames) (free : frame_in frames f ≡ frame.Free) (idle : (runner_at xs c).reading ≡ None)
     (online : x.online ≡ true) (running : x.running ≡ true)
     (reading : x.reading ≡ Some (record { frame = f; uid = uid; page = page })) (tied : AreTied xs frames) where
   apart : (d : ℕ) (r : Transfer) → (runner_at xs d).reading ≡ Some r → d ≢ c
   apart d r h e = none_some r (runner_at xs d).reading (cc) h
 
-  other_frame : (d : ℕ) (r : Transfer) → (runner_at xs d).reading ≡ Some r → r.frame ≢ f
-  other_frame d r h e = not_started (frame_in frames f) r.uid r.page (ap is_started free) (cc ((tied.read d r h).0))
+  other_frame : (d : ℕ) {r : Transfer} → (runner_at xs d).reading ≡ Some r → r.frame ≢ f
+  other_frame d {r} h e = not_started (frame_in frames f) r.uid r.page (ap is_started free) (cc ((tied.read d r h).0))
 
   -- who reads now: the processor into the frame, or another as before
   reads_now : (d : ℕ) (r : Transfer) → (runner_at (set xs c x) d).reading ≡ Some r
@@ -174,17 +174,17 @@ module _ (xs : List Runner) (frames : List Frame) (c f uid page : ℕ) (x : Runn
       )
       | inr i ↦ (
         frame_at_set frames f (frame.Started uid page) r.frame room (λ y. y ≡ frame.Started r.uid r.page)
-            (λ e. absurd (other_frame d r i e)) (λ n. (tied.read d r i).0),
+            (λ e. absurd (other_frame d i e)) (λ n. (tied.read d r i).0),
         rw (length-set frames f (frame.Started uid page)) (tied.read d r i).1,
       )
     ];
     one_reader = λ d e r q h i together. elim (reads_now d r h) [
       | inl a ↦ elim (reads_now e q i) [
         | inl b ↦ a.0 ∙ sym b.0
-        | inr b ↦ absurd (other_frame e q b (cc))
+        | inr b ↦ absurd (other_frame e b (cc))
       ]
       | inr a ↦ elim (reads_now e q i) [
-        | inl b ↦ absurd (other_frame d r a (cc))
+        | inl b ↦ absurd (other_frame d a (cc))
         | inr b ↦ tied.one_reader d e r q a b together
       ]
     ];
@@ -398,10 +398,10 @@ fits_still s t w (Copying left) frames entries due h = (due h.0, h.1)
 
 -- ---- a processor other than the owner changes
 
-job_other : (s t : Outline) (c : ℕ) (x : Runner) → HasJob s → t.owner ≡ s.owner → t.runners ≡ set s.runners c x
-    → ((b : Stage) → IsIn s c b → ⊥) → (dues s.runners ≡ 0 → dues t.runners ≡ 0)
+job_other : {s : Outline} (t : Outline) (c : ℕ) (x : Runner) → HasJob s → t.owner ≡ s.owner
+    → t.runners ≡ set s.runners c x → ((b : Stage) → IsIn s c b → ⊥) → (dues s.runners ≡ 0 → dues t.runners ≡ 0)
     → ((w : Want) (b : Stage) → FitsStage s w b → FitsStage t w b) → HasJob t
-job_other s t c x job owner runners other due fits = record {
+job_other {s} t c x job owner runners other due fits = record {
   at_work = λ d b h. (let was = sym owner ∙ h in let work = job.at_work d b was in let same = at d b was in record {
     within = rw (ap (λ (xs : List Runner). length xs) runners ∙ length-set s.runners c x) work.within;
     running = cc;
@@ -434,18 +434,18 @@ rest_spared : (frames : List Frame) (w : Want) (f : ℕ) (rest : List ℕ) → A
     → AreSpared (set frames f frame.Free) w rest
 rest_spared frames w f rest h = spared_set frames w rest f frame.Free h.0.0 refl h.1
 
-freed_tied : (s : Outline) (w : Want) (f : ℕ) → IsKept s → f < length s.frames
+freed_tied : {s : Outline} (w : Want) (f : ℕ) → IsKept s → f < length s.frames
     → is_spared w (frame_in s.frames f) ≡ true → AreTied s.runners (set s.frames f frame.Free)
-freed_tied s w f k lt spared =
-    tied_frame s.runners s.frames f frame.Free lt (spared_started w (frame_in s.frames f) spared) refl k.tied
+freed_tied {s} w f k lt spared =
+    tied_frame f frame.Free lt (spared_started w (frame_in s.frames f) spared) refl k.tied
 
-link_kept : (s : Outline) (c : ℕ) → IsKept s → HasSizes (with_link s c) → IsIn s c Look → IsKept (with_link s c)
-link_kept s c k sizes owner =
+link_kept : {s : Outline} (c : ℕ) → IsKept s → HasSizes (with_link s c) → IsIn s c Look → IsKept (with_link s c)
+link_kept {s} c k sizes owner =
     let work = k.job.at_work c Look owner in
     let x : Runner = record (runner_at s.runners c) { linked = true } in
     let same = at_set s.runners c (record (runner_at s.runners c) { linked = true }) c work.within in
     kept sizes (tied_same
-    (ties_set s.runners c (record (runner_at s.runners c) { linked = true }) work.within (λ h. h) refl refl) k.tied)
+    (ties_set c (record (runner_at s.runners c) { linked = true }) work.within (λ h. h) refl refl) k.tied)
     (job_of c Look owner (record {
       within = rw (length-set s.runners c (record (runner_at s.runners c) { linked = true })) work.within;
       running = same (λ y. y.running ≡ true) (λ e. work.running) (λ n. absurd (n refl));
@@ -453,22 +453,22 @@ link_kept s c k sizes owner =
       idle = same (λ y. y.reading ≡ None) (λ e. work.idle) (λ n. absurd (n refl));
     }) (due_set s c (record (runner_at s.runners c) { linked = true }) work.within (λ h. h) (k.job.fits c Look owner)))
 
-start_kept : (s : Outline) (c f uid page : ℕ) → IsKept s → HasSizes (without_owner (now_reading s c f uid page))
+start_kept : {s : Outline} {c f uid page : ℕ} → IsKept s → HasSizes (without_owner (now_reading s c f uid page))
     → CanStart s c f uid page → IsKept (without_owner (now_reading s c f uid page))
-start_kept s c f uid page k sizes can =
+start_kept {s} {c} {f} {uid} {page} k sizes can =
     let work = k.job.at_work c Look can.look in
-    kept sizes (tied_started s.runners s.frames c f uid page
+    kept sizes (tied_started c f uid page
     (record (runner_at s.runners c) { reading = Some (record { frame = f; uid = uid; page = page }) }) work.within
     can.within can.free work.idle (k.tied.runners_online c work.running) work.running refl k.tied) (job_none refl
     (due_set s c (record (runner_at s.runners c) { reading = Some (record { frame = f; uid = uid; page = page }) })
     work.within (λ h. h) (k.job.fits c Look can.look)))
 
-job_keeps : (s : Outline) (c : ℕ) (t : Outline) → IsKept s → HasSizes t → (IsAnswered s c t → IsKept t) → JobStep s c t
+job_keeps : {s : Outline} {c : ℕ} {t : Outline} → IsKept s → HasSizes t → (IsAnswered s c t → IsKept t) → JobStep s c t
     → IsKept t
-job_keeps s c t k sizes given (activates place uid superior can) = kept sizes k.tied
+job_keeps {s} {c} k sizes given (activates place uid superior can) = kept sizes k.tied
     (job_of c Look can.look (k.job.at_work c Look can.look) (k.job.fits c Look can.look))
-job_keeps s c t k sizes given (connects chain uid page makes owner want off) = link_kept s c k sizes owner
-job_keeps s c t k sizes given (takes_segment place frames runners can of few alike) =
+job_keeps {s} {c} k sizes given (connects chain uid page makes owner want off) = link_kept c k sizes owner
+job_keeps {s} {c} k sizes given (takes_segment place frames runners can of few alike) =
     let back = sym alike.want in
     kept sizes (tied_same (ties_alike alike) k.tied) (job_of c
     (Taken (EmptyPlace place frames)) refl (work_alike alike (k.job.at_work c Look can.look)) (
@@ -477,7 +477,7 @@ job_keeps s c t k sizes given (takes_segment place frames runners can of few ali
       can.within,
       rw (← back) can.off,
     ))
-job_keeps s c t k sizes given (takes_frame f can) = kept sizes k.tied
+job_keeps {s} {c} k sizes given (takes_frame f can) = kept sizes k.tied
     (job_of c (Taken (EvictFrame f)) refl (k.job.at_work c Look can.look) (
       (
         can.within,
@@ -485,39 +485,39 @@ job_keeps s c t k sizes given (takes_frame f can) = kept sizes k.tied
       ),
       tt,
     ))
-job_keeps s c t k sizes given (takes_for_commit runners owner alike) = kept sizes (tied_same (ties_alike alike) k.tied)
+job_keeps {s} {c} k sizes given (takes_for_commit runners owner alike) = kept sizes (tied_same (ties_alike alike) k.tied)
     (job_of c (Taken CommitCommand) refl (work_alike alike (k.job.at_work c Look owner)) tt)
-job_keeps s c t k sizes given (signals w runners owner alike) = kept sizes (tied_same (ties_alike alike) k.tied)
+job_keeps {s} {c} k sizes given (signals w runners owner alike) = kept sizes (tied_same (ties_alike alike) k.tied)
     (job_of c (Waiting w) refl (work_alike alike (k.job.at_work c (Taken w) owner))
     (fits_alike s (with_runners (at_stage s c (Waiting w)) runners) (want_at s c) (runner_at runners c).want w
     alike.want refl refl (k.job.fits c (Taken w) owner)))
-job_keeps s c t k sizes given (frees_frame f stored full owner due may) =
+job_keeps {s} {c} k sizes given (frees_frame f stored full owner due may) =
     let taken = (k.job.fits c (Waiting (EvictFrame f)) owner).0 in
-    kept sizes (freed_tied s (want_at s c) f k taken.0 taken.1) (job_of c Look refl
+    kept sizes (freed_tied (want_at s c) f k taken.0 taken.1) (job_of c Look refl
     (k.job.at_work c (Waiting (EvictFrame f)) owner) due)
-job_keeps s c t k sizes given (frees_page place f rest stored full owner due may) =
+job_keeps {s} {c} k sizes given (frees_page place f rest stored full owner due may) =
     let fits = k.job.fits c (Waiting (EmptyPlace place (f ∷ rest))) owner in
     let few = fits.1 in
-    kept sizes (freed_tied s (want_at s c) f k fits.0.0.0 fits.0.0.1) (job_of c
+    kept sizes (freed_tied (want_at s c) f k fits.0.0.0 fits.0.0.1) (job_of c
     (Waiting (EmptyPlace place rest)) refl (k.job.at_work c (Waiting (EmptyPlace place (f ∷ rest))) owner)
     (rest_spared s.frames (want_at s c) f rest fits.0, omega arith, fits.2, fits.3))
-job_keeps s c t k sizes given (empties place runners owner due alike none) = kept sizes
+job_keeps {s} {c} k sizes given (empties place runners owner due alike none) = kept sizes
     (tied_same (ties_alike alike) k.tied) (job_of c Look refl
     (work_alike alike (k.job.at_work c (Waiting (EmptyPlace place [])) owner)) none)
-job_keeps s c t k sizes given (empties_at_once place can) = kept sizes k.tied
+job_keeps {s} {c} k sizes given (empties_at_once place can) = kept sizes k.tied
     (job_of c Look can.look (k.job.at_work c Look can.look) (k.job.fits c Look can.look))
-job_keeps s c t k sizes given (begins_move left owner few) = kept sizes k.tied
+job_keeps {s} {c} k sizes given (begins_move left owner few) = kept sizes k.tied
     (job_of c (Copying left) refl (k.job.at_work c Look owner) (k.job.fits c Look owner, few))
-job_keeps s c t k sizes given (copies left fewer owner less) =
+job_keeps {s} {c} k sizes given (copies left fewer owner less) =
     let fits = k.job.fits c (Copying left) owner in
     let few = fits.1 in
     kept sizes k.tied (job_of c (Copying fewer) refl (k.job.at_work c (Copying left) owner) (fits.0, omega arith))
-job_keeps s c t k sizes given (commits_move left stored full owner has) = kept sizes k.tied
+job_keeps {s} {c} k sizes given (commits_move left stored full owner has) = kept sizes k.tied
     (job_of c Look refl (k.job.at_work c (Copying left) owner) (k.job.fits c (Copying left) owner).0)
-job_keeps s c t k sizes given (gives_up chain uid page makes owner want fits) =
+job_keeps {s} {c} k sizes given (gives_up chain uid page makes owner want fits) =
     kept sizes k.tied (job_none refl (k.job.fits c Look owner))
-job_keeps s c t k sizes given (starts f uid page can) = start_kept s c f uid page k sizes can
-job_keeps s c t k sizes given (answers stage _ owner due answered) = given answered
+job_keeps {s} {c} k sizes given (starts f uid page can) = start_kept k sizes can
+job_keeps k sizes given (answers stage _ owner due answered) = given answered
 
 -- ---- a step of a processor
 
@@ -533,7 +533,7 @@ one_kept : {s t : Outline} (c : ℕ) (x : Runner) → IsKept s → HasSizes t �
     → t.runners ≡ set s.runners c x → t.frames ≡ s.frames → t.entries ≡ s.entries → ((b : Stage) → IsIn s c b → ⊥)
     → ((runner_at s.runners c).due ≡ false → x.due ≡ false) → AreTied (set s.runners c x) s.frames → IsKept t
 one_kept {s} {t} c x k sizes lt owner runners frames entries other due tied = kept sizes (rw runners (rw frames tied))
-    (job_other s t c x k.job owner runners other (λ none. cc (due_set s c x lt due none))
+    (job_other t c x k.job owner runners other (λ none. cc (due_set s c x lt due none))
     (λ w b h. fits_still s t w b frames entries (λ none. cc (due_set s c x lt due none)) h))
 
 -- a transfer ends, and its frame changes
@@ -546,52 +546,52 @@ ended_kept {s} {t} c r x y k sizes reading owner runners frames entries online o
     let tie = k.tied.read c r reading in
     let still : (runner_at s.runners c).due ≡ false → x.due ≡ false = λ h. due ∙ h in
     kept sizes (rw runners (rw frames (tied_ended s.runners s.frames c r x y lt reading online over now k.tied)))
-    (job_other s t c x k.job owner runners
+    (job_other t c x k.job owner runners
     (λ b h. not_both (cc) (ap (λ (o : Option Transfer). is_some o) (k.job.at_work c b h).idle))
     (λ none. ap dues runners ∙ due_set s c x lt still none)
     (λ w b h. fits_read s t w b r.frame y tie.1 (ap is_started tie.0) frames entries
     (λ none. ap dues runners ∙ due_set s c x lt still none) h))
 
-look_kept : (s : Outline) (c : ℕ) → IsKept s → HasSizes (at_stage s c Look) → c < length s.runners
+look_kept : {s : Outline} (c : ℕ) → IsKept s → HasSizes (at_stage s c Look) → c < length s.runners
     → rule_of s c ≡ Commands → s.owner ≡ None → IsKept (at_stage s c Look)
-look_kept s c k sizes lt h none =
+look_kept {s} c k sizes lt h none =
     let told = tells s c Commands h in
     kept sizes k.tied (job_of c Look refl
     (assumption (read_none (runner_at s.runners c).reading told.1)) (k.job.quiet none))
 
 -- Each step keeps what is true of an outline. That the sizes stay, and that what a command's effect leaves is kept, is
 -- the machine's to say.
-pub step_keeps : (s : Outline) (c : ℕ) (turn : Turn) (t : Outline) → IsKept s → c < length s.runners → HasSizes t
+pub step_keeps : {s : Outline} {c : ℕ} {turn : Turn} {t : Outline} → IsKept s → c < length s.runners → HasSizes t
     → (IsAnswered s c t → IsKept t) → (rule_of s c ≡ Commands → IsReplied s c t → IsKept t) → Step s c turn t → IsKept t
-step_keeps s c turn t k lt sizes given told (comes h) = one_kept c
+step_keeps {s} {c} k lt sizes given told (comes h) = one_kept c
     (record (runner_at s.runners c) { online = true }) k sizes lt refl refl refl refl
     (λ b i. not_both (k.tied.runners_online c (k.job.at_work c b i).running) (tells s c Comes h)) (λ d. d) (tied_same
-    (ties_set s.runners c (record (runner_at s.runners c) { online = true }) lt (λ d. refl) refl refl) k.tied)
-step_keeps s c turn t k lt sizes given told (clears x h cleared) = one_kept c x k sizes lt refl refl refl refl
+    (ties_set c (record (runner_at s.runners c) { online = true }) lt (λ d. refl) refl refl) k.tied)
+step_keeps {s} {c} k lt sizes given told (clears x h cleared) = one_kept c x k sizes lt refl refl refl refl
     (λ b i. not_both (tells s c Clears h).1 (k.job.at_work c b i).clear) (λ d. cleared.due) (tied_same
-    (ties_set s.runners c x lt (λ d. cc) cleared.running cleared.reading) k.tied)
-step_keeps s c turn t k lt sizes given told (reads r used modified h is) =
+    (ties_set c x lt (λ d. cc) cleared.running cleared.reading) k.tied)
+step_keeps {s} {c} k lt sizes given told (reads r used modified h is) =
     ended_kept c r (record (runner_at s.runners c) { reading = None })
     (frame.Bound r.uid r.page used modified) k sizes is refl refl refl refl
     (k.tied.runners_online c (k.tied.readers_run c r is)) refl refl refl
-step_keeps s c turn t k lt sizes given told (loses r x left h is lost fewer) = ended_kept c r x frame.Free k sizes is
+step_keeps {s} {c} k lt sizes given told (loses r x left h is lost fewer) = ended_kept c r x frame.Free k sizes is
     refl refl refl refl (lost.online ∙ k.tied.runners_online c (k.tied.readers_run c r is)) lost.reading lost.due refl
-step_keeps s c turn t k lt sizes given told (works _ h step) = job_keeps s c t k sizes given step
-step_keeps s c turn t k lt sizes given told (loads x h some loaded) =
+step_keeps {s} {c} {turn} {t} k lt sizes given told (works _ h step) = job_keeps k sizes given step
+step_keeps {s} {c} k lt sizes given told (loads x h some loaded) =
     let rule = tells s c Loads h in
     one_kept c x k sizes lt refl refl refl refl (λ b i. not_owner s c b rule.2 i) (λ d. loaded.due)
-    (tied_quiet s.runners c x s.frames lt loaded.online loaded.reading
+    (tied_quiet c x lt loaded.online loaded.reading
     (read_none (runner_at s.runners c).reading rule.1) k.tied)
-step_keeps s c turn t k lt sizes given told (leaves x h left) =
+step_keeps {s} {c} k lt sizes given told (leaves x h left) =
     let rule = tells s c Leaves h in
     one_kept c x k sizes lt refl refl refl refl (λ b i. not_owner s c b rule.2 i) (λ d. left.due)
-    (tied_quiet s.runners c x s.frames lt left.online left.reading (read_none (runner_at s.runners c).reading rule.1)
+    (tied_quiet c x lt left.online left.reading (read_none (runner_at s.runners c).reading rule.1)
     k.tied)
-step_keeps s c turn t k lt sizes given told (fills x h filled) =
+step_keeps {s} {c} k lt sizes given told (fills x h filled) =
     one_kept c x k sizes lt refl refl refl refl (λ b i. not_owner s c b (tells s c Commands h).2
-    i) (λ d. cc) (tied_same (ties_set s.runners c x lt (λ d. cc) filled.running filled.reading) k.tied)
-step_keeps s c turn t k lt sizes given told (replies _ h replied) = told h replied
-step_keeps s c turn t k lt sizes given told (faults chain uid page makes h none want lacks) =
-    look_kept s c k sizes lt h none
-step_keeps s c turn t k lt sizes given told (enters h none want) = look_kept s c k sizes lt h none
-step_keeps s c turn t k lt sizes given told _ = k
+    i) (λ d. cc) (tied_same (ties_set c x lt (λ d. cc) filled.running filled.reading) k.tied)
+step_keeps k lt sizes given told (replies _ h replied) = told h replied
+step_keeps {s} {c} k lt sizes given told (faults chain uid page makes h none want lacks) =
+    look_kept c k sizes lt h none
+step_keeps {s} {c} k lt sizes given told (enters h none want) = look_kept c k sizes lt h none
+step_keeps k lt sizes given told _ = k

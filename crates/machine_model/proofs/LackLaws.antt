@@ -120,10 +120,10 @@ not_page (frame.Bound u q used modified) uid page out h =
     absurd cc
 not_page _ uid page out h = absurd (none-some (uid, page) h)
 
-pub freed_fits : (s : Outline) (f : ℕ) (stored : ℕ → ℕ → Bool) (full : ℕ → Bool) (w : Want) (r : Option Transfer)
+pub freed_fits : {s : Outline} {f : ℕ} {stored : ℕ → ℕ → Bool} {full : ℕ → Bool} (w : Want) (r : Option Transfer)
     → f < length s.frames → is_spared w (frame_in s.frames f) ≡ true → MayRelease s f stored full
     → wanted_fits s w r ≡ true → wanted_fits (with_stored (with_frame s f frame.Free) stored full) w r ≡ true
-freed_fits s f stored full (Refer chain uid page makes) r lt spared may h =
+freed_fits {s} {f} {stored} {full} (Refer chain uid page makes) r lt spared may h =
     page_same s f stored full uid page makes r lt (spared_not (Refer chain uid page makes) (frame_in s.frames f) spared)
     may ∙ h
   where
@@ -135,8 +135,8 @@ freed_fits s f stored full (Refer chain uid page makes) r lt spared may h =
     page_same s f stored full uid page makes r lt out may =
         let kept = may.others uid page (not_page (frame_in s.frames f) uid page out) in
         rw ((here_same s.frames f uid page frame.Free lt out refl), kept) refl
-freed_fits s f stored full (Truncate chain uid (Some page)) r lt spared may h =
+freed_fits {s} {f} (Truncate chain uid (Some page)) r lt spared may h =
     let out = spared_not (Truncate chain uid (Some page)) (frame_in s.frames f) spared in
     let kept = may.others uid page (not_page (frame_in s.frames f) uid page out) in
     rw ((here_same s.frames f uid page frame.Free lt out refl), kept) h
-freed_fits s f stored full _ r lt spared may h = refl
+freed_fits _ r lt spared may h = refl

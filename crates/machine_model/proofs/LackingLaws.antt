@@ -30,8 +30,8 @@ module _ (s : State) (keeps : Keeps s) where
         keeps.faithful.script.entries v,
       ) refl
 
-  first_room : (u v : ℕ) → IsFirstWithRoom (tables_of s.store) u v → room_for s.plan t u ≡ Some v
-  first_room u v h = sym (room_is s.plan t u v (cc (room_same u v)) (λ w less. sym (room_same u w) ∙ h.before w less))
+  first_room : {u v : ℕ} → IsFirstWithRoom (tables_of s.store) u v → room_for s.plan t u ≡ Some v
+  first_room {u} {v} h = sym (room_is s.plan t u v (cc (room_same u v)) (λ w less. sym (room_same u w) ∙ h.before w less))
 
   -- ---- the reference
 
@@ -58,7 +58,7 @@ module _ (s : State) (keeps : Keeps s) where
     full = cc (volume_found s.store.accounts.nodes u h.node h.there, full_is (volume_in s.store.accounts.nodes u))
 
     permitted : permits (access_of (who_of s.plan k) h.node.rows) r.kind ≡ true
-    permitted = cc (who_is s keeps k)
+    permitted = cc (who_is keeps k)
 
     short : nat_le (1024 * h.node.pages) r.offset ≡ false
     short = elim (leb_tells (1024 * h.node.pages) r.offset) [
@@ -91,16 +91,16 @@ module _ (s : State) (keeps : Keeps s) where
 
 -- ---- the flat store
 
-pub may_move : (s : State) (c k : ℕ) (cmd : Command) (m : Mover) → Keeps s → Speaks s c k cmd
+pub may_move : {s : State} {c k : ℕ} {cmd : Command} {m : Mover} → Keeps s → Speaks s c k cmd
     → IsMovedFor s.store k m (next_command s k) → MayMove s.plan (flat_of s) k m.uid m.to.0
 unfolding awaits_move
-may_move s c k cmd m keeps sp h = assumption (
-  turn_is s c k cmd sp,
+may_move {s} {c} {k} {cmd} {m} keeps sp h = assumption (
+  turn_is sp,
   (sp.runs k).ended ∙ sp.going,
   ap (λ (n : ℕ). awaits_in s.plan (flat_of s) k m.uid (command_at s.plan k n)) (sp.runs k).place
       ∙ (ap (awaits_in s.plan (flat_of s) k m.uid) sp.next ∙ (ap (awaits_by s.plan (flat_of s) k m.uid) moves.is
       ∙ awaits s keeps k m.uid moves.reference h.active moves.lacks)),
-  first_room s keeps m.uid m.to.0 moves.first,
+  first_room s keeps moves.first,
 )
   where
     moves : MovesFor (tables_of s.store) k m cmd
@@ -108,9 +108,9 @@ may_move s c k cmd m keeps sp h = assumption (
 
 -- ---- custody
 
-pub may_rehome : (s : State) (k : ℕ) (m : Mover) (x : Option Command) → IsMovedFor s.store k m x
+pub may_rehome : (s : State) {k : ℕ} {m : Mover} {x : Option Command} → IsMovedFor s.store k m x
     → MayRehome (shown (seen s)) m.uid
-may_rehome s k m x h = record {
+may_rehome s {k} {m} h = record {
   active = h.active;
   still = λ f q e. by f q ((seen s).bound f) ((seen s).reads f) refl e;
 }

@@ -72,7 +72,7 @@ gone_seen s f u p how owner tables book there leaving = λ i. record (seen s) {
   reads = λ g. (ap (λ (x : Core). read_at (reads_of x) g) (evicted_core s.store.pages s f how u p)
       ∙ (reads_put s.store.pages.core f frame.Free there g ∙ unread_put (seen s).reads f unread g)) i;
   words = λ v q. words_put s.store.ast u p (word_of_left how (record_of s.store.pages (home_in s.store u) p)) tables
-      (not_null ((seen s).words u p) (ptw.Leaving f) f leaving (inr refl)) v q i;
+      (not_null f leaving (inr refl)) v q i;
   owner = owner;
   entries = s.entries ++ entry.GonePage f ∷ [];
 }
@@ -103,6 +103,5 @@ back_seen s f u p owner tables book leaving = cc (binding_is s f, book.tied.back
       entries = s.entries ++ entry.BackPage f ∷ [];
     }) ≡ back (seen s) f u p owner
     words = λ i. record (back (seen s) f u p owner) {
-      words = λ v q. words_put s.store.ast u p (ptw.Here f) tables
-          (not_null ((seen s).words u p) (ptw.Leaving f) f leaving (inr refl)) v q i;
+      words = λ v q. words_put s.store.ast u p (ptw.Here f) tables (not_null f leaving (inr refl)) v q i;
     }

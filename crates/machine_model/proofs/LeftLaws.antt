@@ -9,9 +9,9 @@ rest_of commands place c next = cc (
   get_or_from_slice_get commands place c command.End next,
 )
 
-pub answer_falls : (commands : List Command) (run : Run) (c : Command) (r : Reply) → GoesOn commands run c
+pub answer_falls : {commands : List Command} {run : Run} {c : Command} (r : Reply) → GoesOn commands run c
     → left_of commands (run_after run (Some c) r) < left_of commands run
-answer_falls commands run c r on = rw was (by (goes_on run (Some c) r) (is_its_end (Some c)))
+answer_falls {commands} {run} {c} r on = rw was (by (goes_on run (Some c) r) (is_its_end (Some c)))
   where
     was : left_of commands run ≡ sum_by weight (drop run.place commands) - run.tries
     was = cc

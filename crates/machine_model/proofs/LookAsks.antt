@@ -39,10 +39,10 @@ module _ (s : State) (c : ℕ) (o : Outcome) (m : IsMachine s) (idle : IsIdle s.
 
   -- ---- an answer
 
-  pub answer_asks : (r : Reply) → IsRefused s k cmd r → CanReply s c r
-  answer_asks r finds = assumption (
-    can_refuse s c k cmd r speaks finds.reply finds.refuses,
-    refused_says s c k None r keeps (refusal_quiet r finds.refuses).0,
+  pub answer_asks : {r : Reply} → IsRefused s k cmd r → CanReply s c r
+  answer_asks {r} finds = assumption (
+    can_refuse speaks finds.reply finds.refuses,
+    refused_says c k None r keeps (refusal_quiet r finds.refuses).0,
   )
 
   -- ---- a segment becomes active
@@ -59,10 +59,10 @@ module _ (s : State) (c : ℕ) (o : Outcome) (m : IsMachine s) (idle : IsIdle s.
   flat_node u = cc
 
   -- a node that is there may become active where a place of its pool is free, and what is above it is active
-  may_activate : (u place : ℕ) (n : Node) → node_in nodes u ≡ Some n → is_active s.store.ast u ≡ false
+  may_activate : (u : ℕ) {place : ℕ} {n : Node} → node_in nodes u ≡ Some n → is_active s.store.ast u ≡ false
       → free_place s.store.ast (pool_of n) ≡ Some place → IfSome n.superior (λ w. is_active s.store.ast w ≡ true)
       → MayActivate s.plan (flat_of s) (shown (seen s)) u
-  may_activate u place n at inactive free superior =
+  may_activate u {place} {n} at inactive free superior =
       assumption (subst (λ (x : Option Node). IsSomeAnd x (MayJoin s.plan (flat_of s) (shown (seen s))))
       (sym (flat_node u ∙ at)) (record {
         superior = superior;
@@ -76,8 +76,9 @@ module _ (s : State) (c : ℕ) (o : Outcome) (m : IsMachine s) (idle : IsIdle s.
           (place_of s.store.ast.entries x.uid) x.uid x
           (active_place s.store.ast x.uid both.0).1 (node_of_member nodes x tree member))
 
-  pub free_within : (pool place : ℕ) → free_place s.store.ast pool ≡ Some place → place < length s.store.ast.entries
-  free_within pool place h = let at = (in_range_is (first_of s.store.ast.sizes pool) _ place
+  pub free_within : (pool : ℕ) {place : ℕ} → free_place s.store.ast pool ≡ Some place
+      → place < length s.store.ast.entries
+  free_within pool {place} h = let at = (in_range_is (first_of s.store.ast.sizes pool) _ place
       (found_member (λ q. is_none (entry_at s.store.ast.entries q)) (places_in s.store.ast pool) place h)).1 in
       omega (arith, pool_part s.store.ast.sizes pool)
 
@@ -89,17 +90,17 @@ module _ (s : State) (c : ℕ) (o : Outcome) (m : IsMachine s) (idle : IsIdle s.
       none_is None e = refl
       none_is (Some y) e = absurd (let none : false ≡ true = e in cc)
 
-  pub activate_asks : (u place : ℕ) → FindsPlace s k cmd u place → Says s c o (act.Activate u place)
+  pub activate_asks : {u place : ℕ} → FindsPlace s k cmd u place → Says s c o (act.Activate u place)
       → CanActivateAt s u place
-  activate_asks u place finds says = let n = some_there (node_in nodes u)
+  activate_asks {u} {place} finds says = let n = some_there (node_in nodes u)
       (first_there nodes tree s.store.ast finds.link.about u (about_there finds.link.about finds.link.case) first) in
       assumption (
-        may_activate u place n.0 n.1 (first_idle s.store.ast (chain_of nodes finds.link.about) u first)
+        may_activate u n.1 (first_idle s.store.ast (chain_of nodes finds.link.about) u first)
             (ap (free_place s.store.ast) (sym (ap pool_of_node n.1)) ∙ finds.free)
-            (superior_active nodes tree s.store.ast finds.link.about u n.0 first n.1),
+            (superior_active nodes tree s.store.ast finds.link.about first n.1),
         free_is (pool_of_node (node_in nodes u)) place finds.free,
-        free_within (pool_of_node (node_in nodes u)) place finds.free,
-        activated_says s c o u place keeps says idle.cut,
+        free_within (pool_of_node (node_in nodes u)) finds.free,
+        activated_says u place keeps says idle.cut,
       )
     where
       first : first_inactive s.store.ast (chain_of nodes finds.link.about) ≡ Some u
@@ -114,13 +115,13 @@ module _ (s : State) (c : ℕ) (o : Outcome) (m : IsMachine s) (idle : IsIdle s.
       let outer = within_by s.store.links.known k [] (λ e. none_some (sym (cc) ∙ h)) in
       (outer, rw (← (keeps.store.kept.linked.lists.numbers k outer)) inner)
 
-  pub connect_asks : (n u : ℕ) → FindsLink s k cmd n u → Says s c o (act.Connect n u) → CanConnectTo s c n u
-  connect_asks n u finds says = record {
+  pub connect_asks : {n u : ℕ} → FindsLink s k cmd n u → Says s c o (act.Connect n u) → CanConnectTo s c n u
+  connect_asks {n} {u} finds says = record {
     can = record { known = known; active = active; unlinked = cc; uncut = cc };
     outer = rw keeps.store.kept.linked.lists.processes within.0;
     inner = rw (keeps.store.kept.linked.lists.words k within.0) within.1;
     active = (active_place s.store.ast u active).1;
-    says = connected_says s c o n u keeps says idle.cut;
+    says = connected_says n u keeps says idle.cut;
   }
     where
       inside : IsInside s k finds.reference (uid_of_number s.store k finds.reference.number)
@@ -140,8 +141,8 @@ module _ (s : State) (c : ℕ) (o : Outcome) (m : IsMachine s) (idle : IsIdle s.
 
   -- ---- a page of a segment that is connected
 
-  pub page_active : (r : Reference) (u p : ℕ) → FindsPage s k cmd r u p → is_active s.store.ast u ≡ true
-  page_active r u p finds = let at = keeps.store.kept.linked.known k r.number finds.aste (ap leads finds.linked) in
+  pub page_active : {r : Reference} {u p : ℕ} → FindsPage s k cmd r u p → is_active s.store.ast u ≡ true
+  page_active {r} finds = let at = keeps.store.kept.linked.known k r.number finds.aste (ap leads finds.linked) in
       rw (← (sym (ap or_zero at.known_as) ∙ finds.uid)) (active_at s.store.ast finds.aste at.uid at.active)
 
   four_pow : (pages : ℕ) → pages ≤ 256 → pages ≤ 4 ^ (pool_for pages + 1)
@@ -153,9 +154,9 @@ module _ (s : State) (c : ℕ) (o : Outcome) (m : IsMachine s) (idle : IsIdle s.
     ]
   ]
 
-  page_inner : (u p : ℕ) (n : Node) → is_active s.store.ast u ≡ true → node_in nodes u ≡ Some n → p < n.pages
+  page_inner : (u p : ℕ) {n : Node} → is_active s.store.ast u ≡ true → node_in nodes u ≡ Some n → p < n.pages
       → p < length (table_of s.store.ast u)
-  page_inner u p n active at less = elim (cases_Bool n.directory) [
+  page_inner u p {n} active at less = elim (cases_Bool n.directory) [
     | inl e ↦ (let flat = keeps.store.counted.counted.flat u (directory_is nodes u n at ∙ e) in
         let none : n.pages ≡ 0 = sym (ap pages_of at) ∙ flat in absurd (omega arith))
     | inr e ↦ (let fits = four_pow n.pages most in
@@ -183,19 +184,18 @@ module _ (s : State) (c : ℕ) (o : Outcome) (m : IsMachine s) (idle : IsIdle s.
   still_speaks f u p r = speaks_like refl refl refl
       (λ j. (rw (← (one_still s.plan s.entries (entry.Here f u p) refl)) at (speaks.runs j))) speaks
 
-  pub create_asks : (f u p : ℕ) (r : Reference) → FindsRoom s k cmd f u p r → Says s c o (act.Create f u p r)
+  pub create_asks : {f u p : ℕ} {r : Reference} → FindsRoom s k cmd f u p r → Says s c o (act.Create f u p r)
       → AsksCreate s c f u p r
-  create_asks f u p r finds says = assumption (
+  create_asks {f} {u} {p} {r} finds says = assumption (
     (active_place s.store.ast u active).0,
-    page_inner u p inside.node active (sym (flat_node u) ∙ inside.there)
+    page_inner u p active (sym (flat_node u) ∙ inside.there)
         (let within = inside.within in let page = finds.finds.page in omega (arith, within, page)),
-    can_tell (page_made s f u p r) c k cmd None (word_reply 0 r.kind) (still_speaks f u p r)
-        (inl (record { own = due; free = free })) may,
-    created_says s c o f u u p r cmd keeps says speaks.next finds.finds.is inside.known zero_word finds.word,
+    can_tell None (word_reply 0 r.kind) (still_speaks f u p r) (inl (record { own = due; free = free })) may,
+    created_says f u p keeps says speaks.next finds.finds.is inside.known zero_word finds.word,
   )
     where
       active : is_active s.store.ast u ≡ true
-      active = page_active r u p finds.finds
+      active = page_active finds.finds
 
       inside : IsInside s k r u
       inside = subst (IsInside s k r) finds.finds.uid (inside_is s k r keeps finds.finds.inside)

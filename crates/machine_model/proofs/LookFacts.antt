@@ -189,9 +189,9 @@ module _ (s : State) (k : ℕ) (cmd : Command) where
   core = s.store.pages.core
 
   -- a frame that is found by what is being read into it
-  reading_found : (u : ℕ) (test : ℕ → Bool) (f : ℕ) → frame_reading core u test ≡ Some f
+  reading_found : (u : ℕ) (test : ℕ → Bool) {f : ℕ} → frame_reading core u test ≡ Some f
       → is_some (started_page (frame_in s.store.pages f)) ≡ true
-  reading_found u test f h = by (started_page (frame_at core f))
+  reading_found u test {f} h = by (started_page (frame_at core f))
       (position_at (λ x. is_page_of u test (started_page x)) core.frames frame.Free f h).1
     where
       by : (o : Option (ℕ × ℕ)) → is_page_of u test o ≡ true → is_some o ≡ true
@@ -204,11 +204,11 @@ module _ (s : State) (k : ℕ) (cmd : Command) where
     where
       by : (x : Option ℕ) → frame_reading core u test ≡ x → LookFinds s k cmd (unless_read x a)
       by None e = h e
-      by (Some f) e = reading_found u test f e
+      by (Some f) e = reading_found u test e
 
-  started_found : (f : ℕ) → position is_started core.frames ≡ Some f
+  started_found : {f : ℕ} → position is_started core.frames ≡ Some f
       → is_some (started_page (frame_in s.store.pages f)) ≡ true
-  started_found f h = by (frame_at core f) (position_at is_started core.frames frame.Free f h).1
+  started_found {f} h = by (frame_at core f) (position_at is_started core.frames frame.Free f h).1
     where
       by : (x : Frame) → is_started x ≡ true → is_some (started_page x) ≡ true
       by (frame.Started u q) e = refl
@@ -224,7 +224,7 @@ module _ (s : State) (k : ℕ) (cmd : Command) where
       where
         by : (y : Option ℕ) → position is_started core.frames ≡ y → LookFinds s k cmd (unless_read y act.GiveUp)
         by None i = inr (inl (assumption))
-        by (Some f) i = started_found f i
+        by (Some f) i = started_found i
 
     room_finds : (into : ℕ → Action)
         → ((f : ℕ) → least_free_frame core ≡ Some f → frame_reading core u (λ q. eqb q p) ≡ None
@@ -285,8 +285,8 @@ module _ (s : State) (k : ℕ) (cmd : Command) where
         by None e = h e
         by (Some v) e = place_finds v e (free_place s.store.ast (pool v)) refl
 
-  only_some : (test : Reply → Bool) (x y : Reply) → only test x ≡ Some y → (x ≡ y) × (test y ≡ true)
-  only_some test x y h = elim (cases_Bool (test x)) [
+  only_some : (test : Reply → Bool) (x : Reply) {y : Reply} → only test x ≡ Some y → (x ≡ y) × (test y ≡ true)
+  only_some test x {y} h = elim (cases_Bool (test x)) [
     | inl e ↦ (let same = same_Some x y (rw e at h) in (same, rw same at e))
     | inr e ↦ cc
   ]
@@ -318,12 +318,12 @@ module _ (s : State) (k : ℕ) (cmd : Command) where
 
     refused_outside : (x : Reply) → outside_refusal s k r ≡ Some x → IsRefused s k cmd x
     unfolding outside_refusal
-    refused_outside x h = let both = only_some is_outside (reply_to_reference s.plan (flat_of s) k r) x h in
+    refused_outside x h = let both = only_some is_outside (reply_to_reference s.plan (flat_of s) k r) h in
         assumption (sym both.0 ∙ sym due, outside_refuses x both.1)
 
     refused_room : (x : Reply) → room_refusal s k r ≡ Some x → IsRefused s k cmd x
     unfolding room_refusal
-    refused_room x h = let both = only_some is_of_room (reply_to_reference s.plan (flat_of s) k r) x h in
+    refused_room x h = let both = only_some is_of_room (reply_to_reference s.plan (flat_of s) k r) h in
         assumption (sym both.0 ∙ sym due, room_refuses x both.1)
 
     module _ (inside : outside_refusal s k r ≡ None) where
@@ -411,7 +411,7 @@ module _ (s : State) (k : ℕ) (cmd : Command) where
 
     refused_command : (x : Reply) → refusal_of s k cmd ≡ Some x → IsRefused s k cmd x
     unfolding refusal_of
-    refused_command x h = let both = only_some is_refusal (reply_to_tree_command s.plan (flat_of s) k cmd) x h in
+    refused_command x h = let both = only_some is_refusal (reply_to_tree_command s.plan (flat_of s) k cmd) h in
         assumption (sym both.0 ∙ sym (ap (reply_by s.plan (flat_of s) k cmd) tree))
 
     module _ (stands : refusal_of s k cmd ≡ None) where
@@ -435,7 +435,7 @@ module _ (s : State) (k : ℕ) (cmd : Command) where
           found : (z : Option ℕ) (f : ℕ) → frame_read_from core about_uid z ≡ Some f
               → is_some (started_page (frame_in s.store.pages f)) ≡ true
           found None f h = cc
-          found (Some low) f h = reading_found about_uid (λ q. nat_le low q) f h
+          found (Some low) f h = reading_found about_uid (λ q. nat_le low q) h
 
           read : (x : Option ℕ) → frame_read_from core about_uid (first_taken cmd) ≡ x
               → LookFinds s k cmd (unless_read x (take_or_commit (frames_taken s.store about_uid (first_taken cmd))

@@ -37,7 +37,7 @@ segment_faults s c u (f ∷ fs) pairs k n h = took_faults s c (aim.Deactivating 
 
 -- ---- the next command's
 
-module _ (s t : State) (c k : ℕ) (its : (cpu_at s.processors c).process ≡ Some k) (same : SameRuns s t) where
+module _ {s t : State} (c : ℕ) {k : ℕ} (its : (cpu_at s.processors c).process ≡ Some k) (same : SameRuns s t) where
   same_next : next_command t k ≡ next_command s k
   same_next = λ i. command_at (same.plan i) k (run_at (same.runs i) k).place
 
@@ -47,17 +47,17 @@ module _ (s t : State) (c k : ℕ) (its : (cpu_at s.processors c).process ≡ So
   link_of u next = cc
 
   -- of a command without a reference none is
-  pub tree_link : (cmd : Command) → next_command s k ≡ Some cmd → reference_of cmd ≡ None → KeepsLink s t c
-  tree_link cmd next none = (link_of t same_next ∙ off t) ∙ sym (link_of s refl ∙ off s)
+  pub tree_link : {cmd : Command} → next_command s k ≡ Some cmd → reference_of cmd ≡ None → KeepsLink s t c
+  tree_link next none = (link_of t same_next ∙ off t) ∙ sym (link_of s refl ∙ off s)
     where
       off : (u : State) → is_linked (around u) k (reference_in (next_command s k)) ≡ false
       off u = cc
 
   -- one that faults does so still
-  pub fault_link : (cmd : Command) (r : Reference) → next_command s k ≡ Some cmd → reference_of cmd ≡ Some r
+  pub fault_link : {cmd : Command} {r : Reference} → next_command s k ≡ Some cmd → reference_of cmd ≡ Some r
       → descriptor_of s.store.links k r.number ≡ sdw.Fault → descriptor_of t.store.links k r.number ≡ sdw.Fault
       → KeepsLink s t c
-  fault_link cmd r next is was now = cc (link_of t same_next, link_of s refl)
+  fault_link next is was now = cc (link_of t same_next, link_of s refl)
 
 -- ---- frames
 
@@ -89,9 +89,9 @@ module _ (s : State) (k : Keeps s) where
   bound_within f page h = within_by (outline_of s).frames f frame.Free (λ e. none_some (sym (ap page_of e)
       ∙ (bound_outlined s f ∙ h)))
 
-  pub bound_there : (f : ℕ) (page : ℕ × ℕ) → (seen s).bound f ≡ Some page
+  pub bound_there : (f : ℕ) {page : ℕ × ℕ} → (seen s).bound f ≡ Some page
       → is_bound (frame_in (outline_of s).frames f) ≡ true
-  bound_there f page h = page_bound (frame_in (outline_of s).frames f) page (bound_outlined s f ∙ h)
+  bound_there f {page} h = page_bound (frame_in (outline_of s).frames f) page (bound_outlined s f ∙ h)
 
   place_is : (u : ℕ) → is_active s.store.ast u ≡ true
       → uid_in (entry_at (outline_of s).entries (place_of s.store.ast.entries u)) ≡ Some u
@@ -103,8 +103,8 @@ module _ (s : State) (k : Keeps s) where
       → ((f : ℕ) → has fs f ≡ true → has (frames_from s.store.ast u 0) f ≡ true)
       → AreOf (outline_of s) (place_of s.store.ast.entries u) fs
   are_of u active [] h = tt
-  are_of u active (f ∷ fs) h = let at = listed_bound s u 0 k f (h f (has_head f fs)) in (
-    (bound_within f (u, at.0) at.1, bound_there f (u, at.0) at.1, cc (bound_outlined s f, place_is u active)),
+  are_of u active (f ∷ fs) h = let at = listed_bound u 0 k f (h f (has_head f fs)) in (
+    (bound_within f (u, at.0) at.1, bound_there f at.1, cc (bound_outlined s f, place_is u active)),
     are_of u active fs (λ g i. h g (has_tail f fs g i)),
   )
 
@@ -122,7 +122,7 @@ module _ (s : State) (c : ℕ) (m : IsMachine s) (cmd : Command) (sp : Speaks s 
   nodes = s.store.accounts.nodes
 
   look : IsIn (outline_of s) c Look
-  look = subst (λ (d : ℕ). IsIn (outline_of s) d Look) same (in_look s q mine looks)
+  look = subst (λ (d : ℕ). IsIn (outline_of s) d Look) same (in_look s mine looks)
 
   idle : IsIdle s.owner
   idle = subst IsIdle (sym mine) (looking_idle (shown (seen s)) q (rw (← mine) keeps.book.going_owned) looks)
@@ -135,25 +135,25 @@ module _ (s : State) (c : ℕ) (m : IsMachine s) (cmd : Command) (sp : Speaks s 
   )
 
   want_is : want_at (outline_of s) c ≡ want_by (around s) k cmd (reference_of cmd)
-  want_is = cc (want_here s c k sp.its)
+  want_is = cc (want_here s c sp.its)
 
   linked_is : (runner_at (outline_of s).runners c).linked ≡ is_linked (around s) k (reference_of cmd)
-  linked_is = cc (linked_here s c k sp.its)
+  linked_is = cc (linked_here s c sp.its)
 
-  lack_by : (w : Want) (l : Bool) → want_at (outline_of s) c ≡ w → (runner_at (outline_of s).runners c).linked ≡ l
+  lack_by : {w : Want} (l : Bool) → want_at (outline_of s) c ≡ w → (runner_at (outline_of s).runners c).linked ≡ l
       → lack_of s c ≡ want_lack (outline_of s) w l None
-  lack_by w l e f = λ i. want_lack (outline_of s) (e i) (f i) (reading_none i)
+  lack_by l e f = λ i. want_lack (outline_of s) (e i) (f i) (reading_none i)
 
   -- ---- by the kinds of commands
 
   makes_of : Reference → Bool
   makes_of r = not (eqb (new_word 0 r.kind) 0)
 
-  refer_want : (r : Reference) → reference_of cmd ≡ Some r → outside_refusal s k r ≡ None → (u : ℕ)
+  refer_want : {r : Reference} → reference_of cmd ≡ Some r → outside_refusal s k r ≡ None → {u : ℕ}
       → uid_of_number s.store k r.number ≡ u
       → want_at (outline_of s) c ≡ Refer (chain_of nodes u) u (r.offset / 1024) (makes_of r)
   unfolding makes_of
-  refer_want r is inside u e = cc (
+  refer_want {r} is inside {u} e = cc (
     want_is,
     is,
     refer_wants s k keeps r u (subst (IsInside s k r) e (inside_is s k r keeps inside)),
@@ -172,24 +172,24 @@ module _ (s : State) (c : ℕ) (m : IsMachine s) (cmd : Command) (sp : Speaks s 
   same_path path n h = cc
 
   truncate_want : (path : List (List ℕ)) (words : ℕ) → cmd ≡ command.Truncate path words → refusal_of s k cmd ≡ None
-      → (u : ℕ) → uid_of_command s.store k cmd ≡ u
+      → {u : ℕ} → uid_of_command s.store k cmd ≡ u
       → want_at (outline_of s) c ≡ Truncate (chain_of nodes u) u (cut_page words)
-  truncate_want path words is stands u e = let leads = truncate_leads path words is stands in
+  truncate_want path words is stands e = let leads = truncate_leads path words is stands in
       want_is ∙ (ap (λ (x : Command). want_by (around s) k x (reference_of x)) is
       ∙ (ap (want_truncated nodes words) (same_path path leads.node leads.found)
       ∙ ap (λ (v : ℕ). Truncate (chain_of nodes v) v (cut_page words)) (cc (leads.uid, is, e))))
 
   length_want : (path : List (List ℕ)) (pages : ℕ) → cmd ≡ command.Length path pages → refusal_of s k cmd ≡ None
-      → (u : ℕ) → uid_of_command s.store k cmd ≡ u → want_at (outline_of s) c ≡ Length u
-  length_want path pages is stands u e = let leads = length_stands s k keeps path pages (rw (← is) stands) in
+      → {u : ℕ} → uid_of_command s.store k cmd ≡ u → want_at (outline_of s) c ≡ Length u
+  length_want path pages is stands e = let leads = length_stands s k keeps path pages (rw (← is) stands) in
       want_is ∙ (ap (λ (x : Command). want_by (around s) k x (reference_of x)) is
       ∙ (ap want_lengthened (same_path path leads.node leads.found)
       ∙ ap (λ (v : ℕ). Length v) (sym leads.uid ∙ (sym (ap (uid_of_command s.store k) is) ∙ e))))
 
-  about_chain : (u : ℕ) → IsAbout s k cmd u → wanted_chain (want_at (outline_of s) c) ≡ chain_of nodes u
-  about_chain u h = elim h.case [
-    | inl x ↦ ap wanted_chain (refer_want x.0 x.1 x.3 u x.2)
-    | inr x ↦ ap wanted_chain (truncate_want x.0 x.1 x.2 x.3 u x.4)
+  about_chain : {u : ℕ} → IsAbout s k cmd u → wanted_chain (want_at (outline_of s) c) ≡ chain_of nodes u
+  about_chain {u} h = elim h.case [
+    | inl x ↦ ap wanted_chain (refer_want x.1 x.3 x.2)
+    | inr x ↦ ap wanted_chain (truncate_want x.0 x.1 x.2 x.3 x.4)
   ]
 
   -- ---- a page that is wanted
@@ -201,35 +201,28 @@ module _ (s : State) (c : ℕ) (m : IsMachine s) (cmd : Command) (sp : Speaks s 
     here : is_wanted_here (outline_of s).frames (want_at (outline_of s) c) ≡ is_here (outline_of s).frames u p
     lacks : ((makes : Bool) → page_fits (outline_of s) None u p makes ≡ false) → lack_of s c ≡ 1
 
-  page_want : (r : Reference) (u p : ℕ) → FindsPage s k cmd r u p
+  page_want : {r : Reference} {u p : ℕ} → FindsPage s k cmd r u p
       → want_at (outline_of s) c ≡ Refer (chain_of nodes u) u p (makes_of r)
-  page_want r u p finds = cc (refer_want r finds.is finds.inside u finds.uid)
+  page_want {r} {u} finds = cc (refer_want finds.is finds.inside finds.uid)
 
-  page_linked : (r : Reference) (u p : ℕ) → FindsPage s k cmd r u p → (runner_at (outline_of s).runners c).linked ≡ true
-  page_linked r u p finds = linked_by r true finds.is (ap is_connected finds.linked)
+  page_linked : {r : Reference} {u p : ℕ} → FindsPage s k cmd r u p → (runner_at (outline_of s).runners c).linked ≡ true
+  page_linked {r} finds = linked_by r true finds.is (ap is_connected finds.linked)
 
-  cut_want : (u p : ℕ) → FindsCut s k cmd u p → want_at (outline_of s) c ≡ Truncate (chain_of nodes u) u (Some p)
-  cut_want u p finds = cc (truncate_want finds.path finds.words finds.is finds.stands u finds.uid)
+  cut_want : {u p : ℕ} → FindsCut s k cmd u p → want_at (outline_of s) c ≡ Truncate (chain_of nodes u) u (Some p)
+  cut_want {u} finds = cc (truncate_want finds.path finds.words finds.is finds.stands finds.uid)
 
   has_want : (u p : ℕ) → ((r : Reference) × FindsPage s k cmd r u p) ⊎ FindsCut s k cmd u p → HasWant u p
   has_want u p (inl x) = record {
-    active = page_active s c (no_call s) m idle cmd sp x.0 u p x.1;
-    wants = rw (page_want x.0 u p x.1) (page_linked x.0 u p x.1, refl, refl);
-    here = cc (page_want x.0 u p x.1);
-    lacks = λ h. cc (
-      lack_by (Refer (chain_of nodes u) u p (makes_of x.0)) true (page_want x.0 u p x.1) (page_linked x.0 u p x.1),
-      h (makes_of x.0),
-    );
+    active = page_active s c (no_call s) m idle cmd sp x.1;
+    wants = rw (page_want x.1) (page_linked x.1, refl, refl);
+    here = cc (page_want x.1);
+    lacks = λ h. cc (lack_by true (page_want x.1) (page_linked x.1), h (makes_of x.0));
   }
   has_want u p (inr x) = record {
     active = chain_active nodes keeps.store.accounts.tree s.store.ast u x.chain;
-    wants = rw (cut_want u p x) (refl, refl);
-    here = cc (cut_want u p x);
-    lacks = λ h. cc (
-      lack_by (Truncate (chain_of nodes u) u (Some p)) (runner_at (outline_of s).runners c).linked
-          (cut_want u p x) refl,
-      h false,
-    );
+    wants = rw (cut_want x) (refl, refl);
+    here = cc (cut_want x);
+    lacks = λ h. cc (lack_by (runner_at (outline_of s).runners c).linked (cut_want x) refl, h false);
   }
 
   out_fits : (u p : ℕ) (makes : Bool) → is_active s.store.ast u ≡ true
@@ -251,8 +244,8 @@ module _ (s : State) (c : ℕ) (m : IsMachine s) (cmd : Command) (sp : Speaks s 
 
   -- ---- the actions
 
-  start_finds : (f u p : ℕ) → FindsOut s k cmd f u p → CanStart (outline_of s) c f u p
-  start_finds f u p finds = record {
+  start_finds : {f u p : ℕ} → FindsOut s k cmd f u p → CanStart (outline_of s) c f u p
+  start_finds {f} {u} {p} finds = record {
     look = look;
     free = frame_outlined s f ∙ ap bare (is_free_is (store_frame s.store.pages f)
         (position_at is_free s.store.pages.core.frames frame.Free f finds.frame).1);
@@ -273,7 +266,7 @@ module _ (s : State) (c : ℕ) (m : IsMachine s) (cmd : Command) (sp : Speaks s 
     look = look;
     full = full_outlined s finds.full;
     within = bound_within s keeps f bound.0 bound.1;
-    bound = bound_there s keeps f bound.0 bound.1;
+    bound = bound_there s keeps f bound.1;
     away = (has_want finds.uid finds.page finds.case).here ∙ not_here s keeps finds.uid finds.page
         (nowhere (word_of s.store.ast finds.uid finds.page) refl);
   }
@@ -296,8 +289,7 @@ module _ (s : State) (c : ℕ) (m : IsMachine s) (cmd : Command) (sp : Speaks s 
       → page_fits (outline_of s) None h.uid (h.reference.offset / 1024) (makes_of h.reference) ≡ true
   unfolding makes_of
   all_fits h ptw.Null e = cc (
-    stored_outlined s keeps h.uid (h.reference.offset / 1024) (page_active s c (no_call s) m
-        idle cmd sp h.reference h.uid (h.reference.offset / 1024) h.finds),
+    stored_outlined s keeps h.uid (h.reference.offset / 1024) (page_active s c (no_call s) m idle cmd sp h.finds),
     h.kept e,
     or_true (is_here (outline_of s).frames h.uid (h.reference.offset / 1024)),
   )
@@ -316,33 +308,31 @@ module _ (s : State) (c : ℕ) (m : IsMachine s) (cmd : Command) (sp : Speaks s 
       uid = h.uid;
       page = h.reference.offset / 1024;
       makes = makes_of h.reference;
-      want = page_want h.reference h.uid (h.reference.offset / 1024) h.finds;
+      want = page_want h.finds;
     },
-    lack_by (Refer (chain_of nodes h.uid) h.uid (h.reference.offset / 1024) (makes_of h.reference)) true
-        (page_want h.reference h.uid (h.reference.offset / 1024) h.finds)
-        (page_linked h.reference h.uid (h.reference.offset / 1024) h.finds)
+    lack_by true (page_want h.finds) (page_linked h.finds)
         ∙ ap (λ (b : Bool). cond {A = ℕ} (true && b) 0 1) (all_fits h _ refl),
   )
 
-  activate_finds : (u place : ℕ) → FindsPlace s k cmd u place → CanActivate (outline_of s) c place u
+  activate_finds : {u place : ℕ} → FindsPlace s k cmd u place → CanActivate (outline_of s) c place u
   unfolding outline_of
-  activate_finds u place finds = record {
+  activate_finds {u} {place} finds = record {
     look = look;
-    member = rw (finds.link.chain_is ∙ sym (about_chain finds.link.about finds.link.case)) at (member_contains
+    member = rw (finds.link.chain_is ∙ sym (about_chain finds.link.case)) at (member_contains
         finds.chain u (found_member (λ w. not (is_active s.store.ast w)) finds.chain u finds.link.first));
     idle = first_idle s.store.ast finds.chain u finds.link.first;
     free = free_is s c (no_call s) m idle cmd sp _ place finds.free;
-    within = free_within s c (no_call s) m idle cmd sp _ place finds.free;
+    within = free_within s c (no_call s) m idle cmd sp _ finds.free;
   }
 
-  connect_finds : (n u : ℕ) → FindsLink s k cmd n u → MayConnect s c n
-  connect_finds n u finds = record {
+  connect_finds : {n u : ℕ} → FindsLink s k cmd n u → MayConnect s c n
+  connect_finds {n} {u} finds = record {
     wants = record {
       chain = chain_of nodes u;
       uid = u;
       page = finds.reference.offset / 1024;
       makes = makes_of finds.reference;
-      want = refer_want finds.reference finds.is finds.inside u uid_is;
+      want = refer_want finds.is finds.inside uid_is;
     };
     reference = finds.reference;
     number = finds.number;
@@ -385,12 +375,11 @@ module _ (s : State) (c : ℕ) (m : IsMachine s) (cmd : Command) (sp : Speaks s 
     link = link;
   }
 
-  empty_finds : (u : ℕ) → FindsActive s k cmd u → MayEmpty s (deactivation_begun s c u) c u
-  empty_finds u finds = may_empty (deactivation_begun s c u) u finds.active (cc (
-    length_want finds.path finds.pages finds.is finds.stands u finds.uid,
+  empty_finds : {u : ℕ} → FindsActive s k cmd u → MayEmpty s (deactivation_begun s c u) c u
+  empty_finds {u} finds = may_empty (deactivation_begun s c u) u finds.active (cc (
+    length_want finds.path finds.pages finds.is finds.stands finds.uid,
     used (entry_at s.store.ast.entries (place_of s.store.ast.entries u)) (active_place s.store.ast u finds.active).1,
-  )) (tree_link s (deactivation_begun s c u) c k sp.its (runs_stay (emptying s c u)) cmd sp.next
-      (ap reference_of finds.is))
+  )) (tree_link c sp.its (runs_stay (emptying s c u)) sp.next (ap reference_of finds.is))
     where
       used : (o : Option Entry) → uid_in o ≡ Some u → off_chain [] o ≡ true
       used None h = cc
@@ -399,22 +388,20 @@ module _ (s : State) (c : ℕ) (m : IsMachine s) (cmd : Command) (sp : Speaks s 
   victim_finds : (pool : ℕ) (chain : List ℕ) (u : ℕ) → FindsVictim s k cmd pool chain u
       → MayEmpty s (victim_taken s c pool chain u) c u
   victim_finds pool chain u finds = may_empty (victim_taken s c pool chain u) u active
-      (cc (about_chain finds.link.about finds.link.case, place_same, off_there)) link
+      (cc (about_chain finds.link.case, place_same, off_there)) link
     where
       victim : victim_of s.store.ast pool (chain_of nodes finds.link.about) ≡ Some finds.place
       victim = cc
 
       off_there : off_chain (chain_of nodes finds.link.about) (entry_at s.store.ast.entries finds.place) ≡ true
-      off_there = victim_is_off s keeps finds.link.about pool finds.place victim
+      off_there = victim_is_off s keeps finds.link.about pool victim
 
       link : KeepsLink s (victim_taken s c pool chain u) c
       link = elim finds.link.case.case [
-        | inl x ↦ fault_link s (victim_taken s c pool chain u) c k sp.its (runs_stay (emptying_victim s c pool chain u))
-            cmd x.0 sp.next x.1 x.4 (segment_faults (with_store s (with_hand_moved s.store pool chain)) c u
+        | inl x ↦ fault_link c sp.its (runs_stay (emptying_victim s c pool chain u)) sp.next x.1 x.4 (segment_faults (with_store s (with_hand_moved s.store pool chain)) c u
             (frames_from (with_hand_moved s.store pool chain).ast u 0)
             (trailers_in (with_hand_moved s.store pool chain) u) k x.0.number x.4)
-        | inr x ↦ tree_link s (victim_taken s c pool chain u) c k sp.its
-            (runs_stay (emptying_victim s c pool chain u)) cmd sp.next (ap reference_of x.2)
+        | inr x ↦ tree_link c sp.its (runs_stay (emptying_victim s c pool chain u)) sp.next (ap reference_of x.2)
       ]
 
       used : (x : Entry) × (entry_at s.store.ast.entries finds.place ≡ Some x)
@@ -446,7 +433,7 @@ module _ (s : State) (c : ℕ) (m : IsMachine s) (cmd : Command) (sp : Speaks s 
   -- ---- the whole
 
   may : MayAnswer s c
-  may = has_answer s c m sp.there (cc)
+  may = has_answer c m sp.there (cc)
 
   looks_like : (a : Action) → LookFinds s k cmd a → IsLook s c a
   looks_like (act.Waits (ForTransfer f)) h = waits_reading s k cmd f h
@@ -454,17 +441,16 @@ module _ (s : State) (c : ℕ) (m : IsMachine s) (cmd : Command) (sp : Speaks s 
   looks_like act.GiveUp (inl h) = all_finds h
   looks_like act.GiveUp (inr (inl h)) = absurd (no_frame h)
   looks_like act.GiveUp (inr (inr h)) = absurd (no_victim h)
-  looks_like (act.Activate u place) h = activate_finds u place h
-  looks_like (act.Connect n u) h = connect_finds n u h
+  looks_like (act.Activate u place) h = activate_finds h
+  looks_like (act.Connect n u) h = connect_finds h
   looks_like (act.Create f u p r) h = may
-  looks_like (act.Start f u p) h = start_finds f u p h
+  looks_like (act.Start f u p) h = start_finds h
   looks_like (act.Evict f) h = evict_finds f h
-  looks_like (act.Empty u) h = empty_finds u h
+  looks_like (act.Empty u) h = empty_finds h
   looks_like (act.EmptyVictim pool chain u) h = victim_finds pool chain u h
   looks_like (act.TakeAway fs pairs w) h = (
     h.2,
-    tree_link s (took s c aim.Committing w fs pairs) c k sp.its
-        (runs_stay (all_taken s c aim.Committing w fs pairs)) cmd sp.next h.0.tree,
+    tree_link c sp.its (runs_stay (all_taken s c aim.Committing w fs pairs)) sp.next h.0.tree,
   )
   looks_like (act.BeginMove u volume) h = tt
   looks_like act.Commit h = may

@@ -12,15 +12,15 @@ goes_self s c stage owner = inl (record {
   lack = le_refl _;
 })
 
-past_on : (a b d : Outline) (c : ℕ) → IsUnderWay a b c → IsPast b d c → IsPast a d c
-past_on a b d c under past = record {
+past_on : {a b d : Outline} {c : ℕ} → IsUnderWay a b c → IsPast b d c → IsPast a d c
+past_on under past = record {
   owner = past.owner;
   gone = rw (← under.same.since) past.gone;
   all = omega arith;
 }
 
-same_on : (a b d : Outline) (c : ℕ) → IsSameCommand a b c → IsSameCommand b d c → IsSameCommand a d c
-same_on a b d c one two = assumption (
+same_on : {a b d : Outline} {c : ℕ} → IsSameCommand a b c → IsSameCommand b d c → IsSameCommand a d c
+same_on one two = assumption (
   two.want ∙ one.want,
   two.since ∙ one.since,
   two.running ∙ one.running,
@@ -28,31 +28,31 @@ same_on a b d c one two = assumption (
 )
 
 -- what a job lacks that lacked no more before, or the kind of its command
-before_on : (a b : Outline) (c : ℕ) → IsUnderWay a b c → lack_at a c ≤ 1
-    → (lack_at b c ≡ 1) ⊎ IsReference (want_at b c) → (lack_at a c ≡ 1) ⊎ IsReference (want_at a c)
-before_on a b c under few (inl h) = let more = under.lack in inl (omega arith)
-before_on a b c under few (inr h) = inr (subst IsReference under.same.want h)
+before_on : {a b : Outline} {c : ℕ} → IsUnderWay a b c → lack_at a c ≤ 1 → (lack_at b c ≡ 1) ⊎ IsReference (want_at b c)
+    → (lack_at a c ≡ 1) ⊎ IsReference (want_at a c)
+before_on under few (inl h) = let more = under.lack in inl (omega arith)
+before_on under few (inr h) = inr (subst IsReference under.same.want h)
 
 -- a job that is under way goes on with its next turn
 pub goes_on : (a b d : Outline) (c : ℕ) → lack_at a c ≤ 1 → IsUnderWay a b c → Goes b d c → Goes a d c
 goes_on a b d c few under (inl more) = inl (record {
   stage = more.stage;
   in_job = more.in_job;
-  same = same_on a b d c under.same more.same;
+  same = same_on under.same more.same;
   lack = le_trans more.lack under.lack;
 })
-goes_on a b d c few under (inr (inl past)) = inr (inl (past_on a b d c under past))
+goes_on a b d c few under (inr (inl past)) = inr (inl (past_on under past))
 goes_on a b d c few under (inr (inr mended)) = inr (inr (assumption (
-  same_on a b d c under.same mended.same,
-  before_on a b c under few mended.before,
+  same_on under.same mended.same,
+  before_on under few mended.before,
 )))
 
 -- while somebody owns the supervisor the job is under way; once nobody does it is done
-pub job_goes : (a b : Outline) (c d : ℕ) (stage : Stage) → IsIn b d stage → Goes a b c → IsUnderWay a b c
-job_goes a b c d stage owner (inl under) = under
-job_goes a b c d stage owner (inr (inl past)) =
+pub job_goes : {a b : Outline} {c : ℕ} (d : ℕ) (stage : Stage) → IsIn b d stage → Goes a b c → IsUnderWay a b c
+job_goes d stage owner (inl under) = under
+job_goes d stage owner (inr (inl past)) =
     absurd (none-some (record { cpu = d; stage = stage }) (sym past.owner ∙ owner))
-job_goes a b c d stage owner (inr (inr mended)) =
+job_goes d stage owner (inr (inr mended)) =
     absurd (none-some (record { cpu = d; stage = stage }) (sym mended.owner ∙ owner))
 
 pub job_over : (a b : Outline) (c : ℕ) → b.owner ≡ None → Goes a b c → JobDone a b c
@@ -107,13 +107,13 @@ lacked s b c taken before = by taken.why before
     by (inr h) (inr i) = absurd (h (subst (λ (x : Outline). IsReference (want_at x c)) taken.now i))
 
 -- a processor took the supervisor, and the job that it began is done
-pub taken_done : (s b t : Outline) (c : ℕ) → HasTaken s b c → JobDone b t c → CommandDone s t c
-taken_done s b t c taken (inl past) = inl (record {
+pub taken_done : {s b : Outline} (t : Outline) {c : ℕ} → HasTaken s b c → JobDone b t c → CommandDone s t c
+taken_done {s} t {c} taken (inl past) = inl (record {
   owner = past.owner;
   gone = rw taken.now at past.gone;
   all = omega (arith, ap all_rank taken.now ∙ all_owner s c);
 })
-taken_done s b t c taken (inr mended) = inr (record {
+taken_done {s} {b} t {c} taken (inr mended) = inr (record {
   owner = mended.owner;
   same = record {
     want = cc;

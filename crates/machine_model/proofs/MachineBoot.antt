@@ -121,9 +121,8 @@ module _ (p : Plan) (words : List (List ℕ)) (disks : List (List (List ℕ))) (
   nobody : (d k : ℕ) → (cpu_at (replicate p.processors no_processor) d).process ≡ Some k → ⊥
   nobody d k h = none_some (sym (ap (λ (x : Processor). x.cpu.process) (at_fill p.processors no_processor d)) ∙ h)
 
-  reads_nothing : (d : ℕ) (t : Transfer) → (cpu_at (replicate p.processors no_processor) d).transfer ≡ Some t → ⊥
-  reads_nothing d t h =
-      none_some (sym (ap (λ (x : Processor). x.cpu.transfer) (at_fill p.processors no_processor d)) ∙ h)
+  reads_nothing : (d : ℕ) {t : Transfer} → (cpu_at (replicate p.processors no_processor) d).transfer ≡ Some t → ⊥
+  reads_nothing d h = none_some (sym (ap (λ (x : Processor). x.cpu.transfer) (at_fill p.processors no_processor d)) ∙ h)
 
   goes : (k : ℕ) → k < length p.processes → (run_at (replicate (length p.processes) first_run) k).ended ≡ false
   goes k h = cc (get_or-replicate (length p.processes) k first_run no_run h)
@@ -174,9 +173,9 @@ module _ (p : Plan) (words : List (List ℕ)) (disks : List (List (List ℕ))) (
   -- The machine keeps all of it at first: what the store says of itself is all that it wants.
   pub boot_keeps_all : StoreSays (booted p words disks) → KeepsAll (booted p words disks)
   boot_keeps_all says = record {
-    machine = assumption (boot_keeps p words disks says, booted_come p words disks script, first_scheduled);
+    machine = assumption (boot_keeps p words disks says, booted_come words disks script, first_scheduled);
     entitled = record { each = λ d k h. absurd (nobody d k h) };
-    reading = record { each = λ d t h. absurd (reads_nothing d t h) };
+    reading = record { each = λ d t h. absurd (reads_nothing d h) };
     working = none_work (booted p words disks) refl;
     fitting = none_fits (booted p words disks) refl;
   }

@@ -41,11 +41,11 @@ module _ (s : State) (c : ℕ) (o : Outcome) (all : KeepsAll s) (there : c < len
     };
     entitled = entitled_kept s c o m.keeps there all.entitled a can (entitles a keeps);
     reading = reading_kept s c o m there all.reading a (may_read s c o m there all.reading a can knows past) keeps;
-    working = work_kept s c o m all.working a (may_work s c o m there all.reading a can knows) keeps;
+    working = work_kept c o m all.working a (may_work s c o m there all.reading a can knows) keeps;
   }
     where
       keeps : Keeps (after s c a o)
-      keeps = after_keeps s c o a m.keeps there can
+      keeps = after_keeps c o a m.keeps there can
 
       pools : SamePools s (after s c a o)
       pools = pools_kept s c a o

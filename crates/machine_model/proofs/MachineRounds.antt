@@ -8,12 +8,12 @@ use Rattle.machine_model.proofs.LoopLaws.{goes_on, goes_self, job_goes, job_over
 
 -- the outline of a machine that keeps its promise is kept
 pub kept_of : (s : State) → KeepsAll s → IsKept (outline_of s)
-kept_of s all = kept_seen s all.machine all.reading all.fitting
+kept_of s all = kept_seen all.machine all.reading all.fitting
 
 -- each step is one of the outline
-pub machine_step : (s t : State) (c : ℕ) → IsGoing s → c < length s.processors → HasStepped s t c
+pub machine_step : {s : State} (t : State) (c : ℕ) → IsGoing s → c < length s.processors → HasStepped s t c
     → Step (outline_of s) c (turn_of (action_of s c)) (outline_of t)
-machine_step s t c going there stepped = rw stepped.done (step_outlined s c stepped.outcome going.on
+machine_step {s} t c going there stepped = rw stepped.done (step_outlined stepped.outcome going.on
     (foresees s c going.keeps.machine going.keeps.entitled going.keeps.reading going.keeps.working going.keeps.fitting
     there))
 
@@ -22,16 +22,16 @@ machine_step s t c going there stepped = rw stepped.done (step_outlined s c step
 stage_at : (s : State) (c : ℕ) → IsOwnedBy s c → Stage
 stage_at s c mine = stage_of s.store.ast.entries mine.owner.frames mine.owner.phase
 
-is_in : (s : State) (c : ℕ) (mine : IsOwnedBy s c) → IsIn (outline_of s) c (stage_at s c mine)
+is_in : {s : State} {c : ℕ} (mine : IsOwnedBy s c) → IsIn (outline_of s) c (stage_at s c mine)
 unfolding stage_at
-is_in s c mine = rw mine.cpu at (in_job s mine.owner mine.mine)
+is_in {s} mine = rw mine.cpu at (in_job s mine.owner mine.mine)
 
 module _ (s t : State) (c : ℕ) (going : IsGoing s) (keeps : KeepsAll t) (there : c < length s.processors)
     (mine : IsOwnedBy s c) (stepped : HasStepped s t c) where
   -- what a turn of the owner brings
   pub owner_turn : OwnerStep (turn_of (action_of s c)) (outline_of s) (outline_of t) c
-  owner_turn = owner_step (outline_of s) c (stage_at s c mine) (turn_of (action_of s c)) (outline_of t)
-      (kept_of s going.keeps) (kept_of t keeps) (is_in s c mine) (machine_step s t c going there stepped)
+  owner_turn = owner_step (stage_at s c mine)
+      (kept_of s going.keeps) (kept_of t keeps) (is_in mine) (machine_step t c going there stepped)
 
   -- it moved
   pub moved_turn : turn_of (action_of s c) ≡ Moved → JobFell (outline_of s) (outline_of t) c
@@ -56,15 +56,14 @@ module _ (s t : State) (c : ℕ) (going : IsGoing s) (keeps : KeepsAll t) (there
   never_ended h = subst (λ (x : Turn). OwnerStep x (outline_of s) (outline_of t) c) h owner_turn
 
 -- the processor that is waited for is there
-pub late_there : (s : State) (c d : ℕ) → AwaitsClear (outline_of s) c d → d < length s.processors
-late_there s c d awaits = rw (← (long_outline s)) (inside (outline_of s).runners d awaits.online)
+pub late_there : (s : State) {c d : ℕ} → AwaitsClear (outline_of s) c d → d < length s.processors
+late_there s {c} {d} awaits = rw (← (long_outline s)) (inside (outline_of s).runners d awaits.online)
 
 -- it cleared
-pub cleared_turn : (s t : State) (c d : ℕ) → IsGoing s → AwaitsClear (outline_of s) c d → HasStepped s t d
+pub cleared_turn : {s t : State} {c d : ℕ} → IsGoing s → AwaitsClear (outline_of s) c d → HasStepped s t d
     → JobFell (outline_of s) (outline_of t) c
-cleared_turn s t c d going awaits stepped = waited_fell (outline_of s) (outline_of t) c
-    (clear_step (outline_of s) c d (turn_of (action_of s d)) (outline_of t) (kept_of s going.keeps) awaits
-    (machine_step s t d going (late_there s c d awaits) stepped))
+cleared_turn {s} {t} {c} {d} going awaits stepped = waited_fell (outline_of s) (outline_of t) c
+    (clear_step (kept_of s going.keeps) awaits (machine_step t d going (late_there s awaits) stepped))
 
 -- somebody reads into the frame that is waited for
 pub reader_seen : (s : State) (c f : ℕ) → KeepsAll s → AwaitsTransfer (outline_of s) c f
@@ -72,11 +71,11 @@ pub reader_seen : (s : State) (c f : ℕ) → KeepsAll s → AwaitsTransfer (out
 reader_seen s c f keeps awaits = reader_there (outline_of s) c f (kept_of s keeps) awaits
 
 -- it has ended its transfer
-pub read_turn : (s t : State) (c f d : ℕ) → IsGoing s → KeepsAll t → AwaitsTransfer (outline_of s) c f
+pub read_turn : {s t : State} {c f d : ℕ} → IsGoing s → KeepsAll t → AwaitsTransfer (outline_of s) c f
     → IsReader (outline_of s) f d → HasStepped s t d → JobFell (outline_of s) (outline_of t) c
-read_turn s t c f d going keeps awaits reader stepped = waited_fell (outline_of s) (outline_of t) c
-    (read_step (outline_of s) c f d (turn_of (action_of s d)) (outline_of t) (kept_of s going.keeps) (kept_of t keeps)
-    awaits reader (machine_step s t d going (rw (← (long_outline s)) reader.within) stepped))
+read_turn {s} {t} {c} {f} {d} going keeps awaits reader stepped = waited_fell (outline_of s) (outline_of t) c
+    (read_step (kept_of s going.keeps) (kept_of t keeps)
+    awaits reader (machine_step t d going (rw (← (long_outline s)) reader.within) stepped))
 
 -- ---- a job
 
@@ -85,25 +84,25 @@ cpu_or None = 0
 cpu_or (Some x) = x.cpu
 
 pub job_start : (s : State) (c : ℕ) → IsOwnedBy s c → Goes (outline_of s) (outline_of s) c
-job_start s c mine = goes_self (outline_of s) c (stage_at s c mine) (is_in s c mine)
+job_start s c mine = goes_self (outline_of s) c (stage_at s c mine) (is_in mine)
 
 -- while somebody owns the supervisor it is the processor whose job it is
-pub job_owner : (a b : State) (c : ℕ) → Goes (outline_of a) (outline_of b) c → (q : Owner) → b.owner ≡ Some q
+pub job_owner : (a b : State) {c : ℕ} → Goes (outline_of a) (outline_of b) c → {q : Owner} → b.owner ≡ Some q
     → IsOwnedBy b c
-job_owner a b c goes q mine = record { owner = q; mine = mine; cpu = ap cpu_or (sym is ∙ under.in_job) }
+job_owner a b {c} goes {q} mine = record { owner = q; mine = mine; cpu = ap cpu_or (sym is ∙ under.in_job) }
   where
     is : (outline_of b).owner ≡ Some (record { cpu = q.cpu; stage = stage_of b.store.ast.entries q.frames q.phase })
     is = in_job b q mine
 
     under : IsUnderWay (outline_of a) (outline_of b) c
-    under = job_goes (outline_of a) (outline_of b) c q.cpu (stage_of b.store.ast.entries q.frames q.phase) is goes
+    under = job_goes q.cpu (stage_of b.store.ast.entries q.frames q.phase) is goes
 
 -- a job goes on with its next turn
-pub job_next : (a b d : State) (c : ℕ) → Goes (outline_of a) (outline_of b) c → IsOwnedBy b c
+pub job_next : (a : State) {b : State} (d : State) {c : ℕ} → Goes (outline_of a) (outline_of b) c → IsOwnedBy b c
     → JobFell (outline_of b) (outline_of d) c → Goes (outline_of a) (outline_of d) c
-job_next a b d c goes mine fell = goes_on (outline_of a) (outline_of b) (outline_of d) c
+job_next a {b} d {c} goes mine fell = goes_on (outline_of a) (outline_of b) (outline_of d) c
     (lack_few (outline_of a) (runner_at (outline_of a).runners c))
-    (job_goes (outline_of a) (outline_of b) c c (stage_at b c mine) (is_in b c mine) goes) fell.goes
+    (job_goes c (stage_at b c mine) (is_in mine) goes) fell.goes
 
 -- once nobody owns the supervisor it is done
 pub job_end : (a b : State) (c : ℕ) → b.owner ≡ None → Goes (outline_of a) (outline_of b) c
@@ -116,9 +115,9 @@ job_freed a b c (inr mended) = no_owner b mended.owner
 
 -- ---- a command
 
-looking_is : (s t : State) (c : ℕ) → HasTaken (outline_of s) (outline_of t) c
+looking_is : (s t : State) {c : ℕ} → HasTaken (outline_of s) (outline_of t) c
     → (outline_of t).owner ≡ Some (record { cpu = c; stage = Look })
-looking_is s t c taken = cc
+looking_is s t taken = cc
 
 done_free : (s t : State) (c : ℕ) → CommandDone (outline_of s) (outline_of t) c → (outline_of t).owner ≡ None
 done_free s t c (inl past) = past.owner
@@ -129,9 +128,8 @@ module _ (s t : State) (c : ℕ) (going : IsGoing s) (keeps : KeepsAll t) (there
     (stepped : HasStepped s t c) where
   -- what a turn of a processor brings that has a process, while nobody owns the supervisor
   pub command_turn : CommandStep (turn_of (action_of s c)) (outline_of s) (outline_of t) c
-  command_turn = command_step (outline_of s) c (turn_of (action_of s c)) (outline_of t) (kept_of s going.keeps)
-      (kept_of t keeps) (owner_none s none) (running_is s going.keeps.machine.keeps c ∙ running)
-      (machine_step s t c going there stepped)
+  command_turn = command_step (kept_of s going.keeps) (kept_of t keeps) (owner_none s none)
+      (running_is s going.keeps.machine.keeps c ∙ running) (machine_step t c going there stepped)
 
   -- it moves
   pub command_moves : turn_of (action_of s c) ≡ Moved
@@ -146,15 +144,15 @@ module _ (s t : State) (c : ℕ) (going : IsGoing s) (keeps : KeepsAll t) (there
   moved = subst (λ (x : Turn). CommandStep x (outline_of s) (outline_of t) c) command_moves command_turn
 
   -- it took the supervisor, so its job follows
-  pub command_took : (q : Owner) → t.owner ≡ Some q → IsOwnedBy t c × HasTaken (outline_of s) (outline_of t) c
-  command_took q mine = by moved
+  pub command_took : {q : Owner} → t.owner ≡ Some q → IsOwnedBy t c × HasTaken (outline_of s) (outline_of t) c
+  command_took {q} mine = by moved
     where
       is : (outline_of t).owner ≡ Some (record { cpu = q.cpu; stage = stage_of t.store.ast.entries q.frames q.phase })
       is = in_job t q mine
 
       by : HasTaken (outline_of s) (outline_of t) c ⊎ CommandDone (outline_of s) (outline_of t) c
           → IsOwnedBy t c × HasTaken (outline_of s) (outline_of t) c
-      by (inl taken) = (record { owner = q; mine = mine; cpu = ap cpu_or (sym is ∙ looking_is s t c taken) }, taken)
+      by (inl taken) = (record { owner = q; mine = mine; cpu = ap cpu_or (sym is ∙ looking_is s t taken) }, taken)
       by (inr done) = cc (done_free s t c done, is)
 
   -- or the turn is done
@@ -163,21 +161,21 @@ module _ (s t : State) (c : ℕ) (going : IsGoing s) (keeps : KeepsAll t) (there
     where
       by : HasTaken (outline_of s) (outline_of t) c ⊎ CommandDone (outline_of s) (outline_of t) c
           → CommandDone (outline_of s) (outline_of t) c
-      by (inl taken) = cc (owner_none t free, looking_is s t c taken)
+      by (inl taken) = cc (owner_none t free, looking_is s t taken)
       by (inr done) = done
 
 -- the job that it took the supervisor for is done
-pub command_job : (s b t : State) (c : ℕ) → HasTaken (outline_of s) (outline_of b) c
+pub command_job : (s b t : State) {c : ℕ} → HasTaken (outline_of s) (outline_of b) c
     → JobDone (outline_of b) (outline_of t) c → CommandDone (outline_of s) (outline_of t) c
-command_job s b t c taken done = taken_done (outline_of s) (outline_of b) (outline_of t) c taken done
+command_job s b t {c} taken done = taken_done (outline_of t) taken done
 
 pub command_freed : (s t : State) (c : ℕ) → CommandDone (outline_of s) (outline_of t) c → t.owner ≡ None
 command_freed s t c done = no_owner t (done_free s t c done)
 
 -- whether a processor is at the same command still
-pub at_seen : (s : State) (c since : ℕ) → KeepsAll s → is_at (runner_at (outline_of s).runners c) since
-    ≡ (is_some (cpu_at s.processors c).process && eqb (processor_at s.processors c).count since)
-at_seen s c since all = λ i. running_is s all.machine.keeps c i && eqb (since_is i) since
+pub at_seen : {s : State} (c since : ℕ) → KeepsAll s → is_at (runner_at (outline_of s).runners c) since ≡
+    (is_some (cpu_at s.processors c).process && eqb (processor_at s.processors c).count since)
+at_seen {s} c since all = λ i. running_is s all.machine.keeps c i && eqb (since_is i) since
   where
     since_is : (runner_at (outline_of s).runners c).since ≡ (processor_at s.processors c).count
     since_is = cc (at_outline s c, seen_since (around s) (processor_at s.processors c))
@@ -214,12 +212,11 @@ not_ended s all more ended = by s.ready refl (list_any has_process s.processors)
 -- ---- rounds
 
 -- no processor has a process, and something is left to do
-pub idle_round : (s t : State) → IsGoing s → KeepsAll t → s.owner ≡ None
+pub idle_round : {s t : State} → IsGoing s → KeepsAll t → s.owner ≡ None
     → ((d : ℕ) → is_some (cpu_at s.processors d).process ≡ false) → is_over s ≡ false → HasStepped s t 0
     → RoundDone (outline_of s) (outline_of t)
-idle_round s t going keeps none idle more stepped = let fell = idle_step (outline_of s) 0 (turn_of (action_of s 0))
-    (outline_of t) (kept_of s going.keeps) (kept_of t keeps)
+idle_round {s} {t} going keeps none idle more stepped = let fell = idle_step (kept_of s going.keeps) (kept_of t keeps)
     (kept_of s going.keeps).sizes.some_runner (owner_none s none)
     (λ d. running_is s going.keeps.machine.keeps d ∙ idle d) (not_ended s going.keeps more)
-    (machine_step s t 0 going (rw (long_outline s) at (kept_of s going.keeps).sizes.some_runner) stepped) in
+    (machine_step t 0 going (rw (long_outline s) at (kept_of s going.keeps).sizes.some_runner) stepped) in
     assumption

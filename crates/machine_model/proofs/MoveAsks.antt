@@ -62,9 +62,9 @@ page_is_held bound (x ∷ xs) u p f h all = elim (cases_Bool (is_page u p x)) [
     same_both a b c d e = let parts = and_parts (eqb a c) (eqb b d) e in (eqb-true a c parts.0, eqb-true b d parts.1)
 
 -- a page that is in a frame is stored
-pub bound_stored : (s : State) → Keeps s → (f u p : ℕ) → is_active s.store.ast u ≡ true
-    → (seen s).bound f ≡ Some (u, p) → is_stored (flat_of s).stored u p ≡ true
-bound_stored s k f u p active bound = stored_is s k u active p
+pub bound_stored : {s : State} → Keeps s → (f u p : ℕ) → is_active s.store.ast u ≡ true → (seen s).bound f ≡ Some (u, p)
+    → is_stored (flat_of s).stored u p ≡ true
+bound_stored {s} k f u p active bound = stored_is s k u active p
     ∙ recorded (word_of s.store.ast u p) (k.book.tied.named f u p bound)
   where
     recorded : (w : Ptw) → names w ≡ Some f → has_record w ≡ true
@@ -105,8 +105,8 @@ descriptor_active s k n u keeps h = by (descriptor_of s.store.links k n) refl h
     by (sdw.Present aste m pages) e i = led (uid_at s.store.ast.entries aste) aste refl i
 
 -- the principals of the script are those of the store
-pub who_is : (s : State) (keeps : Keeps s) (k : ℕ) → who_at s.store.whos k ≡ who_of s.plan k
-who_is s keeps k = cc (map_who s.plan.processes k)
+pub who_is : {s : State} (keeps : Keeps s) (k : ℕ) → who_at s.store.whos k ≡ who_of s.plan k
+who_is {s} keeps k = cc (map_who s.plan.processes k)
   where
     map_who : (ps : List ProcessPlan) (j : ℕ) → who_at (map (λ x. x.who) ps) j
         ≡ (get_or ps j (record { who = nobody; commands = [] })).who
@@ -154,7 +154,7 @@ module _ (s : State) (c : ℕ) (keeps : Keeps s) (entitled : IsEntitledToAll s) 
 
   has_node : HasNode
   has_node = let n = some_there (node_in s.store.accounts.nodes h.uid) (active_there s keeps h.uid held_active) in
-      record { node = n.0; there = cc; mode = cc (right.mode n.0 n.1, who_is s keeps k); pages = right.pages n.0 n.1 }
+      record { node = n.0; there = cc; mode = cc (right.mode n.0 n.1, who_is keeps k); pages = right.pages n.0 n.1 }
 
   -- a reference that the held descriptor refuses
   no_access : permits h.mode r.kind ≡ false → reply_to_reference s.plan t k r ≡ reply.NoAccess
@@ -171,14 +171,14 @@ module _ (s : State) (c : ℕ) (keeps : Keeps s) (entitled : IsEntitledToAll s) 
 
   pub no_access_asks : permits h.mode r.kind ≡ false → CanReply s c reply.NoAccess
   no_access_asks off = assumption (
-    can_refuse s c k cmd reply.NoAccess speaks (due reply.NoAccess (no_access off)) refl,
-    refused_says s c k None reply.NoAccess keeps refl,
+    can_refuse speaks (due reply.NoAccess (no_access off)) refl,
+    refused_says c k None reply.NoAccess keeps refl,
   )
 
   pub length_asks : permits h.mode r.kind ≡ true → nat_le (1024 * h.pages) r.offset ≡ true → CanReply s c reply.Length
   length_asks on long = assumption (
-    can_refuse s c k cmd reply.Length speaks (due reply.Length (too_long on long)) refl,
-    refused_says s c k None reply.Length keeps refl,
+    can_refuse speaks (due reply.Length (too_long on long)) refl,
+    refused_says c k None reply.Length keeps refl,
   )
 
   module _ (on : permits h.mode r.kind ≡ true) (short : nat_le (1024 * h.pages) r.offset ≡ false) where
@@ -203,12 +203,12 @@ module _ (s : State) (c : ℕ) (keeps : Keeps s) (entitled : IsEntitledToAll s) 
         → CanReply s c (word_reply 0 r.kind)
     unfolding after_reference
     zero_asks null stays = record {
-      tell = can_tell s c k cmd None (word_reply 0 r.kind) speaks (inl (record {
+      tell = can_tell None (word_reply 0 r.kind) speaks (inl (record {
         own = due (word_reply 0 r.kind) (zero_due s k r keeps h.uid inside zero_word stays);
         free = zero_free s k r keeps h.uid inside cmd is zero_word stays;
       })) (rw is (inr (ap (λ (x : Option ℕ). stores t x r.offset) known
           ∙ (stored_is s keeps h.uid held_active (r.offset / 1024) ∙ ap has_record null))));
-      says = plain_says s c r cmd keeps speaks.next is like;
+      says = plain_says c keeps speaks.next is like;
     }
       where
         zero_word : t.words h.uid r.offset ≡ 0
@@ -245,7 +245,7 @@ module _ (s : State) (c : ℕ) (keeps : Keeps s) (entitled : IsEntitledToAll s) 
         allowed = subst (λ (v : Seen). MayDo s.plan t (shown v) k c (Some f) answer) (sym (through_seen s f r))
             tells.allowed;
       };
-      says = through_says s c o f h.uid r cmd keeps says speaks.next is known page_at old_is;
+      says = through_says f keeps says speaks.next is known page_at old_is;
     }
       where
         both : (has ((shown (seen s)).seat c).pages f ≡ true) × ((seen s).bound f ≡ Some (h.uid, r.offset / 1024))
@@ -262,10 +262,10 @@ module _ (s : State) (c : ℕ) (keeps : Keeps s) (entitled : IsEntitledToAll s) 
         old_is = sym (bound_word s keeps h.uid held_active f r.offset both.1)
 
         stored : is_stored t.stored h.uid (r.offset / 1024) ≡ true
-        stored = bound_stored s keeps f h.uid (r.offset / 1024) held_active both.1
+        stored = bound_stored keeps f h.uid (r.offset / 1024) held_active both.1
 
         tells : CanTell s c k (Some f) answer
-        tells = can_tell s c k cmd (Some f) answer speaks (inl (record {
+        tells = can_tell (Some f) answer speaks (inl (record {
           own = ap (λ (w : ℕ). word_reply w r.kind) old_is
               ∙ due (word_reply (t.words h.uid r.offset) r.kind) (stored_due s k r keeps h.uid inside stored);
           free = stored_free s k r keeps h.uid inside cmd is stored;

@@ -74,12 +74,12 @@ made_seen s f u p at w within active place inner = λ i. record (seen s) {
 -- ---- descriptors
 
 -- a descriptor leads to the place of a segment
-linked_put : (s : State) (k n u : ℕ) (m : Mode) (pages : ℕ) → k < length s.store.links.descriptors
+linked_put : (s : State) (k n : ℕ) {u : ℕ} (m : Mode) (pages : ℕ) → k < length s.store.links.descriptors
     → n < length (sdws_at s.store.links.descriptors k)
     → uid_at s.store.ast.entries (place_of s.store.ast.entries u) ≡ Some u → (i j : ℕ)
     → led_to s.store.ast.entries (descriptor_of (linked s.store.links k n (place_of s.store.ast.entries u) m pages) i j)
     ≡ at_put_two (seen s).linked k n (Some u) i j
-linked_put s k n u m pages outer inner active i j = cc (
+linked_put s k n {u} m pages outer inner active i j = cc (
   descriptors_put s.store.links (linked s.store.links k n (place_of s.store.ast.entries u) m pages).trailers k n
       (sdw.Present (place_of s.store.ast.entries u) m pages) outer inner i j,
   put_two_map (led_to s.store.ast.entries)
@@ -93,7 +93,7 @@ pub connect_seen : (s : State) (k n u : ℕ) (m : Mode) (pages : ℕ) → k < le
       entries = s.entries ++ entry.Connect k n u ∷ [];
     }) ≡ connected (seen s) k n u
 connect_seen s k n u m pages outer inner active = λ i. record (seen s) {
-  linked = λ x y. linked_put s k n u m pages outer inner active x y i;
+  linked = λ x y. linked_put s k n m pages outer inner active x y i;
   entries = s.entries ++ entry.Connect k n u ∷ [];
 }
 
@@ -107,7 +107,7 @@ pub back_seg_seen : (s : State) (d : CutDescriptor) (owner : Option Owner)
       entries = s.entries ++ entry.BackSeg d.process d.number ∷ [];
     }) ≡ back_seg (seen s) d owner
 back_seg_seen s d owner outer inner active = λ i. record (seen s) {
-  linked = λ x y. linked_put s d.process d.number d.uid d.mode d.pages outer inner active x y i;
+  linked = λ x y. linked_put s d.process d.number d.mode d.pages outer inner active x y i;
   owner = owner;
   entries = s.entries ++ entry.BackSeg d.process d.number ∷ [];
 }

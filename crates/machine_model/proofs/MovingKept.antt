@@ -32,11 +32,11 @@ module _ (s : State) (c : ℕ) (k : Keeps s) (idle : IsIdle s.owner) (still : is
 abbrev pub copy_failing : State → ℕ → ℕ → State
 copy_failing s c faults = fault_told (with_store s (without_move s.store)) (Some (process_at s c)) faults
 
-pub copy_failed_kept : (s : State) (c faults : ℕ) → Keeps s → IsIdle s.owner → is_pending s.owner ≡ false
+pub copy_failed_kept : {s : State} {c : ℕ} (faults : ℕ) → Keeps s → IsIdle s.owner → is_pending s.owner ≡ false
     → Rose s.faults faults → MayFault (flat_of s) (Some (process_at s c))
     → CanTell (copy_failing s c faults) c (process_at s c) None reply.Device → StoreSays (copy_failed s c faults)
     → Keeps (copy_failed s c faults)
-copy_failed_kept s c faults k idle still rose may can says = kept_with (copy_failed s c faults) (owner_keeps (told_keeps
+copy_failed_kept {s} {c} faults k idle still rose may can says = kept_with (copy_failed s c faults) (owner_keeps (told_keeps
     (fault_keeps (seen s) (Some (process_at s c)) k.book may) can) idle nobody still) says few
     (length-set s.processors c _ ∙ k.sizes.processors) (length-set s.runs (process_at s c) _ ∙ k.sizes.processes)
     (λ o h. cc)
@@ -157,7 +157,7 @@ module _ (s : State) (c : ℕ) (m : Mover) (k : Keeps s) (idle : IsIdle s.owner)
       → StoreSays (move_committed s c m) → Keeps (move_committed s c m)
   unfolding IsLawful after_entry custody_next
   moved_kept may rehome says = kept_with (move_committed s c m)
-      (subst KeepsBook (sym now_seen) (book_apart before (entry.Moved (process_at s c) m.uid m.to.0) before_keeps may
+      (subst KeepsBook (sym now_seen) (book_apart (entry.Moved (process_at s c) m.uid m.to.0) before_keeps may
       (rehomes rehome) tt refl refl k.book.runs)) says
-      (quiet_faults s (entry.Moved (process_at s c) m.uid m.to.0) s.faults k refl (omega arith)) k.sizes.processors
+      (quiet_faults (entry.Moved (process_at s c) m.uid m.to.0) s.faults k refl (omega arith)) k.sizes.processors
       k.sizes.processes (λ r h. (rw (ap (λ (x : Owner). x.cpu) (some_same (looking c) r h)) at works))

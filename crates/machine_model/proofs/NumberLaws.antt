@@ -6,8 +6,8 @@ use Rattle.machine_model.proofs.TakeWhole.{take_linked, cut_frames}
 abbrev KnowsLinked : (ℕ → ℕ → Option ℕ) → List (List (Option ℕ)) → Type 0
 KnowsLinked linked numbers = (k n u : ℕ) → linked k n ≡ Some u → uid_of (kst_at numbers k) n ≡ Some u
 
-linked_known : (s : State) → Keeps s → KnowsLinked (seen s).linked s.store.links.known
-linked_known s keeps k n u h = by (descriptor_of s.store.links k n) refl h
+linked_known : {s : State} → Keeps s → KnowsLinked (seen s).linked s.store.links.known
+linked_known {s} keeps k n u h = by (descriptor_of s.store.links k n) refl h
   where
     by : (x : Sdw) → descriptor_of s.store.links k n ≡ x → led_to s.store.ast.entries x ≡ Some u
         → uid_of (kst_at s.store.links.known k) n ≡ Some u
@@ -26,9 +26,9 @@ cut_numbered : (s : State) (c : ℕ) (a : Aim) (w : What) (xs : List (ℕ × ℕ
     → AreNumbered numbers (cut_of_owner s.owner) → AreNumbered numbers (cut_of_owner (cut_all s c a w xs).owner)
 cut_numbered s c a w [] numbers are knows had = had
 cut_numbered s c a w (x ∷ xs) numbers are knows had = cut_numbered (cut_one s c a w x) c a w xs numbers
-    (pairs_left s c a w x xs are) (λ k n u h. knows k n u (linked_before s c a w x are.0.0 are.0.1 k n u h))
+    (pairs_left s c a w x xs are) (λ k n u h. knows k n u (linked_before s c a w x are.0.1 k n h))
     (numbered_push numbers (cut_of_owner s.owner) (noted s x) had
-    (noted_has (λ k n. uid_of (kst_at numbers k) n) s x are.0.0 are.0.1 (knows x.0 x.1 are.0.0 are.0.1)))
+    (noted_has (λ k n. uid_of (kst_at numbers k) n) s x are.0.1 (knows x.0 x.1 are.0.0 are.0.1)))
 
 pub take_cut : (s : State) (c : ℕ) (a : Aim) (w : What) (fs : List ℕ)
     → cut_of_owner (take_all s c a w fs).owner ≡ cut_of_owner s.owner
@@ -36,11 +36,11 @@ take_cut s c a w [] = refl
 take_cut s c a w (f ∷ fs) = take_cut (take_one s c a w f) c a w fs
 
 -- What a job takes more is known so too.
-pub took_numbered : (s : State) (c : ℕ) (a : Aim) (w : What) (fs : List ℕ) (pairs : List (ℕ × ℕ)) → Keeps s
+pub took_numbered : {s : State} (c : ℕ) (a : Aim) (w : What) (fs : List ℕ) (pairs : List (ℕ × ℕ)) → Keeps s
     → AreNumbered s.store.links.known (cut_of_owner s.owner) → ArePairs (seen s).linked w pairs
     → AreNumbered s.store.links.known (cut_of_owner (took s c a w fs pairs).owner)
-took_numbered s c a w fs pairs keeps had are = cut_numbered mid c a w pairs s.store.links.known (rw same are)
-    (subst (λ (l : ℕ → ℕ → Option ℕ). KnowsLinked l s.store.links.known) (sym same) (linked_known s keeps))
+took_numbered {s} c a w fs pairs keeps had are = cut_numbered mid c a w pairs s.store.links.known (rw same are)
+    (subst (λ (l : ℕ → ℕ → Option ℕ). KnowsLinked l s.store.links.known) (sym same) (linked_known keeps))
     (rw (take_cut s c a w fs) had)
   where
     mid : State

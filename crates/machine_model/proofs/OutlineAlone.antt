@@ -3,8 +3,8 @@ use Rattle.machine_model.proofs.Prelude.{◌≡◌, ◌≢◌, ◌<◌, ℕ, ◌
 use Rattle.machine_model.proofs.OutlineReads.{at_outline, one_outlined, set_map, seen_online, seen_running, seen_due, seen_reading, seen_since, seen_tried, ready_seen}
 
 -- a step to an outline that is the same
-pub step_to : (s t u : Outline) (c : ℕ) (turn : Turn) → t ≡ u → Step s c turn t → Step s c turn u
-step_to s t u c turn same step = subst (λ (x : Outline). Step s c turn x) same step
+pub step_to : {s t : Outline} (u : Outline) {c : ℕ} {turn : Turn} → t ≡ u → Step s c turn t → Step s c turn u
+step_to {s} u {c} {turn} same step = subst (λ (x : Outline). Step s c turn x) same step
 
 -- ---- a processor comes online, or clears
 
@@ -19,8 +19,7 @@ online_runner a p = by p.cpu.process
 
 pub online_outlined : (s : State) (c : ℕ) → rule_of (outline_of s) c ≡ Comes
     → Step (outline_of s) c Moved (outline_of (came_online s c))
-online_outlined s c h = let p = processor_at s.processors c in step_to (outline_of s) (with_runner (outline_of s) c
-    (record (runner_at (outline_of s).runners c) { online = true })) (outline_of (came_online s c)) c Moved
+online_outlined s c h = let p = processor_at s.processors c in step_to (outline_of (came_online s c))
     (ap (λ (x : Runner). with_runner (outline_of s) c (record x { online = true })) (at_outline s c)
     ∙ ap (λ (x : Runner). with_runner (outline_of s) c x) (sym (online_runner (around s) (processor_at s.processors c)))
     ∙ sym (one_outlined s c (record (processor_at s.processors c)
@@ -41,8 +40,7 @@ cleared_runner a p held = let q : Processor = record p { cpu = record p.cpu { du
 
 pub clear_outlined : (s : State) (c : ℕ) (w : What) → rule_of (outline_of s) c ≡ Clears
     → Step (outline_of s) c Moved (outline_of (cleared_at s c w))
-clear_outlined s c w h = let cpu = cpu_at s.processors c in
-    step_to (outline_of s) _ (outline_of (cleared_at s c w)) c Moved
+clear_outlined s c w h = let cpu = cpu_at s.processors c in step_to (outline_of (cleared_at s c w))
     (sym (one_outlined s c (record (processor_at s.processors c) {
       cpu = record (cpu_at s.processors c) { due = None; assoc = cleared (cpu_at s.processors c).assoc w };
     }) _)) (clears (runner_of (around s) (record (processor_at s.processors c) {
@@ -69,8 +67,8 @@ loaded_processor p k = record {
   tried = false;
 }
 
-loaded_runner : (a : Around) (p : Processor) (k : ℕ) → IsFree p → HasLoaded (runner_of a (loaded_processor p k))
-loaded_runner a p k free = assumption (ap (λ (o : Option What). is_some o) free.due)
+loaded_runner : (a : Around) {p : Processor} (k : ℕ) → IsFree p → HasLoaded (runner_of a (loaded_processor p k))
+loaded_runner a k free = assumption (ap (λ (o : Option What). is_some o) free.due)
 
 loaded_outline : (s : State) (c k : ℕ) → outline_of (loaded s c k) ≡ record (with_runner (outline_of s) c
     (runner_of (around s) (loaded_processor (processor_at s.processors c) k))) { ready = (outline_of s).ready - 1 }
@@ -82,10 +80,9 @@ loaded_outline s c k = cc (
 
 pub load_outlined : (s : State) (c k : ℕ) → rule_of (outline_of s) c ≡ Loads → 0 < length s.ready
     → IsFree (processor_at s.processors c) → Step (outline_of s) c Moved (outline_of (loaded s c k))
-load_outlined s c k h some free =
-    step_to (outline_of s) _ (outline_of (loaded s c k)) c Moved (sym (loaded_outline s c k))
+load_outlined s c k h some free = step_to (outline_of (loaded s c k)) (sym (loaded_outline s c k))
     (loads (runner_of (around s) (loaded_processor (processor_at s.processors c) k)) h (rw (ready_seen s) some)
-    (loaded_runner (around s) (processor_at s.processors c) k free))
+    (loaded_runner (around s) k free))
 
 pub idle_outlined : (s : State) (c busy : ℕ) → rule_of (outline_of s) c ≡ Loads → s.ready ≡ []
     → Step (outline_of s) c (WaitsFor (WhileIdle busy)) (outline_of s)
@@ -94,8 +91,8 @@ idle_outlined s c busy h none = idles busy h (cc (ready_seen s))
 abbrev left_processor : Processor → Processor
 left_processor p = record p { cpu = record p.cpu { process = None; assoc = nothing_held } }
 
-left_runner : (a : Around) (p : Processor) → IsFree p → HasLeft (runner_of a (left_processor p))
-left_runner a p free = assumption (ap (λ (o : Option What). is_some o) free.due)
+left_runner : (a : Around) {p : Processor} → IsFree p → HasLeft (runner_of a (left_processor p))
+left_runner a free = assumption (ap (λ (o : Option What). is_some o) free.due)
 
 one_more : (xs : List ℕ) (k : ℕ) → length (xs ++ k ∷ []) ≡ length xs + 1
 one_more [] k = refl
@@ -116,10 +113,8 @@ left_outline s c going = cc (
 pub leave_outlined : (s : State) (c : ℕ) → rule_of (outline_of s) c ≡ Leaves
     → (run_at s.runs (process_at s c)).ended ≡ false → IsFree (processor_at s.processors c)
     → Step (outline_of s) c Moved (outline_of (left_at s c))
-leave_outlined s c h going free =
-    step_to (outline_of s) _ (outline_of (left_at s c)) c Moved (sym (left_outline s c going))
-    (leaves (runner_of (around s) (left_processor (processor_at s.processors c))) h
-    (left_runner (around s) (processor_at s.processors c) free))
+leave_outlined s c h going free = step_to (outline_of (left_at s c)) (sym (left_outline s c going))
+    (leaves (runner_of (around s) (left_processor (processor_at s.processors c))) h (left_runner (around s) free))
 
 -- ---- associative memories
 
@@ -130,10 +125,10 @@ held_processor p held = record p { cpu = record p.cpu { assoc = held } }
 abbrev lacking : Held → Option Reference → ℕ
 lacking held r = cond (holds_seg held r) (cond (holds_page held r) 0 1) 2
 
-filled_runner : (a : Around) (p : Processor) (held : Held) (k : ℕ) → p.cpu.process ≡ Some k
+filled_runner : (a : Around) (p : Processor) (held : Held) {k : ℕ} → p.cpu.process ≡ Some k
     → lacking held (reference_in (a.next k)) < lacking p.cpu.assoc (reference_in (a.next k))
     → IsFilled (runner_of a p) (runner_of a (held_processor p held))
-filled_runner a p held k process less = record {
+filled_runner a p held {k} process less = record {
   online = seen_online a (held_processor p held) ∙ sym (seen_online a p);
   running = seen_running a (held_processor p held) ∙ sym (seen_running a p);
   due = seen_due a (held_processor p held) ∙ sym (seen_due a p);
@@ -153,14 +148,15 @@ filled_runner a p held k process less = record {
     linked None = refl
     linked (Some k) = refl
 
-pub fill_outlined : (s : State) (c k : ℕ) (held : Held) → rule_of (outline_of s) c ≡ Commands
+pub fill_outlined : (s : State) (c : ℕ) {k : ℕ} (held : Held) → rule_of (outline_of s) c ≡ Commands
     → (cpu_at s.processors c).process ≡ Some k
     → lacking held (reference_in ((around s).next k)) < lacking (cpu_at s.processors c).assoc
-    (reference_in ((around s).next k)) → Step (outline_of s) c Moved
+    (reference_in ((around s).next k))
+    → Step (outline_of s) c Moved
     (with_runner (outline_of s) c (runner_of (around s) (held_processor (processor_at s.processors c) held)))
-fill_outlined s c k held h process less =
+fill_outlined s c {k} held h process less =
     fills (runner_of (around s) (held_processor (processor_at s.processors c) held)) h
-    (rw (at_outline s c) (filled_runner (around s) (processor_at s.processors c) held k process less))
+    (rw (at_outline s c) (filled_runner (around s) (processor_at s.processors c) held process less))
 
 -- what is found once one more stands at the end
 found_last : {A : Type 0} (test : A → Bool) (xs : List A) (x : A) → test x ≡ true
@@ -173,8 +169,8 @@ found_last test (y ∷ ys) x h = by (test y) (found_last test ys x h)
     by true i = refl
     by false i = i
 
-holds_filled_seg : (held : Held) (e : HeldSeg) (n : ℕ) → e.number ≡ n → is_some (seg_of (with_seg held e) n) ≡ true
-holds_filled_seg held e n same =
+holds_filled_seg : (held : Held) (e : HeldSeg) {n : ℕ} → e.number ≡ n → is_some (seg_of (with_seg held e) n) ≡ true
+holds_filled_seg held e {n} same =
     found_last (is_number n) (cond (eqb (length held.segs) 16) (drop 1 held.segs) held.segs) e
     (rw (← same) (eqb_self e.number))
 
@@ -182,21 +178,21 @@ number_held : (s : State) (n : ℕ) (w : Sdw) → (held_seg s.store n w).number 
 number_held s n sdw.Fault = refl
 number_held s n (sdw.Present aste m pages) = refl
 
-pub fill_seg_outlined : (s : State) (c k : ℕ) (r : Reference) → rule_of (outline_of s) c ≡ Commands
+pub fill_seg_outlined : (s : State) (c : ℕ) {k : ℕ} {r : Reference} → rule_of (outline_of s) c ≡ Commands
     → (cpu_at s.processors c).process ≡ Some k → reference_in ((around s).next k) ≡ Some r
     → is_some (seg_of (cpu_at s.processors c).assoc r.number) ≡ false
     → Step (outline_of s) c Moved (outline_of (seg_filled s c r.number))
-fill_seg_outlined s c k r h process next none = let cpu = cpu_at s.processors c in
+fill_seg_outlined s c {k} {r} h process next none = let cpu = cpu_at s.processors c in
     let e = held_seg s.store r.number (descriptor_of s.store.links (process_at s c) r.number) in
-    step_to (outline_of s) _ (outline_of (seg_filled s c r.number)) c Moved
+    step_to (outline_of (seg_filled s c r.number))
     (sym (one_outlined s c (held_processor (processor_at s.processors c) (with_seg (cpu_at s.processors c).assoc
     (held_seg s.store r.number (descriptor_of s.store.links (process_at s c) r.number)))) _))
-    (fill_outlined s c k (with_seg (cpu_at s.processors c).assoc
+    (fill_outlined s c (with_seg (cpu_at s.processors c).assoc
     (held_seg s.store r.number (descriptor_of s.store.links (process_at s c) r.number))) h process (rw (
       next,
       none,
       holds_filled_seg (cpu_at s.processors c).assoc
-          (held_seg s.store r.number (descriptor_of s.store.links (process_at s c) r.number)) r.number
+          (held_seg s.store r.number (descriptor_of s.store.links (process_at s c) r.number))
           (number_held s r.number (descriptor_of s.store.links (process_at s c) r.number)),
     ) (few (holds_page (with_seg (cpu_at s.processors c).assoc
     (held_seg s.store r.number (descriptor_of s.store.links (process_at s c) r.number))) (Some r)))))
@@ -218,16 +214,16 @@ holds_filled_page held e uid page a b = mapped (page_of (with_page held e) uid p
     both : {x y : Bool} → x ≡ true → y ≡ true → (x && y) ≡ true
     both g h = rw (g, h) refl
 
-pub fill_page_outlined : (s : State) (c k f : ℕ) (r : Reference) → rule_of (outline_of s) c ≡ Commands
+pub fill_page_outlined : (s : State) (c : ℕ) {k : ℕ} (f : ℕ) {r : Reference} → rule_of (outline_of s) c ≡ Commands
     → (cpu_at s.processors c).process ≡ Some k → reference_in ((around s).next k) ≡ Some r
     → is_some (seg_of (cpu_at s.processors c).assoc r.number) ≡ true
     → holds_page (cpu_at s.processors c).assoc (Some r) ≡ false
     → Step (outline_of s) c Moved (outline_of (page_filled s c f r))
-fill_page_outlined s c k f r h process next seg none = let cpu = cpu_at s.processors c in
-    step_to (outline_of s) _ (outline_of (page_filled s c f r)) c Moved
+fill_page_outlined s c {k} f {r} h process next seg none = let cpu = cpu_at s.processors c in
+    step_to (outline_of (page_filled s c f r))
     (sym (one_outlined s c (held_processor (processor_at s.processors c)
     (with_page (cpu_at s.processors c).assoc (held_page (cpu_at s.processors c) f r))) _))
-    (fill_outlined s c k (with_page (cpu_at s.processors c).assoc (held_page (cpu_at s.processors c) f r)) h process
+    (fill_outlined s c (with_page (cpu_at s.processors c).assoc (held_page (cpu_at s.processors c) f r)) h process
     (rw (next, seg, none, now) (omega arith)))
   where
     now : holds_page (with_page (cpu_at s.processors c).assoc (held_page (cpu_at s.processors c) f r)) (Some r) ≡ true
@@ -255,12 +251,10 @@ transferred_outline s c count t = cc (
   set_map bare s.store.pages.core.frames t.frame (frame.Bound t.uid t.page false false),
 )
 
-pub transfer_outlined : (s : State) (c count : ℕ) (t : Transfer) → rule_of (outline_of s) c ≡ Reads
+pub transfer_outlined : (s : State) (c count : ℕ) {t : Transfer} → rule_of (outline_of s) c ≡ Reads
     → (cpu_at s.processors c).transfer ≡ Some t
     → Step (outline_of s) c Moved (outline_of (transferred (with_faults s count) c t))
-transfer_outlined s c count t h reading =
-    step_to (outline_of s) (not_reading (with_bound (outline_of s) t false false) c)
-    (outline_of (transferred (with_faults s count) c t)) c Moved
+transfer_outlined s c count {t} h reading = step_to (outline_of (transferred (with_faults s count) c t))
     (cc (at_outline s c, idle_runner (around s) (processor_at s.processors c), transferred_outline s c count t))
     (reads t false false h (cc (at_outline s c, seen_reading (around s) (processor_at s.processors c))))
 
@@ -278,8 +272,7 @@ looking_outline s c = refl
 pub enter_outlined : (s : State) (c : ℕ) → rule_of (outline_of s) c ≡ Commands → s.owner ≡ None
     → ((chain : List ℕ) (uid page : ℕ) (makes : Bool) → want_at (outline_of s) c ≢ Refer chain uid page makes)
     → Step (outline_of s) c Moved (outline_of (with_owner s (Some (looking c))))
-enter_outlined s c h none want =
-    step_to (outline_of s) (at_stage (outline_of s) c Look) (outline_of (with_owner s (Some (looking c)))) c Moved
+enter_outlined s c h none want = step_to (outline_of (with_owner s (Some (looking c))))
     (sym (looking_outline s c)) (enters h (owner_none s none) want)
 
 -- so does a reference for which the tables lack something
@@ -287,15 +280,14 @@ pub fault_outlined : (s : State) (c : ℕ) (chain : List ℕ) (uid page : ℕ) (
     → rule_of (outline_of s) c ≡ Commands → s.owner ≡ None → want_at (outline_of s) c ≡ Refer chain uid page makes
     → lack (outline_of s) (runner_at (outline_of s).runners c) ≡ 1
     → Step (outline_of s) c Moved (outline_of (with_owner s (Some (looking c))))
-fault_outlined s c chain uid page makes h none want lacks =
-    step_to (outline_of s) (at_stage (outline_of s) c Look) (outline_of (with_owner s (Some (looking c)))) c Moved
+fault_outlined s c chain uid page makes h none want lacks = step_to (outline_of (with_owner s (Some (looking c))))
     (sym (looking_outline s c)) (faults chain uid page makes h (owner_none s none) want lacks)
 
-owner_some : (s : State) (o : Owner) → s.owner ≡ Some o → (outline_of s).owner ≡ keeper_of s.store.ast.entries (Some o)
+owner_some : (s : State) {o : Owner} → s.owner ≡ Some o → (outline_of s).owner ≡ keeper_of s.store.ast.entries (Some o)
 unfolding outline_of
-owner_some s o some = cc
+owner_some s some = cc
 
-pub owned_outlined : (s : State) (c : ℕ) (o : Owner) → rule_of (outline_of s) c ≡ Commands → s.owner ≡ Some o
+pub owned_outlined : (s : State) (c : ℕ) {o : Owner} → rule_of (outline_of s) c ≡ Commands → s.owner ≡ Some o
     → Step (outline_of s) c (WaitsFor (ForOwner o.cpu)) (outline_of s)
-owned_outlined s c o h some =
-    waits (record { cpu = o.cpu; stage = stage_of s.store.ast.entries o.frames o.phase }) h (owner_some s o some)
+owned_outlined s c {o} h some =
+    waits (record { cpu = o.cpu; stage = stage_of s.store.ast.entries o.frames o.phase }) h (owner_some s some)

@@ -8,11 +8,11 @@ use Rattle.machine_model.proofs.OutlineAlone.{owner_none}
 abbrev pub left_is : State → ℕ
 left_is s = left_in s.plan.processes s.runs
 
-pub told_left : (u : State) (c k : ℕ) (f : Option ℕ) (r : Reply) (command : Command) → CanTell u c k command
+pub told_left : {u : State} {c k : ℕ} (f : Option ℕ) (r : Reply) {command : Command} → CanTell u c k command
     → left_is (told u c f r) < left_is u
-told_left u c k f r command can =
+told_left {u} {c} {k} f r {command} can =
     rw (ap or_zero can.process) (left_falls u.plan.processes u.runs k (run_after (run_at u.runs k) (next_command u k) r)
-    can.planned can.there (rw can.on.next (answer_falls (commands_of u.plan k) (run_at u.runs k) command r can.on)))
+    can.planned can.there (rw can.on.next (answer_falls r can.on)))
 
 pub outline_left : (s : State) → (outline_of s).left ≡ left_is s
 unfolding outline_of
@@ -39,8 +39,8 @@ pub record SameTale (s u : State) (c : ℕ) : Type 0 where
 tale : {s u : State} {c : ℕ} → u.plan ≡ s.plan → u.runs ≡ s.runs → u.processors ≡ s.processors → SameTale s u c
 tale plan runs processors = assumption
 
-tale_left : (s u : State) (c : ℕ) → SameTale s u c → left_is u ≡ left_is s
-tale_left s u c same = λ i. left_in (same.plan i).processes (same.runs i)
+tale_left : {s u : State} {c : ℕ} → SameTale s u c → left_is u ≡ left_is s
+tale_left same = λ i. left_in (same.plan i).processes (same.runs i)
 
 -- the answer that ends a job
 pub ends_job : (s u t : State) (c k : ℕ) (f : Option ℕ) (r : Reply) (command : Command) → SameTale s u c
@@ -50,24 +50,24 @@ pub ends_job : (s u t : State) (c k : ℕ) (f : Option ℕ) (r : Reply) (command
     → IsAnswered (outline_of s) c (outline_of t)
 ends_job s u t c k f r command same can owner plan runs count = record {
   owner = owner_none t owner;
-  fewer = let less = told_left u c k f r command can in
+  fewer = let less = told_left f r can in
       let a : left_is t ≡ left_is (told u c f r) = λ i. left_in (plan i).processes (runs i) in
-      omega (arith, tale_left s u c same, outline_left s, outline_left t);
+      omega (arith, tale_left same, outline_left s, outline_left t);
   over = λ h. cc (since_at t c, count (sym (running_at t c) ∙ h), told_count u c f r can.within, since_at s c);
 }
 
 -- ---- replies of a look
 
-pub answer_outlined : (s : State) (c k : ℕ) (stage : Stage) (r : Reply) (command : Command)
+pub answer_outlined : {s : State} {c k : ℕ} (stage : Stage) (r : Reply) {command : Command}
     → IsIn (outline_of s) c stage → dues (outline_of s).runners ≡ 0 → CanTell s c k command
     → JobStep (outline_of s) c (outline_of (answered s c r))
-answer_outlined s c k stage r command owner due can = answers stage (outline_of (answered s c r)) owner due
+answer_outlined {s} {c} {k} stage r {command} owner due can = answers stage (outline_of (answered s c r)) owner due
     (ends_job s s (answered s c r) c k None r command (assumption) can refl refl refl (λ h. refl))
 
-pub create_outlined : (s : State) (c k : ℕ) (stage : Stage) (f uid p : ℕ) (r : Reference) (command : Command)
+pub create_outlined : {s : State} {c k : ℕ} (stage : Stage) (f uid p : ℕ) (r : Reference) {command : Command}
     → IsIn (outline_of s) c stage → dues (outline_of s).runners ≡ 0 → CanTell s c k command
     → JobStep (outline_of s) c (outline_of (page_created s c f uid p r))
-create_outlined s c k stage f uid p r command owner due can =
+create_outlined {s} {c} {k} stage f uid p r {command} owner due can =
     answers stage (outline_of (page_created s c f uid p r)) owner due
     (ends_job s (page_made s f uid p r) (page_created s c f uid p r) c k None _ command (assumption) (assumption)
     refl refl refl (λ h. refl))
@@ -93,9 +93,9 @@ back_tale s c n = let one = pages_tale (fault_told s (Some (process_at s c)) n) 
     (cut_of_owner s.owner) c in
     assumption (two.plan ∙ one.plan, two.runs ∙ one.runs, two.processors ∙ one.processors)
 
-can_tell_on : (s u : State) (c k : ℕ) (command : Command) → SameTale s u c → CanTell s c k command
+can_tell_on : {s u : State} {c k : ℕ} {command : Command} → SameTale s u c → CanTell s c k command
     → CanTell u c k command
-can_tell_on s u c k command same can = record {
+can_tell_on {s} {u} {c} {k} same can = record {
   within = rw same.processors can.within;
   process = cc;
   there = rw same.runs can.there;
@@ -107,12 +107,12 @@ can_tell_on s u c k command same can = record {
   };
 }
 
-pub failed_outlined : (s : State) (c k n : ℕ) (stage : Stage) (command : Command) → IsIn (outline_of s) c stage
+pub failed_outlined : {s : State} {c k : ℕ} (n : ℕ) (stage : Stage) {command : Command} → IsIn (outline_of s) c stage
     → dues (outline_of s).runners ≡ 0 → CanTell s c k command
     → JobStep (outline_of s) c (outline_of (write_failed s c n))
-failed_outlined s c k n stage command owner due can = answers stage (outline_of (write_failed s c n)) owner due
+failed_outlined {s} {c} {k} n stage {command} owner due can = answers stage (outline_of (write_failed s c n)) owner due
     (ends_job s (all_back s c n) (write_failed s c n) c k None reply.Device command (back_tale s c n)
-    (can_tell_on s (all_back s c n) c k command (back_tale s c n) can) refl refl refl (λ h. refl))
+    (can_tell_on (back_tale s c n) can) refl refl refl (λ h. refl))
 
 -- ---- a tree command takes effect
 
@@ -140,9 +140,9 @@ left_ends s u c k r x same can = by (left_cases (told u c None r) c x)
     by (inr e) = rw e (ends_job s u (with_owner (left_at (told u c None r) c) None) c k None r x same can refl refl refl
         (λ h. cc (left_none (told u c None r) c long)))
 
-pub commit_outlined : (s : State) (c k : ℕ) (stage : Stage) (x : Command) → IsIn (outline_of s) c stage
+pub commit_outlined : {s : State} {c k : ℕ} (stage : Stage) {x : Command} → IsIn (outline_of s) c stage
     → dues (outline_of s).runners ≡ 0 → CanTell s c k x → JobStep (outline_of s) c (outline_of (committed s c k x))
-commit_outlined s c k stage x owner due can = answers stage (outline_of (committed s c k x)) owner due
+commit_outlined {s} {c} {k} stage {x} owner due can = answers stage (outline_of (committed s c k x)) owner due
     (left_ends s _ c k _ x (assumption) (assumption))
 
 -- ---- replies without the supervisor
@@ -152,7 +152,7 @@ replied_is : {s u : State} (c k : ℕ) (f : Option ℕ) (r : Reply) (x : Command
     → IsReplied (outline_of s) c (outline_of (told u c f r))
 replied_is {s} {u} c k f r x same can before owner = record {
   owner = cc;
-  fewer = omega (arith, told_left u c k f r x can, tale_left s u c same, outline_left s, outline_left (told u c f r));
+  fewer = omega (arith, told_left f r can, tale_left same, outline_left s, outline_left (told u c f r));
   since = cc (since_at (told u c f r) c, told_count u c f r can.within, since_at s c);
 }
 
@@ -165,14 +165,14 @@ through_owner : (s : State) (pages : Plain) → (outline_of (with_store s (with_
 unfolding outline_of
 through_owner s pages = refl
 
-pub plain_outlined : (s : State) (c k : ℕ) (r : Reply) (x : Command) → rule_of (outline_of s) c ≡ Commands
+pub plain_outlined : {s : State} {c k : ℕ} (r : Reply) {x : Command} → rule_of (outline_of s) c ≡ Commands
     → CanTell s c k x → Step (outline_of s) c Moved (outline_of (told s c None r))
-plain_outlined s c k r x h can = replies (outline_of (told s c None r)) h
+plain_outlined {s} {c} {k} r {x} h can = replies (outline_of (told s c None r)) h
     (replied_is c k None r x (assumption) can refl (told_owner s c None r))
 
-pub through_outlined : (s : State) (c k f : ℕ) (r : Reference) (x : Command) → rule_of (outline_of s) c ≡ Commands
+pub through_outlined : {s : State} {c k : ℕ} (f : ℕ) (r : Reference) {x : Command} → rule_of (outline_of s) c ≡ Commands
     → CanTell s c k x → Step (outline_of s) c Moved (outline_of (went_through s c f r))
-through_outlined s c k f r x h can =
+through_outlined {s} {c} {k} f r {x} h can =
     replies (outline_of (went_through s c f r)) h (replied_is c k (Some f) _ x (assumption)
     (assumption) (through_owner s (pages_after s.store.pages f r))
     (told_owner (with_store s (with_pages s.store (pages_after s.store.pages f r))) c (Some f) _))

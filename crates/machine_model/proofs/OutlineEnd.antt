@@ -38,18 +38,17 @@ gone_outline s f k = λ i. record {
   left = (outline_of s).left;
 }
 
-pub in_stage : (s : State) (o : Owner) (ph : Phase) → s.owner ≡ Some o → o.phase ≡ ph
+pub in_stage : (s : State) {o : Owner} {ph : Phase} → s.owner ≡ Some o → o.phase ≡ ph
     → IsIn (outline_of s) o.cpu (stage_of s.store.ast.entries o.frames ph)
-in_stage s o ph owner h = cc (in_job s o owner)
+in_stage s {o} owner h = cc (in_job s o owner)
 
-pub eviction_outlined : (s : State) (o : Owner) (w : What) (f : ℕ) (rest : List ℕ) → s.owner ≡ Some o
+pub eviction_outlined : (s : State) {o : Owner} (w : What) {f : ℕ} (rest : List ℕ) → s.owner ≡ Some o
     → o.phase ≡ phase.Waiting aim.Evicting w → o.frames ≡ f ∷ rest → dues (outline_of s).runners ≡ 0
     → MayRelease (outline_of s) f (stored_then s f) (full_then s f)
     → JobStep (outline_of s) o.cpu (outline_of (eviction_done s o.cpu f))
-eviction_outlined s o w f rest owner h frames due may =
-    job_to (outline_of s) (with_stored (at_stage (with_frame (outline_of s) f frame.Free) o.cpu Look) (stored_then s f)
-    (full_then s f)) (outline_of (eviction_done s o.cpu f)) o.cpu (sym (gone_outline s f (Some (looking o.cpu))))
-    (frees_frame f (stored_then s f) (full_then s f) (cc (in_stage s o (phase.Waiting aim.Evicting w) owner h)) due may)
+eviction_outlined s {o} w {f} rest owner h frames due may =
+    job_to (outline_of (eviction_done s o.cpu f)) (sym (gone_outline s f (Some (looking o.cpu))))
+    (frees_frame f (stored_then s f) (full_then s f) (cc (in_stage s owner h)) due may)
 
 rest_keeper : (entries : List (Option Active)) (o : Owner) (uid : ℕ) (w : What) (f : ℕ) (rest : List ℕ)
     → o.phase ≡ phase.Waiting (aim.Deactivating uid) w → o.frames ≡ f ∷ rest
@@ -58,19 +57,16 @@ rest_keeper : (entries : List (Option Active)) (o : Owner) (uid : ℕ) (w : What
 rest_keeper entries o uid w f rest h frames = ap (λ (x : Owner). keeper_of entries (without_first_frame (Some x)))
     (λ i. record { cpu = o.cpu; phase = h i; frames = frames i; cut = o.cut })
 
-pub page_outlined : (s : State) (o : Owner) (uid : ℕ) (w : What) (f : ℕ) (rest : List ℕ) → s.owner ≡ Some o
+pub page_outlined : (s : State) {o : Owner} (uid : ℕ) (w : What) {f : ℕ} (rest : List ℕ) → s.owner ≡ Some o
     → o.phase ≡ phase.Waiting (aim.Deactivating uid) w → o.frames ≡ f ∷ rest → dues (outline_of s).runners ≡ 0
     → MayRelease (outline_of s) f (stored_then s f) (full_then s f)
     → JobStep (outline_of s) o.cpu (outline_of (page_done s f))
-page_outlined s o uid w f rest owner h frames due may =
-    job_to (outline_of s) (with_stored (at_stage (with_frame (outline_of s) f frame.Free) o.cpu
-    (Waiting (EmptyPlace (place_of s.store.ast.entries uid) rest))) (stored_then s f) (full_then s f))
-    (outline_of (page_done s f)) o.cpu (cc (
-      rest_keeper s.store.ast.entries o uid w f rest h frames,
-      (gone_outline s f (without_first_frame s.owner)),
-    ))
+page_outlined s {o} uid w {f} rest owner h frames due may = job_to (outline_of (page_done s f)) (cc (
+  rest_keeper s.store.ast.entries o uid w f rest h frames,
+  (gone_outline s f (without_first_frame s.owner)),
+))
     (frees_page (place_of s.store.ast.entries uid) f rest (stored_then s f) (full_then s f)
-    (cc (in_stage s o (phase.Waiting (aim.Deactivating uid) w) owner h)) due may)
+    (cc (in_stage s owner h)) due may)
 
 -- ---- a segment becomes inactive
 
@@ -88,24 +84,21 @@ emptied_outline : (s : State) (c uid : ℕ) → outline_of (emptied s c uid)
 unfolding outline_of
 emptied_outline s c uid = rw (segs_rest s (cut_of_owner s.owner))
 
-pub deactivate_outlined : (s : State) (o : Owner) (uid : ℕ) (w : What) → s.owner ≡ Some o
+pub deactivate_outlined : (s : State) {o : Owner} (uid : ℕ) (w : What) → s.owner ≡ Some o
     → o.phase ≡ phase.Waiting (aim.Deactivating uid) w → o.frames ≡ [] → dues (outline_of s).runners ≡ 0
     → JobStep (outline_of s) o.cpu (outline_of (emptied s o.cpu uid))
-deactivate_outlined s o uid w owner h frames due =
-    job_to (outline_of s) (with_runners (at_stage (with_entry (outline_of s) (place_of s.store.ast.entries uid) None)
-    o.cpu Look) (outline_of s).runners) (outline_of (emptied s o.cpu uid)) o.cpu (sym (emptied_outline s o.cpu uid))
+deactivate_outlined s {o} uid w owner h frames due =
+    job_to (outline_of (emptied s o.cpu uid)) (sym (emptied_outline s o.cpu uid))
     (empties (place_of s.store.ast.entries uid) (outline_of s).runners
-    (cc (in_stage s o (phase.Waiting (aim.Deactivating uid) w) owner h)) due (alike_self (outline_of s).runners o.cpu)
+    (cc (in_stage s owner h)) due (alike_self (outline_of s).runners o.cpu)
     due)
 
 -- where nothing had to be taken
-pub deactivate_at_once_outlined : (s : State) (o : Owner) (uid : ℕ) → s.owner ≡ Some o → o.phase ≡ phase.Looking
+pub deactivate_at_once_outlined : (s : State) {o : Owner} (uid : ℕ) → s.owner ≡ Some o → o.phase ≡ phase.Looking
     → CanEmpty (outline_of s) o.cpu (place_of s.store.ast.entries uid)
     → JobStep (outline_of s) o.cpu (outline_of (emptied s o.cpu uid))
-deactivate_at_once_outlined s o uid owner looks can =
-    job_to (outline_of s) (with_entry (outline_of s) (place_of s.store.ast.entries uid) None)
-    (outline_of (emptied s o.cpu uid)) o.cpu (cc (in_look s o owner looks, emptied_outline s o.cpu uid))
-    (empties_at_once (place_of s.store.ast.entries uid) can)
+deactivate_at_once_outlined s {o} uid owner looks can = job_to (outline_of (emptied s o.cpu uid))
+    (cc (in_look s owner looks, emptied_outline s o.cpu uid)) (empties_at_once (place_of s.store.ast.entries uid) can)
 
 -- ---- the supervisor is given up
 
@@ -113,13 +106,12 @@ gave_up_outline : (s : State) → outline_of (with_owner s None) ≡ without_own
 unfolding outline_of
 gave_up_outline s = refl
 
-pub give_up_outlined : (s : State) (o : Owner) (chain : List ℕ) (uid page : ℕ) (makes : Bool) → s.owner ≡ Some o
+pub give_up_outlined : (s : State) {o : Owner} (chain : List ℕ) (uid page : ℕ) (makes : Bool) → s.owner ≡ Some o
     → o.phase ≡ phase.Looking → want_at (outline_of s) o.cpu ≡ Refer chain uid page makes
     → lack (outline_of s) (runner_at (outline_of s).runners o.cpu) ≡ 0
     → JobStep (outline_of s) o.cpu (outline_of (with_owner s None))
-give_up_outlined s o chain uid page makes owner looks want fits =
-    job_to (outline_of s) (without_owner (outline_of s)) (outline_of (with_owner s None)) o.cpu
-    (sym (gave_up_outline s)) (gives_up chain uid page makes (in_look s o owner looks) want fits)
+give_up_outlined s {o} chain uid page makes owner looks want fits = job_to (outline_of (with_owner s None))
+    (sym (gave_up_outline s)) (gives_up chain uid page makes (in_look s owner looks) want fits)
 
 -- ---- a transfer begins
 
@@ -145,7 +137,7 @@ started_outline s c f uid page = cc (
   at_outline s c,
 )
 
-pub start_outlined : (s : State) (c f uid page : ℕ) → CanStart (outline_of s) c f uid page
+pub start_outlined : (s : State) {c f uid page : ℕ} → CanStart (outline_of s) c f uid page
     → JobStep (outline_of s) c (outline_of (started s c f uid page))
-start_outlined s c f uid page can = job_to (outline_of s) (without_owner (now_reading (outline_of s) c f uid page))
-    (outline_of (started s c f uid page)) c (started_outline s c f uid page) (starts f uid page can)
+start_outlined s {c} {f} {uid} {page} can = job_to
+    (outline_of (started s c f uid page)) (started_outline s c f uid page) (starts f uid page can)

@@ -3,8 +3,8 @@ use Rattle.machine_model.proofs.Prelude.{◌≡◌, ◌≢◌, ◌<◌, ℕ, zer
 use Rattle.machine_model.proofs.OutlineReads.{at_outline}
 
 -- a step of a job to an outline that is the same
-pub job_to : (s t u : Outline) (c : ℕ) → t ≡ u → JobStep s c t → JobStep s c u
-job_to s t u c same step = rw (← same) step
+pub job_to : {s t : Outline} (u : Outline) {c : ℕ} → t ≡ u → JobStep s c t → JobStep s c u
+job_to u same step = rw (← same) step
 
 -- ---- the owner
 
@@ -17,27 +17,25 @@ look_of_keeper : (entries : List (Option Active)) (o : Owner) → o.phase ≡ ph
     → keeper_of entries (Some o) ≡ Some (record { cpu = o.cpu; stage = Look })
 look_of_keeper entries o looks = cc
 
-pub in_look : (s : State) (o : Owner) → s.owner ≡ Some o → o.phase ≡ phase.Looking → IsIn (outline_of s) o.cpu Look
+pub in_look : (s : State) {o : Owner} → s.owner ≡ Some o → o.phase ≡ phase.Looking → IsIn (outline_of s) o.cpu Look
 unfolding outline_of
-in_look s o h looks = cc (look_of_keeper s.store.ast.entries o looks)
+in_look s {o} h looks = cc (look_of_keeper s.store.ast.entries o looks)
 
 -- an owner that looks is the same whatever is active
-keep_look : (es fs : List (Option Active)) (x : Option Owner) (o : Owner) → x ≡ Some o → o.phase ≡ phase.Looking
+keep_look : (es fs : List (Option Active)) {x : Option Owner} {o : Owner} → x ≡ Some o → o.phase ≡ phase.Looking
     → keeper_of es x ≡ keeper_of fs x
-keep_look es fs x o h looks = cc (look_of_keeper es o looks, look_of_keeper fs o looks)
+keep_look es fs {x} {o} h looks = cc (look_of_keeper es o looks, look_of_keeper fs o looks)
 
 -- ---- a look that brings a segment nearer
 
 abbrev superior_in : State → ℕ → Option ℕ
 superior_in s uid = superior_of_node (node_in s.store.accounts.nodes uid)
 
-pub activate_outlined : (s : State) (o : Owner) (uid place : ℕ) → s.owner ≡ Some o → o.phase ≡ phase.Looking
+pub activate_outlined : (s : State) {o : Owner} {uid place : ℕ} → s.owner ≡ Some o → o.phase ≡ phase.Looking
     → CanActivate (outline_of s) o.cpu place uid → JobStep (outline_of s) o.cpu (outline_of (activated_at s uid place))
 unfolding outline_of
-activate_outlined s o uid place owner looks can =
-    job_to (outline_of s) (with_entry (outline_of s) place (entry_for uid (superior_in s uid)))
-    (outline_of (activated_at s uid place)) o.cpu
-    (rw (keep_look s.store.ast.entries (activated_at s uid place).store.ast.entries s.owner o owner looks))
+activate_outlined s {o} {uid} {place} owner looks can = job_to (outline_of (activated_at s uid place))
+    (rw (keep_look s.store.ast.entries (activated_at s uid place).store.ast.entries owner looks))
     (activates place uid (superior_in s uid) can)
 
 -- a list in which one element is seen otherwise
@@ -62,11 +60,11 @@ abbrev linked_around : Around → Links → Around
 linked_around a links = record a { links = links }
 
 -- the runner of a process whose next command's descriptor is connected now
-linked_runner : (a : Around) (links : Links) (p : Processor) (k : ℕ) (r : Reference) → p.cpu.process ≡ Some k
+linked_runner : (a : Around) (links : Links) (p : Processor) {k : ℕ} {r : Reference} → p.cpu.process ≡ Some k
     → reference_in (a.next k) ≡ Some r → links.known ≡ a.links.known
     → is_connected (descriptor_of links k r.number) ≡ true
     → runner_of (linked_around a links) p ≡ record (runner_of a p) { linked = true }
-linked_runner a links p k r process next known now =
+linked_runner a links p {k} process next known now =
     rw process (λ i. record (runner_by a p (Some k)) { want = want_same i; linked = linked_now i })
   where
     want_same : want_of (linked_around a links) k (a.next k) ≡ want_of a k (a.next k)
@@ -94,9 +92,9 @@ other_runner a links p known same = by p.cpu.process same
         linked_same None e = refl
         linked_same (Some r) e = cc
 
-now_connected : (s : State) (k n uid : ℕ) → HasDescriptor s.store.links k n
+now_connected : (s : State) {k n : ℕ} (uid : ℕ) → HasDescriptor s.store.links k n
     → is_connected (descriptor_of (with_link_of s.store k n uid).links k n) ≡ true
-now_connected s k n uid there = cc (
+now_connected s {k} {n} uid there = cc (
   get_or-set_same s.store.links.descriptors k (set (sdws_at s.store.links.descriptors k) n
       (sdw.Present (place_of s.store.ast.entries uid) (mode_in s.store k uid) (length_in s.store uid))) []
       there.process,
@@ -104,27 +102,27 @@ now_connected s k n uid there = cc (
       (mode_in s.store k uid) (length_in s.store uid)) sdw.Fault there.number,
 )
 
-connected_outline : (s : State) (c k n uid : ℕ) (r : Reference) → c < length s.processors → IsPlaced s.processors c k
-    → reference_in ((around s).next k) ≡ Some r → r.number ≡ n → HasDescriptor s.store.links k n
-    → outline_of (connected_to s c n uid) ≡ with_link (outline_of s) c
+connected_outline : (s : State) {c k n : ℕ} (uid : ℕ) {r : Reference} → c < length s.processors
+    → IsPlaced s.processors c k → reference_in ((around s).next k) ≡ Some r → r.number ≡ n
+    → HasDescriptor s.store.links k n → outline_of (connected_to s c n uid) ≡ with_link (outline_of s) c
 unfolding outline_of
-connected_outline s c k n uid r lt placed next number there =
+connected_outline s {c} {k} {n} uid {r} lt placed next number there =
     cc (map_change (runner_of (around s)) (runner_of (linked_around (around s) (with_link_of s.store k n uid).links))
     s.processors c (record (runner_at (outline_of s).runners c) { linked = true }) no_processor lt (cc (
-      linked_runner (around s) (with_link_of s.store k n uid).links (processor_at s.processors c) k r placed.here
-          next refl (rw number (now_connected s k n uid there)),
+      linked_runner (around s) (with_link_of s.store k n uid).links (processor_at s.processors c) placed.here
+          next refl (rw number (now_connected s uid there)),
       at_outline s c,
     )) (λ d apart. other_runner (around s) (with_link_of s.store k n uid).links
     (processor_at s.processors d) refl (λ j h. get_or-set_other s.store.links.descriptors k j
     (set (sdws_at s.store.links.descriptors k) n (sdw.Present (place_of s.store.ast.entries uid)
     (mode_in s.store k uid) (length_in s.store uid))) [] (λ e. placed.only d apart (cc)))))
 
-pub connect_outlined : (s : State) (o : Owner) (k uid : ℕ) (r : Reference) (chain : List ℕ) (u page : ℕ) (makes : Bool)
-    → s.owner ≡ Some o → o.phase ≡ phase.Looking → o.cpu < length s.processors → IsPlaced s.processors o.cpu k
-    → reference_in ((around s).next k) ≡ Some r → HasDescriptor s.store.links k r.number
+pub connect_outlined : (s : State) {o : Owner} {k : ℕ} (uid : ℕ) {r : Reference} (chain : List ℕ) (u page : ℕ)
+    (makes : Bool) → s.owner ≡ Some o → o.phase ≡ phase.Looking → o.cpu < length s.processors
+    → IsPlaced s.processors o.cpu k → reference_in ((around s).next k) ≡ Some r → HasDescriptor s.store.links k r.number
     → want_at (outline_of s) o.cpu ≡ Refer chain u page makes → (runner_at (outline_of s).runners o.cpu).linked ≡ false
     → JobStep (outline_of s) o.cpu (outline_of (connected_to s o.cpu r.number uid))
-connect_outlined s o k uid r chain u page makes owner looks lt placed next there want off =
-    job_to (outline_of s) (with_link (outline_of s) o.cpu) (outline_of (connected_to s o.cpu r.number uid)) o.cpu
-    (sym (connected_outline s o.cpu k r.number uid r lt placed next refl there))
-    (connects chain u page makes (in_look s o owner looks) want off)
+connect_outlined s {o} {k} uid {r} chain u page makes owner looks lt placed next there want off =
+    job_to (outline_of (connected_to s o.cpu r.number uid))
+    (sym (connected_outline s uid lt placed next refl there))
+    (connects chain u page makes (in_look s owner looks) want off)

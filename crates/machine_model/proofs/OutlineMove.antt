@@ -158,10 +158,10 @@ module _ (volume : Node → ℕ) where
 
 -- ---- it begins
 
-pub begin_outlined : (s : State) (o : Owner) (uid volume : ℕ) → s.owner ≡ Some o → o.phase ≡ phase.Looking
+pub begin_outlined : (s : State) {o : Owner} (uid volume : ℕ) → s.owner ≡ Some o → o.phase ≡ phase.Looking
     → JobStep (outline_of s) o.cpu (outline_of (move_begun s o.cpu uid volume))
 unfolding outline_of
-begin_outlined s o uid volume owner looks = rw (← is) (begins_move 256 (in_look s o owner looks) (le_refl 256))
+begin_outlined s {o} uid volume owner looks = rw (← is) (begins_move 256 (in_look s owner looks) (le_refl 256))
   where
     is : at_stage (outline_of s) o.cpu (Copying 256) ≡ outline_of (move_begun s o.cpu uid volume)
     is = refl
@@ -179,12 +179,12 @@ first_past table (suc count) n p h = by (is_out (ptw_at table n)) (first_past ta
     by true rest e = let same : n ≡ p = cc in (omega arith, omega arith)
     by false rest e = let past = rest e in let from = past.0 in let to = past.1 in (omega arith, omega arith)
 
-pub copy_outlined : (s : State) (o : Owner) (m : Mover) (p n : ℕ) → s.owner ≡ Some o → o.phase ≡ phase.Moving m
+pub copy_outlined : (s : State) {o : Owner} (m : Mover) {p : ℕ} (n : ℕ) → s.owner ≡ Some o → o.phase ≡ phase.Moving m
     → next_out (table_of s.store.ast m.uid) m.next ≡ Some p
     → JobStep (outline_of s) o.cpu (outline_of (page_copied (with_faults s n) o.cpu m p))
 unfolding outline_of
-copy_outlined s o m p n owner moves next =
-    rw (← is) (copies (256 - m.next) (256 - (p + 1)) (in_stage s o (phase.Moving m) owner moves) fewer)
+copy_outlined s {o} m {p} n owner moves next =
+    rw (← is) (copies (256 - m.next) (256 - (p + 1)) (in_stage s owner moves) fewer)
   where
     is : at_stage (outline_of s) o.cpu (Copying (256 - (p + 1))) ≡ outline_of (page_copied (with_faults s n) o.cpu m p)
     is = refl
@@ -194,12 +194,12 @@ copy_outlined s o m p n owner moves next =
 
 -- ---- a copy failed
 
-pub copy_failed_outlined : (s : State) (o : Owner) (m : Mover) (k n : ℕ) (command : Command) → s.owner ≡ Some o
+pub copy_failed_outlined : {s : State} {o : Owner} (m : Mover) {k : ℕ} (n : ℕ) {command : Command} → s.owner ≡ Some o
     → o.phase ≡ phase.Moving m → dues (outline_of s).runners ≡ 0 → CanTell s o.cpu k command
     → JobStep (outline_of s) o.cpu (outline_of (copy_failed s o.cpu n))
-copy_failed_outlined s o m k n command owner moves due can =
+copy_failed_outlined {s} {o} m {k} n {command} owner moves due can =
     answers (Copying (256 - m.next)) (outline_of (copy_failed s o.cpu n))
-    (in_stage s o (phase.Moving m) owner moves) due
+    (in_stage s owner moves) due
     (ends_job s (fault_told (with_store s (without_move s.store)) (Some (process_at s o.cpu)) n)
     (copy_failed s o.cpu n) o.cpu k None reply.Device command (assumption) (assumption) refl refl refl (λ h. refl))
 
@@ -233,9 +233,9 @@ moved_outline s c m = λ i. record {
     same : (p : Processor) → runner_of (around s) p ≡ runner_of (around (move_committed s c m)) p
     same p = cc (runner_same (put_on m.uid m.to.0) (around s) p, put_is m.uid m.to.0 s.store.accounts.nodes)
 
-pub move_outlined : (s : State) (o : Owner) (m : Mover) → s.owner ≡ Some o → o.phase ≡ phase.Moving m
+pub move_outlined : (s : State) {o : Owner} (m : Mover) → s.owner ≡ Some o → o.phase ≡ phase.Moving m
     → HasMoved (outline_of s) o.cpu (full_there s.store m)
     → JobStep (outline_of s) o.cpu (outline_of (move_committed s o.cpu m))
-move_outlined s o m owner moves has =
+move_outlined s {o} m owner moves has =
     rw (← (moved_outline s o.cpu m)) (commits_move (256 - m.next) _ (full_there s.store m)
-    (in_stage s o (phase.Moving m) owner moves) has)
+    (in_stage s owner moves) has)

@@ -8,12 +8,12 @@ use Rattle.machine_model.proofs.OutlineStep.{Goal, IsAtRest, clears_rule, comes_
 -- outline.
 
 -- the owner waits for a clear
-pub awaits_clear_outlined : (s : State) (o : Owner) (a : Aim) (w : What) (d : ℕ) → rule_of (outline_of s) o.cpu ≡ Works
+pub awaits_clear_outlined : (s : State) {o : Owner} (a : Aim) (w : What) (d : ℕ) → rule_of (outline_of s) o.cpu ≡ Works
     → s.owner ≡ Some o → o.phase ≡ phase.Waiting a w → is_due (processor_at s.processors d) ≡ true
     → Step (outline_of s) o.cpu (WaitsFor (ForClear d)) (outline_of s)
-awaits_clear_outlined s o a w d h owner waits due =
+awaits_clear_outlined s {o} a w d h owner waits due =
     let facts = and_parts (cpu_at s.processors d).online (is_some (cpu_at s.processors d).due) due in
-    awaits_clear (work_of s.store.ast.entries o.frames a) d h (in_stage s o (phase.Waiting a w) owner waits)
+    awaits_clear (work_of s.store.ast.entries o.frames a) d h (in_stage s owner waits)
     (cc (at_outline s d, seen_online (around s) (processor_at s.processors d)))
     (cc (at_outline s d, seen_due (around s) (processor_at s.processors d)))
 
@@ -24,12 +24,12 @@ unfolding outline_of
 started_at s f uid page h = map_at bare s.store.pages.core.frames f frame.Free ∙ ap bare h
 
 -- the owner waits for a transfer
-pub awaits_transfer_outlined : (s : State) (o : Owner) (f uid page : ℕ) → rule_of (outline_of s) o.cpu ≡ Works
+pub awaits_transfer_outlined : (s : State) {o : Owner} (f uid page : ℕ) → rule_of (outline_of s) o.cpu ≡ Works
     → s.owner ≡ Some o → o.phase ≡ phase.Looking
     → get_or s.store.pages.core.frames f frame.Free ≡ frame.Started uid page
     → Step (outline_of s) o.cpu (WaitsFor (ForTransfer f)) (outline_of s)
-awaits_transfer_outlined s o f uid page h owner looks started =
-    awaits_transfer f uid page h (in_look s o owner looks) (started_at s f uid page started)
+awaits_transfer_outlined s {o} f uid page h owner looks started =
+    awaits_transfer f uid page h (in_look s owner looks) (started_at s f uid page started)
 
 -- ---- the end
 
@@ -72,27 +72,23 @@ end_outlined s c over = ends (ended_is s over)
 cons_nil : {A : Type 0} (x : A) (xs : List A) → (x ∷ xs) ≢ []
 cons_nil {A} x xs h = let no = ap (λ (ys : List A). length ys) h in omega arith
 
-empty_of : (s : State) (o : Owner) (uid : ℕ) (fs : List ℕ) (pairs : List (ℕ × ℕ)) → s.owner ≡ Some o
+empty_of : (s : State) {o : Owner} (uid : ℕ) (fs : List ℕ) (pairs : List (ℕ × ℕ)) → s.owner ≡ Some o
     → o.phase ≡ phase.Looking → frames_of_owner s.owner ≡ []
     → CanEmpty (outline_of s) o.cpu (place_of s.store.ast.entries uid)
     → AreOf (outline_of s) (place_of s.store.ast.entries uid) fs → length fs ≤ 256
     → KeepsLink s (segment_taken s o.cpu uid fs pairs) o.cpu
     → JobStep (outline_of s) o.cpu (outline_of (segment_taken s o.cpu uid fs pairs))
-empty_of s o uid [] [] owner looks none can of_it few link = deactivate_at_once_outlined s o uid owner looks can
-empty_of s o uid [] (pair ∷ pairs) owner looks none can of_it few link =
-    take_segment_outlined s (took s o.cpu (aim.Deactivating uid) (what.Seg uid) [] (pair ∷ pairs)) o.cpu uid
-    (what.Seg uid) [] (took_like s o.cpu (aim.Deactivating uid) (what.Seg uid) [] (pair ∷ pairs))
+empty_of s {o} uid [] [] owner looks none can of_it few link = deactivate_at_once_outlined s uid owner looks can
+empty_of s {o} uid [] (pair ∷ pairs) owner looks none can of_it few link =
+    take_segment_outlined uid (took_like s o.cpu (aim.Deactivating uid) (what.Seg uid) [] (pair ∷ pairs))
     (took_owner s o.cpu (aim.Deactivating uid) (what.Seg uid) [] (pair ∷ pairs) none
     (inr (λ h. cons_nil pair pairs h))) can of_it few link
-empty_of s o uid (f ∷ fs) [] owner looks none can of_it few link =
-    take_segment_outlined s (took s o.cpu (aim.Deactivating uid) (what.Seg uid) (f ∷ fs) []) o.cpu uid (what.Seg uid)
-    (f ∷ fs) (took_like s o.cpu (aim.Deactivating uid) (what.Seg uid) (f ∷ fs) [])
+empty_of s {o} uid (f ∷ fs) [] owner looks none can of_it few link =
+    take_segment_outlined uid (took_like s o.cpu (aim.Deactivating uid) (what.Seg uid) (f ∷ fs) [])
     (took_owner s o.cpu (aim.Deactivating uid) (what.Seg uid) (f ∷ fs) [] none (inl (λ h. cons_nil f fs h))) can of_it
     few link
-empty_of s o uid (f ∷ fs) (pair ∷ pairs) owner looks none can of_it few link =
-    take_segment_outlined s (took s o.cpu (aim.Deactivating uid) (what.Seg uid) (f ∷ fs) (pair ∷ pairs)) o.cpu uid
-    (what.Seg uid)
-    (f ∷ fs) (took_like s o.cpu (aim.Deactivating uid) (what.Seg uid) (f ∷ fs) (pair ∷ pairs))
+empty_of s {o} uid (f ∷ fs) (pair ∷ pairs) owner looks none can of_it few link =
+    take_segment_outlined uid (took_like s o.cpu (aim.Deactivating uid) (what.Seg uid) (f ∷ fs) (pair ∷ pairs))
     (took_owner s o.cpu (aim.Deactivating uid) (what.Seg uid) (f ∷ fs) (pair ∷ pairs) none
     (inl (λ h. cons_nil f fs h))) can
     of_it few link
@@ -106,66 +102,61 @@ victim_of_pool : (s : State) (o : Owner) (pool uid : ℕ) (place : Option ℕ) �
     uid))
 unfolding outline_of
 victim_of_pool s o pool uid None owner looks none may =
-    empty_of s o uid (frames_from s.store.ast uid 0) (trailers_in s.store uid) owner looks none may.can may.of_it
+    empty_of s uid (frames_from s.store.ast uid 0) (trailers_in s.store uid) owner looks none may.can may.of_it
     may.few may.link
 victim_of_pool s o pool uid (Some place) owner looks none may =
-    empty_of (with_store s (record s.store { ast = hand_past s.store.ast pool (Some place) })) o uid
+    empty_of (with_store s (record s.store { ast = hand_past s.store.ast pool (Some place) })) uid
     (frames_from s.store.ast uid 0)
     (trailers_in (record s.store { ast = hand_past s.store.ast pool (Some place) }) uid) owner looks none may.can
     may.of_it may.few may.link
 
 -- ---- a command takes effect
 
-commit_is : (s : State) (c : ℕ) (may : MayAnswer s c) → committed s c may.process may.command
-    ≡ committed_at s c (next_command s (process_at s c))
-commit_is s c may = sym (ap (λ (j : ℕ). committed_at s c (next_command s j)) (ap or_zero may.can.process)
+commit_is : {s : State} {c : ℕ} (may : MayAnswer s c)
+    → committed s c may.process may.command ≡ committed_at s c (next_command s (process_at s c))
+commit_is {s} {c} may = sym (ap (λ (j : ℕ). committed_at s c (next_command s j)) (ap or_zero may.can.process)
     ∙ ap (λ (x : Option Command). committed_at s c x) may.can.on.next
     ∙ ap (λ (j : ℕ). committed s c j may.command) (ap or_zero may.can.process))
 
-commit_goal : (s : State) (c : ℕ) (o : Outcome) (stage : Stage) → rule_of (outline_of s) c ≡ Works
+commit_goal : {s : State} {c : ℕ} (o : Outcome) (stage : Stage) → rule_of (outline_of s) c ≡ Works
     → IsIn (outline_of s) c stage → dues (outline_of s).runners ≡ 0 → MayAnswer s c → Goal s c o act.Commit
 unfolding after
-commit_goal s c o stage h owner due may = rw (commit_is s c may) at (works _ h (commit_outlined s c may.process stage
-    may.command owner due may.can))
+commit_goal {s} {c} o stage h owner due may = rw (commit_is may) at (works _ h (commit_outlined stage owner due may.can))
 
 -- ---- a look
 
-module _ (s : State) (o : Owner) (out : Outcome) (f : Foresees s o.cpu) (rule : rule_of (outline_of s) o.cpu ≡ Works)
+module _ {s : State} {o : Owner} (out : Outcome) (f : Foresees s o.cpu) (rule : rule_of (outline_of s) o.cpu ≡ Works)
     (owner : s.owner ≡ Some o) (looks : o.phase ≡ phase.Looking) where
   due_none : dues (outline_of s).runners ≡ 0
-  due_none = f.kept.job.fits o.cpu Look (in_look s o owner looks)
+  due_none = f.kept.job.fits o.cpu Look (in_look s owner looks)
 
   taken_none : frames_of_owner s.owner ≡ []
   taken_none = cc (f.looking o owner looks)
 
   look_goal : (a : Action) → IsLook s o.cpu a → Goal s o.cpu out a
   unfolding after
-  look_goal (act.Waits (ForTransfer g)) may = awaits_transfer_outlined s o g may.uid may.page rule owner looks
-      may.started
-  look_goal (act.Answer r) may =
-      works _ rule (answer_outlined s o.cpu may.process Look r may.command (in_look s o owner looks) due_none may.can)
+  look_goal (act.Waits (ForTransfer g)) may = awaits_transfer_outlined s g may.uid may.page rule owner looks may.started
+  look_goal (act.Answer r) may = works _ rule (answer_outlined Look r (in_look s owner looks) due_none may.can)
   look_goal act.GiveUp may =
-      works _ rule (give_up_outlined s o may.0.chain may.0.uid may.0.page may.0.makes owner looks may.0.want may.1)
-  look_goal (act.Activate uid place) may = works _ rule (activate_outlined s o uid place owner looks may)
-  look_goal (act.Connect n uid) may = works _ rule (rw may.number at (connect_outlined s o may.process uid may.reference
+      works _ rule (give_up_outlined s may.0.chain may.0.uid may.0.page may.0.makes owner looks may.0.want may.1)
+  look_goal (act.Activate uid place) may = works _ rule (activate_outlined s owner looks may)
+  look_goal (act.Connect n uid) may = works _ rule (rw may.number at (connect_outlined s uid
       may.wants.chain may.wants.uid may.wants.page may.wants.makes owner looks may.within may.placed may.next
       (rw may.number may.there) may.wants.want may.off))
-  look_goal (act.Create g uid p r) may =
-      works _ rule (create_outlined s o.cpu may.process Look g uid p r may.command (in_look s o owner looks) due_none
+  look_goal (act.Create g uid p r) may = works _ rule (create_outlined Look g uid p r (in_look s owner looks) due_none
       may.can)
-  look_goal (act.Start g uid p) may = works _ rule (start_outlined s o.cpu g uid p may)
-  look_goal (act.Evict g) may = works _ rule (evict_outlined s o g owner (f.looking o owner looks) may)
+  look_goal (act.Start g uid p) may = works _ rule (start_outlined s may)
+  look_goal (act.Evict g) may = works _ rule (evict_outlined s owner (f.looking o owner looks) may)
   look_goal (act.Empty uid) may =
-      works _ rule (empty_of s o uid (frames_from s.store.ast uid 0) (trailers_in s.store uid) owner looks taken_none
+      works _ rule (empty_of s uid (frames_from s.store.ast uid 0) (trailers_in s.store uid) owner looks taken_none
       may.can may.of_it may.few may.link)
   look_goal (act.EmptyVictim pool chain uid) may =
       works _ rule (victim_of_pool s o pool uid (first_off_chain s.store.ast pool chain) owner looks taken_none may)
-  look_goal (act.TakeAway fs pairs w) may =
-      works _ rule (take_away_outlined s (took s o.cpu aim.Committing w fs pairs) o.cpu w fs
+  look_goal (act.TakeAway fs pairs w) may = works _ rule (take_away_outlined
       (took_like s o.cpu aim.Committing w fs pairs) (took_owner s o.cpu aim.Committing w fs pairs taken_none may.0)
-      (in_look s o owner looks) may.1)
-  look_goal (act.BeginMove u volume) may = works _ rule (begin_outlined s o u volume owner looks)
-  look_goal act.Commit may = commit_goal s o.cpu out Look rule (in_look s o owner looks) due_none may
+      (in_look s owner looks) may.1)
+  look_goal (act.BeginMove u volume) may = works _ rule (begin_outlined s u volume owner looks)
+  look_goal act.Commit may = commit_goal out Look rule (in_look s owner looks) due_none may
   look_goal _ may = absurd may
 
 -- ---- nothing is due any more
@@ -192,48 +183,47 @@ count_zero p (x ∷ xs) d none = let rest = count_zero p xs d (λ i. none (suc i
     let here = ap (λ (b : Bool). cond {A = ℕ} b 1 0) (none zero) in
     omega (arith, count_cons p x xs)
 
-due_at : (s : State) (c d : ℕ) → Foresees s c → position is_due s.processors ≡ None
+due_at : {s : State} {c : ℕ} (d : ℕ) → Foresees s c → position is_due s.processors ≡ None
     → is_some (cpu_at s.processors d).due ≡ false
-due_at s c d f none = by (cpu_at s.processors d).online refl
+due_at {s} d f none = by (cpu_at s.processors d).online refl
   where
     by : (b : Bool) → (cpu_at s.processors d).online ≡ b → is_some (cpu_at s.processors d).due ≡ false
     by false off = cc (f.quiet d off)
     by true on = cc (on, (none_at is_due s.processors none d no_processor refl))
 
-dues_over : (s : State) (c : ℕ) → Foresees s c → position is_due s.processors ≡ None → dues (outline_of s).runners ≡ 0
+dues_over : {s : State} {c : ℕ} → Foresees s c → position is_due s.processors ≡ None → dues (outline_of s).runners ≡ 0
 unfolding dues
-dues_over s c f none = count_zero (λ (x : Runner). x.due) (outline_of s).runners no_runner (λ d.
-    cc (at_outline s d, seen_due (around s) (processor_at s.processors d), due_at s c d f none))
+dues_over {s} {c} f none = count_zero (λ (x : Runner). x.due) (outline_of s).runners no_runner (λ d.
+    cc (at_outline s d, seen_due (around s) (processor_at s.processors d), due_at d f none))
 
 -- ---- the phases
 
-module _ (s : State) (o : Owner) (out : Outcome) (f : Foresees s o.cpu) (rule : rule_of (outline_of s) o.cpu ≡ Works)
+module _ {s : State} {o : Owner} (out : Outcome) (f : Foresees s o.cpu) (rule : rule_of (outline_of s) o.cpu ≡ Works)
     (owner : s.owner ≡ Some o) (has : is_some (cpu_at s.processors o.cpu).process ≡ true) where
   may_answer : MayAnswer s o.cpu
   may_answer = f.answers has
 
   failed_goal : (stage : Stage) → IsIn (outline_of s) o.cpu stage → dues (outline_of s).runners ≡ 0
       → JobStep (outline_of s) o.cpu (outline_of (write_failed s o.cpu out.faults))
-  failed_goal stage inside due =
-      failed_outlined s o.cpu may_answer.process out.faults stage may_answer.command inside due may_answer.can
+  failed_goal stage inside due = failed_outlined out.faults stage inside due may_answer.can
 
   finish_eviction : (w : What) (fs : List ℕ) (g : ℕ) → o.phase ≡ phase.Waiting aim.Evicting w → o.frames ≡ g ∷ fs
       → dues (outline_of s).runners ≡ 0 → Goal s o.cpu out (act.FinishEviction g)
   unfolding after outline_of
   finish_eviction w fs g waits frames due = by_end (λ x. Step (outline_of s) o.cpu Moved (outline_of x)) out _ _
-      (λ e. works _ rule (eviction_outlined (with_faults s out.faults) o w g fs owner waits frames due
+      (λ e. works _ rule (eviction_outlined (with_faults s out.faults) w fs owner waits frames due
       (f.leaves o g fs owner frames)))
       (λ e. works _ rule (failed_goal (stage_of s.store.ast.entries o.frames (phase.Waiting aim.Evicting w))
-      (in_stage s o (phase.Waiting aim.Evicting w) owner waits) due))
+      (in_stage s owner waits) due))
 
   finish_page : (uid : ℕ) (w : What) (fs : List ℕ) (g : ℕ) → o.phase ≡ phase.Waiting (aim.Deactivating uid) w
       → o.frames ≡ g ∷ fs → dues (outline_of s).runners ≡ 0 → Goal s o.cpu out (act.FinishPage g)
   unfolding after outline_of
   finish_page uid w fs g waits frames due = by_end (λ x. Step (outline_of s) o.cpu Moved (outline_of x)) out _ _
-      (λ e. works _ rule (page_outlined (with_faults s out.faults) o uid w g fs owner waits frames due
+      (λ e. works _ rule (page_outlined (with_faults s out.faults) uid w fs owner waits frames due
       (f.leaves o g fs owner frames)))
       (λ e. works _ rule (failed_goal (stage_of s.store.ast.entries o.frames (phase.Waiting (aim.Deactivating uid) w))
-      (in_stage s o (phase.Waiting (aim.Deactivating uid) w) owner waits) due))
+      (in_stage s owner waits) due))
 
   finish_goal : (a : Aim) (w : What) (fs : List ℕ) → o.phase ≡ phase.Waiting a w → o.frames ≡ fs
       → dues (outline_of s).runners ≡ 0 → Goal s o.cpu out (finish_of a fs)
@@ -241,45 +231,45 @@ module _ (s : State) (o : Owner) (out : Outcome) (f : Foresees s o.cpu) (rule : 
   finish_goal aim.Evicting w [] waits frames due = absurd (f.evicts o w owner waits frames)
   finish_goal aim.Evicting w (g ∷ fs) waits frames due = finish_eviction w fs g waits frames due
   finish_goal (aim.Deactivating uid) w [] waits frames due =
-      works _ rule (deactivate_outlined s o uid w owner waits frames due)
+      works _ rule (deactivate_outlined s uid w owner waits frames due)
   finish_goal (aim.Deactivating uid) w (g ∷ fs) waits frames due = finish_page uid w fs g waits frames due
   finish_goal aim.Committing w fs waits frames due =
-      commit_goal s o.cpu out (stage_of s.store.ast.entries o.frames (phase.Waiting aim.Committing w)) rule
-      (in_stage s o (phase.Waiting aim.Committing w) owner waits) due may_answer
+      commit_goal out (stage_of s.store.ast.entries o.frames (phase.Waiting aim.Committing w)) rule
+      (in_stage s owner waits) due may_answer
 
   cleared_goal : (a : Aim) (w : What) → o.phase ≡ phase.Waiting a w → (x : Option ℕ) → position is_due s.processors ≡ x
       → Goal s o.cpu out (once_cleared x (finish_of a o.frames))
   unfolding after
   cleared_goal a w waits (Some d) is =
-      awaits_clear_outlined s o a w d rule owner waits (position-Some is_due s.processors d no_processor is).1
-  cleared_goal a w waits None is = finish_goal a w o.frames waits refl (dues_over s o.cpu f is)
+      awaits_clear_outlined s a w d rule owner waits (position-Some is_due s.processors d no_processor is).1
+  cleared_goal a w waits None is = finish_goal a w o.frames waits refl (dues_over f is)
 
   move_goal : (m : Mover) → o.phase ≡ phase.Moving m → (x : Option ℕ)
       → next_out (table_of s.store.ast m.uid) m.next ≡ x → Goal s o.cpu out (copy_or_commit m x)
   unfolding after
   move_goal m moves (Some p) next = by_end (λ x. Step (outline_of s) o.cpu Moved (outline_of x)) out _ _
-      (λ e. works _ rule (copy_outlined s o m p out.faults owner moves next)) (λ e. works _ rule
-      (copy_failed_outlined s o m may_answer.process out.faults may_answer.command owner moves due may_answer.can))
+      (λ e. works _ rule (copy_outlined s m out.faults owner moves next)) (λ e. works _ rule
+      (copy_failed_outlined m out.faults owner moves due may_answer.can))
     where
       due : dues (outline_of s).runners ≡ 0
-      due = (f.kept.job.fits o.cpu (Copying (256 - m.next)) (in_stage s o (phase.Moving m) owner moves)).0
-  move_goal m moves None next = works _ rule (move_outlined s o m owner moves (f.moves o m owner moves refl))
+      due = (f.kept.job.fits o.cpu (Copying (256 - m.next)) (in_stage s owner moves)).0
+  move_goal m moves None next = works _ rule (move_outlined s m owner moves (f.moves o m owner moves refl))
 
   phase_goal : (ph : Phase) → o.phase ≡ ph → Goal s o.cpu out (go_on_with s (process_at s o.cpu) o ph)
   unfolding after
   phase_goal phase.Looking looks =
-      look_goal s o out f rule owner looks (look_of s (process_at s o.cpu) (next_command s (process_at s o.cpu)))
+      look_goal out f rule owner looks (look_of s (process_at s o.cpu) (next_command s (process_at s o.cpu)))
       (f.looks o owner looks refl)
-  phase_goal (phase.Taken a w) taken = works _ rule (signal_outlined s o a w w owner taken)
+  phase_goal (phase.Taken a w) taken = works _ rule (signal_outlined s a w w owner taken)
   phase_goal (phase.Waiting a w) waits = cleared_goal a w waits (position is_due s.processors) refl
   phase_goal (phase.Moving m) moves = move_goal m moves (next_out (table_of s.store.ast m.uid) m.next) refl
 
 -- ---- the rules
 
-owner_goal : (s : State) (c : ℕ) (out : Outcome) → Foresees s c → IsAtRest s c → (x : Option Owner) → s.owner ≡ x
+owner_goal : {s : State} {c : ℕ} (out : Outcome) → Foresees s c → IsAtRest s c → (x : Option Owner) → s.owner ≡ x
     → Goal s c out (own_or_run s c (processor_at s.processors c) x)
-owner_goal s c out f rest None none = run_goal s c out f rest (cc) (cpu_at s.processors c).process refl
-owner_goal s c out f rest (Some w) owner = by (eqb w.cpu c) refl
+owner_goal {s} {c} out f rest None none = run_goal out f rest (cc) (cpu_at s.processors c).process refl
+owner_goal {s} {c} out f rest (Some w) owner = by (eqb w.cpu c) refl
   where
     own : is_owner s.owner c ≡ eqb w.cpu c
     own = cc
@@ -287,47 +277,47 @@ owner_goal s c out f rest (Some w) owner = by (eqb w.cpu c) refl
     mine : w.cpu ≡ c → eqb w.cpu c ≡ true → Goal s c out (go_on_with s (process_at s c) w w.phase)
     mine same is = let work = f.kept.job.at_work c _ (rw same at (in_job s w owner)) in
         let has = sym (running_at s c) ∙ work.running in
-        at_same same f (works_seen s c rest (own ∙ is)) has
+        at_same same f (works_seen rest (own ∙ is)) has
       where
         at_same : w.cpu ≡ c → Foresees s c → rule_of (outline_of s) c ≡ Works
             → is_some (cpu_at s.processors c).process ≡ true → Goal s c out (go_on_with s (process_at s c) w w.phase)
-        at_same same = rw (← same) (λ g h i. phase_goal s w out g h owner i w.phase refl)
+        at_same same = rw (← same) (λ g h i. phase_goal out g h owner i w.phase refl)
 
     by : (b : Bool) → eqb w.cpu c ≡ b → Goal s c out (cond b (go_on_with s (process_at s c) w w.phase)
         (run_process s (processor_at s.processors c) (cpu_at s.processors c).process))
     by true is = elim (eqb_tells w.cpu c) [ inl e ↦ mine e.1 is | inr n ↦ (let no = sym is ∙ n.0 in absurd cc) ]
-    by false is = run_goal s c out f rest (own ∙ is) (cpu_at s.processors c).process refl
+    by false is = run_goal out f rest (own ∙ is) (cpu_at s.processors c).process refl
 
-transfer_or_goal : (s : State) (c : ℕ) (out : Outcome) → Foresees s c → (cpu_at s.processors c).online ≡ true
+transfer_or_goal : {s : State} {c : ℕ} (out : Outcome) → Foresees s c → (cpu_at s.processors c).online ≡ true
     → (cpu_at s.processors c).due ≡ None → (x : Option Transfer) → (cpu_at s.processors c).transfer ≡ x
     → Goal s c out (transfer_or s c (processor_at s.processors c) x)
-transfer_or_goal s c out f on due (Some t) is = transfer_goal s c out t f (reads_rule s c t on due is) is
-transfer_or_goal s c out f on due None is = owner_goal s c out f (assumption) s.owner refl
+transfer_or_goal {s} {c} out f on due (Some t) is = transfer_goal out f (reads_rule s c t on due is) is
+transfer_or_goal {s} {c} out f on due None is = owner_goal out f (assumption) s.owner refl
 
-clear_or_goal : (s : State) (c : ℕ) (out : Outcome) → Foresees s c → (cpu_at s.processors c).online ≡ true
+clear_or_goal : {s : State} {c : ℕ} (out : Outcome) → Foresees s c → (cpu_at s.processors c).online ≡ true
     → (x : Option What) → (cpu_at s.processors c).due ≡ x → Goal s c out (clear_or s c (processor_at s.processors c) x)
 unfolding after
-clear_or_goal s c out f on (Some w) is = clear_outlined s c w (clears_rule s c w on is)
-clear_or_goal s c out f on None is = transfer_or_goal s c out f on is (cpu_at s.processors c).transfer refl
+clear_or_goal {s} {c} out f on (Some w) is = clear_outlined s c w (clears_rule s c w on is)
+clear_or_goal {s} {c} out f on None is = transfer_or_goal out f on is (cpu_at s.processors c).transfer refl
 
-online_goal : (s : State) (c : ℕ) (out : Outcome) → Foresees s c → (b : Bool) → (cpu_at s.processors c).online ≡ b
+online_goal : {s : State} {c : ℕ} (out : Outcome) → Foresees s c → (b : Bool) → (cpu_at s.processors c).online ≡ b
     → Goal s c out (cond (not b) act.Online (clear_or s c (processor_at s.processors c) (cpu_at s.processors c).due))
 unfolding after
-online_goal s c out f true is = clear_or_goal s c out f is (cpu_at s.processors c).due refl
-online_goal s c out f false is = online_outlined s c (comes_rule s c is)
+online_goal {s} {c} out f true is = clear_or_goal out f is (cpu_at s.processors c).due refl
+online_goal {s} {c} out f false is = online_outlined s c (comes_rule s c is)
 
 over_goal : (s : State) (c : ℕ) (out : Outcome) → Foresees s c → (b : Bool) → is_over s ≡ b
     → Goal s c out (cond b act.HasEnded (cond (not (cpu_at s.processors c).online) act.Online
     (clear_or s c (processor_at s.processors c) (cpu_at s.processors c).due)))
 unfolding after
 over_goal s c out f true is = end_outlined s c is
-over_goal s c out f false is = online_goal s c out f (cpu_at s.processors c).online refl
+over_goal s c out f false is = online_goal out f (cpu_at s.processors c).online refl
 
 -- Each step of a machine that wasn't stopped is a step of its outline, where the machine finds what its actions ask.
-pub step_outlined : (s : State) (c : ℕ) (out : Outcome) → s.stopped ≡ false → Foresees s c
+pub step_outlined : {s : State} {c : ℕ} (out : Outcome) → s.stopped ≡ false → Foresees s c
     → Step (outline_of s) c (turn_of (action_of s c)) (outline_of (after s c (action_of s c) out))
 unfolding action_of
-step_outlined s c out going f = subst (λ (b : Bool). Goal s c out (cond b act.IsStopped (cond (is_over s) act.HasEnded
+step_outlined {s} {c} out going f = subst (λ (b : Bool). Goal s c out (cond b act.IsStopped (cond (is_over s) act.HasEnded
     (cond (not (cpu_at s.processors c).online) act.Online
     (clear_or s c (processor_at s.processors c) (cpu_at s.processors c).due))))) (sym going)
     (over_goal s c out f (is_over s) refl)

@@ -50,7 +50,7 @@ module _ (nodes : List Node) (t : IsTree nodes) where
       by (Ok n) = record { few = omega arith; ends = tt }
   command_short _ = none_short
 
-module _ (s : State) (m : IsMachine s) where
+module _ {s : State} (m : IsMachine s) where
   abbrev keeps : Keeps s
   keeps = m.keeps
 
@@ -118,8 +118,8 @@ module _ (s : State) (k : Keeps s) where
   reads_is : (f : ℕ) → (seen s).reads f ≡ started_page (store_frame s.store.pages f)
   reads_is f = map_list started_page s.store.pages.core.frames f frame.Free
 
-  there_by : (c : ℕ) (t : Transfer) → (cpu_at s.processors c).transfer ≡ Some t → c < length s.processors
-  there_by c t h = within_by s.processors c no_processor (λ e. none_some
+  there_by : (c : ℕ) {t : Transfer} → (cpu_at s.processors c).transfer ≡ Some t → c < length s.processors
+  there_by c h = within_by s.processors c no_processor (λ e. none_some
       (sym (ap (λ (p : Processor). p.cpu.transfer) e) ∙ h))
 
   has_process_by : (o : Option ℕ) → is_some o ≡ true → (j : ℕ) × (o ≡ Some j)
@@ -134,7 +134,7 @@ module _ (s : State) (k : Keeps s) where
     started = λ f u p h. (let at = k.book.under_way.reader f u p (reads_is f
         ∙ started_tells (store_frame s.store.pages f) u p (sym (frame_outlined s f) ∙ h)) in (
           at.0,
-          rw (long_outline s) (there_by at.0 _ at.1),
+          rw (long_outline s) (there_by at.0 at.1),
           reading_is at.0 ∙ at.1,
         ));
     read = λ d r h. (let is = frame_outlined s r.frame ∙ page_started (store_frame s.store.pages r.frame) r.uid r.page
@@ -183,8 +183,8 @@ no_owner s h = by s.owner h
     by None i = refl
     by (Some q) i = cc
 
-pub job_seen : (s : State) → IsMachine s → IsFitting s → HasJob (outline_of s)
-job_seen s m fitting = record {
+pub job_seen : {s : State} → IsMachine s → IsFitting s → HasJob (outline_of s)
+job_seen {s} m fitting = record {
   at_work = λ c stage h. (let is = seen_in s c stage h in
       let work = subst (λ (d : ℕ). AtWork (processor_at s.processors d)) is.cpu (m.keeps.at_work is.owner is.mine) in
       record {
@@ -201,5 +201,5 @@ job_seen s m fitting = record {
 }
 
 -- the whole
-pub kept_seen : (s : State) → IsMachine s → IsReading s → IsFitting s → IsKept (outline_of s)
-kept_seen s m reading fitting = assumption (sizes_seen s m, tied_seen s m.keeps m reading, job_seen s m fitting)
+pub kept_seen : {s : State} → IsMachine s → IsReading s → IsFitting s → IsKept (outline_of s)
+kept_seen {s} m reading fitting = assumption (sizes_seen m, tied_seen s m.keeps m reading, job_seen m fitting)

@@ -43,8 +43,9 @@ lost_process : (s : State) (c n : ℕ) (t : Transfer) → c < length s.processor
     → (cpu_at (lost_state s c n t).processors c).process ≡ (cpu_at s.processors c).process
 lost_process s c n t lt = ap (λ (p : Processor). p.cpu.process) (get_or-set_same s.processors c _ no_processor lt)
 
-lost_tells : (s : State) (c k n : ℕ) (t : Transfer) (x : Command) → CanTell s c k x → CanTell (lost_state s c n t) c k x
-lost_tells s c k n t x can = record {
+lost_tells : {s : State} {c k : ℕ} (n : ℕ) (t : Transfer) {x : Command} → CanTell s c k x
+    → CanTell (lost_state s c n t) c k x
+lost_tells {s} {c} n t can = record {
   within = rw (length-set s.processors c _) can.within;
   process = lost_process s c n t can.within ∙ can.process;
   there = can.there;
@@ -53,43 +54,45 @@ lost_tells s c k n t x can = record {
 }
 
 -- which process is told
-lost_told : (s : State) (c k n : ℕ) (t : Transfer) (x : Command) → CanTell s c k x
+lost_told : {s : State} {c k : ℕ} (n : ℕ) (t : Transfer) {x : Command} → CanTell s c k x
     → process_at (lost_state s c n t) c ≡ k
-lost_told s c k n t x can = cc (lost_process s c n t can.within)
+lost_told {s} {c} n t can = cc (lost_process s c n t can.within)
 
 other_next : (s : State) (c k n j : ℕ) (t : Transfer) (x : Command) → CanTell s c k x → j ≢ k
     → next_command (transfer_failed s c t n) j ≡ next_command s j
 other_next s c k n j t x can apart = rw (get_or-set_other s.runs (process_at (lost_state s c n t) c) j
     (run_after (run_at s.runs (process_at (lost_state s c n t) c)) (next_command (lost_state s c n t)
-    (process_at (lost_state s c n t) c)) reply.Device) no_run (λ e. apart (e ∙ lost_told s c k n t x can)))
+    (process_at (lost_state s c n t) c)) reply.Device) no_run (λ e. apart (e ∙ lost_told n t can)))
 
-others_same : (s : State) (c k n d : ℕ) (t : Transfer) (x : Command) → CanTell s c k x → IsPlaced s.processors c k
-    → d ≢ c → runner_of (failed_around s c n t) (processor_at (set s.processors c (lost_processor s c n t)) d)
-    ≡ runner_of (around s) (processor_at (set s.processors c (lost_processor s c n t)) d)
-others_same s c k n d t x can placed apart = next_runner (around s) (next_command (transfer_failed s c t n))
+others_same : {s : State} {c k : ℕ} (n d : ℕ) (t : Transfer) {x : Command} → CanTell s c k x → IsPlaced s.processors c k
+    → d ≢ c
+    → runner_of (failed_around s c n t) (processor_at (set s.processors c (lost_processor s c n t)) d) ≡ runner_of
+    (around s) (processor_at (set s.processors c (lost_processor s c n t)) d)
+others_same {s} {c} {k} n d t {x} can placed apart = next_runner (around s) (next_command (transfer_failed s c t n))
     (processor_at (set s.processors c (lost_processor s c n t)) d) (λ j h. other_next s c k n j t x can
     (λ e. placed.only d apart (cc (get_or-set_other s.processors c d (lost_processor s c n t) no_processor apart))))
 
-failed_runners : (s : State) (c k n : ℕ) (t : Transfer) (x : Command) → CanTell s c k x → IsPlaced s.processors c k
-    → map (runner_of (failed_around s c n t)) (transfer_failed s c t n).processors
-    ≡ set (map (runner_of (around s)) s.processors) c (runner_of (failed_around s c n t) (lost_processor s c n t))
-failed_runners s c k n t x can placed = cc (
+failed_runners : {s : State} {c k : ℕ} (n : ℕ) (t : Transfer) {x : Command} → CanTell s c k x
+    → IsPlaced s.processors c k
+    → map (runner_of (failed_around s c n t)) (transfer_failed s c t n).processors ≡ set
+    (map (runner_of (around s)) s.processors) c (runner_of (failed_around s c n t) (lost_processor s c n t))
+failed_runners {s} {c} {k} n t {x} can placed = cc (
   failed_processors s c n t can.within,
   map_change (runner_of (around s)) (runner_of (failed_around s c n t))
       (set s.processors c (lost_processor s c n t)) c (runner_of (failed_around s c n t) (lost_processor s c n t))
       no_processor (rw (length-set s.processors c (lost_processor s c n t)) can.within)
       (cc (get_or-set_same s.processors c (lost_processor s c n t) no_processor can.within))
-      (λ d apart. others_same s c k n d t x can placed apart),
+      (λ d apart. others_same n d t can placed apart),
   set_map (runner_of (around s)) s.processors c (lost_processor s c n t),
   set_twice (map (runner_of (around s)) s.processors) c (runner_of (around s) (lost_processor s c n t))
       (runner_of (failed_around s c n t) (lost_processor s c n t)),
 )
 
-failed_ready : (s : State) (c k n : ℕ) (t : Transfer) (x : Command) → CanTell s c k x → is_end x ≡ false
+failed_ready : {s : State} {c k : ℕ} (n : ℕ) (t : Transfer) {x : Command} → CanTell s c k x → is_end x ≡ false
     → length (transfer_failed s c t n).ready ≡ length s.ready
-failed_ready s c k n t x can out = cc (
+failed_ready {s} {c} {k} n t {x} can out = cc (
   none_released s.plan (process_at (lost_state s c n t) c) x (next_command (lost_state s c n t)
-      (process_at (lost_state s c n t) c)) (cc (lost_told s c k n t x can)) out,
+      (process_at (lost_state s c n t) c)) (cc (lost_told n t can)) out,
   append-nil s.ready,
 )
 
@@ -99,13 +102,13 @@ failed_outline : (s : State) (c k n : ℕ) (t : Transfer) (x : Command) → CanT
     (runner_of (failed_around s c n t) (lost_processor s c n t))) { left = left_is (transfer_failed s c t n) }
 unfolding outline_of
 failed_outline s c k n t x can placed out = λ i. record {
-  runners = failed_runners s c k n t x can placed i;
+  runners = failed_runners n t can placed i;
   frames = set_map bare s.store.pages.core.frames t.frame frame.Free i;
   entries = (outline_of s).entries;
   stored = (outline_of s).stored;
   full = (outline_of s).full;
   owner = (outline_of s).owner;
-  ready = failed_ready s c k n t x can out i;
+  ready = failed_ready n t can out i;
   left = left_is (transfer_failed s c t n);
 }
 
@@ -141,16 +144,14 @@ lost_runner s c n t lt = subst (λ (y : Runner). HasLost y (runner_of (failed_ar
       (get_or-set_same s.processors c _ no_processor lt),
     )
 
-pub loss_outlined : (s : State) (c k n : ℕ) (t : Transfer) (x : Command) → rule_of (outline_of s) c ≡ Reads
+pub loss_outlined : {s : State} {c k : ℕ} (n : ℕ) {t : Transfer} {x : Command} → rule_of (outline_of s) c ≡ Reads
     → (cpu_at s.processors c).transfer ≡ Some t → CanTell s c k x → IsPlaced s.processors c k → is_end x ≡ false
     → Step (outline_of s) c Moved (outline_of (transfer_failed s c t n))
-loss_outlined s c k n t x h reading can placed out =
-    step_to (outline_of s) _ (outline_of (transfer_failed s c t n)) c Moved
-    (sym (failed_outline s c k n t x can placed out))
-    (loses t (runner_of (failed_around s c n t) (lost_processor s c n t)) (left_is (transfer_failed s c t n)) h
-    (cc (at_outline s c, seen_reading (around s) (processor_at s.processors c)))
-    (lost_runner s c n t can.within) (rw (outline_left s) (told_left (lost_state s c n t) c k None reply.Device x
-    (lost_tells s c k n t x can))))
+loss_outlined {s} {c} {k} n {t} {x} h reading can placed out = step_to (outline_of (transfer_failed s c t n))
+    (sym (failed_outline s c k n t x can placed out)) (loses t
+    (runner_of (failed_around s c n t) (lost_processor s c n t)) (left_is (transfer_failed s c t n)) h
+    (cc (at_outline s c, seen_reading (around s) (processor_at s.processors c))) (lost_runner s c n t can.within)
+    (rw (outline_left s) (told_left None reply.Device (lost_tells n t can))))
 
 -- ---- which rule applies
 
@@ -175,31 +176,31 @@ pub record IsAtRest (s : State) (c : ℕ) : Type 0 where
   pub due : (cpu_at s.processors c).due ≡ None
   pub transfer : (cpu_at s.processors c).transfer ≡ None
 
-pub works_seen : (s : State) (c : ℕ) → IsAtRest s c → is_owner s.owner c ≡ true → rule_of (outline_of s) c ≡ Works
-works_seen s c rest own = rule_seen s c ∙ rw (rest.online, rest.due, rest.transfer, own) refl
+pub works_seen : {s : State} {c : ℕ} → IsAtRest s c → is_owner s.owner c ≡ true → rule_of (outline_of s) c ≡ Works
+works_seen {s} {c} rest own = rule_seen s c ∙ rw (rest.online, rest.due, rest.transfer, own) refl
 
-loads_rule : (s : State) (c : ℕ) → IsAtRest s c → is_owner s.owner c ≡ false → (cpu_at s.processors c).process ≡ None
+loads_rule : {s : State} {c : ℕ} → IsAtRest s c → is_owner s.owner c ≡ false → (cpu_at s.processors c).process ≡ None
     → rule_of (outline_of s) c ≡ Loads
-loads_rule s c rest own none = rule_seen s c ∙ rw (rest.online, rest.due, rest.transfer, own, none) refl
+loads_rule {s} {c} rest own none = rule_seen s c ∙ rw (rest.online, rest.due, rest.transfer, own, none) refl
 
-turn_rule : (s : State) (c k : ℕ) (turn : Bool) → IsAtRest s c → is_owner s.owner c ≡ false
+turn_rule : {s : State} {c k : ℕ} {turn : Bool} → IsAtRest s c → is_owner s.owner c ≡ false
     → (cpu_at s.processors c).process ≡ Some k
     → (has_had_its_turn (processor_at s.processors c) && not (is_empty s.ready)) ≡ turn
     → rule_of (outline_of s) c ≡ cond turn Leaves Commands
-turn_rule s c k turn rest own process is =
+turn_rule {s} {c} rest own process is =
     rule_seen s c ∙ rw (rest.online, rest.due, rest.transfer, own, process, ← not_empty s.ready, is) refl
 
-leaves_rule : (s : State) (c k : ℕ) → IsAtRest s c → is_owner s.owner c ≡ false
+leaves_rule : {s : State} {c k : ℕ} → IsAtRest s c → is_owner s.owner c ≡ false
     → (cpu_at s.processors c).process ≡ Some k
     → (has_had_its_turn (processor_at s.processors c) && not (is_empty s.ready)) ≡ true
     → rule_of (outline_of s) c ≡ Leaves
-leaves_rule s c k rest own process turn = turn_rule s c k true rest own process turn
+leaves_rule {s} {c} {k} rest own process turn = turn_rule rest own process turn
 
-commands_rule : (s : State) (c k : ℕ) → IsAtRest s c → is_owner s.owner c ≡ false
+commands_rule : {s : State} {c k : ℕ} → IsAtRest s c → is_owner s.owner c ≡ false
     → (cpu_at s.processors c).process ≡ Some k
     → (has_had_its_turn (processor_at s.processors c) && not (is_empty s.ready)) ≡ false
     → rule_of (outline_of s) c ≡ Commands
-commands_rule s c k rest own process turn = turn_rule s c k false rest own process turn
+commands_rule {s} {c} {k} rest own process turn = turn_rule rest own process turn
 
 -- ---- moves by itself
 
@@ -270,12 +271,12 @@ fill_page_new held ds words r f (Some e) seg h = (
 abbrev pub Goal : State → ℕ → Outcome → Action → Type 0
 Goal s c o a = Step (outline_of s) c (turn_of a) (outline_of (after s c a o))
 
-pub transfer_goal : (s : State) (c : ℕ) (o : Outcome) (t : Transfer) → Foresees s c → rule_of (outline_of s) c ≡ Reads
+pub transfer_goal : {s : State} {c : ℕ} (o : Outcome) {t : Transfer} → Foresees s c → rule_of (outline_of s) c ≡ Reads
     → (cpu_at s.processors c).transfer ≡ Some t → Goal s c o (act.EndTransfer t)
 unfolding after
-transfer_goal s c o t f h reading = by_end (λ x. Step (outline_of s) c Moved (outline_of x)) o _ _
-    (λ e. transfer_outlined s c o.faults t h reading)
-    (λ e. loss_outlined s c lost.process o.faults t lost.command h reading lost.can lost.placed lost.more)
+transfer_goal {s} {c} o {t} f h reading = by_end (λ x. Step (outline_of s) c Moved (outline_of x)) o _ _
+    (λ e. transfer_outlined s c o.faults h reading)
+    (λ e. loss_outlined o.faults h reading lost.can lost.placed lost.more)
   where
     lost : MayLose s c
     lost = f.loses (cc)
@@ -293,7 +294,7 @@ take_goal : (s : State) (c : ℕ) (o : Outcome) → rule_of (outline_of s) c ≡
     → (x ≡ None → MayEnter s c) → Goal s c o (take_or_wait x)
 unfolding after
 take_goal s c o h None none may = enter_goal s c o h none (may refl)
-take_goal s c o h (Some w) some may = owned_outlined s c w h some
+take_goal s c o h (Some w) some may = owned_outlined s c h some
 
 -- the processor's process refers to a word
 move_goal : (s : State) (c k : ℕ) (o : Outcome) (r : Reference) → rule_of (outline_of s) c ≡ Commands
@@ -301,57 +302,55 @@ move_goal : (s : State) (c k : ℕ) (o : Outcome) (r : Reference) → rule_of (o
     → (m : Move) → move_of s (cpu_at s.processors c) k r ≡ m
     → (s.owner ≡ None → by_move s.owner r m ≡ act.TakeSupervisor → MayEnter s c) → Goal s c o (by_move s.owner r m)
 unfolding after
-move_goal s c k o r h process next may move.FillSeg is enters = fill_seg_outlined s c k r h process next
+move_goal s c k o r h process next may move.FillSeg is enters = fill_seg_outlined s c h process next
     (fill_seg_new (cpu_at s.processors c).assoc (sdws_at s.store.links.descriptors k) (word_of s.store.ast) r
     (seg_of (cpu_at s.processors c).assoc r.number) is)
 move_goal s c k o r h process next may (move.FillPage f) is enters =
     let new = fill_page_new (cpu_at s.processors c).assoc (sdws_at s.store.links.descriptors k) (word_of s.store.ast)
     r f (seg_of (cpu_at s.processors c).assoc r.number) refl is in
-    fill_page_outlined s c k f r h process next new.0 new.1
-move_goal s c k o r h process next may (move.Through f) is enters =
-    through_outlined s c may.process f r may.command h may.can
-move_goal s c k o r h process next may (move.Plain answer) is enters =
-    plain_outlined s c may.process answer may.command h may.can
+    fill_page_outlined s c f h process next new.0 new.1
+move_goal s c k o r h process next may (move.Through f) is enters = through_outlined f r h may.can
+move_goal s c k o r h process next may (move.Plain answer) is enters = plain_outlined answer h may.can
 move_goal s c k o r h process next may move.Fault is enters =
     take_goal s c o h s.owner refl (λ none. enters none (ap take_or_wait none))
 
-refer_goal : (s : State) (c k : ℕ) (o : Outcome) → rule_of (outline_of s) c ≡ Commands
+refer_goal : {s : State} {c k : ℕ} (o : Outcome) → rule_of (outline_of s) c ≡ Commands
     → (cpu_at s.processors c).process ≡ Some k → MayAnswer s c → (x : Option Reference)
     → reference_in (next_command s k) ≡ x
     → (s.owner ≡ None → refer_or_take s (cpu_at s.processors c) k x ≡ act.TakeSupervisor → MayEnter s c)
     → Goal s c o (refer_or_take s (cpu_at s.processors c) k x)
-refer_goal s c k o h process may None next enters =
+refer_goal {s} {c} o h process may None next enters =
     take_goal s c o h s.owner refl (λ none. enters none (ap take_or_wait none))
-refer_goal s c k o h process may (Some r) next enters =
+refer_goal {s} {c} {k} o h process may (Some r) next enters =
     move_goal s c k o r h process next may (move_of s (cpu_at s.processors c) k r) refl enters
 
-command_goal : (s : State) (c k : ℕ) (o : Outcome) → rule_of (outline_of s) c ≡ Commands
+command_goal : {s : State} {c k : ℕ} (o : Outcome) → rule_of (outline_of s) c ≡ Commands
     → (cpu_at s.processors c).process ≡ Some k → MayAnswer s c → (x : Option Command) → next_command s k ≡ x
     → (s.owner ≡ None → come_to s (cpu_at s.processors c) k x ≡ act.TakeSupervisor → MayEnter s c)
     → Goal s c o (come_to s (cpu_at s.processors c) k x)
-command_goal s c k o h process may None next enters =
+command_goal {s} {c} o h process may None next enters =
     take_goal s c o h s.owner refl (λ none. enters none (ap take_or_wait none))
-command_goal s c k o h process may (Some x) next enters =
-    refer_goal s c k o h process may (reference_of x) (ap reference_in next) enters
+command_goal {s} {c} {k} o h process may (Some x) next enters =
+    refer_goal o h process may (reference_of x) (ap reference_in next) enters
 
-free_of : (s : State) (c : ℕ) → IsAtRest s c → IsFree (processor_at s.processors c)
-free_of s c rest = assumption
+free_of : {s : State} {c : ℕ} → IsAtRest s c → IsFree (processor_at s.processors c)
+free_of rest = assumption
 
-load_goal : (s : State) (c : ℕ) (o : Outcome) → IsAtRest s c → rule_of (outline_of s) c ≡ Loads → (ready : List ℕ)
+load_goal : {s : State} {c : ℕ} (o : Outcome) → IsAtRest s c → rule_of (outline_of s) c ≡ Loads → (ready : List ℕ)
     → s.ready ≡ ready → Goal s c o (load_or_idle s ready)
 unfolding after
-load_goal s c o rest h [] is = idle_outlined s c (count_by has_process s.processors) h is
-load_goal s c o rest h (k ∷ ks) is = load_outlined s c k h (rw is (omega arith)) (free_of s c rest)
+load_goal {s} {c} o rest h [] is = idle_outlined s c (count_by has_process s.processors) h is
+load_goal {s} {c} o rest h (k ∷ ks) is = load_outlined s c k h (rw is (omega arith)) (free_of rest)
 
 -- a process that is at a processor goes on
-going_on : (s : State) (c : ℕ) → MayAnswer s c → (run_at s.runs (process_at s c)).ended ≡ false
-going_on s c may = cc
+going_on : {s : State} {c : ℕ} → MayAnswer s c → (run_at s.runs (process_at s c)).ended ≡ false
+going_on may = cc
 
-pub run_goal : (s : State) (c : ℕ) (o : Outcome) → Foresees s c → IsAtRest s c → is_owner s.owner c ≡ false
+pub run_goal : {s : State} {c : ℕ} (o : Outcome) → Foresees s c → IsAtRest s c → is_owner s.owner c ≡ false
     → (x : Option ℕ) → (cpu_at s.processors c).process ≡ x → Goal s c o (run_process s (processor_at s.processors c) x)
 unfolding after
-run_goal s c o f rest own None none = load_goal s c o rest (loads_rule s c rest own none) s.ready refl
-run_goal s c o f rest own (Some k) process =
+run_goal {s} {c} o f rest own None none = load_goal o rest (loads_rule rest own none) s.ready refl
+run_goal {s} {c} o f rest own (Some k) process =
     by (has_had_its_turn (processor_at s.processors c) && not (is_empty s.ready)) refl
   where
     may : MayAnswer s c
@@ -359,6 +358,6 @@ run_goal s c o f rest own (Some k) process =
 
     by : (b : Bool) → (has_had_its_turn (processor_at s.processors c) && not (is_empty s.ready)) ≡ b
         → Goal s c o (cond b act.Leave (come_to s (cpu_at s.processors c) k (next_command s k)))
-    by true turn = leave_outlined s c (leaves_rule s c k rest own process turn) (going_on s c may) (free_of s c rest)
-    by false turn = command_goal s c k o (commands_rule s c k rest own process turn) process may (next_command s k) refl
+    by true turn = leave_outlined s c (leaves_rule rest own process turn) (going_on may) (free_of rest)
+    by false turn = command_goal o (commands_rule rest own process turn) process may (next_command s k) refl
         (λ none is. f.enters none rest.transfer (cc (ap or_zero process)))

@@ -131,11 +131,11 @@ want_like a b p nodes whos known next = by p.cpu.process
     }) k (next i k)
 
 -- all but what is due, connected and held stands
-pub like_alike : (s t : State) (c : ℕ) → LooksLike s t → (runner_of (around t) (processor_at s.processors c)).linked
-    ≡ (runner_of (around s) (processor_at s.processors c)).linked
+pub like_alike : {s t : State} (c : ℕ) → LooksLike s t → (runner_of (around t) (processor_at s.processors c)).linked ≡
+    (runner_of (around s) (processor_at s.processors c)).linked
     → AreAlike (outline_of s).runners (map (runner_of (around t)) s.processors) c
 unfolding outline_of
-like_alike s t c like linked = record {
+like_alike {s} {t} c like linked = record {
   count = same_long (runner_of (around s)) (runner_of (around t)) s.processors;
   online = λ d. at t d (λ x. x.online) ∙ seen_online (around t) (processor_at s.processors d)
       ∙ sym (at s d (λ x. x.online) ∙ seen_online (around s) (processor_at s.processors d));
@@ -169,23 +169,23 @@ taken_outline : {s t : State} {c : ℕ} {a : Aim} {w : What} {fs : List ℕ} →
 taken_outline {s} {t} like took = cc (like_outline s t like)
 
 -- a segment is taken: for its length, or as a victim
-pub take_segment_outlined : (s t : State) (c uid : ℕ) (w : What) (fs : List ℕ) → LooksLike s t
+pub take_segment_outlined : {s t : State} {c : ℕ} (uid : ℕ) {w : What} {fs : List ℕ} → LooksLike s t
     → HasTakenFrames t c (aim.Deactivating uid) w fs → CanEmpty (outline_of s) c (place_of s.store.ast.entries uid)
     → AreOf (outline_of s) (place_of s.store.ast.entries uid) fs → length fs ≤ 256
-    → (runner_of (around t) (processor_at s.processors c)).linked
-    ≡ (runner_of (around s) (processor_at s.processors c)).linked → JobStep (outline_of s) c (outline_of t)
-take_segment_outlined s t c uid w fs like took can of_it few linked =
-    job_to (outline_of s) _ (outline_of t) c (taken_outline like took)
+    → (runner_of (around t) (processor_at s.processors c)).linked ≡
+    (runner_of (around s) (processor_at s.processors c)).linked → JobStep (outline_of s) c (outline_of t)
+take_segment_outlined {s} {t} {c} uid {w} {fs} like took can of_it few linked =
+    job_to (outline_of t) (taken_outline like took)
     (takes_segment (place_of s.store.ast.entries uid) fs (map (runner_of (around t)) s.processors) can of_it few
-    (like_alike s t c like linked))
+    (like_alike c like linked))
 
 -- what a tree command must have out of use is taken
-pub take_away_outlined : (s t : State) (c : ℕ) (w : What) (fs : List ℕ) → LooksLike s t
+pub take_away_outlined : {s t : State} {c : ℕ} {w : What} {fs : List ℕ} → LooksLike s t
     → HasTakenFrames t c aim.Committing w fs → IsIn (outline_of s) c Look
-    → (runner_of (around t) (processor_at s.processors c)).linked
-    ≡ (runner_of (around s) (processor_at s.processors c)).linked → JobStep (outline_of s) c (outline_of t)
-take_away_outlined s t c w fs like took look linked = job_to (outline_of s) _ (outline_of t) c (taken_outline like took)
-    (takes_for_commit (map (runner_of (around t)) s.processors) look (like_alike s t c like linked))
+    → (runner_of (around t) (processor_at s.processors c)).linked ≡
+    (runner_of (around s) (processor_at s.processors c)).linked → JobStep (outline_of s) c (outline_of t)
+take_away_outlined {s} {t} {c} like took look linked = job_to (outline_of t) (taken_outline like took)
+    (takes_for_commit (map (runner_of (around t)) s.processors) look (like_alike c like linked))
 
 -- a frame's page is taken
 evicted_outline : (s : State) (c f : ℕ) → frames_of_owner s.owner ≡ []
@@ -220,10 +220,10 @@ evicted_outline s c f none = λ i. record {
         ≡ Some (record { cpu = c; stage = Taken (EvictFrame f) })
     owner s c f none = cc
 
-pub evict_outlined : (s : State) (o : Owner) (f : ℕ) → s.owner ≡ Some o → o.frames ≡ []
+pub evict_outlined : (s : State) {o : Owner} {f : ℕ} → s.owner ≡ Some o → o.frames ≡ []
     → CanEvict (outline_of s) o.cpu f → JobStep (outline_of s) o.cpu (outline_of (eviction_begun s o.cpu f))
-evict_outlined s o f owner none can = job_to (outline_of s) (at_stage (outline_of s) o.cpu (Taken (EvictFrame f)))
-    (outline_of (eviction_begun s o.cpu f)) o.cpu (evicted_outline s o.cpu f (cc)) (takes_frame f can)
+evict_outlined s {o} {f} owner none can = job_to
+    (outline_of (eviction_begun s o.cpu f)) (evicted_outline s o.cpu f (cc)) (takes_frame f can)
 
 -- ---- the signal
 
@@ -317,16 +317,15 @@ signalled_keeper : (entries : List (Option Active)) (o : Owner) (a : Aim) (w : W
     (record { cpu = o.cpu; stage = Waiting (work_of entries o.frames a) })
 signalled_keeper entries o a w h = cc
 
-signalled_outline : (s : State) (o : Owner) (a : Aim) (w v : What) → s.owner ≡ Some o → o.phase ≡ phase.Taken a w
+signalled_outline : (s : State) {o : Owner} (a : Aim) (w v : What) → s.owner ≡ Some o → o.phase ≡ phase.Taken a w
     → with_runners (at_stage (outline_of s) o.cpu (Waiting (work_of s.store.ast.entries o.frames a)))
     (map (runner_of (around s)) (told_from o.cpu v 0 s.processors)) ≡ outline_of (signalled s o.cpu v)
 unfolding outline_of
-signalled_outline s o a w v owner h = cc (signalled_keeper s.store.ast.entries o a w h, owner)
+signalled_outline s {o} a w v owner h = cc (signalled_keeper s.store.ast.entries o a w h, owner)
 
-pub signal_outlined : (s : State) (o : Owner) (a : Aim) (w v : What) → s.owner ≡ Some o → o.phase ≡ phase.Taken a w
+pub signal_outlined : (s : State) {o : Owner} (a : Aim) (w v : What) → s.owner ≡ Some o → o.phase ≡ phase.Taken a w
     → JobStep (outline_of s) o.cpu (outline_of (signalled s o.cpu v))
-signal_outlined s o a w v owner h =
-    job_to (outline_of s) _ (outline_of (signalled s o.cpu v)) o.cpu (signalled_outline s o a w v owner h)
+signal_outlined s {o} a w v owner h = job_to (outline_of (signalled s o.cpu v)) (signalled_outline s a w v owner h)
     (signals (work_of s.store.ast.entries o.frames a) (map (runner_of (around s)) (told_from o.cpu v 0 s.processors))
     (cc (in_job s o owner)) (told_alike s o.cpu v))
 

@@ -13,7 +13,7 @@ pub record IsLike (c e : Custody) : Type 0 where
       ⊎ ((is_going_descriptor (e.descriptor k n) ≡ false) × (is_going_descriptor (c.descriptor k n) ≡ false))
   pub due : (d : ℕ) → (e.seat d).due ≡ (c.seat d).due
 
-module _ (c e : Custody) (like : IsLike c e) where
+module _ {c e : Custody} (like : IsLike c e) where
   frame_like : (f : ℕ) → is_going_frame (e.frame f) ≡ is_going_frame (c.frame f)
   frame_like f = elim (like.frames f) [ inl i ↦ ap is_going_frame i | inr i ↦ i.0 ∙ sym i.1 ]
 
@@ -37,8 +37,8 @@ module _ (c e : Custody) (like : IsLike c e) where
   names_descriptor_like (what.Seg u) k n h = cc
   names_descriptor_like _ k n h = refl
 
-  pub all_like : (w : What) → NamesAllGoing c w → NamesAllGoing e w
-  all_like w all = record {
+  pub all_like : {w : What} → NamesAllGoing c w → NamesAllGoing e w
+  all_like {w} all = record {
     frames = λ f h. elim (like.frames f) [
       | inl i ↦
           names_frame_like w f i ∙ all.frames f (sym (frame_like f) ∙ h)
@@ -50,15 +50,15 @@ module _ (c e : Custody) (like : IsLike c e) where
     ];
   }
 
-  pub owned_like : (o : Option Owner) → IsOwned c o → IsOwned e o
-  owned_like o k = record {
+  pub owned_like : {o : Option Owner} → IsOwned c o → IsOwned e o
+  owned_like k = record {
     frames = λ f. frame_like f ∙ k.frames f;
     cuts = λ p n. descriptor_like p n ∙ k.cuts p n;
     once = k.once;
     apart = k.apart;
     due = λ d w h. k.due d w (sym (like.due d) ∙ h);
     alive = λ d w h. going_like (k.alive d w (sym (like.due d) ∙ h));
-    says = λ w h. (let both = k.says w h in (going_like both.0, all_like w both.1));
+    says = λ w h. (let both = k.says w h in (going_like both.0, all_like both.1));
     shaped = k.shaped;
   }
 
@@ -108,8 +108,8 @@ pub record IsIdle (o : Option Owner) : Type 0 where
 pub nobody : IsIdle None
 nobody = assumption
 
-pub owned_idle : (c : Custody) (o q : Option Owner) → IsOwned c o → IsIdle o → IsIdle q → IsOwned c q
-owned_idle c o q k was now = record {
+pub owned_idle : {c : Custody} {o q : Option Owner} → IsOwned c o → IsIdle o → IsIdle q → IsOwned c q
+owned_idle k was now = record {
   frames = λ f. cc (k.frames f);
   cuts = λ p n. cc (k.cuts p n);
   once = rw now.frames tt;
@@ -171,13 +171,13 @@ names_taken c f (what.Seg u) g = cc (by_place (λ (y : FrameUse). bound_page y �
 names_taken c f _ g = refl
 
 -- an owner that waited for nothing has taken more: it is to signal something that names all that goes then
-owned_by : (c made : Custody) (o : Option Owner) (cpu : ℕ) (aim : Aim) (w : What) (fs : List ℕ)
+owned_by : {c made : Custody} {o : Option Owner} (cpu : ℕ) (aim : Aim) {w : What} (fs : List ℕ)
     (ds : List CutDescriptor) → IsOwned c o → waits_for o ≡ None → made.seat ≡ c.seat
     → ((f : ℕ) → is_going_frame (made.frame f) ≡ has fs f)
     → ((k n : ℕ) → is_going_descriptor (made.descriptor k n) ≡ has_cut ds k n) → AreDistinct fs → AreApart ds
     → SomethingGoes made → NamesAllGoing made w → IsAimed aim w fs ds
     → IsOwned made (Some (record { cpu = cpu; phase = phase.Taken aim w; frames = fs; cut = ds }))
-owned_by c made o cpu aim w fs ds k still seats frames cuts once apart goes all aimed = record {
+owned_by {c} {made} cpu aim {w} fs ds k still seats frames cuts once apart goes all aimed = record {
   frames = frames;
   cuts = cuts;
   once = once;
@@ -192,12 +192,13 @@ owned_by c made o cpu aim w fs ds k still seats frames cuts once apart goes all 
     none_due d v h = none_some (sym still ∙ k.due d v ((λ i. (sym seats i d).due) ∙ h))
 
 -- a page is taken: the owner is to signal something that names it, and all that went before
-pub owned_take : (c : Custody) (o : Option Owner) (cpu f : ℕ) (aim : Aim) (w : What) → IsOwned c o
+pub owned_take : {c : Custody} {o : Option Owner} (cpu f : ℕ) (aim : Aim) {w : What} → IsOwned c o
     → is_current_frame (c.frame f) ≡ true → waits_for o ≡ None → NamesAllGoing c w → names_frame c w f ≡ true
-    → IsAimed aim w (frames_of_owner o ++ f ∷ []) (cut_of_owner o) → IsOwned (with_frame c f (taken (c.frame f)))
+    → IsAimed aim w (frames_of_owner o ++ f ∷ []) (cut_of_owner o)
+    → IsOwned (with_frame c f (taken (c.frame f)))
     (Some (record { cpu = cpu; phase = phase.Taken aim w; frames = frames_of_owner o ++ f ∷ []; cut = cut_of_owner o }))
-owned_take c o cpu f aim w k current still others this aimed =
-    owned_by c made o cpu aim w (fs ++ f ∷ []) (cut_of_owner o) k still refl
+owned_take {c} {o} cpu f aim {w} k current still others this aimed =
+    owned_by cpu aim (fs ++ f ∷ []) (cut_of_owner o) k still refl
     (λ g. by_place (λ (x : FrameUse). is_going_frame x ≡ has (fs ++ f ∷ []) g) c.frame f (taken (c.frame f)) g
     (λ e. cc (going_taken (c.frame f) current, push_same fs f)) (λ n. k.frames g ∙ sym (push_other fs f g n))) k.cuts
     (distinct_push fs f k.once (sym (k.frames f) ∙ current_is_not_going (c.frame f) current)) k.apart goes all aimed
@@ -288,13 +289,13 @@ names_cut c k n (what.Seg u) i j = rw (by_places (λ (y : DescriptorUse). leads_
 names_cut c k n _ i j = refl
 
 -- a descriptor is cut
-pub owned_cut : (c : Custody) (o : Option Owner) (cpu : ℕ) (d : CutDescriptor) (aim : Aim) (w : What) → IsOwned c o
+pub owned_cut : {c : Custody} {o : Option Owner} (cpu : ℕ) (d : CutDescriptor) (aim : Aim) {w : What} → IsOwned c o
     → is_current_descriptor (c.descriptor d.process d.number) ≡ true → waits_for o ≡ None → NamesAllGoing c w
     → names_descriptor c w d.process d.number ≡ true → IsAimed aim w (frames_of_owner o) (cut_of_owner o ++ d ∷ [])
     → IsOwned (with_descriptor c d.process d.number (cut (c.descriptor d.process d.number)))
     (Some (record { cpu = cpu; phase = phase.Taken aim w; frames = frames_of_owner o; cut = cut_of_owner o ++ d ∷ [] }))
-owned_cut c o cpu d aim w k current still others this aimed =
-    owned_by c made o cpu aim w (frames_of_owner o) (ds ++ d ∷ []) k still refl k.frames
+owned_cut {c} {o} cpu d aim {w} k current still others this aimed =
+    owned_by cpu aim (frames_of_owner o) (ds ++ d ∷ []) k still refl k.frames
     (λ i j. by_places (λ (x : DescriptorUse). is_going_descriptor x ≡ has_cut (ds ++ d ∷ []) i j) c.descriptor
     d.process d.number (cut (c.descriptor d.process d.number)) i j
     (λ a b. going_cut (c.descriptor d.process d.number) current ∙ sym (rw (a, b) (cut_push_same ds d)))

@@ -16,9 +16,9 @@ moves_idle c o m k moves = assumption (parts.0, parts.1, ap waits_in moves, ap s
     parts = subst (λ (x : Phase). FitsPhase x o.frames o.cut) moves k.shaped
 
 -- where nothing goes, anything names all that goes
-pub idle_names : (c : Custody) (o : Option Owner) (w : What) → IsOwned c o → frames_of_owner o ≡ []
+pub idle_names : {c : Custody} {o : Option Owner} (w : What) → IsOwned c o → frames_of_owner o ≡ []
     → cut_of_owner o ≡ [] → NamesAllGoing c w
-idle_names c o w k frames cut = record {
+idle_names w k frames cut = record {
   frames = λ f h. absurd (let no : false ≡ true = sym (cc (k.frames f)) ∙ h in cc);
   descriptors = λ j n h. absurd (let no : false ≡ true = sym (cc (k.cuts j n)) ∙ h in cc);
 }
@@ -34,9 +34,9 @@ bound_here v f u p k frames bound = by (v.words u p) (k.tied.named f u p bound) 
     by _ n g = cc
 
 -- the owner is another, and custody sees what it saw
-pub owner_next : (v : Seen) (owner : Option Owner) → KeepsBook v → cut_of_owner v.owner ≡ cut_of_owner owner
+pub owner_next : {v : Seen} {owner : Option Owner} → KeepsBook v → cut_of_owner v.owner ≡ cut_of_owner owner
     → is_pending v.owner ≡ is_pending owner → IsOwned (shown v) owner → KeepsBook (record v { owner = owner })
-owner_next v owner k cut pending owned = record {
+owner_next {v} {owner} k cut pending owned = record {
   legal = k.legal;
   clean = k.clean;
   held = sym same ∙ k.held;
@@ -55,7 +55,7 @@ owner_next v owner k cut pending owned = record {
 pub job_over : (v : Seen) (owner : Option Owner) → KeepsBook v → frames_of_owner v.owner ≡ []
     → cut_of_owner v.owner ≡ [] → NoneDue (shown v)
     → is_pending v.owner ≡ false → IsIdle owner → is_pending owner ≡ false → KeepsBook (record v { owner = owner })
-job_over v owner k frames cut none was now still = owner_next v owner k (cc) (cc) owned
+job_over v owner k frames cut none was now still = owner_next k (cc) (cc) owned
   where
     owned : IsOwned (shown v) owner
     owned = record {

@@ -44,10 +44,10 @@ null_put : (st : Storage) (u p : ℕ) → word_in st u p ≡ ptw.Null → (v q :
 null_put st u p e v q = by_places (λ (x : Ptw). word_in st v q ≡ x) (λ x y. word_in st x y) u p ptw.Null v q
     (λ a b. (λ i. word_in st (a i) (b i)) ∙ e) (λ m. refl)
 
-pub page_cut_off : (st : Storage) (u p : ℕ) (w : Ptw) → HasPlaces st → word_in st u p ≡ w
+pub page_cut_off : {st : Storage} (u p : ℕ) (w : Ptw) → HasPlaces st → word_in st u p ≡ w
     → IsCutOff st (without_page st u p w) u p w
-page_cut_off st u p ptw.Null has_places e = assumption (null_put st u p e)
-page_cut_off st u p (ptw.Leaving f) has_places e = record {
+page_cut_off {st} u p ptw.Null has_places e = assumption (null_put st u p e)
+page_cut_off {st} u p (ptw.Leaving f) has_places e = record {
   bound = bound_put st.pages.core f frame.Free (has_places.within u p f e);
   reads = reads_put st.pages.core f frame.Free (has_places.within u p f e);
   words = words_put st.ast u p ptw.Null has_places.tables (λ i. (let no : ptw.Leaving f ≡ ptw.Null = sym e ∙ i in cc));
@@ -56,7 +56,7 @@ page_cut_off st u p (ptw.Leaving f) has_places e = record {
   frames = length-set st.pages.core.frames f frame.Free;
   tables = length-set st.ast.tables (place_of st.ast.entries u) _;
 }
-page_cut_off st u p w has_places e = record {
+page_cut_off {st} u p w has_places e = record {
   bound = λ g. refl;
   reads = λ g. refl;
   words = words_put st.ast u p ptw.Null has_places.tables (λ i. (let no : w ≡ ptw.Null = sym e ∙ i in cc));
@@ -73,11 +73,8 @@ cut_leaving {old} {u} {p} v q f c e = by_places (λ (x : Ptw). x ≡ ptw.Leaving
     (λ x y. word_in old x y) u p ptw.Null v q
     (λ a b i. absurd (let no : ptw.Null ≡ ptw.Leaving f = i in cc)) (λ m i. i) (sym (c.words v q) ∙ e)
 
-pub cut_places : (old now : Storage) (u p : ℕ) (w : Ptw) → HasPlaces old → IsCutOff old now u p w → HasPlaces now
-cut_places old now u p w h c = record {
-  tables = cc;
-  within = λ v q f e. rw c.frames (h.within v q f (cut_leaving v q f c e));
-}
+pub cut_places : {old now : Storage} {u p : ℕ} {w : Ptw} → HasPlaces old → IsCutOff old now u p w → HasPlaces now
+cut_places h c = record { tables = cc; within = λ v q f e. rw c.frames (h.within v q f (cut_leaving v q f c e)) }
 
 -- ---- many pages
 
@@ -115,7 +112,7 @@ has_cases p ps q h = elim (cases_Bool (has ps q)) [
   | inr e ↦ elim (eqb_tells p q) [ inl i ↦ inr (i.1, e) | inr n ↦ absurd (not_both h (rw (n.0, e) refl)) ]
 ]
 
-module _ (st : Storage) (u p : ℕ) (ps : List ℕ) (now : Storage)
+module _ {st : Storage} {u p : ℕ} {ps : List ℕ} {now : Storage}
     (one : IsCutOff st (without_page st u p (word_in st u p)) u p (word_in st u p))
     (rest : AreCutOff (without_page st u p (word_in st u p)) now u ps) where
   abbrev mid : Storage
@@ -127,19 +124,16 @@ module _ (st : Storage) (u p : ℕ) (ps : List ℕ) (now : Storage)
   was_leaving : (q g : ℕ) → word_in mid u q ≡ ptw.Leaving g → word_in st u q ≡ ptw.Leaving g
   was_leaving q g e = cut_leaving u q g one e
 
-  bound_by : (g : ℕ) (b : Bool) → is_left_by (word_in st u p) g ≡ b → bound_in mid g ≡ cond b None (bound_in st g)
-  bound_by g b e = cc (one.bound g)
+  bound_by : (g : ℕ) {b : Bool} → is_left_by (word_in st u p) g ≡ b → bound_in mid g ≡ cond b None (bound_in st g)
+  bound_by g e = cc (one.bound g)
 
   free_mid : (g : ℕ) → bound_in st g ≡ None → bound_in mid g ≡ None
-  free_mid g e = elim (cases_Bool (is_left_by (word_in st u p) g)) [
-    | inl i ↦ bound_by g true i
-    | inr i ↦ bound_by g false i ∙ e
-  ]
+  free_mid g e = elim (cases_Bool (is_left_by (word_in st u p) g)) [ inl i ↦ bound_by g i | inr i ↦ bound_by g i ∙ e ]
 
   bound_mid : (g : ℕ) → word_in st u p ≢ ptw.Leaving g → bound_in mid g ≡ bound_in st g
   bound_mid g n = elim (cases_Bool (is_left_by (word_in st u p) g)) [
     | inl i ↦ absurd (n (leaves_is (word_in st u p) g i))
-    | inr i ↦ bound_by g false i
+    | inr i ↦ bound_by g i
   ]
 
   reads_mid : (g : ℕ) → ((q : ℕ) → word_in st u q ≡ ptw.Leaving g → read_in st g ≡ None) → read_in mid g ≡ read_in st g
@@ -162,7 +156,7 @@ module _ (st : Storage) (u p : ℕ) (ps : List ℕ) (now : Storage)
     bound = λ g n. rest.bound g (λ q i e. n q (has_tail p ps q i) (was_leaving q g e))
         ∙ bound_mid g (n p (has_head p ps));
     left = λ g q i e. elim (eqb_tells p q) [
-      | inl same ↦ rest.free g (bound_by g true (is_leaves (word_in st u p) g (cc)))
+      | inl same ↦ rest.free g (bound_by g (is_leaves (word_in st u p) g (cc)))
       | inr other ↦ elim (has_cases p ps q i) [
         | inl y ↦ rest.left g q y (other_word u q (λ a b. other.1 (sym b)) ∙ e)
         | inr y ↦ absurd (other.1 y.0)
@@ -186,7 +180,5 @@ pages_cut_off st u [] h = record {
   places = refl;
   links = refl;
 }
-pages_cut_off st u (p ∷ ps) h = let one = page_cut_off st u p (word_in st u p) h refl in
-    next_cut_off st u p ps (without_pages (without_page st u p (word_in st u p)) u ps) one
-    (pages_cut_off (without_page st u p (word_in st u p)) u ps
-    (cut_places st (without_page st u p (word_in st u p)) u p (word_in st u p) h one))
+pages_cut_off st u (p ∷ ps) h = let one = page_cut_off u p (word_in st u p) h refl in next_cut_off one
+    (pages_cut_off (without_page st u p (word_in st u p)) u ps (cut_places h one))

@@ -75,22 +75,22 @@ pub record KeepsName (change : Node → Node) : Type 0 where
   pub directory : (n : Node) → (change n).directory ≡ n.directory
 
 -- the first node that passes a test, where each is changed
-first_mapped : (change : Node → Node) (n : Node) (a b : Bool) (x y : Option Node) → b ≡ a → x ≡ option_map change y
-    → cond b (Some (change n)) x ≡ option_map change (cond a (Some n) y)
-first_mapped change n true b x y e rest = cc
-first_mapped change n false b x y e rest = cc
+first_mapped : (change : Node → Node) (n : Node) (a b : Bool) {x : Option Node} (y : Option Node) → b ≡ a
+    → x ≡ option_map change y → cond b (Some (change n)) x ≡ option_map change (cond a (Some n) y)
+first_mapped change n true b y e rest = cc
+first_mapped change n false b y e rest = cc
 
 pub node_mapped : (change : Node → Node) → ((n : Node) → (change n).uid ≡ n.uid) → (ns : List Node) (u : ℕ)
     → node_in (map change ns) u ≡ option_map change (node_in ns u)
 node_mapped change uid [] u = refl
-node_mapped change uid (n ∷ ns) u = first_mapped change n (eqb n.uid u) (eqb (change n).uid u) _ _
+node_mapped change uid (n ∷ ns) u = first_mapped change n (eqb n.uid u) (eqb (change n).uid u) _
     (cc (uid n)) (node_mapped change uid ns u)
 
-module _ (change : Node → Node) (same : KeepsName change) where
+module _ {change : Node → Node} (same : KeepsName change) where
   branch_mapped : (ns : List Node) (d : ℕ) (name : List ℕ)
       → branch_in (map change ns) d name ≡ option_map change (branch_in ns d name)
   branch_mapped [] d name = refl
-  branch_mapped (n ∷ ns) d name = first_mapped change n (is_branch d name n) (is_branch d name (change n)) _ _
+  branch_mapped (n ∷ ns) d name = first_mapped change n (is_branch d name n) (is_branch d name (change n)) _
       (λ i. is_branch d name (record n { superior = same.superior n i; name = same.name n i }))
       (branch_mapped ns d name)
 
@@ -129,10 +129,10 @@ paths_more ns n u tree = path_stays ns (n ∷ ns) u (λ d. Unit {0}) tt (λ d na
 -- ---- a node less
 
 -- the directory that a node of a tree lies in is an older one
-has_above : (ns : List Node) (m : Node) (s : ℕ) → IsTree ns → IsMember m ns → m.superior ≡ Some s
+has_above : (ns : List Node) (m : Node) {s : ℕ} → IsTree ns → IsMember m ns → m.superior ≡ Some s
     → (has_directory ns s ≡ true) × (s < m.uid)
-has_above [] m s tree here is = absurd here
-has_above (n ∷ ns) m s tree here is = by here (λ e. has_above ns m s tree.1 e is)
+has_above [] m tree here is = absurd here
+has_above (n ∷ ns) m {s} tree here is = by here (λ e. has_above ns m tree.1 e is)
   where
     below : (v : ℕ) (xs : List Node) → AreBelow v xs → has_directory xs s ≡ true → s < v
     below v [] b e = cc
@@ -176,16 +176,16 @@ branch_left (n ∷ ns) v d name m h other = elim (cases_Bool (is_branch d name n
 ]
 
 -- Another node is gone, and what is left is a tree.
-pub paths_less : (ns : List Node) (v u : ℕ) → IsTree ns → IsTree (without_node ns v) → u ≢ v
+pub paths_less : {ns : List Node} (v u : ℕ) → IsTree ns → IsTree (without_node ns v) → u ≢ v
     → PathsStay ns (without_node ns v) u
-paths_less ns v u tree left other = path_stays ns (without_node ns v) u (λ d. d ≢ v) other up
+paths_less {ns} v u tree left other = path_stays ns (without_node ns v) u (λ d. d ≢ v) other up
     (λ d name m h n. (m, branch_left ns v d name m h n, refl, refl))
     (λ m h dir. (m, node_without ns v u other ∙ h, dir))
   where
     -- nothing lies in the node that is gone
     up : (d : ℕ) (name : List ℕ) (m : Node) → branch_in ns d name ≡ Some m → d ≢ v
     up d name m h same = let here = is_here ns d name m h in let is = (lies d name m here.1).0 in
-        let was = has_above ns m d tree here.0 is in
-        let now = has_above (without_node ns v) m d left (member_left ns v m here.0
+        let was = has_above ns m tree here.0 is in
+        let now = has_above (without_node ns v) m left (member_left ns v m here.0
         (λ e. (let less = was.1 in omega (arith, less, same, e)))) is in
         not_both (subst (λ (x : ℕ). has_directory (without_node ns v) x ≡ true) same now.0) (directory_gone ns v)

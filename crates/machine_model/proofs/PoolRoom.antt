@@ -79,8 +79,8 @@ module _ (ast : ActiveSegs) (pool : ℕ) where
     range_length (first_of ast.sizes pool) (first_of ast.sizes pool + size_of ast.sizes pool - first_of ast.sizes pool),
   )
 
-  place_in : (q : ℕ) → IsInPool ast.sizes pool q → IsMember q places
-  place_in q h = let to = h.to in range_has (first_of ast.sizes pool) _ q h.from (omega arith)
+  place_in : {q : ℕ} → IsInPool ast.sizes pool q → IsMember q places
+  place_in {q} h = let to = h.to in range_has (first_of ast.sizes pool) _ q h.from (omega arith)
 
   -- ---- nodes
 
@@ -148,7 +148,7 @@ module _ (ast : ActiveSegs) (pool : ℕ) where
       )
       by true e rest = let one : tally (is_its n) ≡ 1 = ap tally e in
           let all = count_new (has_its ns) (has_its (n ∷ ns)) places (place_of ast.entries n.uid) more
-          (place_in (place_of ast.entries n.uid) (h n (inl refl) e))
+          (place_in (h n (inl refl) e))
           (not_older n.uid ns (place_of ast.entries n.uid) (joined_below ns n.superior n t.0) here)
           (rw (e, here) refl) in omega (arith, (count_cons is_its n ns))
         where

@@ -17,16 +17,16 @@ with_names v change same = record {
 -- ---- a processor goes on reading
 
 -- a process that knows by a number what it knew, and a path that leads where it led
-wants_still : (ns ms : List Node) (ks ls : List (List (Option ℕ))) (k : ℕ) (t : Transfer) (x : Option Command)
+wants_still : {ns ms : List Node} (ks ls : List (List (Option ℕ))) (k : ℕ) (t : Transfer) (x : Option Command)
     → kst_at ls k ≡ kst_at ks k → PathsStay ns ms t.uid → Wants ns ks k t x → Wants ms ls k t x
-wants_still ns ms ks ls k t None numbers paths h = absurd h
-wants_still ns ms ks ls k t (Some c) numbers paths (inl r) = inl (record {
+wants_still ks ls k t None numbers paths h = absurd h
+wants_still ks ls k t (Some c) numbers paths (inl r) = inl (record {
   reference = r.reference;
   is = r.is;
   stands = cc;
   page = r.page;
 })
-wants_still ns ms ks ls k t (Some c) numbers paths (inr w) = let m = paths.each w.path w.node w.found w.uid in
+wants_still ks ls k t (Some c) numbers paths (inr w) = let m = paths.each w.path w.node w.found w.uid in
     inr (record { path = w.path; words = w.words; is = w.is; node = m.0; found = m.1; uid = m.2 })
 
 -- its process comes to the same command
@@ -46,7 +46,7 @@ module _ {p : Plan} {rs : List Run} {ns : List Node} {ks : List (List (Option �
   still_reads {ms = ms} {ls = ls} {d = d} l t e = let was = sym l.transfer ∙ e in let r = h.each d t was in record {
     process = r.process;
     its = cc;
-    wants = rw (l.run r.process r.its) (wants_still ns ms ks ls r.process t
+    wants = rw (l.run r.process r.its) (wants_still ks ls r.process t
         (command_at p r.process (run_at rs r.process).place) (l.numbers r.process r.its) (l.paths t was) r.wants);
   }
 
@@ -280,7 +280,7 @@ module _ (s : State) (c : ℕ) (o : Outcome) (m : IsMachine s) (there : c < leng
 
     nodes_change : (change : Node → Node) → KeepsName change → LeavesReads (with_nodes s.store (map change nodes))
     nodes_change change names_kept =
-        record { numbers = λ i n. refl; paths = λ d t n e. paths_changed change names_kept nodes t.uid }
+        record { numbers = λ i n. refl; paths = λ d t n e. paths_changed names_kept nodes t.uid }
 
     one_changes : (u : ℕ) (change : Node → Node) → KeepsName change
         → LeavesReads (with_nodes s.store (with_node nodes u change))
@@ -317,9 +317,8 @@ module _ (s : State) (c : ℕ) (o : Outcome) (m : IsMachine s) (there : c < leng
     leaves (command.Delete path) kept = let u = uid_of_command s.store k (command.Delete path) in
         let left = deleted_names s.store u (frames_of_owner s.owner) in record {
           numbers = λ i n. cc;
-          paths = λ d t n e. paths_less nodes u t.uid m.keeps.store.accounts.tree kept.store.accounts.tree
-              (λ same. not_both (read_there (committed s c k (command.Delete path)) _ kept refl d t n e)
-              (rw (same, node_gone nodes u)));
+          paths = λ d t n e. paths_less u t.uid m.keeps.store.accounts.tree kept.store.accounts.tree (λ same. not_both
+              (read_there (committed s c k (command.Delete path)) _ kept refl d t n e) (rw (same, node_gone nodes u)));
         }
     leaves cmd kept = numbers_change s.store.links (λ i n. refl)
 
@@ -403,7 +402,7 @@ module _ (s : State) (c : ℕ) (o : Outcome) (m : IsMachine s) (there : c < leng
       process = refl;
       run = λ i x. refl;
       numbers = λ i x. refl;
-      paths = λ y x. paths_changed _ (with_names m.uid _
+      paths = λ y x. paths_changed (with_names m.uid _
           (record { uid = λ n. refl; superior = λ n. refl; name = λ n. refl; directory = λ n. refl })) nodes y.uid;
     });
   }

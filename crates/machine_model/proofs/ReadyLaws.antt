@@ -88,7 +88,7 @@ module _ (s : State) (k : ℕ) (cmd : Command) (keeps : Keeps s) (h : IsTakenFor
 
   -- a descriptor that it takes isn't connected
   unlinked : (j n v : ℕ) → TakesDescriptor cmd k u j n v → (seen s).linked j n ≡ Some v → ⊥
-  unlinked j n v takes e = let at = linked_on s k cmd keeps h j n v e in
+  unlinked j n v takes e = let at = linked_on s k cmd keeps h j n e in
       not_both (h.just.descriptors j n v at.0 takes) at.1
 
   -- the pages that it takes from a number on
@@ -111,21 +111,21 @@ module _ (s : State) (k : ℕ) (cmd : Command) (keeps : Keeps s) (h : IsTakenFor
       by q page _ e = ap is_here e
 
       read : (q f : ℕ) → TakesPage cmd u u q → frame_at s.store.pages.core f ≡ core_frame.Started u q → ⊥
-      read q f page e = started_free (TakesPage cmd u) (TakesDescriptor cmd k u) (holding s) f u q h.just
+      read q f page e = started_free (TakesPage cmd u) (TakesDescriptor cmd k u) f u q h.just
           (cc (keeps.book.tied.unbound f u q reads, reads)) page
         where
           reads : (seen s).reads f ≡ Some (u, q)
           reads = cc (map_list started_page s.store.pages.core.frames f core_frame.Free)
 
   -- the frames that the owner took
-  owned_page : (f : ℕ) (g : HasGoing s keeps f) → is_going_frame ((holding s).frame f) ≡ true
+  owned_page : {f : ℕ} (g : HasGoing s keeps f) → is_going_frame ((holding s).frame f) ≡ true
       → TakesPage cmd u g.uid g.page
-  owned_page f g going = h.just.its_pages f g.uid g.page
+  owned_page {f} g going = h.just.its_pages f g.uid g.page
       (cc (page_bound (seen s).words (g.uid, g.page) ((seen s).reads f))) going
 
   none_owned : ((v q : ℕ) → TakesPage cmd u v q → ⊥) → frames_of_owner s.owner ≡ []
   none_owned none = none_listed (frames_of_owner s.owner) (λ f e. (let g = listed_has s keeps f e in
-      none g.uid g.page (owned_page f g (keeps.book.going_owned.frames f ∙ e))))
+      none g.uid g.page (owned_page g (keeps.book.going_owned.frames f ∙ e))))
 
 -- ---- each command
 
@@ -134,7 +134,7 @@ abbrev pub IsOutOfUse : State → ℕ → Command → Type 0
 IsOutOfUse s k cmd = (path : List (List ℕ)) (pages : ℕ) → cmd ≡ command.Length path pages
     → is_active s.store.ast (uid_of_command s.store k cmd) ≡ false
 
-module _ (s : State) (k : ℕ) (keeps : Keeps s) where
+module _ {s : State} (k : ℕ) (keeps : Keeps s) where
   segment_uid : (path : List (List ℕ)) (n : Node) → segment_at s.store.accounts.nodes path ≡ Ok n
       → uid_of_node (node_at s.store.accounts.nodes path) ≡ n.uid
   segment_uid path n e = ap uid_of_node (only_found (node_at s.store.accounts.nodes path) n e).0
@@ -163,7 +163,7 @@ module _ (s : State) (k : ℕ) (keeps : Keeps s) where
       (frames_of_owner s.owner)
   truncate_owns path words h = record {
     pages = λ g listed. (let its = listed_has s keeps g listed in
-        let takes = owned_page s k (command.Truncate path words) keeps h g its
+        let takes = owned_page s k (command.Truncate path words) keeps h its
         (keeps.book.going_owned.frames g ∙ listed) in (
           its.page,
           takes.1,
@@ -177,7 +177,7 @@ module _ (s : State) (k : ℕ) (keeps : Keeps s) where
       → OwnsAll s.store (uid_of_command s.store k (command.Delete path)) (frames_of_owner s.owner)
   delete_owns path h = record {
     pages = λ g listed. (let its = listed_has s keeps g listed in
-        let takes = owned_page s k (command.Delete path) keeps h g its (keeps.book.going_owned.frames g ∙ listed) in
+        let takes = owned_page s k (command.Delete path) keeps h its (keeps.book.going_owned.frames g ∙ listed) in
         let word = ap (λ (v : ℕ). word_of s.store.ast v its.page) (sym takes) ∙ its.leaving in
         (its.page, page_inside s keeps _ its.page g word, word));
     each = λ q g e. leaving_listed s keeps _ q g e;

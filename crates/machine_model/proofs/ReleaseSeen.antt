@@ -142,7 +142,7 @@ given_full records v r w h = elim (set_either records v (set (flags_in records v
 
 -- ---- a page
 
-module _ (s : State) (k : Keeps s) (f u p : ℕ) (here : page_in s.store f ≡ (u, p))
+module _ {s : State} (k : Keeps s) (f u p : ℕ) (here : page_in s.store f ≡ (u, p))
     (there : is_there s.store.accounts.nodes u ≡ true) where
   others : (how : Left) (v q : ℕ) → (v ≡ u → q ≢ p)
       → is_filed (with_left s.store f how (u, p)).accounts (with_left s.store f how (u, p)).pages.vtocs v q
@@ -180,15 +180,15 @@ module _ (s : State) (k : Keeps s) (f u p : ℕ) (here : page_in s.store f ≡ (
         (λ a b. n (is ∙ (λ i. Some (sym a i, sym b i)))));
   }
 
-bound_is_there : (s : State) → Keeps s → (f u p : ℕ) → (seen s).bound f ≡ Some (u, p)
+bound_is_there : {s : State} → Keeps s → (f u p : ℕ) → (seen s).bound f ≡ Some (u, p)
     → is_there s.store.accounts.nodes u ≡ true
-bound_is_there s k f u p h = let active = k.store.kept.paged.bound f u p h in
+bound_is_there k f u p h = let active = k.store.kept.paged.bound f u p h in
     k.store.counted.active.there active.0 u active.1
 
 -- each page that the owner has taken may leave its frame
-pub leaves_may : (s : State) → Keeps s → (o : Owner) (f : ℕ) (fs : List ℕ) → s.owner ≡ Some o → o.frames ≡ f ∷ fs
+pub leaves_may : {s : State} → Keeps s → (o : Owner) (f : ℕ) (fs : List ℕ) → s.owner ≡ Some o → o.frames ≡ f ∷ fs
     → MayRelease (outline_of s) f (stored_then s f) (full_then s f)
-leaves_may s k o f fs mine frames = by ((seen s).bound f) refl going
+leaves_may {s} k o f fs mine frames = by ((seen s).bound f) refl going
   where
     going : is_going_frame ((shown (seen s)).frame f) ≡ true
     going = cc (k.book.going_owned.frames f, has_head f fs)
@@ -201,5 +201,5 @@ leaves_may s k o f fs mine frames = by ((seen s).bound f) refl going
         → is_going_frame (frame_use (seen s).words x ((seen s).reads f)) ≡ true
         → MayRelease (outline_of s) f (stored_then s f) (full_then s f)
     by None e h = cc (read ((seen s).reads f))
-    by (Some page) e h = releases s k f page.0 page.1 (cc (map_list bound_page s.store.pages.core.frames f frame.Free))
-        (bound_is_there s k f page.0 page.1 e) (bound_outlined s f ∙ e)
+    by (Some page) e h = releases k f page.0 page.1 (cc (map_list bound_page s.store.pages.core.frames f frame.Free))
+        (bound_is_there k f page.0 page.1 e) (bound_outlined s f ∙ e)

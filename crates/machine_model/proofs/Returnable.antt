@@ -21,8 +21,8 @@ pub bound_is : (x : Frame) (page : ℕ × ℕ) → bound_page x ≡ Some page �
 bound_is (frame.Bound u p used modified) page e = refl
 bound_is _ page e = cc
 
-leaving_is : (st : Storage) (f : ℕ) → Leaves st f → IsLeaving st f
-leaving_is st f h = assumption (
+leaving_is : {st : Storage} {f : ℕ} → Leaves st f → IsLeaving st f
+leaving_is {st} {f} h = assumption (
   bound_is (frame_at st.pages.core f) h.page h.bound,
   ap (λ (page : ℕ × ℕ). word_of st.ast page.0 page.1) (ap page_or_zero h.bound) ∙ h.word,
 )
@@ -32,12 +32,12 @@ here_is : (st : Storage) (f : ℕ) (page : ℕ × ℕ) → bound_page (frame_in 
 here_is st f page e = cc
 
 -- the others still leave once the page of one frame is back
-others_leave : (st : Storage) (f : ℕ) (fs : List ℕ) → length st.ast.tables ≡ length st.ast.entries
-    → (h : Leaves st f) → has fs f ≡ false → AllLeave st fs → AllLeave (here_if st f (Some h.page)) fs
-others_leave st f [] tables h once all = tt
-others_leave st f (g ∷ gs) tables h once all = (
+others_leave : {st : Storage} {f : ℕ} (fs : List ℕ) → length st.ast.tables ≡ length st.ast.entries → (h : Leaves st f)
+    → has fs f ≡ false → AllLeave st fs → AllLeave (here_if st f (Some h.page)) fs
+others_leave [] tables h once all = tt
+others_leave {st} {f} (g ∷ gs) tables h once all = (
   record { page = all.0.page; bound = all.0.bound; word = still },
-  others_leave st f gs tables h (or_parts _ _ once).1 all.1,
+  others_leave gs tables h (or_parts _ _ once).1 all.1,
 )
   where
     other : all.0.page.0 ≡ h.page.0 → all.0.page.1 ≡ h.page.1 → ⊥
@@ -45,19 +45,18 @@ others_leave st f (g ∷ gs) tables h once all = (
         let same : g ≡ f = cc in not_both (subst (λ (x : ℕ). has (g ∷ gs) x ≡ true) same (has_head g gs)) once
 
     still : word_of (here_if st f (Some h.page)).ast all.0.page.0 all.0.page.1 ≡ ptw.Leaving g
-    still = words_put st.ast h.page.0 h.page.1 (ptw.Here f) tables
-        (not_null (word_of st.ast h.page.0 h.page.1) (ptw.Leaving f) f h.word (inr refl)) all.0.page.0 all.0.page.1
-        ∙ by_places (λ (x : Ptw). x ≡ ptw.Leaving g) (λ x y. word_of st.ast x y) h.page.0 h.page.1 (ptw.Here f)
-        all.0.page.0 all.0.page.1 (λ a b. absurd (other a b)) (λ m. all.0.word)
+    still = words_put st.ast h.page.0 h.page.1 (ptw.Here f) tables (not_null f h.word (inr refl)) all.0.page.0
+        all.0.page.1 ∙ by_places (λ (x : Ptw). x ≡ ptw.Leaving g) (λ x y. word_of st.ast x y) h.page.0 h.page.1
+        (ptw.Here f) all.0.page.0 all.0.page.1 (λ a b. absurd (other a b)) (λ m. all.0.word)
 
 all_come_back : (st : Storage) (fs : List ℕ) → length st.ast.tables ≡ length st.ast.entries → AreDistinct fs
     → AllLeave st fs → MayComeBack st fs
 all_come_back st [] tables once all = tt
 all_come_back st (f ∷ fs) tables once all = (
-  leaving_is st f all.0,
+  leaving_is all.0,
   rw (here_is st f all.0.page all.0.bound) (all_come_back (here_if st f (Some all.0.page)) fs
       (length-set st.ast.tables (place_of st.ast.entries all.0.page.0) _ ∙ tables) once.1
-      (others_leave st f fs tables all.0 once.0 all.1)),
+      (others_leave fs tables all.0 once.0 all.1)),
 )
 
 -- ---- descriptors
@@ -133,7 +132,7 @@ module _ (s : State) (keeps : Keeps s) where
   }
     where
       word : word_of s.store.ast (page_at (seen s) f).0 (page_at (seen s) f).1 ≡ ptw.Leaving f
-      word = going_word (seen s) f keeps.book (keeps.book.going_owned.frames f ∙ h)
+      word = going_word f keeps.book (keeps.book.going_owned.frames f ∙ h)
 
   frames_leave : (fs : List ℕ) → ((f : ℕ) → has fs f ≡ true → Leaves s.store f) → AllLeave s.store fs
   frames_leave [] each = tt

@@ -5,7 +5,7 @@ use Rattle.machine_model.proofs.DeleteKept.{gones_done, gones_idle}
 use Rattle.machine_model.proofs.TruncateKept.{leaves_done, leaves_idle}
 pub use Rattle.machine_model.proofs.StepKept.{Asks, AsksCommit, AsksCreate, AsksEmpty, AsksSegment, AsksTake, AsksVictim, HasWaited, IsLooking, IsMoving, look_idle, look_still, nothing_over, process_here, wait_goes, wait_shape, CanDo, IsReady}
 
-module _ (s : State) (c : ℕ) (o : Outcome) (k : Keeps s) (there : c < length s.processors) where
+module _ {s : State} (c : ℕ) (o : Outcome) (k : Keeps s) (there : c < length s.processors) where
   -- ---- the owner looks
 
   look_ready : IsLooking s c → IsReady s
@@ -42,8 +42,8 @@ module _ (s : State) (c : ℕ) (o : Outcome) (k : Keeps s) (there : c < length s
 
   -- ---- what was taken goes
 
-  wait_ready : (w : What) → HasWaited s c aim.Committing w → IsReady s
-  wait_ready w x = let goes = wait_goes s c o k there aim.Committing w x (λ gs ds. tt) in record {
+  wait_ready : {w : What} → HasWaited s c aim.Committing w → IsReady s
+  wait_ready {w} x = let goes = wait_goes s c o k there aim.Committing w x (λ gs ds. tt) in record {
     none = goes.none;
     still = goes.still;
     gone = gones_done s k.book goes;
@@ -61,4 +61,4 @@ module _ (s : State) (c : ℕ) (o : Outcome) (k : Keeps s) (there : c < length s
   finish_can (aim.Deactivating u) w [] x frames asks = record { what = w; waited = x; frames = frames; asks = asks }
   finish_can (aim.Deactivating u) w (f ∷ fs) x frames asks =
       (u, fs, record { what = w; waited = x; frames = frames; asks = asks })
-  finish_can aim.Committing w fs x frames asks = assumption (wait_ready w x, process_here s c o k there x.owner)
+  finish_can aim.Committing w fs x frames asks = assumption (wait_ready x, process_here s c o k there x.owner)

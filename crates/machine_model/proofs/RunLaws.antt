@@ -19,12 +19,12 @@ base_same p s j c r = cond_both (takes_effect r) (effect_of p s j c) s (λ (x : 
     (λ e. (effect_advances p s j c).processes) (λ e. refl)
 
 -- a command was answered
-pub runs_answered : (p : Plan) (s : Store) (k : ℕ) (c : Command) (r : Reply) (run : Run) (runs : ℕ → Run)
-    → (progress_of s k).ended ≡ false
-    → IsRun (gone_on (progress_of s k) c r) run → ((j : ℕ) → IsRun (progress_of s j) (runs j)) → (j : ℕ)
+pub runs_answered : (p : Plan) (s : Store) (k : ℕ) (c : Command) (r : Reply) {run : Run} (runs : ℕ → Run)
+    → (progress_of s k).ended ≡ false → IsRun (gone_on (progress_of s k) c r) run
+    → ((j : ℕ) → IsRun (progress_of s j) (runs j)) → (j : ℕ)
     → IsRun (progress_of (after_command p s k c r) j) (at_put runs k run j)
 unfolding after_command
-runs_answered p s k c r run runs going is others j = rw moved_to cases
+runs_answered p s k c r {run} runs going is others j = rw moved_to cases
   where
     base : Store
     base = if takes_effect r then effect_of p s k c else s

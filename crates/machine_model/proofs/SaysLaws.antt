@@ -14,10 +14,10 @@ no_rights nodes whos = record {
   lengths = λ i d n h. cc;
 }
 
-pub same_rights : (old now : Storage) (ds es : List CutDescriptor) → now.accounts.nodes ≡ old.accounts.nodes
+pub same_rights : (old now : Storage) {ds es : List CutDescriptor} → now.accounts.nodes ≡ old.accounts.nodes
     → now.whos ≡ old.whos → es ≡ ds → HadRights old.accounts.nodes old.whos ds
     → HadRights now.accounts.nodes now.whos es
-same_rights old now ds es nodes whos same h = rw nodes (rw (whos, same) h)
+same_rights old now nodes whos same h = rw nodes (rw (whos, same) h)
 
 pub there_still : (old now : Storage) (ds : List CutDescriptor) → now.links.descriptors ≡ old.links.descriptors
     → ((u : ℕ) → is_active old.ast u ≡ true → is_active now.ast u ≡ true) → AreThere old ds → AreThere now ds
@@ -58,12 +58,11 @@ pub is_same : {s now : State} → now.plan ≡ s.plan
     → cut_of_owner now.owner ≡ cut_of_owner s.owner → IsSame s now
 is_same plan frames nodes whos descriptors active cut = assumption (plan, frames, nodes, whos, descriptors, active, cut)
 
-pub same_rest : (s now : State) → Keeps s → IsSame s now → Rest s now
-same_rest s now k same = record {
+pub same_rest : {s now : State} → Keeps s → IsSame s now → Rest s now
+same_rest {s} {now} k same = record {
   plan = same.plan;
   frames = same.frames;
-  rights = same_rights s.store now.store (cut_of_owner s.owner) (cut_of_owner now.owner) same.nodes same.whos same.cut
-      k.rights;
+  rights = same_rights s.store now.store same.nodes same.whos same.cut k.rights;
   cut = rw same.cut (there_still s.store now.store (cut_of_owner s.owner) same.descriptors same.active k.cut);
 }
 
@@ -77,10 +76,10 @@ none_rest s now plan frames cut = record {
   cut = rw cut tt;
 }
 
-pub says_by : (s now : State) (t : Store) → Keeps s → StoreKept now.store → IsFaithful s.plan t now.store
+pub says_by : {s : State} (now : State) {t : Store} → Keeps s → StoreKept now.store → IsFaithful s.plan t now.store
     → IsAlike t (flat_of now) → quotas t ≡ s.plan.quota → Rest s now → StoreSays now
-says_by s now t k kept shown like total rest =
-    let faithful = alike_shown s.plan t (flat_of now) now.store like shown in assumption (
+says_by {s} now {t} k kept shown like total rest =
+    let faithful = alike_shown (flat_of now) like shown in assumption (
       subst (λ (p : Plan). IsFaithful p (flat_of now) now.store) (sym rest.plan) faithful,
       subst (λ (p : Plan). IsConserved p (flat_of now)) (sym rest.plan)
           (conserved_by s.plan (flat_of now) now.store faithful kept.accounts (cc)),
@@ -91,26 +90,26 @@ says_by s now t k kept shown like total rest =
 pub says_is : {s : State} {c : ℕ} {o : Outcome} {a : Action} {now : State} → Keeps s → Says s c o a
     → after s c a o ≡ now → IsAlike (shown_after s c o a (flat_of s)) (flat_of now)
     → quotas (shown_after s c o a (flat_of s)) ≡ s.plan.quota → Rest s now → StoreSays now
-says_is {s} {c} {o} {a} {now} k says is like total rest = says_by s now (shown_after s c o a (flat_of s)) k
+says_is {s} {c} {o} {a} {now} k says is like total rest = says_by now k
     (rw (← is) says.store) (rw is at (says.shown (flat_of s) k.faithful)) like total rest
 
 -- ---- where the store is as before
 
 -- a refusal or a drive's failure leaves the store as it is, and the flat store that it shows
-pub refused_says : (s : State) (c k : ℕ) (f : Option ℕ) (r : Reply) → Keeps s → takes_effect r ≡ false
+pub refused_says : {s : State} (c k : ℕ) (f : Option ℕ) (r : Reply) → Keeps s → takes_effect r ≡ false
     → StoreSays (told_by s c k f r)
-refused_says s c k f r keeps h = says_by s (told_by s c k f r) (flat_of s) keeps keeps.store keeps.faithful
+refused_says {s} c k f r keeps h = says_by (told_by s c k f r) keeps keeps.store keeps.faithful
     (refused_alike s.plan s.entries k (run_at s.runs k).place c f r h) keeps.conserved.total
-    (same_rest s (told_by s c k f r) keeps (is_same refl refl refl refl refl (λ u e. e) refl))
+    (same_rest keeps (is_same refl refl refl refl refl (λ u e. e) refl))
 
 -- ---- references
 
 -- a word that is written through its frame
-through_is : (s : State) (f k u : ℕ) (r : Reference) (t : Store) → known_uid t k r.number ≡ Some u
+through_is : (s : State) (f k : ℕ) {u : ℕ} (r : Reference) (t : Store) → known_uid t k r.number ≡ Some u
     → page_in s.store f ≡ (u, r.offset / 1024) → old_word s.store.pages f r ≡ t.words u r.offset
     → through s f r t ≡ after_reference t k r
 unfolding after_reference
-through_is s f k u r t known page old = cc same
+through_is s f k {u} r t known page old = cc same
   where
     offset : 1024 * (page_in s.store f).1 + r.offset % 1024 ≡ r.offset
     offset = let whole : 1024 * (r.offset / 1024) + r.offset % 1024 ≡ r.offset = omega arith in cc
@@ -127,9 +126,9 @@ word_done : (w : ℕ) (how : RefKind) → takes_effect (word_reply w how) ≡ tr
 word_done w kind.Read = refl
 word_done w _ = refl
 
-effect_is : (p : Plan) (t : Store) (k : ℕ) (cmd : Command) (r : Reference) → reference_of cmd ≡ Some r
+effect_is : (p : Plan) (t : Store) (k : ℕ) (cmd : Command) {r : Reference} → reference_of cmd ≡ Some r
     → effect_of p t k cmd ≡ after_reference t k r
-effect_is p t k cmd r h = cc
+effect_is p t k cmd h = cc
 
 pages_count : (pages : Plain) (f : ℕ) (r : Reference) → length (pages_after pages f r).core.frames
     ≡ length pages.core.frames
@@ -138,27 +137,26 @@ pages_count pages f r = cond_both (alters r.kind) _ (referred pages f false)
     (λ h. length-set pages.core.frames f _)
 
 -- a reference goes through a frame that has its page
-pub through_says : (s : State) (c : ℕ) (o : Outcome) (f u : ℕ) (r : Reference) (cmd : Command) → Keeps s
+pub through_says : {s : State} {c : ℕ} {o : Outcome} (f : ℕ) {u : ℕ} {r : Reference} {cmd : Command} → Keeps s
     → Says s c o (act.Through f r) → next_command s (process_at s c) ≡ Some cmd → reference_of cmd ≡ Some r
     → known_uid (flat_of s) (process_at s c) r.number ≡ Some u → page_in s.store f ≡ (u, r.offset / 1024)
     → old_word s.store.pages f r ≡ (flat_of s).words u r.offset → StoreSays (went_through s c f r)
 unfolding after
-through_says s c o f u r cmd k says next is known page old = says_is k
-    says refl (rw (effect_is s.plan (flat_of s) (process_at s c) cmd r is
-    ∙ sym (through_is s f (process_at s c) u r (flat_of s) known page old)) at (done_alike s.plan s.entries
-    (process_at s c) (run_at s.runs (process_at s c)).place c (Some f) (word_reply (old_word s.store.pages f r) r.kind)
-    cmd next (word_done (old_word s.store.pages f r) r.kind))) (cc (nodes_through s f r (flat_of s)))
-    (same_rest s (went_through s c f r) k (is_same refl (pages_count s.store.pages f r) refl refl refl (λ v e. e) refl))
+through_says {s} {c} f {u} {r} {cmd} k says next is known page old = says_is k
+    says refl (rw (effect_is s.plan (flat_of s) (process_at s c) cmd is
+    ∙ sym (through_is s f (process_at s c) r (flat_of s) known page old)) at (done_alike s.plan s.entries
+    (process_at s c) (run_at s.runs (process_at s c)).place c (Some f) (word_reply (old_word s.store.pages f r) r.kind) next (word_done (old_word s.store.pages f r) r.kind))) (cc (nodes_through s f r (flat_of s)))
+    (same_rest k (is_same refl (pages_count s.store.pages f r) refl refl refl (λ v e. e) refl))
 
 -- a page that isn't stored is read, or 0 is written to it, where it is: the flat store is as it was
-pub plain_says : (s : State) (c : ℕ) (r : Reference) (cmd : Command) → Keeps s
+pub plain_says : {s : State} (c : ℕ) {r : Reference} {cmd : Command} → Keeps s
     → next_command s (process_at s c) ≡ Some cmd → reference_of cmd ≡ Some r
     → IsAlike (flat_of s) (after_reference (flat_of s) (process_at s c) r)
     → StoreSays (told s c None (word_reply 0 r.kind))
-plain_says s c r cmd k next is like = says_by s (told s c None (word_reply 0 r.kind)) (flat_of s) k k.store k.faithful
-    (alike_on like (rw (effect_is s.plan (flat_of s) (process_at s c) cmd r is) at (done_alike s.plan s.entries
-    (process_at s c) (run_at s.runs (process_at s c)).place c None (word_reply 0 r.kind) cmd next
-    (word_done 0 r.kind)))) k.conserved.total (same_rest s (told s c None (word_reply 0 r.kind)) k
+plain_says {s} c {r} {cmd} k next is like = says_by (told s c None (word_reply 0 r.kind)) k k.store k.faithful
+    (alike_on like (rw (effect_is s.plan (flat_of s) (process_at s c) cmd is) at (done_alike s.plan s.entries
+    (process_at s c) (run_at s.runs (process_at s c)).place c None (word_reply 0 r.kind) next
+    (word_done 0 r.kind)))) k.conserved.total (same_rest k
     (is_same refl refl refl refl refl (λ v e. e) refl))
 
 -- ---- a page is made
@@ -184,14 +182,14 @@ nodes_made s c r t = by (known_uid t (process_at s c) r.number)
     by None = refl
     by (Some u) = refl
 
-pub created_says : (s : State) (c : ℕ) (o : Outcome) (f u v p : ℕ) (r : Reference) (cmd : Command) → Keeps s
+pub created_says : {s : State} {c : ℕ} {o : Outcome} (f u : ℕ) {v : ℕ} (p : ℕ) {r : Reference} {cmd : Command} → Keeps s
     → Says s c o (act.Create f u p r) → next_command s (process_at s c) ≡ Some cmd → reference_of cmd ≡ Some r
     → known_uid (flat_of s) (process_at s c) r.number ≡ Some v → (flat_of s).words v r.offset ≡ 0
     → eqb (new_word 0 r.kind) 0 ≡ false → StoreSays (page_created s c f u p r)
 unfolding after
-created_says s c o f u v p r cmd k says next is known zero word = says_is k says refl
+created_says {s} {c} f u {v} p {r} {cmd} k says next is known zero word = says_is k says refl
     (rw effect at (done_alike s.plan (s.entries ++ entry.Here f u p ∷ []) (process_at s c)
-    (run_at s.runs (process_at s c)).place c None (word_reply 0 r.kind) cmd next (word_done 0 r.kind)))
+    (run_at s.runs (process_at s c)).place c None (word_reply 0 r.kind) next (word_done 0 r.kind)))
     (cc (nodes_made s c r (flat_of s)))
     (none_rest s (page_created s c f u p r) refl (length-set s.store.pages.core.frames f _) refl)
   where
@@ -199,7 +197,7 @@ created_says s c o f u v p r cmd k says next is known zero word = says_is k says
         ≡ with_made_page s c r (flat_of s)
     effect = cc (
       one_still s.plan s.entries (entry.Here f u p) refl,
-      effect_is s.plan (flat_of s) (process_at s c) cmd r is,
+      effect_is s.plan (flat_of s) (process_at s c) cmd is,
       made_is s c v r (flat_of s) known zero word,
     )
 
@@ -209,22 +207,22 @@ still_alike : (s : State) (e : Entry) → is_still e ≡ true → IsAlike (flat_
     (s.entries ++ e ∷ []))
 still_alike s e h = alike_by (alike (flat_of s)) (one_still s.plan s.entries e h)
 
-pub activated_says : (s : State) (c : ℕ) (o : Outcome) (u place : ℕ) → Keeps s → Says s c o (act.Activate u place)
+pub activated_says : {s : State} {c : ℕ} {o : Outcome} (u place : ℕ) → Keeps s → Says s c o (act.Activate u place)
     → cut_of_owner s.owner ≡ [] → StoreSays (activated_at s u place)
 unfolding after
-activated_says s c o u place k says none = says_is k says refl
+activated_says {s} u place k says none = says_is k says refl
     (still_alike s (entry.Activate u) refl) k.conserved.total (none_rest s (activated_at s u place) refl refl none)
 
-pub connected_says : (s : State) (c : ℕ) (o : Outcome) (n u : ℕ) → Keeps s → Says s c o (act.Connect n u)
+pub connected_says : {s : State} {c : ℕ} {o : Outcome} (n u : ℕ) → Keeps s → Says s c o (act.Connect n u)
     → cut_of_owner s.owner ≡ [] → StoreSays (connected_to s c n u)
 unfolding after
-connected_says s c o n u k says none = says_is k says refl (still_alike s (entry.Connect (process_at s c) n u) refl)
+connected_says {s} {c} n u k says none = says_is k says refl (still_alike s (entry.Connect (process_at s c) n u) refl)
     k.conserved.total (none_rest s (connected_to s c n u) refl refl none)
 
-pub started_says : (s : State) (c : ℕ) (o : Outcome) (f u p : ℕ) → Keeps s → Says s c o (act.Start f u p)
+pub started_says : {s : State} {c : ℕ} {o : Outcome} (f u p : ℕ) → Keeps s → Says s c o (act.Start f u p)
     → StoreSays (started s c f u p)
 unfolding after
-started_says s c o f u p k says = says_is k says refl (still_alike s (entry.Start f u p) refl) k.conserved.total
+started_says {s} {c} f u p k says = says_is k says refl (still_alike s (entry.Start f u p) refl) k.conserved.total
     (none_rest s (started s c f u p) refl (length-set s.store.pages.core.frames f _) refl)
 
 -- ---- the clock's choice is taken
@@ -233,21 +231,21 @@ pub leaving_pages : (st : Storage) (f : ℕ) (x : Option (ℕ × ℕ)) → (leav
 leaving_pages st f None = refl
 leaving_pages st f (Some page) = refl
 
-pub evicting_says : (s : State) (c : ℕ) (o : Outcome) (f : ℕ) → Keeps s → Says s c o (act.Evict f)
+pub evicting_says : {s : State} {c : ℕ} {o : Outcome} (f : ℕ) → Keeps s → Says s c o (act.Evict f)
     → cut_of_owner s.owner ≡ [] → StoreSays (eviction_begun s c f)
 unfolding after
-evicting_says s c o f k says none = says_is k says refl (still_alike s (entry.Take f) refl) k.conserved.total (none_rest
+evicting_says {s} {c} f k says none = says_is k says refl (still_alike s (entry.Take f) refl) k.conserved.total (none_rest
     s (eviction_begun s c f) refl (ap (λ (pages : Plain). length pages.core.frames)
     (leaving_pages (with_choice s.store f) f _) ∙ choice_count s.store.pages.core f) none)
 
 -- ---- the end of a transfer
 
-module _ (s : State) (c : ℕ) (o : Outcome) (t : Transfer) (k : Keeps s) (says : Says s c o (act.EndTransfer t)) where
+module _ {s : State} {c : ℕ} {o : Outcome} (t : Transfer) (k : Keeps s) (says : Says s c o (act.EndTransfer t)) where
   pub read_says : o.failed ≡ false → StoreSays (transferred (with_faults s o.faults) c t)
   unfolding after
   read_says h = let now = transferred (with_faults s o.faults) c t in says_is k says (cc)
       (still_alike s (entry.Here t.frame t.uid t.page) refl) k.conserved.total
-      (same_rest s now k (is_same refl (length-set s.store.pages.core.frames t.frame _) refl refl refl (λ u e. e) refl))
+      (same_rest k (is_same refl (length-set s.store.pages.core.frames t.frame _) refl refl refl (λ u e. e) refl))
 
   pub failed_says : o.failed ≡ true → StoreSays (transfer_failed s c t o.faults)
   unfolding after
@@ -258,7 +256,7 @@ module _ (s : State) (c : ℕ) (o : Outcome) (t : Transfer) (k : Keeps s) (says 
       (fault_alike s.plan (s.entries ++ entry.Lose t.frame ∷ []) (Some (process_at s c)))
       (refused_alike s.plan ((s.entries ++ entry.Lose t.frame ∷ []) ++ entry.Fault (Some (process_at s c)) ∷ [])
       told_process (run_at s.runs told_process).place c None reply.Device refl))) k.conserved.total
-      (same_rest s now k (is_same refl (length-set s.store.pages.core.frames t.frame _) refl refl refl (λ u e. e) refl))
+      (same_rest k (is_same refl (length-set s.store.pages.core.frames t.frame _) refl refl refl (λ u e. e) refl))
 
 -- ---- a page leaves its frame
 
@@ -308,7 +306,7 @@ module _ (s : State) (c : ℕ) (o : Outcome) (f : ℕ) (k : Keeps s) where
       → StoreSays (page_done (with_faults s o.faults) f)
   unfolding after
   page_left_says says h = let now = page_done (with_faults s o.faults) f in
-      says_is k says (cc) (rw h left_alike) (rw h left_total) (same_rest s now k (is_same refl
+      says_is k says (cc) (rw h left_alike) (rw h left_total) (same_rest k (is_same refl
       (left_count s.store.pages (home_in s.store (page_in s.store f).0) (page_in s.store f).1 f how)
       (account_nodes s.store.accounts (page_in s.store f).0 how) refl refl (λ u e. e) (cut_less s.owner)))
 
@@ -361,7 +359,7 @@ module _ (s : State) (c : ℕ) (faults : ℕ) where
   pub failed_rest : Rest s (write_failed s c faults)
   failed_rest = none_rest s (write_failed s c faults) back_is.plan (cc (back_is.pages)) refl
 
-module _ (s : State) (c : ℕ) (o : Outcome) (f : ℕ) (k : Keeps s) (h : o.failed ≡ true) where
+module _ {s : State} (c : ℕ) (o : Outcome) (f : ℕ) (k : Keeps s) (h : o.failed ≡ true) where
   pub eviction_failed_says : Says s c o (act.FinishEviction f) → StoreSays (write_failed s c o.faults)
   unfolding after
   eviction_failed_says says = says_is k says (cc)
@@ -379,17 +377,16 @@ gone_is s [] = assumption
 gone_is s (d ∷ ds) = back_on (back_by refl refl (one_still s.plan s.entries (entry.GoneSeg d.process d.number) refl))
     (gone_is (seg_gone s d) ds)
 
-pub emptied_says : (s : State) (c u : ℕ) (st : Storage) → Keeps s → StoreKept st
-    → IsFaithful s.plan (flat_of s) st → (emptied s c u).store ≡ st → StoreSays (emptied s c u)
-emptied_says s c u st k kept shown is = let gone = segs_gone s (cut_of_owner s.owner) in
-    says_by s (emptied s c u) (flat_of s) k (subst StoreKept (sym is) kept)
+pub emptied_says : {s : State} (c u : ℕ) {st : Storage} → Keeps s → StoreKept st → IsFaithful s.plan (flat_of s) st
+    → (emptied s c u).store ≡ st → StoreSays (emptied s c u)
+emptied_says {s} c u k kept shown is = let gone = segs_gone s (cut_of_owner s.owner) in
+    says_by (emptied s c u) k (subst StoreKept (sym is) kept)
     (rw is shown) (alike_by (alike (flat_of s)) (one_still gone.plan gone.entries (entry.Deactivate u) refl
     ∙ (gone_is s (cut_of_owner s.owner)).flat)) k.conserved.total
     (none_rest s (emptied s c u) (gone_is s (cut_of_owner s.owner)).plan
     (cc ((gone_is s (cut_of_owner s.owner)).pages)) refl)
 
-pub deactivated_says : (s : State) (c : ℕ) (o : Outcome) (u : ℕ) → Keeps s → Says s c o (act.Deactivate u)
+pub deactivated_says : {s : State} {c : ℕ} {o : Outcome} (u : ℕ) → Keeps s → Says s c o (act.Deactivate u)
     → StoreSays (emptied s c u)
 unfolding after
-deactivated_says s c o u k says = emptied_says s c u (emptied s c u).store k says.store
-    (says.shown (flat_of s) k.faithful) refl
+deactivated_says {s} {c} u k says = emptied_says c u k says.store (says.shown (flat_of s) k.faithful) refl

@@ -16,8 +16,8 @@ still a b c d = assumption
 pub sits : {s t : State} → Stays s t → Sits s t
 sits h = assumption
 
-sits_kept : (s t : State) → Sits s t → IsScheduled s → IsScheduled t
-sits_kept s t same h = rw same.plan (rw (same.runs, same.ready, same.processors) h)
+sits_kept : {s t : State} → Sits s t → IsScheduled s → IsScheduled t
+sits_kept same h = rw same.plan (rw (same.runs, same.ready, same.processors) h)
 
 -- ---- a command is answered
 
@@ -40,20 +40,19 @@ nobody_released p k (Some c) more = by (is_end c) more
     by false e = refl
     by true e = cc
 
-told_kept : (s : State) (c k : ℕ) (f : Option ℕ) (r : Reply) → IsScheduled s → c < length s.processors
+told_kept : (s : State) (c : ℕ) {k : ℕ} (f : Option ℕ) (r : Reply) → IsScheduled s → c < length s.processors
     → (cpu_at s.processors c).process ≡ Some k → k < length s.runs → is_its_end (next_command s k) ≡ false
     → IsScheduled (told_by s c k f r)
-told_kept s c k f r h there its known more = rw (← (sym (append-nil s.ready) ∙ ap (λ (q : List ℕ). s.ready ++ q)
+told_kept s c {k} f r h there its known more = rw (← (sym (append-nil s.ready) ∙ ap (λ (q : List ℕ). s.ready ++ q)
     (sym (nobody_released s.plan k (next_command s k) more))))
-    (runs_kept s.plan s.runs (set s.runs k (run_after (run_at s.runs k) (next_command s k) r)) s.ready _
+    (runs_kept
     (one_run s.runs k (run_after (run_at s.runs k) (next_command s k) r) known (h.running c k its).going
-    (more_run (run_at s.runs k) (next_command s k) r (h.running c k its).going more)) (seats_kept s.plan s.runs s.ready
-    s.processors _ (one_seat s.processors c _ there refl (λ e. e)) h))
+    (more_run (run_at s.runs k) (next_command s k) r (h.running c k its).going more)) (seats_kept (one_seat c _ there refl (λ e. e)) h))
 
 -- the machine is answered after steps that leave all as it is
 told_after : (s b : State) (c : ℕ) (f : Option ℕ) (r : Reply) → Sits s b → IsScheduled s → c < length s.processors
     → IsAnswering s c → IsScheduled (told b c f r)
-told_after s b c f r same h there a = rw (ap or_zero its) (told_kept b c a.process f r (sits_kept s b same h)
+told_after s b c f r same h there a = rw (ap or_zero its) (told_kept b c f r (sits_kept same h)
     (rw same.processors there) its (rw same.runs a.known) (cc))
   where
     its : (cpu_at b.processors c).process ≡ Some a.process
@@ -80,7 +79,7 @@ module _ (b : State) (c k : ℕ) (r : Reply) (h : IsScheduled b) (there : c < le
   over = cc
 
   seats : SameSeats b.processors ps
-  seats = one_seat b.processors c _ there refl (λ e. e)
+  seats = one_seat c _ there refl (λ e. e)
 
   its_still : (cpu_at ps c).process ≡ Some k
   its_still = seats.process c ∙ its
@@ -91,7 +90,7 @@ module _ (b : State) (c k : ℕ) (r : Reply) (h : IsScheduled b) (there : c < le
 
   pub ended_kept : IsScheduled (left_at (told_by b c k None r) c)
   ended_kept = rw ready_is (end_kept b.plan b.runs b.ready ps c k _ run (rw (length-set b.processors c _) there) known
-      (seats_kept b.plan b.runs b.ready b.processors ps seats h) its_still refl over)
+      (seats_kept seats h) its_still refl over)
 
 -- ---- each action
 
@@ -117,16 +116,15 @@ told_seats s c w = record {
   online = λ d h. cc (told_reads c w s.processors 0 d, told_online c w (0 + d) (processor_at s.processors d));
 }
 
-front_is : (s : State) (n : ℕ) (xs : List ℕ) → s.ready ≡ xs → IsFront xs n → s.ready ≡ n ∷ drop 1 s.ready
-front_is s n [] e h = absurd h
-front_is s n (x ∷ xs) e h = e ∙ λ i. h i ∷ drop 1 (sym e i)
+front_is : (s : State) {n : ℕ} (xs : List ℕ) → s.ready ≡ xs → IsFront xs n → s.ready ≡ n ∷ drop 1 s.ready
+front_is s [] e h = absurd h
+front_is s (x ∷ xs) e h = e ∙ λ i. h i ∷ drop 1 (sym e i)
 
 module _ (s : State) (c : ℕ) (o : Outcome) (h : IsScheduled s) (there : c < length s.processors) where
   one_changed : (p : Processor) → p.cpu.process ≡ (cpu_at s.processors c).process
       → ((cpu_at s.processors c).online ≡ true → p.cpu.online ≡ true)
       → AreScheduled s.plan s.runs s.ready (set s.processors c p)
-  one_changed p process online = seats_kept s.plan s.runs s.ready s.processors (set s.processors c p)
-      (one_seat s.processors c p there process online) h
+  one_changed p process online = seats_kept (one_seat c p there process online) h
 
   plain : (cmd : Command) → is_end cmd ≡ false → (k : ℕ) → (cpu_at s.processors c).process ≡ Some k → k < length s.runs
       → next_command s k ≡ Some cmd
@@ -135,30 +133,30 @@ module _ (s : State) (c : ℕ) (o : Outcome) (h : IsScheduled s) (there : c < le
       (reply_of s (process_at s c) cmd) (still refl refl refl refl) h there
       (record { process = k; its = its; known = known; more = cc })
 
-  command_kept : (x : Option Command) → (k : ℕ) → (cpu_at s.processors c).process ≡ Some k → k < length s.runs
+  command_kept : (x : Option Command) {k : ℕ} → (cpu_at s.processors c).process ≡ Some k → k < length s.runs
       → next_command s k ≡ x → IsScheduled (committed_at s c x)
-  command_kept None k its known next = h
-  command_kept (Some command.End) k its known next = rw (ap or_zero its) (ended_kept (effected s k command.End) c k
+  command_kept None its known next = h
+  command_kept (Some command.End) {k} its known next = rw (ap or_zero its) (ended_kept (effected s k command.End) c k
       (reply_of s k command.End) h there its known next)
-  command_kept (Some (command.MkDir path volume)) k its known next = plain
+  command_kept (Some (command.MkDir path volume)) {k} its known next = plain
       (command.MkDir path volume) refl k its known next
-  command_kept (Some (command.MkSeg path pages volume)) k its known next =
+  command_kept (Some (command.MkSeg path pages volume)) {k} its known next =
       plain (command.MkSeg path pages volume) refl k its known next
-  command_kept (Some (command.Initiate path)) k its known next = plain (command.Initiate path) refl k its known next
-  command_kept (Some (command.Terminate n)) k its known next = plain (command.Terminate n) refl k its known next
-  command_kept (Some (command.Acl path row m)) k its known next = plain (command.Acl path row m) refl k its known next
-  command_kept (Some (command.Length path pages)) k its known next =
+  command_kept (Some (command.Initiate path)) {k} its known next = plain (command.Initiate path) refl k its known next
+  command_kept (Some (command.Terminate n)) {k} its known next = plain (command.Terminate n) refl k its known next
+  command_kept (Some (command.Acl path row m)) {k} its known next = plain (command.Acl path row m) refl k its known next
+  command_kept (Some (command.Length path pages)) {k} its known next =
       plain (command.Length path pages) refl k its known next
-  command_kept (Some (command.Truncate path words)) k its known next =
+  command_kept (Some (command.Truncate path words)) {k} its known next =
       plain (command.Truncate path words) refl k its known next
-  command_kept (Some (command.Delete path)) k its known next = plain (command.Delete path) refl k its known next
-  command_kept (Some (command.Move path amount)) k its known next = plain
+  command_kept (Some (command.Delete path)) {k} its known next = plain (command.Delete path) refl k its known next
+  command_kept (Some (command.Move path amount)) {k} its known next = plain
       (command.Move path amount) refl k its known next
-  command_kept (Some (command.Status path)) k its known next = plain (command.Status path) refl k its known next
-  command_kept (Some (command.Read n w)) k its known next = plain (command.Read n w) refl k its known next
-  command_kept (Some (command.Write n w x)) k its known next = plain (command.Write n w x) refl k its known next
-  command_kept (Some (command.Add n w x)) k its known next = plain (command.Add n w x) refl k its known next
-  command_kept (Some (command.Await n w x t)) k its known next = plain (command.Await n w x t) refl k its known next
+  command_kept (Some (command.Status path)) {k} its known next = plain (command.Status path) refl k its known next
+  command_kept (Some (command.Read n w)) {k} its known next = plain (command.Read n w) refl k its known next
+  command_kept (Some (command.Write n w x)) {k} its known next = plain (command.Write n w x) refl k its known next
+  command_kept (Some (command.Add n w x)) {k} its known next = plain (command.Add n w x) refl k its known next
+  command_kept (Some (command.Await n w x t)) {k} its known next = plain (command.Await n w x t) refl k its known next
 
   -- a write failed
   failed_kept : IsAnswering s c → IsScheduled (write_failed s c o.faults)
@@ -180,7 +178,7 @@ module _ (s : State) (c : ℕ) (o : Outcome) (h : IsScheduled s) (there : c < le
         more = (may failed).more;
       }))
   schedule_kept (act.Load n) may = load_kept s.plan s.runs s.processors c _ there n (drop 1 s.ready)
-      (rw (← (front_is s n s.ready refl may.2)) h) may.1 refl may.0
+      (rw (← (front_is s s.ready refl may.2)) h) may.1 refl may.0
   schedule_kept act.Leave may = leaves (run_at s.runs (process_at s c)).ended refl
     where
       goes : (run_at s.runs (process_at s c)).ended ≡ false
@@ -200,16 +198,15 @@ module _ (s : State) (c : ℕ) (o : Outcome) (h : IsScheduled s) (there : c < le
   schedule_kept (act.Create f u p r) may = told_after s (page_made s f u p r) c None (word_reply 0 r.kind)
       (still refl refl refl refl) h there may
   schedule_kept (act.Start f u p) may = one_changed _ refl (λ e. e)
-  schedule_kept (act.Empty u) may = sits_kept s _ (sits (emptying s c u)) h
-  schedule_kept (act.EmptyVictim pool chain u) may = sits_kept s _ (sits (emptying_victim s c pool chain u)) h
-  schedule_kept (act.TakeAway fs pairs w) may = sits_kept s _ (sits (all_taken s c aim.Committing w fs pairs)) h
+  schedule_kept (act.Empty u) may = sits_kept (sits (emptying s c u)) h
+  schedule_kept (act.EmptyVictim pool chain u) may = sits_kept (sits (emptying_victim s c pool chain u)) h
+  schedule_kept (act.TakeAway fs pairs w) may = sits_kept (sits (all_taken s c aim.Committing w fs pairs)) h
   schedule_kept (act.CopyPage m p) may = by_end IsScheduled o _ _ (λ e. h)
       (λ failed. told_after s (fault_told (with_store s (without_move s.store)) (Some (process_at s c)) o.faults) c None
       reply.Device (still refl refl refl refl) h there (may failed))
-  schedule_kept (act.Signal w) may =
-      seats_kept s.plan s.runs s.ready s.processors (told_from c w 0 s.processors) (told_seats s c w) h
+  schedule_kept (act.Signal w) may = seats_kept (told_seats s c w) h
   schedule_kept (act.FinishEviction f) may = by_end IsScheduled o _ _ (λ e. h) (λ e. failed_kept (may e))
   schedule_kept (act.FinishPage f) may = by_end IsScheduled o _ _ (λ e. h) (λ e. failed_kept (may e))
-  schedule_kept (act.Deactivate u) may = sits_kept s _ (sits (is_emptied s c u)) h
-  schedule_kept act.Commit may = command_kept (next_command s (process_at s c)) may.0 may.1 may.2 (cc)
+  schedule_kept (act.Deactivate u) may = sits_kept (sits (is_emptied s c u)) h
+  schedule_kept act.Commit may = command_kept (next_command s (process_at s c)) may.1 may.2 (cc)
   schedule_kept _ may = h

@@ -8,9 +8,9 @@ pub record SameSeats (old now : List Processor) : Type 0 where
   pub process : (d : ℕ) → (cpu_at now d).process ≡ (cpu_at old d).process
   pub online : (d : ℕ) → (cpu_at old d).online ≡ true → (cpu_at now d).online ≡ true
 
-pub seats_kept : (p : Plan) (runs : List Run) (ready : List ℕ) (old now : List Processor) → SameSeats old now
+pub seats_kept : {p : Plan} {runs : List Run} {ready : List ℕ} {old now : List Processor} → SameSeats old now
     → AreScheduled p runs ready old → AreScheduled p runs ready now
-seats_kept p runs ready old now same h = record {
+seats_kept same h = record {
   running = λ d k e. h.running d k (sym (same.process d) ∙ e);
   online = λ d k e. same.online d (h.online d k (sym (same.process d) ∙ e));
   alone = λ d e k a b. h.alone d e k (sym (same.process d) ∙ a) (sym (same.process e) ∙ b);
@@ -22,9 +22,9 @@ seats_kept p runs ready old now same h = record {
 }
 
 -- one processor changes, and keeps its process
-pub one_seat : (ps : List Processor) (c : ℕ) (p : Processor) → c < length ps → p.cpu.process ≡ (cpu_at ps c).process
+pub one_seat : {ps : List Processor} (c : ℕ) (p : Processor) → c < length ps → p.cpu.process ≡ (cpu_at ps c).process
     → ((cpu_at ps c).online ≡ true → p.cpu.online ≡ true) → SameSeats ps (set ps c p)
-one_seat ps c p there process online = record {
+one_seat {ps} c p there process online = record {
   process = λ d. cc (
     put_list ps c p no_processor d there,
     by_place (λ (x : Processor). x.cpu.process ≡ (cpu_at ps d).process) (processor_at ps) c p d (λ e. cc) (λ n. refl),
@@ -41,25 +41,25 @@ one_seat ps c p there process online = record {
 pub record SameRuns (old now : List Run) : Type 0 where
   pub same : (k : ℕ) → (run_at now k).ended ≡ (run_at old k).ended
 
-turn_kept : (p : Plan) (old now : List Run) (k : ℕ) → SameRuns old now → HasTurn p old k → HasTurn p now k
-turn_kept p old now k same (inl h) = inl h
-turn_kept p old now k same (inr (inl h)) = inr (inl h)
-turn_kept p old now k same (inr (inr h)) = inr (inr (same.same 0 ∙ h))
+turn_kept : (p : Plan) {old now : List Run} (k : ℕ) → SameRuns old now → HasTurn p old k → HasTurn p now k
+turn_kept p k same (inl h) = inl h
+turn_kept p k same (inr (inl h)) = inr (inl h)
+turn_kept p k same (inr (inr h)) = inr (inr (same.same 0 ∙ h))
 
-may_kept : (p : Plan) (old now : List Run) (k : ℕ) → SameRuns old now → MayRun p old k → MayRun p now k
-may_kept p old now k same h = assumption (same.same k ∙ h.going, turn_kept p old now k same h.turn)
+may_kept : {p : Plan} {old : List Run} (now : List Run) {k : ℕ} → SameRuns old now → MayRun p old k → MayRun p now k
+may_kept {p} {old} now {k} same h = assumption (same.same k ∙ h.going, turn_kept p k same h.turn)
 
-pub runs_kept : (p : Plan) (old now : List Run) (ready : List ℕ) (ps : List Processor) → SameRuns old now
+pub runs_kept : {p : Plan} {old now : List Run} {ready : List ℕ} {ps : List Processor} → SameRuns old now
     → AreScheduled p old ready ps → AreScheduled p now ready ps
-runs_kept p old now ready ps same h = record {
-  running = λ d k e. may_kept p old now k same (h.running d k e);
+runs_kept {p} {old} {now} same h = record {
+  running = λ d k e. may_kept now same (h.running d k e);
   online = h.online;
   alone = h.alone;
-  waiting = λ k e. may_kept p old now k same (h.waiting k e);
+  waiting = λ k e. may_kept now same (h.waiting k e);
   once = h.once;
   apart = h.apart;
   back = λ i e k planned. same.same k ∙ h.back i (sym (same.same 0) ∙ e) k planned;
-  placed = λ k m. h.placed k (may_kept p now old k (record { same = λ j. sym (same.same j) }) m);
+  placed = λ k m. h.placed k (may_kept old (record { same = λ j. sym (same.same j) }) m);
 }
 
 -- one process goes on, which went on before
@@ -272,8 +272,8 @@ module _ (p : Plan) (runs : List Run) (ready : List ℕ) (ps : List Processor) (
     | inr other ↦ others 0 other ∙ e
   ]))
 
-  may_still : (j : ℕ) → j ≢ k → MayRun p runs j → MayRun p (set runs k run) j
-  may_still j other m = assumption (others j other ∙ m.going, turn_still j m.turn)
+  may_still : {j : ℕ} → j ≢ k → MayRun p runs j → MayRun p (set runs k run) j
+  may_still {j} other m = assumption (others j other ∙ m.going, turn_still j m.turn)
 
   not_its : (d j : ℕ) → (cpu_at (set ps c now) d).process ≡ Some j → j ≢ k
   not_its d j e same = none_some (sym none ∙ (sym ((put_process ps c now there d).0 here) ∙ e))
@@ -307,12 +307,12 @@ module _ (p : Plan) (runs : List Run) (ready : List ℕ) (ps : List Processor) (
         ]))
       ]
 
-  not_over : (j : ℕ) → MayRun p (set runs k run) j → j ≢ k
-  not_over j m same = not_both (cc (same, ended_now)) m.going
+  not_over : {j : ℕ} → MayRun p (set runs k run) j → j ≢ k
+  not_over m same = not_both (cc (same, ended_now)) m.going
 
   -- whatever may run could before, where no other process becomes ready by it
-  may_before : (p.initializer ≡ true → k ≢ 0) → (j : ℕ) → MayRun p (set runs k run) j → MayRun p runs j
-  may_before off j m = assumption (sym (others j (not_over j m)) ∙ m.going, by p.initializer refl m.turn)
+  may_before : (p.initializer ≡ true → k ≢ 0) → {j : ℕ} → MayRun p (set runs k run) j → MayRun p runs j
+  may_before off {j} m = assumption (sym (others j (not_over m)) ∙ m.going, by p.initializer refl m.turn)
     where
       by : (i : Bool) → p.initializer ≡ i → HasTurn p (set runs k run) j → HasTurn p runs j
       by false e t = inl e
@@ -323,17 +323,17 @@ module _ (p : Plan) (runs : List Run) (ready : List ℕ) (ps : List Processor) (
   -- no other process becomes ready by it
   plain_end : (p.initializer ≡ true → k ≢ 0) → AreScheduled p (set runs k run) ready (set ps c now)
   plain_end off = record {
-    placed = λ j m. elim (h.placed j (may_before off j m)) [
+    placed = λ j m. elim (h.placed j (may_before off m)) [
       | inl r ↦ inl r
       | inr x ↦ elim (either x.0 c) [
-        | inl same ↦ absurd (not_over j m (some_same j k (cc same)))
+        | inl same ↦ absurd (not_over m (some_same j k (cc same)))
         | inr away ↦ inr (x.0, (put_process ps c now there x.0).1 away ∙ x.1)
       ]
     ];
-    running = λ d j e. may_still j (not_its d j e) (gone.running d j e);
+    running = λ d j e. may_still (not_its d j e) (gone.running d j e);
     online = gone.online;
     alone = gone.alone;
-    waiting = λ j e. may_still j (not_ready j e) (h.waiting j e);
+    waiting = λ j e. may_still (not_ready j e) (h.waiting j e);
     once = h.once;
     apart = gone.apart;
     back = back_still;
@@ -376,7 +376,7 @@ module _ (p : Plan) (runs : List Run) (ready : List ℕ) (ps : List Processor) (
       apart = λ d j e. absurd (nobody_runs d j e);
       back = back_still;
       placed = λ j m. inl (let planned = m.planned in range_has 1 (length p.processes - 1) j
-          (positive j (λ (z : j ≡ 0). not_over j m (cc))) (omega arith));
+          (positive j (λ (z : j ≡ 0). not_over m (cc))) (omega arith));
     }
       where
         positive : (j : ℕ) → j ≢ 0 → 1 ≤ j

@@ -8,23 +8,22 @@ pub record Reseats (v : Seen) (c : ℕ) (p : Processor) (ready : List ℕ) (e : 
   pub next : custody_next v.plan (flat v) (shown v) e ≡ record (with_seat (shown v) c (seat_of p)) { ready = ready }
   pub right : HoldsRight v.bound (shown v).descriptor p
 
-pub reseat_keeps : (v : Seen) (c : ℕ) (p : Processor) (ready : List ℕ) (e : Entry) → KeepsBook v
+pub reseat_keeps : {v : Seen} (c : ℕ) (p : Processor) (ready : List ℕ) (e : Entry) → KeepsBook v
     → IsLawful v.plan (flat v) e → pending_after (is_pending v.owner) e ≡ is_pending v.owner
     → p.cpu.due ≡ (v.processors c).cpu.due → p.cpu.transfer ≡ (v.processors c).cpu.transfer
     → ((k : ℕ) → IsRun (progress_of (after_entry v.plan (flat v) e) k) (v.runs k)) → Reseats v c p ready e
     → KeepsBook (reseated v c p ready e)
-reseat_keeps v c p ready e k lawful pending due transfer runs r = book_next refl refl k (record {
+reseat_keeps {v} c p ready e k lawful pending due transfer runs r = book_next refl refl k (record {
   lawful = lawful;
   allowed = r.allowed;
   online = r.online;
   next = seats ∙ sym r.next;
   pending = sym pending;
-  going_owned = rw r.next (owned_like (shown v) (record (with_seat (shown v) c (seat_of p)) { ready = ready })
-      (like_seat (shown v) c (seat_of p) ready due) v.owner k.going_owned);
+  going_owned = rw r.next (owned_like (like_seat (shown v) c (seat_of p) ready due) k.going_owned);
   tied = k.tied;
   holding_right = λ d. by_place (λ (x : Processor). HoldsRight v.bound (shown v).descriptor x) v.processors c p d
       (λ i. r.right) (λ n. k.holding_right d);
-  under_way = under_way_alike v.reads v.processors (at_put v.processors c p)
+  under_way = under_way_alike (at_put v.processors c p)
       (λ d. by_place (λ (x : Processor). x.cpu.transfer ≡ (v.processors d).cpu.transfer) v.processors c p d
       (λ i. cc) (λ n. refl)) k.under_way;
   runs = runs;
@@ -54,10 +53,10 @@ right_empty v p process warned = record {
     none None = refl
     none (Some k) = tt
 
-pub online_keeps : (v : Seen) (c : ℕ) → KeepsBook v → c < v.plan.processors → (v.processors c).cpu.online ≡ false
+pub online_keeps : {v : Seen} (c : ℕ) → KeepsBook v → c < v.plan.processors → (v.processors c).cpu.online ≡ false
     → KeepsBook (came_online v c)
 unfolding IsLawful after_entry custody_next
-online_keeps v c k inside off = reseat_keeps v c (taking_part (v.processors c)) v.ready (entry.Online c) k tt refl refl
+online_keeps {v} c k inside off = reseat_keeps c (taking_part (v.processors c)) v.ready (entry.Online c) k tt refl refl
     refl k.runs (record {
       allowed = assumption;
       online = tt;
@@ -65,18 +64,18 @@ online_keeps v c k inside off = reseat_keeps v c (taking_part (v.processors c)) 
       right = right_like (v.processors c) (taking_part (v.processors c)) (k.holding_right c) refl refl (λ w h. refl);
     })
 
-pub load_keeps : (v : Seen) (c n : ℕ) → KeepsBook v → (v.processors c).cpu.online ≡ true
+pub load_keeps : {v : Seen} (c n : ℕ) → KeepsBook v → (v.processors c).cpu.online ≡ true
     → (v.processors c).cpu.process ≡ None → IsFront v.ready n → KeepsBook (loaded v c n)
 unfolding IsLawful after_entry custody_next
-load_keeps v c n k on none front = reseat_keeps v c (running (v.processors c) n) (drop 1 v.ready) (entry.Load c n) k
+load_keeps {v} c n k on none front = reseat_keeps c (running (v.processors c) n) (drop 1 v.ready) (entry.Load c n) k
     tt refl refl refl k.runs (assumption (
       none,
       right_empty v (running (v.processors c) n) (Some n) (k.holding_right c).warned,
     ))
 
-pub leave_keeps : (v : Seen) (c : ℕ) → KeepsBook v → MayLeave (flat v) (shown v) c → KeepsBook (left v c)
+pub leave_keeps : {v : Seen} (c : ℕ) → KeepsBook v → MayLeave (flat v) (shown v) c → KeepsBook (left v c)
 unfolding IsLawful after_entry custody_next
-leave_keeps v c k may = reseat_keeps v c (emptied (v.processors c))
+leave_keeps {v} c k may = reseat_keeps c (emptied (v.processors c))
     (queued (flat v) v.ready (v.processors c).cpu.process) (entry.Leave c) k tt refl refl refl k.runs (assumption (
       may,
       right_empty v (emptied (v.processors c)) None (k.holding_right c).warned,
@@ -89,10 +88,10 @@ pub record CanFillSeg (v : Seen) (c n : ℕ) (e : HeldSeg) : Type 0 where
   pub linked : v.linked n e.number ≡ Some e.uid
   pub new : has ((shown v).seat c).segs e.number ≡ false
 
-pub fill_seg_keeps : (v : Seen) (c n : ℕ) (e : HeldSeg) → KeepsBook v → CanFillSeg v c n e
+pub fill_seg_keeps : {v : Seen} {c n : ℕ} {e : HeldSeg} → KeepsBook v → CanFillSeg v c n e
     → KeepsBook (seg_filled v c e)
 unfolding IsLawful after_entry custody_next
-fill_seg_keeps v c n e k can = reseat_keeps v c (with_held_seg (v.processors c) e) v.ready (entry.FillSeg c e.number) k
+fill_seg_keeps {v} {c} {n} {e} k can = reseat_keeps c (with_held_seg (v.processors c) e) v.ready (entry.FillSeg c e.number) k
     tt refl refl refl k.runs (assumption (
       may (v.processors c).cpu.process can.process,
       same_seat v c v.ready (λ i. record (seat_of (v.processors c))
@@ -127,13 +126,12 @@ pub record CanFillPage (v : Seen) (c : ℕ) (e : HeldPage) : Type 0 where
   pub word : v.words e.uid e.page ≡ ptw.Here e.frame
   pub new : has ((shown v).seat c).pages e.frame ≡ false
 
-pub fill_page_keeps : (v : Seen) (c : ℕ) (e : HeldPage) → KeepsBook v → CanFillPage v c e
+pub fill_page_keeps : {v : Seen} {c : ℕ} {e : HeldPage} → KeepsBook v → CanFillPage v c e
     → KeepsBook (page_filled v c e)
 unfolding IsLawful after_entry custody_next
-fill_page_keeps v c e k can = reseat_keeps v c (with_held_page (v.processors c) e) v.ready (entry.FillPage c e.frame) k
+fill_page_keeps {v} {c} {e} k can = reseat_keeps c (with_held_page (v.processors c) e) v.ready (entry.FillPage c e.frame) k
     tt refl refl refl k.runs (assumption (
-      ap is_current_frame (use_bound v.bound v.reads v.words k.tied e.frame e.uid
-          e.page (ptw.Here e.frame) is can.word),
+      ap is_current_frame (use_bound k.tied e.frame e.uid e.page is can.word),
       same_seat v c v.ready (λ i. record (seat_of (v.processors c))
           { pages = sym (map_filled (λ x. x.frame) (v.processors c).cpu.assoc.pages e right.few_pages) i }),
       pages_filled v.bound (v.processors c).cpu.assoc.pages e right.pages is,

@@ -13,10 +13,10 @@ pub record Speaks (s : State) (c k : ℕ) (cmd : Command) : Type 0 where
   pub runs : (j : ℕ) → IsRun (progress_of (flat_of s) j) (run_at s.runs j)
 
 -- a process that a processor has may run, and comes to its next command
-pub comes_next : (s : State) (c k : ℕ) → IsMachine s → (processor_at s.processors c).cpu.process ≡ Some k
+pub comes_next : {s : State} (c : ℕ) {k : ℕ} → IsMachine s → (processor_at s.processors c).cpu.process ≡ Some k
     → MayRun s.plan s.runs k × (k < length s.runs) × Comes (commands_of s.plan k) (run_at s.runs k)
 unfolding AllCome
-comes_next s c k m its = (may, known, m.come k known may.going)
+comes_next {s} c {k} m its = (may, known, m.come k known may.going)
   where
     may : MayRun s.plan s.runs k
     may = m.scheduled.running c k its
@@ -27,15 +27,15 @@ comes_next s c k m its = (may, known, m.come k known may.going)
 -- a processor that has a process speaks for it
 pub speaks : (s : State) (c k : ℕ) → IsMachine s → c < length s.processors
     → (processor_at s.processors c).cpu.process ≡ Some k → (cmd : Command) × Speaks s c k cmd
-speaks s c k m there its = let next = comes_next s c k m its in (
+speaks s c k m there its = let next = comes_next c m its in (
   next.2.command,
   assumption (there, next.1, its, next.2.on.next, next.0.going, next.0.turn),
 )
 
 -- and the command that comes next is the one that it speaks of
-pub speaks_of : (s : State) (c k : ℕ) (cmd : Command) → IsMachine s → c < length s.processors
+pub speaks_of : {s : State} (c : ℕ) {k : ℕ} {cmd : Command} → IsMachine s → c < length s.processors
     → (processor_at s.processors c).cpu.process ≡ Some k → next_command s k ≡ Some cmd → Speaks s c k cmd
-speaks_of s c k cmd m there its next = let one = speaks s c k m there its in
+speaks_of {s} c {k} {cmd} m there its next = let one = speaks s c k m there its in
     rw (← (let same = sym one.1.next ∙ next in let is : one.0 ≡ cmd = cc in is)) one.1
 
 -- it speaks so where the processors, the processes and the script are the same, and the flat store goes on with them
@@ -53,8 +53,8 @@ speaks_like {s = s} {now = now} {c = c} {k = k} processors runs plan go sp = rec
 }
 
 -- and it is its turn in the flat store
-pub turn_is : (s : State) (c k : ℕ) (cmd : Command) → Speaks s c k cmd → is_turn s.plan (flat_of s) k ≡ true
-turn_is s c k cmd h = by h.turn
+pub turn_is : {s : State} {c k : ℕ} {cmd : Command} → Speaks s c k cmd → is_turn s.plan (flat_of s) k ≡ true
+turn_is {s} {c} {k} h = by h.turn
   where
     or_right : (a : Bool) {b : Bool} → b ≡ true → (a || b) ≡ true
     or_right true e = refl
@@ -69,16 +69,16 @@ turn_is s c k cmd h = by h.turn
     by (inr (inr over)) = or_right (not s.plan.initializer) (or_right (eqb k 0) ((h.runs 0).ended ∙ over))
 
 -- so it may be answered, where the flat store and custody allow the answer
-pub can_tell : (s : State) (c k : ℕ) (cmd : Command) (f : Option ℕ) (r : Reply) → Speaks s c k cmd
+pub can_tell : {s : State} {c k : ℕ} {cmd : Command} (f : Option ℕ) (r : Reply) → Speaks s c k cmd
     → IsAnswer s.plan (flat_of s) k (Some cmd) r
     → MayAnswerBy s.plan (flat_of s) (shown (seen s)) c k f cmd r (reference_of cmd) → CanTell s c k f r
-can_tell s c k cmd f r h answer may = record {
+can_tell {s} {c} {k} {cmd} f r h answer may = record {
   there = h.there;
   known = h.known;
   command = cmd;
   next = h.next;
   lawful = record {
-    turn = turn_is s c k cmd h;
+    turn = turn_is h;
     going = (h.runs k).ended ∙ h.going;
     next = (h.runs k).place;
     answer = rw h.next answer;
@@ -101,9 +101,9 @@ refusal_quiet (reply.DirIs u q n) h = cc
 refusal_quiet _ h = (refl, refl)
 
 -- what refuses a command may be told at once
-pub can_refuse : (s : State) (c k : ℕ) (cmd : Command) (r : Reply) → Speaks s c k cmd
+pub can_refuse : {s : State} {c k : ℕ} {cmd : Command} {r : Reply} → Speaks s c k cmd
     → r ≡ reply_to_command s.plan (flat_of s) k cmd → is_refusal r ≡ true → CanTell s c k None r
-can_refuse s c k cmd r h is refuses = can_tell s c k cmd None r h
+can_refuse {s} {c} {k} {cmd} {r} h is refuses = can_tell None r h
     (inl (assumption (refused_free s.plan (flat_of s) k cmd (cc (is, quiet.0))))) (by (reference_of cmd))
   where
     quiet : (takes_effect r ≡ false) × (is_word_or_done r ≡ false)

@@ -13,7 +13,7 @@ use Rattle.machine_model.proofs.RulesKept.{some_again}
 
 -- ---- What the store says after each step of a move, by what its calls say of it.
 
-module _ (s : State) (c : ℕ) (o : Outcome) (k : Keeps s) where
+module _ {s : State} (c : ℕ) (o : Outcome) (k : Keeps s) where
   pub begun_says : (u volume : ℕ) → Says s c o (act.BeginMove u volume) → StoreSays (move_begun s c u volume)
   unfolding after
   begun_says u volume says = says_is k says refl
@@ -60,12 +60,12 @@ reads_for s c t keeps reading mine = let r = reading.each c t mine in let same =
   may = read_fails s c t keeps mine (process_at s c) (next_command s (process_at s c)) (rw same r.wants);
 }
 
-pub reads_answering : (s : State) (c : ℕ) → IsMachine s → c < length s.processors → ReadsFor s c → IsAnswering s c
-reads_answering s c m there r = let one = speaks s c (process_at s c) m there r.its in record {
+pub reads_answering : {s : State} {c : ℕ} → IsMachine s → c < length s.processors → ReadsFor s c → IsAnswering s c
+reads_answering {s} {c} m there r = let one = speaks s c (process_at s c) m there r.its in record {
   process = process_at s c;
   its = r.its;
   known = one.1.known;
-  more = cc (fails_more s (process_at s c) (flat_of s) m.keeps.faithful one.0
+  more = cc (fails_more s (process_at s c) m.keeps.faithful one.0
       (subst (MayFailBy s.store (process_at s c)) one.1.next r.may));
 }
 
@@ -78,10 +78,10 @@ zeros_at [] i h = refl
 zeros_at (w ∷ ws) zero h = eqb-true w 0 (and_parts (eqb w 0) (are_zeros ws) h).0
 zeros_at (w ∷ ws) (suc i) h = zeros_at ws i (and_parts (eqb w 0) (are_zeros ws) h).1
 
-pub release_may : (s : State) (f u p : ℕ) → Keeps s → (seen s).bound f ≡ Some (u, p)
+pub release_may : {s : State} (f u p : ℕ) → Keeps s → (seen s).bound f ≡ Some (u, p)
     → left_of (words_in s.store.pages f) ≡ left.Released → MayRelease (flat_of s) u p
-release_may s f u p k bound released = record {
-  there = bound_stored s k f u p active bound;
+release_may {s} f u p k bound released = record {
+  there = bound_stored k f u p active bound;
   zeros = words_zero (flat_of s).words u p (λ i less. (let page : (1024 * p + i) / 1024 ≡ p = omega arith in
       bound_word s k u active f (1024 * p + i) (cc)
       ∙ zeros_at (words_in s.store.pages f) ((1024 * p + i) % 1024) zeros));
@@ -157,7 +157,7 @@ module _ (s : State) (c : ℕ) (o : Outcome) (m : IsMachine s) (there : c < leng
   come_follows its (Some cmd) e = by (reference_of cmd) refl
     where
       sp : Speaks s c k cmd
-      sp = speaks_of s c k cmd m there its e
+      sp = speaks_of c m there its e
 
       by : (y : Option Reference) → reference_of cmd ≡ y → Follows s c o (refer_or_take s p.cpu k y)
       by None i = take_follows s.owner
@@ -171,7 +171,7 @@ module _ (s : State) (c : ℕ) (o : Outcome) (m : IsMachine s) (there : c < leng
       by (n ∷ ns) says = tt
   run_follows (Some n) e = cond_both (has_had_its_turn p && not (is_empty s.ready)) act.Leave
       (come_to s p.cpu n (next_command s n)) (Follows s c o) (λ h says. tt)
-      (λ h. (rw (ap or_zero e) at (come_follows (some_again p.cpu.process n e) (next_command s k) refl)))
+      (λ h. (rw (ap or_zero e) at (come_follows (some_again e) (next_command s k) refl)))
 
   -- ---- the owner looks
 
@@ -180,21 +180,21 @@ module _ (s : State) (c : ℕ) (o : Outcome) (m : IsMachine s) (there : c < leng
     idle = look_idle s c o m.keeps there l
 
     look_follows : (a : Action) → LookFinds s k cmd a → Follows s c o a
-    look_follows (act.Answer r) h says = answer_asks s c o m idle cmd sp r h
-    look_follows (act.Activate u place) h says = activate_asks s c o m idle cmd sp u place h says
-    look_follows (act.Connect n u) h says = connect_asks s c o m idle cmd sp n u h says
-    look_follows (act.Create f u q r) h says = create_asks s c o m idle cmd sp f u q r h says
-    look_follows (act.Start f u q) h says = started_says s c o f u q m.keeps says
-    look_follows (act.Evict f) h says = evicting_says s c o f m.keeps says idle.cut
+    look_follows (act.Answer r) h says = answer_asks s c o m idle cmd sp h
+    look_follows (act.Activate u place) h says = activate_asks s c o m idle cmd sp h says
+    look_follows (act.Connect n u) h says = connect_asks s c o m idle cmd sp h says
+    look_follows (act.Create f u q r) h says = create_asks s c o m idle cmd sp h says
+    look_follows (act.Start f u q) h says = started_says f u q m.keeps says
+    look_follows (act.Evict f) h says = evicting_says f m.keeps says idle.cut
     look_follows (act.Empty u) h says = length_asks s c o k u cmd m.keeps idle (look_still s c o m.keeps there l) h says
     look_follows (act.EmptyVictim pool chain u) h says =
-        victim_asks s c o k pool chain u cmd m.keeps idle (look_still s c o m.keeps there l) h says
+        victim_asks m.keeps idle (look_still s c o m.keeps there l) h says
     look_follows (act.TakeAway fs pairs w) h says = take_asks s k m.keeps idle c o cmd w fs pairs h.0 h.1 says
     look_follows act.Commit h says = subst (AsksCommit s c) (sym sp.next) (commit_asks s c o m.keeps cmd sp h.tree says
-        (look_rests s c m.keeps idle.frames cmd h
-        (commit_rests s c m.keeps cmd (look_taken s c k cmd what.All [] [] m.keeps idle h
+        (look_rests c m.keeps idle.frames cmd h
+        (commit_rests c m.keeps cmd (look_taken c m.keeps idle h
         (takes_none s k m.keeps idle what.All)))))
-    look_follows (act.BeginMove u volume) h says = begun_says s c o m.keeps u volume says
+    look_follows (act.BeginMove u volume) h says = begun_says c o m.keeps u volume says
     look_follows (act.Waits (ForTransfer f)) h says = tt
     look_follows act.GiveUp h says = tt
     look_follows _ h says = absurd h
@@ -204,11 +204,11 @@ module _ (s : State) (c : ℕ) (o : Outcome) (m : IsMachine s) (there : c < leng
   -- the first frame that the owner took has a page
   frame_bound : (f : ℕ) (fs : List ℕ) → frames_of_owner s.owner ≡ f ∷ fs
       → (seen s).bound f ≡ Some ((page_at (seen s) f).0, (page_at (seen s) f).1)
-  frame_bound f fs e = taken_bound s m.keeps f (rw e (has_head f fs))
+  frame_bound f fs e = taken_bound m.keeps f (rw e (has_head f fs))
 
   -- a drive's failure may be told of the owner's command
-  fails_by : (a : Aim) (w : What) (x : HasWaited s c a w) → FailsBy a s.store k (next_command s k)
-  fails_by a w x = rw x.owner.same at (subst (λ (y : Phase). FailsIn y s.store (process_at s x.owner.owner.cpu)
+  fails_by : {a : Aim} {w : What} (x : HasWaited s c a w) → FailsBy a s.store k (next_command s k)
+  fails_by x = rw x.owner.same at (subst (λ (y : Phase). FailsIn y s.store (process_at s x.owner.owner.cpu)
       (next_command s (process_at s x.owner.owner.cpu))) x.waits (working.fails x.owner.owner x.owner.mine))
 
   -- what the owner took for its command is just what it takes
@@ -220,12 +220,12 @@ module _ (s : State) (c : ℕ) (o : Outcome) (m : IsMachine s) (there : c < leng
       → o.failed ≡ true → Rose s.faults o.faults → StoreSays (write_failed s c o.faults)
       → CanFailWrite s c o × IsAnswering s c
   write_follows None e its may h rose says = absurd may
-  write_follows (Some cmd) e its may h rose says = let sp = speaks_of s c k cmd m there its e in
-      write_asks s c o cmd m.keeps sp may rose says
+  write_follows (Some cmd) e its may h rose says = let sp = speaks_of c m there its e in
+      write_asks o m.keeps sp may rose says
 
   -- what goes of the segment of a deactivation is all of it
-  aim_of : (a : Aim) (w : What) → HasWaited s c a w → going_for s.owner ≡ aimed_at a
-  aim_of a w x = cc
+  aim_of : {a : Aim} {w : What} → HasWaited s c a w → going_for s.owner ≡ aimed_at a
+  aim_of x = cc
 
   finish_follows : (a : Aim) (w : What) (x : HasWaited s c a w) → p.cpu.process ≡ Some k → (fs : List ℕ)
       → x.owner.owner.frames ≡ fs → Follows s c o (finish_of a fs)
@@ -233,53 +233,52 @@ module _ (s : State) (c : ℕ) (o : Outcome) (m : IsMachine s) (there : c < leng
   finish_follows aim.Evicting w x its (f ∷ fs) e says = record {
     well = λ h. (
       says.never_less,
-      release_may s f (page_at (seen s) f).0 (page_at (seen s) f).1 m.keeps (frame_bound f fs (cc)),
+      release_may f (page_at (seen s) f).0 (page_at (seen s) f).1 m.keeps (frame_bound f fs (cc)),
       evicted_says s c o f m.keeps says h,
     );
-    ill = λ h. (write_follows (next_command s k) refl its (fails_by aim.Evicting w x) h (says.counted h)
-        (eviction_failed_says s c o f m.keeps h says)).0;
+    ill = λ h. (write_follows (next_command s k) refl its (fails_by x) h (says.counted h)
+        (eviction_failed_says c o f m.keeps h says)).0;
   }
-  finish_follows (aim.Deactivating u) w x its [] e says =
-      let leaf = working.leaf u (aim_of (aim.Deactivating u) w x) in assumption (
-        may_deactivate s u m.keeps working.whole (aim_of (aim.Deactivating u) w x) (cc)
-            (segs_are_gone s (cut_of_owner s.owner) m.keeps.book (empties_goes s c o m.keeps there u w [] x e))
-            leaf.active (λ v active h. leaf.inferiors v active (cc ((gone_is s (cut_of_owner s.owner)).flat))),
-        deactivated_says s c o u m.keeps says,
-      )
+  finish_follows (aim.Deactivating u) w x its [] e says = let leaf = working.leaf u (aim_of x) in assumption (
+    may_deactivate s u m.keeps working.whole (aim_of x) (cc)
+        (segs_are_gone s (cut_of_owner s.owner) m.keeps.book (empties_goes s c o m.keeps there u x e))
+        leaf.active (λ v active h. leaf.inferiors v active (cc ((gone_is s (cut_of_owner s.owner)).flat))),
+    deactivated_says u m.keeps says,
+  )
   finish_follows (aim.Deactivating u) w x its (f ∷ fs) e says = record {
     well = λ h. (
       says.never_less,
-      release_may s f (page_at (seen s) f).0 (page_at (seen s) f).1 m.keeps (frame_bound f fs (cc)),
+      release_may f (page_at (seen s) f).0 (page_at (seen s) f).1 m.keeps (frame_bound f fs (cc)),
       page_left_says s c o f m.keeps says h,
     );
-    ill = λ h. (write_follows (next_command s k) refl its (fails_by (aim.Deactivating u) w x) h (says.counted h)
-        (page_failed_says s c o f m.keeps h says)).0;
+    ill = λ h. (write_follows (next_command s k) refl its (fails_by x) h (says.counted h)
+        (page_failed_says c o f m.keeps h says)).0;
   }
   finish_follows aim.Committing w x its fs e says = let one = speaks s c k m there its in
-      let some : TakesSome (Some one.0) = subst TakesSome one.1.next (fails_by aim.Committing w x) in
+      let some : TakesSome (Some one.0) = subst TakesSome one.1.next (fails_by x) in
       subst (AsksCommit s c) (sym one.1.next) (commit_asks s c o m.keeps one.0 one.1 (takes_tree one.0 some) says
-      (taken_rests s c one.0 some (commit_rests s c m.keeps one.0 (subst (IsTakenBy s k) one.1.next (taken_by w x)))))
+      (taken_rests s c one.0 some (commit_rests c m.keeps one.0 (subst (IsTakenBy s k) one.1.next (taken_by w x)))))
 
   -- a segment moves
   move_follows : (x : Mover) → IsMoving s c x → p.cpu.process ≡ Some k → (next : Option ℕ)
       → Follows s c o (copy_or_commit x next)
   move_follows x moving its (Some n) says = record {
-    well = λ h. (says.never_less, copied_says s c o m.keeps x n says h);
-    ill = λ h. (let one = speaks s c k m there its in copy_asks s c o one.0 m.keeps one.1
-        (subst (MayFailBy s.store k) one.1.next (moving_fails s c o m working x moving)) (says.counted h)
-        (copy_failed_says s c o m.keeps x n says h));
+    well = λ h. (says.never_less, copied_says c o m.keeps x n says h);
+    ill = λ h. (let one = speaks s c k m there its in copy_asks o m.keeps one.1
+        (subst (MayFailBy s.store k) one.1.next (moving_fails c o m working moving)) (says.counted h)
+        (copy_failed_says c o m.keeps x n says h));
   }
   move_follows x moving its None says = record {
     may = moves;
-    rehomes = may_rehome s k x (next_command s k) rests;
-    says = moved_says s c o m.keeps x says moves;
+    rehomes = may_rehome s rests;
+    says = moved_says c o m.keeps x says moves;
   }
     where
       rests : IsMovedFor s.store k x (next_command s k)
-      rests = moving_rests s c o m working x moving
+      rests = moving_rests c o m working moving
 
       moves : MayMove s.plan (flat_of s) k x.uid x.to.0
-      moves = let one = speaks s c k m there its in may_move s c k one.0 x m.keeps one.1 rests
+      moves = let one = speaks s c k m there its in may_move m.keeps one.1 rests
 
   phase_follows : (q : IsMine s c) → p.cpu.process ≡ Some k → (x : Phase) → q.owner.phase ≡ x
       → Follows s c o (go_on_with s k q.owner x)
@@ -309,10 +308,10 @@ module _ (s : State) (c : ℕ) (o : Outcome) (m : IsMachine s) (there : c < leng
 
   transfer_follows : (x : Option Transfer) → p.cpu.transfer ≡ x → Follows s c o (transfer_or s c p x)
   transfer_follows (Some t) e = λ says. record {
-    well = λ h. (says.never_less, read_says s c o t m.keeps says h);
+    well = λ h. (says.never_less, read_says t m.keeps says h);
     ill = λ h. (let r = reads_for s c t m.keeps reading e in let one = speaks s c k m there r.its in
         (read_asks s c o t one.0 m.keeps one.1 (subst (MayFailBy s.store k) one.1.next r.may) (says.counted h)
-        (failed_says s c o t m.keeps says h)).0);
+        (failed_says t m.keeps says h)).0);
   }
   transfer_follows None e = owner_follows s.owner refl
 

@@ -8,19 +8,19 @@ use Rattle.machine_model.proofs.WorkStep.{MayWork}
 -- a processor that has a process may answer its next command
 pub may_answer : (s : State) (c k : ℕ) → IsMachine s → c < length s.processors
     → (cpu_at s.processors c).process ≡ Some k → MayAnswer s c
-may_answer s c k m there its = let next = comes_next s c k m its in record {
+may_answer s c k m there its = let next = comes_next c m its in record {
   process = k;
   command = next.2.command;
   can = assumption;
 }
 
-answering : (s : State) (c : ℕ) → AnswersOne s c → IsAnswering s c
-answering s c a = record { process = process_at s c; its = a.speaks.its; known = a.speaks.known; more = cc }
+answering : {s : State} {c : ℕ} → AnswersOne s c → IsAnswering s c
+answering {s} {c} a = record { process = process_at s c; its = a.speaks.its; known = a.speaks.known; more = cc }
 
 -- what a look takes is few
-pub few_taken : (s : State) (k : ℕ) (cmd : Command) (fs : List ℕ) (pairs : List (ℕ × ℕ)) → Keeps s
+pub few_taken : {s : State} {k : ℕ} {cmd : Command} {fs : List ℕ} {pairs : List (ℕ × ℕ)} → Keeps s
     → FindsTaken s k cmd fs pairs → length fs + length pairs ≤ 288
-few_taken s k cmd fs pairs keeps finds = let a = ap (λ (x : List ℕ). length x) finds.frames in omega (
+few_taken {s} {k} {cmd} keeps finds = let a = ap (λ (x : List ℕ). length x) finds.frames in omega (
   arith,
   command_few s k (uid_of_command s.store k cmd) cmd keeps,
   (ap (λ (x : List (ℕ × ℕ)). length x) finds.descriptors),
@@ -29,29 +29,28 @@ few_taken s k cmd fs pairs keeps finds = let a = ap (λ (x : List ℕ). length x
 module _ (s : State) (c : ℕ) (o : Outcome) (m : IsMachine s) (there : c < length s.processors) (reading : IsReading s)
   where
     pub may_schedule : (a : Action) → CanDo s c o a → Knows s c a → MaySchedule s c o a
-    may_schedule (act.EndTransfer t) can knows =
-        λ e. reads_answering s c m there (reads_for s c t m.keeps reading can.mine)
+    may_schedule (act.EndTransfer t) can knows = λ e. reads_answering m there (reads_for s c t m.keeps reading can.mine)
     may_schedule (act.Load n) can knows = can
     may_schedule act.Leave can knows = (can.process, can.its)
-    may_schedule (act.Through f r) can knows = answering s c knows.one
-    may_schedule (act.Plain r) can knows = answering s c knows.one
-    may_schedule (act.Answer r) can knows = answering s c knows
-    may_schedule (act.Create f u p r) can knows = answering s c knows
-    may_schedule (act.CopyPage x p) can knows = λ e. answering s c knows.one
-    may_schedule (act.FinishEviction f) can knows = λ e. answering s c knows
-    may_schedule (act.FinishPage f) can knows = λ e. answering s c knows.1
+    may_schedule (act.Through f r) can knows = answering knows.one
+    may_schedule (act.Plain r) can knows = answering knows.one
+    may_schedule (act.Answer r) can knows = answering knows
+    may_schedule (act.Create f u p r) can knows = answering knows
+    may_schedule (act.CopyPage x p) can knows = λ e. answering knows.one
+    may_schedule (act.FinishEviction f) can knows = λ e. answering knows
+    may_schedule (act.FinishPage f) can knows = λ e. answering knows.1
     may_schedule act.Commit can knows = (process_at s c, knows.speaks.its, knows.speaks.known)
     may_schedule _ can knows = tt
 
     pub may_work : (a : Action) → CanDo s c o a → Knows s c a → MayWork s c o a
-    may_work act.Online can knows = online_other s c m.keeps can
-    may_work (act.Clear w) can knows = due_other s c w m.keeps can
+    may_work act.Online can knows = online_other c m.keeps can
+    may_work (act.Clear w) can knows = due_other c m.keeps can
     may_work (act.EndTransfer t) can knows = (
       reader_no_owner s c t m.keeps can.mine,
       can.mine,
       λ e. (reads_for s c t m.keeps reading can.mine).its,
     )
-    may_work (act.Load n) can knows = empty_other s c m.keeps can.1
+    may_work (act.Load n) can knows = empty_other c m.keeps can.1
     may_work act.Leave can knows = can.other
     may_work (act.FillSeg n) can knows = can.other
     may_work (act.FillPage f r) can knows = can.1
@@ -68,9 +67,8 @@ module _ (s : State) (c : ℕ) (o : Outcome) (m : IsMachine s) (there : c < leng
       knows.2,
       knows.3,
       can.can.pairs_are,
-      rw knows.4.next (look_taken s c (process_at s c) knows.4.command w fs pairs m.keeps knows.1 knows.4.finds
-          can.can),
-      few_taken s (process_at s c) knows.4.command fs pairs m.keeps knows.4.finds,
+      rw knows.4.next (look_taken c m.keeps knows.1 knows.4.finds can.can),
+      few_taken m.keeps knows.4.finds,
     )
     may_work (act.BeginMove u volume) can knows = knows
     may_work (act.CopyPage x p) can knows = knows.moving
@@ -90,7 +88,7 @@ module _ (s : State) (c : ℕ) (o : Outcome) (m : IsMachine s) (there : c < leng
     -- so each process still comes to a command
     pub comes : (a : Action) → CanDo s c o a → Knows s c a → AllCome (after s c a o)
     comes (act.EndTransfer t) can knows =
-        come_end t (λ e. reads_answering s c m there (reads_for s c t m.keeps reading can.mine))
+        come_end t (λ e. reads_answering m there (reads_for s c t m.keeps reading can.mine))
     comes (act.Through f r) can knows = all_come s c (act.Through f r) o m.script m.come
         (λ h. may_answer s c (process_at s c) m there knows.one.speaks.its)
     comes (act.Plain r) can knows = all_come s c (act.Plain r) o m.script m.come

@@ -264,16 +264,16 @@ CanDo s c o a = CanOnLook s c a (Asks s c o a)
 -- ---- each action
 
 -- an owner of another number than this processor's, by what is true of those at work
-pub online_other : (s : State) (c : ℕ) → Keeps s → (processor_at s.processors c).cpu.online ≡ false → IsNoOwner s c
-online_other s c k off o h same = let no : true ≡ false = sym (k.at_work o h).online ∙ (cc) in cc
+pub online_other : {s : State} (c : ℕ) → Keeps s → (processor_at s.processors c).cpu.online ≡ false → IsNoOwner s c
+online_other c k off o h same = let no : true ≡ false = sym (k.at_work o h).online ∙ (cc) in cc
 
-pub due_other : (s : State) (c : ℕ) (w : What) → Keeps s → (processor_at s.processors c).cpu.due ≡ Some w
+pub due_other : {s : State} (c : ℕ) {w : What} → Keeps s → (processor_at s.processors c).cpu.due ≡ Some w
     → IsNoOwner s c
-due_other s c w k due o h same = none_some (sym (k.at_work o h).clear
+due_other {s} c k due o h same = none_some (sym (k.at_work o h).clear
     ∙ (ap (λ (d : ℕ). (processor_at s.processors d).cpu.due) same ∙ due))
 
-pub empty_other : (s : State) (c : ℕ) → Keeps s → (processor_at s.processors c).cpu.process ≡ None → IsNoOwner s c
-empty_other s c k none o h same = let no : true ≡ false = sym (k.at_work o h).busy ∙ (cc) in cc
+pub empty_other : {s : State} (c : ℕ) → Keeps s → (processor_at s.processors c).cpu.process ≡ None → IsNoOwner s c
+empty_other c k none o h same = let no : true ≡ false = sym (k.at_work o h).busy ∙ (cc) in cc
 
 -- custody doesn't see the hand of a pool
 hand_seen : (s : State) (pool : ℕ) (chain : List ℕ) → seen (with_store s (with_hand_moved s.store pool chain)) ≡ seen s
@@ -283,17 +283,17 @@ hand_seen s pool chain = by (first_off_chain s.store.ast pool chain)
     by None = refl
     by (Some place) = refl
 
-pub hand_kept : (s : State) (pool : ℕ) (chain : List ℕ) → Keeps s
+pub hand_kept : {s : State} (pool : ℕ) (chain : List ℕ) → Keeps s
     → StoreSays (with_store s (with_hand_moved s.store pool chain))
     → Keeps (with_store s (with_hand_moved s.store pool chain))
-hand_kept s pool chain k says = kept_with (with_store s (with_hand_moved s.store pool chain))
+hand_kept {s} pool chain k says = kept_with (with_store s (with_hand_moved s.store pool chain))
     (subst KeepsBook (sym (hand_seen s pool chain)) k.book) says
     k.few_faults k.sizes.processors k.sizes.processes k.at_work
 
 -- a job that has taken nothing is over
-pub nothing_over : (s : State) → Keeps s → IsIdle s.owner → is_pending s.owner ≡ false
+pub nothing_over : {s : State} → Keeps s → IsIdle s.owner → is_pending s.owner ≡ false
     → IsOver (segs_gone s (cut_of_owner s.owner))
-nothing_over s k idle still = rw idle.cut (record {
+nothing_over {s} k idle still = rw idle.cut (record {
   book = k.book;
   frames = idle.frames;
   cut = idle.cut;
@@ -331,7 +331,7 @@ module _ (s : State) (c : ℕ) (o : Outcome) (k : Keeps s) (there : c < length s
 
   create_done : (f u p : ℕ) (r : Reference) → CanDo s c o (act.Create f u p r) → Keeps (page_created s c f u p r)
   create_done f u p r can = let free = free_frame s.store.pages.core f can.look.0 in
-      created_kept s c f u p r k (record {
+      created_kept f u p r k (record {
         inside = rw (← k.sizes.frames) free.0;
         unbound = free.1;
         unread = free.2;
@@ -342,7 +342,7 @@ module _ (s : State) (c : ℕ) (o : Outcome) (k : Keeps s) (there : c < length s
 
   start_done : (f u p : ℕ) → CanDo s c o (act.Start f u p) → Keeps (started s c f u p)
   start_done f u p can = let free = free_frame s.store.pages.core f can.look.0 in
-      started_kept s c f u p k there free.0 (record {
+      started_kept c f u p k there free.0 (record {
         inside = rw (← k.sizes.frames) free.0;
         unbound = free.1;
         unread = free.2;
@@ -355,23 +355,22 @@ module _ (s : State) (c : ℕ) (o : Outcome) (k : Keeps s) (there : c < length s
   segment_done : (u : ℕ) (fs : List ℕ) (pairs : List (ℕ × ℕ)) → IsLooking s c
       → CanTook s (aim.Deactivating u) (what.Seg u) fs pairs → AsksSegment s c u fs pairs
       → Keeps (segment_taken s c u fs pairs)
-  segment_done u [] [] l can asks = emptied_kept s c u l.owner.owner k l.owner.mine l.owner.same
-      (nothing_over s k (look_idle l) (look_still l)) asks.may asks.says
-  segment_done u fs pairs l can asks = took_kept s c (aim.Deactivating u) (what.Seg u) fs pairs k can
-      (owns_here l.owner) (works_here l.owner) asks
+  segment_done u [] [] l can asks = emptied_kept k l.owner.mine l.owner.same
+      (nothing_over k (look_idle l) (look_still l)) asks.may asks.says
+  segment_done u fs pairs l can asks = took_kept c k can (owns_here l.owner) (works_here l.owner) asks
 
   empty_done : (u : ℕ) → IsLooking s c → AsksEmpty s c u → Keeps (deactivation_begun s c u)
   empty_done u l asks = segment_done u (frames_from s.store.ast u 0) (trailers_in s.store u) l
-      (segment_takes s (aim.Deactivating u) (what.Seg u) u 0 k (look_idle l) (eqb_self u) (λ gs cs. refl)) asks
+      (segment_takes (aim.Deactivating u) (what.Seg u) u 0 k (look_idle l) (eqb_self u) (λ gs cs. refl)) asks
 
   -- ---- a segment moves
 
-  pub move_idle : (m : Mover) → IsMoving s c m → IsIdle s.owner
-  move_idle m x = subst IsIdle (sym x.owner.mine) (moves_idle (shown (seen s)) x.owner.owner m
+  pub move_idle : {m : Mover} → IsMoving s c m → IsIdle s.owner
+  move_idle {m} x = subst IsIdle (sym x.owner.mine) (moves_idle (shown (seen s)) x.owner.owner m
       (rw (← x.owner.mine) k.book.going_owned) x.moves)
 
-  move_still : (m : Mover) → IsMoving s c m → is_pending s.owner ≡ false
-  move_still m x = cc
+  move_still : {m : Mover} → IsMoving s c m → is_pending s.owner ≡ false
+  move_still x = cc
 
   -- ---- what was taken goes
 
@@ -404,18 +403,17 @@ module _ (s : State) (c : ℕ) (o : Outcome) (k : Keeps s) (there : c < length s
       steady = subst IsSteady (sym x.owner.mine) (λ gs ds. rw x.waits (steady gs ds));
     }
 
-  pub empties_goes : (u : ℕ) (w : What) (fs : List ℕ) (x : HasWaited s c (aim.Deactivating u) w)
+  pub empties_goes : (u : ℕ) {w : What} {fs : List ℕ} (x : HasWaited s c (aim.Deactivating u) w)
       → x.owner.owner.frames ≡ fs → GoesOn (seen s) fs (cut_of_owner s.owner)
-  empties_goes u w fs x frames = subst (λ (gs : List ℕ). GoesOn (seen s) gs (cut_of_owner s.owner)) (cc)
+  empties_goes u {w} x frames = subst (λ (gs : List ℕ). GoesOn (seen s) gs (cut_of_owner s.owner)) (cc)
       (wait_goes (aim.Deactivating u) w x (λ gs ds. wait_shape (aim.Deactivating u) w x))
 
   evict_done : (f : ℕ) → CanDo s c o (act.FinishEviction f)
       → Keeps (by_outcome o (eviction_done (with_faults s o.faults) c f) (write_failed s c o.faults))
-  evict_done f can = by_end Keeps o _ _
-      (λ e. (let w = can.1.asks.well e in eviction_kept s c f page.0 page.1 o.faults x.owner.owner k x.owner.mine
+  evict_done f can = by_end Keeps o _ _ (λ e. (let w = can.1.asks.well e in eviction_kept o.faults k x.owner.mine
       x.owner.same w.0 finish w.1 w.2))
       (λ e. (let i = can.1.asks.ill e in eviction_failed_kept s c o.faults (frames_of_owner s.owner)
-      (cut_of_owner s.owner) k i.rose i.may f page.0 page.1 frames cut frames cut finish
+      (cut_of_owner s.owner) k i.rose i.may frames cut frames cut finish
       (subst (λ (y : State). CanTell (with_owner y None) c (process_at y c) None reply.Device)
       (λ j. all_back s c o.faults (frames j) (cut j)) i.tell) i.says))
     where
@@ -437,7 +435,7 @@ module _ (s : State) (c : ℕ) (o : Outcome) (k : Keeps s) (there : c < length s
 
       finish : CanFinish (seen s) f page.0 page.1 (Some (looking c))
       finish = record {
-        leaving = taken_word s k f (ap (λ (gs : List ℕ). has gs f) frames ∙ has_head f []);
+        leaving = taken_word k f (ap (λ (gs : List ℕ). has gs f) frames ∙ has_head f []);
         none = none_due_now x.cleared;
         still = wait_still aim.Evicting can.1.what x;
         after = refl;
@@ -446,7 +444,7 @@ module _ (s : State) (c : ℕ) (o : Outcome) (k : Keeps s) (there : c < length s
 
   page_leaves : (f : ℕ) → CanDo s c o (act.FinishPage f)
       → Keeps (by_outcome o (page_done (with_faults s o.faults) f) (write_failed s c o.faults))
-  page_leaves f can = let on = empties_goes can.0 can.2.what (f ∷ can.1) can.2.waited can.2.frames in by_end Keeps o _ _
+  page_leaves f can = let on = empties_goes can.0 can.2.waited can.2.frames in by_end Keeps o _ _
       (λ e. (let w = can.2.asks.well e in page_kept s f o.faults can.1 (cut_of_owner s.owner)
       can.2.waited.owner.owner k can.2.waited.owner.mine w.0 on w.1 w.2))
       (λ e. (let i = can.2.asks.ill e in all_failed_kept s c o.faults (frames_of_owner s.owner)
@@ -473,65 +471,59 @@ module _ (s : State) (c : ℕ) (o : Outcome) (k : Keeps s) (there : c < length s
   keeps_by : ((pool : ℕ) (chain : List ℕ) (u : ℕ) → CanDo s c o (act.EmptyVictim pool chain u)
       → Keeps (victim_taken s c pool chain u)) → (a : Action) → CanDo s c o a → Keeps (after s c a o)
   unfolding after
-  keeps_by victim act.Online can = online_kept s c (s.spare - 1) k there (online_other s c k can) can
-  keeps_by victim (act.Clear w) can = clear_kept s c (s.spare - 1) k there (due_other s c w k can) w can
+  keeps_by victim act.Online can = online_kept s c (s.spare - 1) k there (online_other c k can) can
+  keeps_by victim (act.Clear w) can = clear_kept s c (s.spare - 1) k there (due_other c k can) can
   keeps_by victim (act.EndTransfer t) can = by_end Keeps o _ _
       (λ e. (let w = can.well e in transferred_kept s c t k can.mine o.faults w.0 w.1))
       (λ e. (let i = can.ill e in failed_kept s c t k can.mine o.faults i.rose i.may i.tell i.says))
-  keeps_by victim (act.Load n) can = load_kept s c (s.spare - 1) k there (empty_other s c k can.1) n can.0 can.1 can.2
-  keeps_by victim act.Leave can = rw (ready_left s c can.process k.book can.its) (leave_kept s c (s.spare - 1) k there
+  keeps_by victim (act.Load n) can = load_kept s c (s.spare - 1) k there (empty_other c k can.1) n can.0 can.1 can.2
+  keeps_by victim act.Leave can = rw (ready_left s c k.book can.its) (leave_kept s c (s.spare - 1) k there
       can.other can.may)
-  keeps_by victim (act.FillSeg n) can =
-      rw can.number at (fill_seg_kept s c (s.spare - 1) k there can.other can.process (to_hold s c n) can.can)
-  keeps_by victim (act.FillPage f r) can =
-      fill_page_kept s c (s.spare - 1) k there can.1 (held_page (cpu_at s.processors c) f r) can.0
-  keeps_by victim (act.Through f r) can = through_kept s c f r k can.tell can.says
-  keeps_by victim (act.Plain r) can = tell_kept s c (process_at s c) None r k can.tell can.says
+  keeps_by victim (act.FillSeg n) can = rw can.number at (fill_seg_kept s c (s.spare - 1) k there can.other can.can)
+  keeps_by victim (act.FillPage f r) can = fill_page_kept s c (s.spare - 1) k there can.1 can.0
+  keeps_by victim (act.Through f r) can = through_kept f r k can.tell can.says
+  keeps_by victim (act.Plain r) can = tell_kept k can.tell can.says
   keeps_by victim act.TakeSupervisor can =
-      owner_kept s (Some (looking c)) k (subst IsIdle (sym can.0) nobody) (looks_idle c) (ap is_pending can.0)
+      owner_kept k (subst IsIdle (sym can.0) nobody) (looks_idle c) (ap is_pending can.0)
       (λ q h. (rw (ap (λ (x : Owner). x.cpu) (let is : looking c ≡ q = cc in is)) at can.1))
-  keeps_by victim (act.Answer r) can =
-      owner_kept (told s c None r) None (tell_kept s c (process_at s c) None r k can.asks.tell can.asks.says)
+  keeps_by victim (act.Answer r) can = owner_kept (tell_kept k can.asks.tell can.asks.says)
       (look_idle can.looking) nobody (look_still can.looking) (λ q h. cc)
-  keeps_by victim act.GiveUp can = owner_kept s None k (look_idle can.looking) nobody (look_still can.looking)
-      (λ q h. cc)
+  keeps_by victim act.GiveUp can = owner_kept k (look_idle can.looking) nobody (look_still can.looking) (λ q h. cc)
   keeps_by victim (act.Activate u place) can =
-      activate_kept s u place k can.asks.may can.asks.free can.asks.within can.asks.says
+      activate_kept place k can.asks.may can.asks.free can.asks.within can.asks.says
   keeps_by victim (act.Connect n u) can =
-      connect_kept s c n u k can.asks.can can.asks.outer can.asks.inner can.asks.active can.asks.says
+      connect_kept c k can.asks.can can.asks.outer can.asks.inner can.asks.active can.asks.says
   keeps_by victim (act.Create f u p r) can = create_done f u p r can
   keeps_by victim (act.Start f u p) can = start_done f u p can
   keeps_by victim (act.Evict f) can = let bound = choice_bound s.store.pages.core f can.look in
-      let l = can.looking in evict_kept s c f bound.0.0 bound.0.1 l.owner.owner k l.owner.mine l.owner.same
+      let l = can.looking in evict_kept f bound.0.0 bound.0.1 k l.owner.mine l.owner.same
       (look_idle l) bound.1 can.asks
   keeps_by victim (act.Empty u) can = empty_done u can.looking can.asks
   keeps_by victim (act.EmptyVictim pool chain u) can = victim pool chain u can
   keeps_by victim (act.TakeAway fs pairs w) can =
-      took_kept s c aim.Committing w fs pairs k can.can (owns_here can.owner) (works_here can.owner) can.says
+      took_kept c k can.can (owns_here can.owner) (works_here can.owner) can.says
   keeps_by victim (act.BeginMove u volume) can = begun_kept s c k (look_idle can.looking) (look_still can.looking)
       (works_here can.looking.owner) u volume can.asks
   keeps_by victim (act.CopyPage m p) can = by_end Keeps o _ _
-      (λ e. (let w = can.1.well e in copied_kept s c k (move_idle m can.0) (move_still m can.0)
+      (λ e. (let w = can.1.well e in copied_kept s c k (move_idle can.0) (move_still can.0)
       (works_here can.0.owner) m p o.faults w.0 w.1))
-      (λ e. (let i = can.1.ill e in copy_failed_kept s c o.faults k (move_idle m can.0) (move_still m can.0) i.rose
+      (λ e. (let i = can.1.ill e in copy_failed_kept o.faults k (move_idle can.0) (move_still can.0) i.rose
       i.may i.tell i.says))
-  keeps_by victim (act.CommitMove m) can = moved_kept s c m k (move_idle m can.0) (move_still m can.0)
+  keeps_by victim (act.CommitMove m) can = moved_kept s c m k (move_idle can.0) (move_still can.0)
       (works_here can.0.owner) can.1.may can.1.rehomes can.1.says
-  keeps_by victim (act.Signal w) can =
-      signal_kept s c can.owner.owner can.aim w k can.owner.mine can.owner.same can.taken
+  keeps_by victim (act.Signal w) can = signal_kept can.aim w k can.owner.mine can.owner.same can.taken
   keeps_by victim (act.FinishEviction f) can = evict_done f can
   keeps_by victim (act.FinishPage f) can = page_leaves f can
-  keeps_by victim (act.Deactivate u) can = let m = can.waited.owner in emptied_kept s c u m.owner k m.mine m.same
-      (segs_are_gone s (cut_of_owner s.owner) k.book (empties_goes u can.what [] can.waited can.frames))
-      can.asks.may can.asks.says
+  keeps_by victim (act.Deactivate u) can = let m = can.waited.owner in emptied_kept k m.mine m.same
+      (segs_are_gone s (cut_of_owner s.owner) k.book (empties_goes u can.waited can.frames)) can.asks.may can.asks.says
   keeps_by victim act.Commit can = commit_done can.ready can.its (next_command s (process_at s c)) refl can.asks
   keeps_by victim _ can = k
 
 -- What an action asks is all that it wants to keep the promise.
-pub after_keeps : (s : State) (c : ℕ) (o : Outcome) (a : Action) → Keeps s → c < length s.processors
-    → CanDo s c o a → Keeps (after s c a o)
-after_keeps s c o a k there can = keeps_by s c o k there (λ pool chain u h. empty_done (with_store s
-    (with_hand_moved s.store pool chain)) c o (hand_kept s pool chain k h.asks.says) there u
+pub after_keeps : {s : State} (c : ℕ) (o : Outcome) (a : Action) → Keeps s → c < length s.processors → CanDo s c o a
+    → Keeps (after s c a o)
+after_keeps {s} c o a k there can = keeps_by s c o k there (λ pool chain u h. empty_done (with_store s
+    (with_hand_moved s.store pool chain)) c o (hand_kept pool chain k h.asks.says) there u
     (still_looks h.looking) h.asks.asks) a can
   where
     still_looks : {st : Storage} → IsLooking s c → IsLooking (with_store s st) c

@@ -151,7 +151,7 @@ module _ (s : State) (k : ℕ) (cmd : Command) (keeps : Keeps s) (u volume : ℕ
         ∙ inside.known;
     node = inside.node;
     there = ap (λ (ns : List Node). node_in ns u) (sym keeps.faithful.tree.nodes) ∙ inside.there;
-    permitted = ap (λ (w : Who). permits (access_of w inside.node.rows) r.kind) (who_is s keeps k) ∙ inside.permitted;
+    permitted = ap (λ (w : Who). permits (access_of w inside.node.rows) r.kind) (who_is keeps k) ∙ inside.permitted;
     within = inside.within;
     word = finds.word;
     unstored = sym (keeps.faithful.pages.stored u (r.offset / 1024)) ∙ unstored;
@@ -174,8 +174,8 @@ module _ (s : State) (k : ℕ) (cmd : Command) (keeps : Keeps s) (u volume : ℕ
   moves_for : MovesFor (tables_of s.store) k (mover_to s.store u volume) cmd
   moves_for = record { reference = r; is = finds.finds.is; lacks = lacks; first = first; its = refl }
 
-  pub move_found : (x : Option Command) → x ≡ Some cmd → IsMovedFor s.store k (mover_to s.store u volume) x
-  move_found x next = record {
+  pub move_found : {x : Option Command} → x ≡ Some cmd → IsMovedFor s.store k (mover_to s.store u volume) x
+  move_found next = record {
     moves = rw next moves_for;
     active = active;
     unread = record { none = λ f p. unread_any s.store.pages.core u finds.unread f p };
@@ -242,9 +242,9 @@ Knows s c act.Commit = Commits s c
 Knows s c _ = Unit {0}
 
 -- a command with a reference isn't an end
-reference_more : (cmd : Command) (r : Reference) → reference_of cmd ≡ Some r → is_end cmd ≡ false
-reference_more command.End r h = cc
-reference_more cmd r h = refl
+reference_more : (cmd : Command) {r : Reference} → reference_of cmd ≡ Some r → is_end cmd ≡ false
+reference_more command.End h = cc
+reference_more cmd h = refl
 
 module _ (s : State) (c : ℕ) (o : Outcome) (m : IsMachine s) (there : c < length s.processors) (working : IsWorking s)
   where
@@ -290,13 +290,13 @@ module _ (s : State) (c : ℕ) (o : Outcome) (m : IsMachine s) (there : c < leng
     come_knows other its (Some cmd) e = by (reference_of cmd) refl
       where
         sp : Speaks s c k cmd
-        sp = speaks_of s c k cmd m there its e
+        sp = speaks_of c m there its e
 
         by : (y : Option Reference) → reference_of cmd ≡ y → Knows s c (refer_or_take s p.cpu k y)
         by None i = take_knows s.owner
         by (Some r) i = move_knows (record {
           other = other;
-          one = record { command = cmd; speaks = sp; more = reference_more cmd r i };
+          one = record { command = cmd; speaks = sp; more = reference_more cmd i };
         }) r (move_of s p.cpu k r)
 
     run_knows : IsNoOwner s c → (x : Option ℕ) → p.cpu.process ≡ x → Knows s c (run_process s p x)
@@ -307,7 +307,7 @@ module _ (s : State) (c : ℕ) (o : Outcome) (m : IsMachine s) (there : c < leng
         by (n ∷ ns) = tt
     run_knows other (Some n) e = cond_both (has_had_its_turn p && not (is_empty s.ready)) act.Leave
         (come_to s p.cpu n (next_command s n)) (Knows s c) (λ h. tt)
-        (λ h. (rw (ap or_zero e) at (come_knows other (some_again p.cpu.process n e) (next_command s k) refl)))
+        (λ h. (rw (ap or_zero e) at (come_knows other (some_again e) (next_command s k) refl)))
 
     -- ---- the owner looks
 
@@ -322,7 +322,7 @@ module _ (s : State) (c : ℕ) (o : Outcome) (m : IsMachine s) (there : c < leng
       look_knows (act.Answer r) h = record { command = cmd; speaks = sp; more = refused_more cmd r h.reply h.refuses }
       look_knows (act.Activate u place) h = l
       look_knows (act.Connect n u) h = l
-      look_knows (act.Create f u q r) h = record { command = cmd; speaks = sp; more = reference_more cmd r h.finds.is }
+      look_knows (act.Create f u q r) h = record { command = cmd; speaks = sp; more = reference_more cmd h.finds.is }
       look_knows (act.Evict f) h = looks h
       look_knows (act.Empty u) h = looks h
       look_knows (act.EmptyVictim pool chain u) h = looks h
@@ -338,16 +338,14 @@ module _ (s : State) (c : ℕ) (o : Outcome) (m : IsMachine s) (there : c < leng
         command = cmd;
         speaks = sp;
         tree = h.tree;
-        taken = look_taken s c k cmd what.All [] [] m.keeps idle h (takes_none s k m.keeps idle what.All);
+        taken = look_taken c m.keeps idle h (takes_none s k m.keeps idle what.All);
         out = h.inactive;
       }
       look_knows (act.Start f u q) h = (cmd, sp, h)
       look_knows (act.BeginMove u volume) h = record {
         looking = l;
-        fails = rw sp.next (page_fails s k cmd m.keeps u (h.reference.offset / 1024) (inl (h.reference, h.finds)));
-        moves = move_found s k cmd m.keeps u volume h
-            (page_active s c o m idle cmd sp h.reference u (h.reference.offset / 1024) h.finds)
-            (next_command s k) sp.next;
+        fails = rw sp.next (page_fails k cmd m.keeps u (h.reference.offset / 1024) (inl (h.reference, h.finds)));
+        moves = move_found s k cmd m.keeps u volume h (page_active s c o m idle cmd sp h.finds) sp.next;
       }
       look_knows (act.Waits (ForTransfer f)) h = tt
       look_knows act.GiveUp h = tt
@@ -361,8 +359,7 @@ module _ (s : State) (c : ℕ) (o : Outcome) (m : IsMachine s) (there : c < leng
     fails_knows q its may = let one = its_command its in record {
       command = one.0;
       speaks = one.1;
-      more = fails_more s k (flat_of s) m.keeps.faithful one.0 (subst (MayFailBy s.store k) one.1.next
-          (rw (← q.same) may));
+      more = fails_more s k m.keeps.faithful one.0 (subst (MayFailBy s.store k) one.1.next (rw (← q.same) may));
     }
 
     finish_knows : (q : IsMine s c) → p.cpu.process ≡ Some k → (a : Aim) (w : What) → q.owner.phase ≡ phase.Waiting a w
@@ -408,8 +405,8 @@ module _ (s : State) (c : ℕ) (o : Outcome) (m : IsMachine s) (there : c < leng
         one = fails_knows q its (rw e at (working.fails q.owner q.mine))
 
         by : (y : Option ℕ) → next_out (table_of s.store.ast x.uid) x.next ≡ y → Knows s c (copy_or_commit x y)
-        by (Some n) h = record { moving = moving; one = one; rests = moving_rests s c o m working x moving; next = h }
-        by None h = record { moving = moving; one = one; rests = moving_rests s c o m working x moving; done = h }
+        by (Some n) h = record { moving = moving; one = one; rests = moving_rests c o m working moving; next = h }
+        by None h = record { moving = moving; one = one; rests = moving_rests c o m working moving; done = h }
 
     -- ---- the rules in their order
 

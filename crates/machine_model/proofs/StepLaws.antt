@@ -18,9 +18,9 @@ none_due xs d lt none = false_from_ne_true (runner_at xs d).due (λ h. (let one 
 -- ---- the owner
 
 -- the rule that applies to the owner is its job's
-pub works_rule : (s : Outline) (c : ℕ) (stage : Stage) → IsKept s → IsIn s c stage → rule_of s c ≡ Works
+pub works_rule : {s : Outline} (c : ℕ) (stage : Stage) → IsKept s → IsIn s c stage → rule_of s c ≡ Works
 unfolding rule_of
-works_rule s c stage k owner =
+works_rule {s} c stage k owner =
     let work = k.job.at_work c stage owner in
     let idle : is_some (runner_at s.runners c).reading ≡ false = ap (λ (o : Option Transfer). is_some o) work.idle in
     let own : owns s.owner c ≡ true = ap (λ (o : Option Keeper). owns o c) owner ∙ eqb_self c in
@@ -28,30 +28,30 @@ works_rule s c stage k owner =
 
 -- it is no other rule
 works_only : {s : Outline} {c : ℕ} {stage : Stage} {r : Rule} → IsKept s → IsIn s c stage → rule_of s c ≡ r → Works ≡ r
-works_only {s = s} {c = c} {stage = stage} k owner h = sym (works_rule s c stage k owner) ∙ h
+works_only {s = s} {c = c} {stage = stage} k owner h = sym (works_rule c stage k owner) ∙ h
 
-pub owner_step : (s : Outline) (c : ℕ) (stage : Stage) (turn : Turn) (t : Outline) → IsKept s → IsKept t
+pub owner_step : {s : Outline} {c : ℕ} (stage : Stage) {turn : Turn} {t : Outline} → IsKept s → IsKept t
     → IsIn s c stage → Step s c turn t → OwnerStep turn s t c
-owner_step s c stage turn t k l owner (ends ended) = not_both (k.job.at_work c stage owner).running (ended.running c)
-owner_step s c stage turn t k l owner (comes h) = let no = works_only k owner h in absurd cc
-owner_step s c stage turn t k l owner (clears x h cleared) = let no = works_only k owner h in absurd cc
-owner_step s c stage turn t k l owner (reads r used modified h is) = let no = works_only k owner h in absurd cc
-owner_step s c stage turn t k l owner (loses r x left h is lost fewer) = let no = works_only k owner h in absurd cc
-owner_step s c stage turn t k l owner (works _ h step) =
-    record { rank = job_falls s c t k l step; goes = goes s c t k l step }
-owner_step s c stage turn t k l owner (awaits_clear w d h waiting online due) =
+owner_step {s} {c} stage k l owner (ends ended) = not_both (k.job.at_work c stage owner).running (ended.running c)
+owner_step stage k l owner (comes h) = let no = works_only k owner h in absurd cc
+owner_step stage k l owner (clears x h cleared) = let no = works_only k owner h in absurd cc
+owner_step stage k l owner (reads r used modified h is) = let no = works_only k owner h in absurd cc
+owner_step stage k l owner (loses r x left h is lost fewer) = let no = works_only k owner h in absurd cc
+owner_step {s} {c} stage {turn} {t} k l owner (works _ h step) =
+    record { rank = job_falls k l step; goes = goes s c t k l step }
+owner_step stage k l owner (awaits_clear w d h waiting online due) =
     (refl, record { work = w; waiting = waiting; online = online; due = due })
-owner_step s c stage turn t k l owner (awaits_transfer f uid page h look started) =
+owner_step stage k l owner (awaits_transfer f uid page h look started) =
     (refl, record { uid = uid; page = page; look = look; started = started })
-owner_step s c stage turn t k l owner (loads x h some loaded) = let no = works_only k owner h in absurd cc
-owner_step s c stage turn t k l owner (idles busy h none) = let no = works_only k owner h in absurd cc
-owner_step s c stage turn t k l owner (leaves x h left) = let no = works_only k owner h in absurd cc
-owner_step s c stage turn t k l owner (fills x h filled) = let no = works_only k owner h in absurd cc
-owner_step s c stage turn t k l owner (replies _ h replied) = let no = works_only k owner h in absurd cc
-owner_step s c stage turn t k l owner (faults chain uid page makes h none want lacks) =
+owner_step stage k l owner (loads x h some loaded) = let no = works_only k owner h in absurd cc
+owner_step stage k l owner (idles busy h none) = let no = works_only k owner h in absurd cc
+owner_step stage k l owner (leaves x h left) = let no = works_only k owner h in absurd cc
+owner_step stage k l owner (fills x h filled) = let no = works_only k owner h in absurd cc
+owner_step stage k l owner (replies _ h replied) = let no = works_only k owner h in absurd cc
+owner_step stage k l owner (faults chain uid page makes h none want lacks) =
     let no = works_only k owner h in absurd cc
-owner_step s c stage turn t k l owner (enters h none want) = let no = works_only k owner h in absurd cc
-owner_step s c stage turn t k l owner (waits o h some) = let no = works_only k owner h in absurd cc
+owner_step stage k l owner (enters h none want) = let no = works_only k owner h in absurd cc
+owner_step stage k l owner (waits o h some) = let no = works_only k owner h in absurd cc
 
 -- ---- a processor that is to clear
 
@@ -67,10 +67,10 @@ pub other_than : (s : Outline) (c d : ℕ) (P : Runner → Bool) → P (runner_a
     → P (runner_at s.runners d) ≡ true → c ≢ d
 other_than s c d P out is same = not_both (ap (λ (i : ℕ). P (runner_at s.runners i)) same ∙ is) out
 
-cleared_falls : (s : Outline) (c d : ℕ) (x : Runner) → IsKept s → AwaitsClear s c d
+cleared_falls : {s : Outline} {c d : ℕ} {x : Runner} → IsKept s → AwaitsClear s c d
     → IsCleared (runner_at s.runners d) x
     → (job_rank (with_runner s d x) < job_rank s) × IsUnderWay s (with_runner s d x) c
-cleared_falls s c d x k awaits cleared =
+cleared_falls {s} {c} {d} {x} k awaits cleared =
     let stage = Waiting awaits.work in
     let within = inside s.runners d awaits.online in
     let apart = other_than s c d (λ r. r.due) (k.job.at_work c stage awaits.waiting).clear awaits.due in
@@ -102,24 +102,24 @@ cleared_falls s c d x k awaits cleared =
       },
     )
 
-pub clear_step : (s : Outline) (c d : ℕ) (turn : Turn) (t : Outline) → IsKept s → AwaitsClear s c d → Step s d turn t
+pub clear_step : {s : Outline} {c d : ℕ} {turn : Turn} {t : Outline} → IsKept s → AwaitsClear s c d → Step s d turn t
     → (job_rank t < job_rank s) × IsUnderWay s t c
-clear_step s c d turn t k awaits (ends ended) =
+clear_step {s} {c} k awaits (ends ended) =
     absurd (not_both (k.job.at_work c (Waiting awaits.work) awaits.waiting).running (ended.running c))
-clear_step s c d turn t k awaits (comes h) = let no = clears_only awaits h in absurd cc
-clear_step s c d turn t k awaits (clears x h cleared) = cleared_falls s c d x k awaits cleared
-clear_step s c d turn t k awaits (reads r used modified h is) = let no = clears_only awaits h in absurd cc
-clear_step s c d turn t k awaits (loses r x left h is lost fewer) = let no = clears_only awaits h in absurd cc
-clear_step s c d turn t k awaits (works _ h step) = let no = clears_only awaits h in absurd cc
-clear_step s c d turn t k awaits (awaits_clear w e h waiting online due) = let no = clears_only awaits h in absurd cc
-clear_step s c d turn t k awaits (awaits_transfer f uid page h look started) =
+clear_step k awaits (comes h) = let no = clears_only awaits h in absurd cc
+clear_step {s} {c} {d} k awaits (clears x h cleared) = cleared_falls k awaits cleared
+clear_step k awaits (reads r used modified h is) = let no = clears_only awaits h in absurd cc
+clear_step k awaits (loses r x left h is lost fewer) = let no = clears_only awaits h in absurd cc
+clear_step k awaits (works _ h step) = let no = clears_only awaits h in absurd cc
+clear_step k awaits (awaits_clear w e h waiting online due) = let no = clears_only awaits h in absurd cc
+clear_step k awaits (awaits_transfer f uid page h look started) =
     let no = clears_only awaits h in absurd cc
-clear_step s c d turn t k awaits (loads x h some loaded) = let no = clears_only awaits h in absurd cc
-clear_step s c d turn t k awaits (idles busy h none) = let no = clears_only awaits h in absurd cc
-clear_step s c d turn t k awaits (leaves x h left) = let no = clears_only awaits h in absurd cc
-clear_step s c d turn t k awaits (fills x h filled) = let no = clears_only awaits h in absurd cc
-clear_step s c d turn t k awaits (replies _ h replied) = let no = clears_only awaits h in absurd cc
-clear_step s c d turn t k awaits (faults chain uid page makes h none want lacks) =
+clear_step k awaits (loads x h some loaded) = let no = clears_only awaits h in absurd cc
+clear_step k awaits (idles busy h none) = let no = clears_only awaits h in absurd cc
+clear_step k awaits (leaves x h left) = let no = clears_only awaits h in absurd cc
+clear_step k awaits (fills x h filled) = let no = clears_only awaits h in absurd cc
+clear_step k awaits (replies _ h replied) = let no = clears_only awaits h in absurd cc
+clear_step k awaits (faults chain uid page makes h none want lacks) =
     let no = clears_only awaits h in absurd cc
-clear_step s c d turn t k awaits (enters h none want) = let no = clears_only awaits h in absurd cc
-clear_step s c d turn t k awaits (waits o h some) = let no = clears_only awaits h in absurd cc
+clear_step k awaits (enters h none want) = let no = clears_only awaits h in absurd cc
+clear_step k awaits (waits o h some) = let no = clears_only awaits h in absurd cc

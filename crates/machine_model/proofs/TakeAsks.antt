@@ -8,7 +8,7 @@ module _ (s : State) (k : ℕ) (keeps : Keeps s) (idle : IsIdle s.owner) where
     here = λ f h. cc;
     once = tt;
     named = λ f h. cc;
-    others = idle_names (shown (seen s)) s.owner w keeps.book.going_owned idle.frames idle.cut;
+    others = idle_names w keeps.book.going_owned idle.frames idle.cut;
     still = idle.waits;
     aimed = λ gs ds. tt;
   }
@@ -90,14 +90,14 @@ module _ (s : State) (k : ℕ) (keeps : Keeps s) (idle : IsIdle s.owner) where
     pairs_are = trailers_taken s (what.Seg u) u keeps (eqb_self u);
   }
   command_takes (command.Delete path) = let u = uid_of_command s.store k (command.Delete path) in record {
-    pages = pages_taken s aim.Committing (what.Seg u) u 0 keeps idle (eqb_self u) (λ gs ds. tt);
-    bound = pages_bound s u 0 keeps;
+    pages = pages_taken aim.Committing (what.Seg u) u 0 keeps idle (eqb_self u) (λ gs ds. tt);
+    bound = pages_bound u 0 keeps;
     pairs_are = trailers_taken s (what.Seg u) u keeps (eqb_self u);
   }
   command_takes (command.Truncate path words) = let u = uid_of_command s.store k
       (command.Truncate path words) in record {
-        pages = pages_taken s aim.Committing (what.Seg u) u (words / 1024) keeps idle (eqb_self u) (λ gs ds. tt);
-        bound = pages_bound s u (words / 1024) keeps;
+        pages = pages_taken aim.Committing (what.Seg u) u (words / 1024) keeps idle (eqb_self u) (λ gs ds. tt);
+        bound = pages_bound u (words / 1024) keeps;
         pairs_are = tt;
       }
   command_takes (command.Terminate n) = record {
@@ -114,7 +114,7 @@ module _ (s : State) (k : ℕ) (keeps : Keeps s) (idle : IsIdle s.owner) where
       → Says s c o (act.TakeAway fs pairs w) → AsksTake s c w fs pairs
   take_asks c o cmd w fs pairs finds named says = assumption (
     can,
-    take_away_says s c aim.Committing w fs pairs keeps can.pairs_are o refl says,
+    take_away_says c aim.Committing w fs pairs keeps can.pairs_are refl says,
   )
     where
       can : CanTook s aim.Committing w fs pairs

@@ -41,14 +41,14 @@ dropped_word [] (suc low) q = refl
 dropped_word (w ∷ ws) (suc low) q = dropped_word ws low q ∙ (let same : suc (low + q) ≡ suc low + q = omega arith in cc)
 
 -- the frames of a segment's pages from a number on may be taken
-pub pages_taken : (s : State) (a : Aim) (w : What) (u low : ℕ) → Keeps s → IsIdle s.owner → names_uid w u ≡ true
+pub pages_taken : {s : State} (a : Aim) (w : What) (u low : ℕ) → Keeps s → IsIdle s.owner → names_uid w u ≡ true
     → ((gs : List ℕ) (cs : List CutDescriptor) → IsAimed a w gs cs)
     → CanTakeAll (seen s) a w (frames_from s.store.ast u low)
-pages_taken s a w u low k idle named aimed = record {
+pages_taken {s} a w u low k idle named aimed = record {
   here = λ f h. (rw (bound_at f h) (word_at f h).1);
   once = frames_once (drop low (table_of s.store.ast u)) (λ q r f a b. once q r f a b);
   named = λ f h. frame_named w named f h;
-  others = idle_names (shown (seen s)) s.owner w k.book.going_owned idle.frames idle.cut;
+  others = idle_names w k.book.going_owned idle.frames idle.cut;
   still = idle.waits;
   aimed = aimed;
 }
@@ -73,9 +73,9 @@ pages_taken s a w u low k idle named aimed = record {
     frame_named (what.Seg v) e f h = cc (bound_shown (seen s) f, bound_at f h)
 
 -- a frame that is listed has a page of the segment
-pub listed_bound : (s : State) (u low : ℕ) → Keeps s → (f : ℕ) → has (frames_from s.store.ast u low) f ≡ true
+pub listed_bound : {s : State} (u low : ℕ) → Keeps s → (f : ℕ) → has (frames_from s.store.ast u low) f ≡ true
     → (q : ℕ) × ((seen s).bound f ≡ Some (u, q))
-listed_bound s u low k f h = (
+listed_bound {s} u low k f h = (
   low + at.0,
   k.book.tied.back f u (low + at.0) (cc (dropped_word (table_of s.store.ast u) low at.0, at.1)),
 )
@@ -83,9 +83,9 @@ listed_bound s u low k f h = (
     at : (q : ℕ) × (get_or (drop low (table_of s.store.ast u)) q ptw.Null ≡ ptw.Here f)
     at = frame_word (drop low (table_of s.store.ast u)) f h
 
-pub pages_bound : (s : State) (u low : ℕ) → Keeps s → (f : ℕ) → has (frames_from s.store.ast u low) f ≡ true
+pub pages_bound : {s : State} (u low : ℕ) → Keeps s → (f : ℕ) → has (frames_from s.store.ast u low) f ≡ true
     → (seen s).bound f ≡ Some (page_at (seen s) f)
-pages_bound s u low k f h = let is = (listed_bound s u low k f h).1 in cc
+pages_bound {s} u low k f h = let is = (listed_bound u low k f h).1 in cc
 
 -- ---- descriptors
 
@@ -111,12 +111,12 @@ own_trailer : (x : ℕ × ℕ) → is_trailer x.0 x.1 x ≡ true
 own_trailer x = rw (eqb_self x.0, eqb_self x.1) refl
 
 -- descriptors that are each counted at most as often as they lead to a place lead there, and are each listed once
-pairs_of : (s : State) (w : What) (u place : ℕ) → uid_at s.store.ast.entries place ≡ Some u → names_uid w u ≡ true
+pairs_of : (s : State) (w : What) {u : ℕ} (place : ℕ) → uid_at s.store.ast.entries place ≡ Some u → names_uid w u ≡ true
     → (xs : List (ℕ × ℕ))
     → ((k n : ℕ) → count_by (is_trailer k n) xs ≤ times (leads_at s.store.links.descriptors k n) place)
     → ArePairs (seen s).linked w xs
-pairs_of s w u place active named [] few = tt
-pairs_of s w u place active named (x ∷ xs) few = (
+pairs_of s w place active named [] few = tt
+pairs_of s w {u} place active named (x ∷ xs) few = (
   (u, linked (descriptor_of s.store.links x.0 x.1) refl, named),
   no_pair xs x.0 x.1 (omega (
     arith,
@@ -125,7 +125,7 @@ pairs_of s w u place active named (x ∷ xs) few = (
     sum x.0 x.1,
     one,
   )),
-  pairs_of s w u place active named xs (λ k n. (let c = sum k n in omega (arith, (few k n), c))),
+  pairs_of s w place active named xs (λ k n. (let c = sum k n in omega (arith, (few k n), c))),
 )
   where
     sum : (k n : ℕ) → count_by (is_trailer k n) (x ∷ xs) ≡ tally (is_trailer k n x) + count_by (is_trailer k n) xs
@@ -149,16 +149,16 @@ trailers_taken s w u k named = by (is_active s.store.ast u) refl
     by : (b : Bool) → is_active s.store.ast u ≡ b
         → ArePairs (seen s).linked w (cond b (trailers_of s.store.links.trailers (place_of s.store.ast.entries u)) [])
     by false e = tt
-    by true e = pairs_of s w u (place_of s.store.ast.entries u) (active_place s.store.ast u e).1 named
+    by true e = pairs_of s w (place_of s.store.ast.entries u) (active_place s.store.ast u e).1 named
         (trailers_of s.store.links.trailers (place_of s.store.ast.entries u))
         (λ j n. (omega (arith, k.store.kept.linked.exact (place_of s.store.ast.entries u) j n)))
 
 -- What a job takes of a segment: its pages that are here, from a number on, and its descriptors.
-pub segment_takes : (s : State) (a : Aim) (w : What) (u low : ℕ) → Keeps s → IsIdle s.owner → names_uid w u ≡ true
+pub segment_takes : {s : State} (a : Aim) (w : What) (u low : ℕ) → Keeps s → IsIdle s.owner → names_uid w u ≡ true
     → ((gs : List ℕ) (cs : List CutDescriptor) → IsAimed a w gs cs)
     → CanTook s a w (frames_from s.store.ast u low) (trailers_in s.store u)
-segment_takes s a w u low k idle named aimed = assumption (
-  pages_taken s a w u low k idle named aimed,
-  pages_bound s u low k,
+segment_takes {s} a w u low k idle named aimed = assumption (
+  pages_taken a w u low k idle named aimed,
+  pages_bound u low k,
   trailers_taken s w u k named,
 )

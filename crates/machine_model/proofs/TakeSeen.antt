@@ -19,9 +19,9 @@ pub words_put : (ast : ActiveSegs) (u p : ℕ) (w : Ptw) → length ast.tables �
 words_put ast u p w tables some = let within = word_within ast u p some in
     word_put ast u p w (rw (← tables) within.0) within.0 within.1
 
-pub not_null : (w x : Ptw) (f : ℕ) → w ≡ x → (x ≡ ptw.Here f) ⊎ (x ≡ ptw.Leaving f) → w ≢ ptw.Null
-not_null w x f e (inl h) n = let no = sym h ∙ (sym e ∙ n) in cc
-not_null w x f e (inr h) n = let no = sym h ∙ (sym e ∙ n) in cc
+pub not_null : {w x : Ptw} (f : ℕ) → w ≡ x → (x ≡ ptw.Here f) ⊎ (x ≡ ptw.Leaving f) → w ≢ ptw.Null
+not_null f e (inl h) n = let no = sym h ∙ (sym e ∙ n) in cc
+not_null f e (inr h) n = let no = sym h ∙ (sym e ∙ n) in cc
 
 pub take_one_seen : (s : State) (c : ℕ) (a : Aim) (w : What) (f u p : ℕ) → HasTables s → (seen s).bound f ≡ Some (u, p)
     → (seen s).words u p ≡ ptw.Here f → seen (take_one s c a w f) ≡ taken (seen s) c a w f u p
@@ -33,8 +33,7 @@ take_one_seen s c a w f u p tables bound here = cc (binding_is s f, bound, words
       entries = s.entries ++ entry.Take f ∷ [];
     }) ≡ taken (seen s) c a w f u p
     words = λ i. record (taken (seen s) c a w f u p) {
-      words = λ v q. words_put s.store.ast u p (ptw.Leaving f) tables
-          (not_null (word_of s.store.ast u p) (ptw.Here f) f here (inl refl)) v q i;
+      words = λ v q. words_put s.store.ast u p (ptw.Leaving f) tables (not_null f here (inl refl)) v q i;
     }
 
 -- the tables are as many after a word has changed
@@ -77,8 +76,9 @@ take_all_seen s c a w (f ∷ fs) tables here bound once = cc (
 -- ---- descriptors
 
 -- the place that a descriptor leads to, where it leads to a segment
-pub led_place : (s : State) (k n u : ℕ) → (seen s).linked k n ≡ Some u → descriptor_of s.store.links k n ≢ sdw.Fault
-led_place s k n u h e = none_some (sym (cc) ∙ h)
+pub led_place : (s : State) (k n : ℕ) {u : ℕ} → (seen s).linked k n ≡ Some u
+    → descriptor_of s.store.links k n ≢ sdw.Fault
+led_place s k n h e = none_some (sym (cc) ∙ h)
 
 -- a descriptor that leads somewhere is in its lists
 pub linked_within : (links : Links) (k n : ℕ) → descriptor_of links k n ≢ sdw.Fault
@@ -104,14 +104,15 @@ pub descriptors_put : (links : Links) (trailers : List (List (ℕ × ℕ))) (k n
     }) i j ≡ at_put_two (λ a b. descriptor_of links a b) k n x i j
 descriptors_put links trailers k n x outer inner i j = put_lists links.descriptors k n x sdw.Fault i j outer inner
 
-pub cut_one_seen : (s : State) (c : ℕ) (a : Aim) (w : What) (pair : ℕ × ℕ) (u : ℕ)
-    → (seen s).linked pair.0 pair.1 ≡ Some u → seen (cut_one s c a w pair) ≡ cut (seen s) c a w
+pub cut_one_seen : (s : State) (c : ℕ) (a : Aim) (w : What) (pair : ℕ × ℕ) {u : ℕ}
+    → (seen s).linked pair.0 pair.1 ≡ Some u
+    → seen (cut_one s c a w pair) ≡ cut (seen s) c a w
     (note_of s.store pair.0 pair.1 (descriptor_of s.store.links pair.0 pair.1))
-cut_one_seen s c a w pair u linked = by (descriptor_of s.store.links pair.0 pair.1) refl
+cut_one_seen s c a w pair {u} linked = by (descriptor_of s.store.links pair.0 pair.1) refl
   where
     by : (x : Sdw) → descriptor_of s.store.links pair.0 pair.1 ≡ x
         → seen (cut_one s c a w pair) ≡ cut (seen s) c a w (note_of s.store pair.0 pair.1 x)
-    by sdw.Fault e = absurd (led_place s pair.0 pair.1 u linked e)
+    by sdw.Fault e = absurd (led_place s pair.0 pair.1 linked e)
     by (sdw.Present aste m pages) e = cc (e, links)
       where
         links : seen (record s {
@@ -128,4 +129,4 @@ cut_one_seen s c a w pair u linked = by (descriptor_of s.store.links pair.0 pair
           where
             within : (pair.0 < length s.store.links.descriptors) ×
                 (pair.1 < length (sdws_at s.store.links.descriptors pair.0))
-            within = linked_within s.store.links pair.0 pair.1 (led_place s pair.0 pair.1 u linked)
+            within = linked_within s.store.links pair.0 pair.1 (led_place s pair.0 pair.1 linked)

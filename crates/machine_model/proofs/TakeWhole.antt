@@ -28,9 +28,9 @@ some_pair (x ∷ xs) k n h = by (is_trailer k n x) refl (some_pair xs k n)
     by false e rest = rest (omega (arith, (ap tally e), h, (sum_by-cons (λ y. tally (is_trailer k n y)) x xs)))
 
 -- each descriptor that leads to a segment is one of its trailers
-pub trailer_listed : (s : State) (u k n : ℕ) → Keeps s → is_active s.store.ast u ≡ true → (seen s).linked k n ≡ Some u
-    → has_pair (trailers_in s.store u) k n ≡ true
-trailer_listed s u k n keeps active linked = cc (some_pair (trailers_of s.store.links.trailers place) k n
+pub trailer_listed : {s : State} {u : ℕ} (k n : ℕ) → Keeps s → is_active s.store.ast u ≡ true
+    → (seen s).linked k n ≡ Some u → has_pair (trailers_in s.store u) k n ≡ true
+trailer_listed {s} {u} k n keeps active linked = cc (some_pair (trailers_of s.store.links.trailers place) k n
     (omega (arith, (keeps.store.kept.linked.exact place k n), once)))
   where
     place : ℕ
@@ -127,10 +127,10 @@ cut_frames s c a w (x ∷ xs) = cut_frames (cut_one s c a w x) c a w xs
 
 -- a descriptor that still leads to a segment led there before
 pub cut_linked : (s : State) (c : ℕ) (a : Aim) (w : What) (xs : List (ℕ × ℕ)) → ArePairs (seen s).linked w xs
-    → (k n u : ℕ) → (seen (cut_all s c a w xs)).linked k n ≡ Some u → (seen s).linked k n ≡ Some u
-cut_linked s c a w [] are k n u h = h
-cut_linked s c a w (x ∷ xs) are k n u h = linked_before s c a w x are.0.0 are.0.1 k n u
-    (cut_linked (cut_one s c a w x) c a w xs (pairs_left s c a w x xs are) k n u h)
+    → (k n : ℕ) {u : ℕ} → (seen (cut_all s c a w xs)).linked k n ≡ Some u → (seen s).linked k n ≡ Some u
+cut_linked s c a w [] are k n h = h
+cut_linked s c a w (x ∷ xs) are k n {u} h = linked_before s c a w x are.0.1 k n
+    (cut_linked (cut_one s c a w x) c a w xs (pairs_left s c a w x xs are) k n h)
 
 -- so it is once pages and descriptors are taken
 pub take_linked : (s : State) (c : ℕ) (a : Aim) (w : What) (fs : List ℕ)
@@ -138,19 +138,19 @@ pub take_linked : (s : State) (c : ℕ) (a : Aim) (w : What) (fs : List ℕ)
 take_linked s c a w fs = let rest = take_rest s c a w fs in λ i j n. led_to (rest.2 i) (descriptor_of (rest.1 i) j n)
 
 pub took_linked : (s : State) (c : ℕ) (a : Aim) (w : What) (fs : List ℕ) (xs : List (ℕ × ℕ))
-    → ArePairs (seen s).linked w xs → (k n u : ℕ) → (seen (took s c a w fs xs)).linked k n ≡ Some u
+    → ArePairs (seen s).linked w xs → (k n : ℕ) {u : ℕ} → (seen (took s c a w fs xs)).linked k n ≡ Some u
     → (seen s).linked k n ≡ Some u
-took_linked s c a w fs xs are k n u h = let mid = sym (take_linked s c a w fs) in
-    cc (cut_linked (take_all s c a w fs) c a w xs (rw (← mid) are) k n u h)
+took_linked s c a w fs xs are k n {u} h = let mid = sym (take_linked s c a w fs) in
+    cc (cut_linked (take_all s c a w fs) c a w xs (rw (← mid) are) k n h)
 
 -- ---- it is taken whole
 
 -- A job that makes an active segment inactive, none of whose pages is being read, takes it whole.
-pub took_whole : (s : State) (c u : ℕ) → Keeps s → IsIdle s.owner → is_active s.store.ast u ≡ true
+pub took_whole : {s : State} (c u : ℕ) → Keeps s → IsIdle s.owner → is_active s.store.ast u ≡ true
     → ((f p : ℕ) → (seen s).reads f ≢ Some (u, p))
-    → IsWhole (shown (seen (took s c (aim.Deactivating u) (what.Seg u) (frames_from s.store.ast u 0)
-    (trailers_in s.store u)))) u
-took_whole s c u k idle active unread = record { pages = pages; descriptors = descriptors }
+    → IsWhole
+    (shown (seen (took s c (aim.Deactivating u) (what.Seg u) (frames_from s.store.ast u 0) (trailers_in s.store u)))) u
+took_whole {s} c u k idle active unread = record { pages = pages; descriptors = descriptors }
   where
     a : Aim
     a = aim.Deactivating u
@@ -171,10 +171,10 @@ took_whole s c u k idle active unread = record { pages = pages; descriptors = de
     now = took s c a w fs xs
 
     can : CanTook s a w fs xs
-    can = segment_takes s a w u 0 k idle (eqb_self u) (λ gs cs. refl)
+    can = segment_takes a w u 0 k idle (eqb_self u) (λ gs cs. refl)
 
     book : KeepsBook (seen now)
-    book = (took_keeps s c a w fs xs k.store.kept.places k.book can).book
+    book = (took_keeps c k.store.kept.places k.book can).book
 
     frame_here : (f p : ℕ) (y : Ptw) → (seen s).bound f ≡ Some (u, p) → (seen s).words u p ≡ y → names y ≡ Some f
         → has fs f ≡ true
@@ -211,8 +211,8 @@ took_whole s c u k idle active unread = record { pages = pages; descriptors = de
             → leads_to (descriptor_use x y) ≡ Some u → is_going_descriptor ((shown (seen now)).descriptor j n) ≡ true
         by None None e d g = absurd (none_some g)
         by None (Some v) e d g = λ i. is_going_descriptor (descriptor_use (e i) (d i))
-        by (Some v) y e d g = book.going_owned.cuts j n ∙ cut_has mid c a w xs j n (inr (trailer_listed s u j n k active
-            (took_linked s c a w fs xs can.pairs_are j n u (e ∙ ap (λ (x : ℕ). Some x) (some_same v u g)))))
+        by (Some v) y e d g = book.going_owned.cuts j n ∙ cut_has mid c a w xs j n (inr (trailer_listed j n k active
+            (took_linked s c a w fs xs can.pairs_are j n (e ∙ ap (λ (x : ℕ). Some x) (some_same v u g)))))
 
 -- where there is nothing to take, a segment is whole already
 pub nothing_whole : (s : State) (c u : ℕ) → Keeps s → IsIdle s.owner → is_active s.store.ast u ≡ true
@@ -220,7 +220,7 @@ pub nothing_whole : (s : State) (c u : ℕ) → Keeps s → IsIdle s.owner → i
     → IsWhole (shown (seen s)) u
 nothing_whole s c u k idle active unread frames trailers = rw trailers at (subst
     (λ (fs : List ℕ). IsWhole (shown (seen (took s c (aim.Deactivating u) (what.Seg u) fs (trailers_in s.store u))))
-    u) frames (took_whole s c u k idle active unread))
+    u) frames (took_whole c u k idle active unread))
 
 -- ---- the step
 
@@ -235,10 +235,10 @@ cut_goes s c a w [] = inl refl
 cut_goes s c a w (x ∷ xs) = elim (cut_goes (cut_one s c a w x) c a w xs) [ inl e ↦ inr e | inr e ↦ inr e ]
 
 -- What goes of a segment that a job begins to make inactive is all of it.
-pub begun_whole : (s : State) (c u : ℕ) → Keeps s → IsIdle s.owner → going_for s.owner ≡ None
+pub begun_whole : {s : State} (c u : ℕ) → Keeps s → IsIdle s.owner → going_for s.owner ≡ None
     → is_active s.store.ast u ≡ true → ((f p : ℕ) → (seen s).reads f ≢ Some (u, p))
     → TakenWhole (deactivation_begun s c u)
-begun_whole s c u k idle none active unread = by (frames_from s.store.ast u 0) (trailers_in s.store u) whole
+begun_whole {s} c u k idle none active unread = by (frames_from s.store.ast u 0) (trailers_in s.store u) whole
   where
     a : Aim
     a = aim.Deactivating u
@@ -259,7 +259,7 @@ begun_whole s c u k idle none active unread = by (frames_from s.store.ast u 0) (
     whole = record {
       whole = λ v h. elim goes [
         | inl e ↦ absurd (none_some (sym e ∙ h))
-        | inr e ↦ rw (← (some_same u v (sym e ∙ h))) (took_whole s c u k idle active unread)
+        | inr e ↦ rw (← (some_same u v (sym e ∙ h))) (took_whole c u k idle active unread)
       ];
     }
 

@@ -10,14 +10,14 @@ tries_alike : (q r : Progress) (c : Command) (x : Reply) → q.tries ≡ r.tries
 tries_alike q r (command.Await number offset word tries) (reply.Word w) same = rw same refl
 tries_alike q r _ _ same = refl
 
-pub tries_of_run : (q : Progress) (run : Run) (c : Option Command) (x : Reply) → IsRun q run → (s : Store) (k : ℕ)
+pub tries_of_run : {q : Progress} {run : Run} (c : Option Command) (x : Reply) → IsRun q run → (s : Store) (k : ℕ)
     → progress_of s k ≡ q → is_try s k c x ≡ goes_on run c x
-tries_of_run q run None x is s k e = refl
-tries_of_run q run (Some c) x is s k e = cc (tries_alike q (progress_of_run run) c x is.tries)
+tries_of_run None x is s k e = refl
+tries_of_run {q} {run} (Some c) x is s k e = cc (tries_alike q (progress_of_run run) c x is.tries)
 
-pub run_is : (q : Progress) (run : Run) (c : Command) (x : Reply) → IsRun q run
+pub run_is : {q : Progress} {run : Run} (c : Command) (x : Reply) → IsRun q run
     → IsRun (gone_on q c x) (run_after run (Some c) x)
-run_is q run c x is = by (tries_on q c x) (goes_on run (Some c) x) (tries_alike q (progress_of_run run) c x is.tries)
+run_is {q} {run} c x is = by (tries_on q c x) (goes_on run (Some c) x) (tries_alike q (progress_of_run run) c x is.tries)
   where
     by : (a b : Bool) → a ≡ b → IsRun (cond a (record q { tries = q.tries + 1; faulted = false })
         (record { place = q.place + 1; tries = 0; ended = is_end c; faulted = false }))
@@ -52,11 +52,7 @@ module _ (s : State) (c k : ℕ) (f : Option ℕ) (r : Reply) (book : KeepsBook 
       now = counted (processor_at s.processors c) (goes_on (run_at s.runs k) (next_command s k) r)
 
       tried : is_try (flat_of s) k (next_of s.plan (flat_of s) k) r ≡ goes_on (run_at s.runs k) (next_command s k) r
-      tried = cc (
-        next_same,
-        tries_of_run (progress_of (flat_of s) k) (run_at s.runs k) (next_command s k) r
-            (book.runs k) (flat_of s) k refl,
-      )
+      tried = cc (next_same, tries_of_run (next_command s k) r (book.runs k) (flat_of s) k refl)
 
 -- The next command of a process may be answered so at a processor: the flat store and custody allow it.
 pub record CanTell (s : State) (c k : ℕ) (f : Option ℕ) (r : Reply) : Type 0 where
@@ -70,13 +66,13 @@ pub record CanTell (s : State) (c k : ℕ) (f : Option ℕ) (r : Reply) : Type 0
 pub told_keeps : {s : State} {c k : ℕ} {f : Option ℕ} {r : Reply} → KeepsBook (seen s) → CanTell s c k f r
     → KeepsBook (seen (told_by s c k f r))
 told_keeps {s} {c} {k} {f} {r} book can = subst KeepsBook (sym (told_seen s c k f r book can.there can.known))
-    (answer_keeps (seen s) c k (run_at s.runs k).place f r (run_after (run_at s.runs k) (next_command s k) r) book
+    (answer_keeps c k (run_at s.runs k).place f r (run_after (run_at s.runs k) (next_command s k) r) book
     (record {
       command = can.command;
       there = can.next;
       lawful = can.lawful;
       allowed = can.allowed;
-      come = rw can.next (run_is (progress_of (flat_of s) k) (run_at s.runs k) can.command r (book.runs k));
+      come = rw can.next (run_is can.command r (book.runs k));
     }))
 
 -- ---- the whole promise, after an answer
@@ -94,9 +90,9 @@ works_counted ps c tried d there w = subst IsAtWork
       | inr n ↦ rw n.0 w
     ])
 
-pub tell_kept : (s : State) (c k : ℕ) (f : Option ℕ) (r : Reply) → Keeps s → CanTell s c k f r
+pub tell_kept : {s : State} {c k : ℕ} {f : Option ℕ} {r : Reply} → Keeps s → CanTell s c k f r
     → StoreSays (told_by s c k f r) → Keeps (told_by s c k f r)
-tell_kept s c k f r keeps can says = record {
+tell_kept {s} {c} {k} {f} {r} keeps can says = record {
   book = told_keeps keeps.book can;
   store = says.store;
   faithful = says.faithful;
@@ -116,10 +112,10 @@ tell_kept s c k f r keeps can says = record {
 -- ---- the owner
 
 -- the supervisor is taken by a processor at work, or given up, where nothing goes
-pub owner_kept : (s : State) (owner : Option Owner) → Keeps s → IsIdle s.owner → IsIdle owner
+pub owner_kept : {s : State} {owner : Option Owner} → Keeps s → IsIdle s.owner → IsIdle owner
     → is_pending s.owner ≡ is_pending owner
     → ((o : Owner) → owner ≡ Some o → IsAtWork (processor_at s.processors o.cpu)) → Keeps (with_owner s owner)
-owner_kept s owner k was now pending works = record {
+owner_kept {s} {owner} k was now pending works = record {
   book = owner_keeps k.book was now pending;
   store = k.store;
   faithful = k.faithful;

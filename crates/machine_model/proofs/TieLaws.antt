@@ -25,7 +25,7 @@ pub bound_used : (page : ℕ × ℕ) (w : Ptw) → bound_page (bound_use page w)
 bound_used page ptw.Null = refl
 bound_used page _ = refl
 
-module _ (bound reads : ℕ → Option (ℕ × ℕ)) (words : ℕ → ℕ → Ptw) (t : IsTied bound reads words) (f u p : ℕ) where
+module _ {bound reads : ℕ → Option (ℕ × ℕ)} {words : ℕ → ℕ → Ptw} (t : IsTied bound reads words) (f u p : ℕ) where
   -- the word of a page in a frame changes, and names the frame still
   pub tied_word : (w : Ptw) → names (words u p) ≡ Some f → names w ≡ Some f
       → IsTied bound reads (at_put_two words u p w)
@@ -117,9 +117,9 @@ module _ (bound reads : ℕ → Option (ℕ × ℕ)) (words : ℕ → ℕ → Pt
   -- ---- what frames are used for
 
   -- a frame that is bound to a page, by the word of that
-  pub use_bound : (w : Ptw) → bound f ≡ Some (u, p) → words u p ≡ w
+  pub use_bound : {w : Ptw} → bound f ≡ Some (u, p) → words u p ≡ w
       → frame_use words (bound f) (reads f) ≡ bound_use (u, p) w
-  use_bound w is word = cc
+  use_bound is word = cc
 
   -- a frame is used as before where the word of a page changes that isn't the frame's
   use_elsewhere : (w : Ptw) (g : ℕ) → ((v q : ℕ) → bound g ≡ Some (v, q) → v ≡ u → q ≡ p → ⊥)

@@ -5,9 +5,9 @@ use Rattle.machine_model.proofs.MoveSeen.{brought_seen, lose_seen, start_seen}
 -- ---- what is put together
 
 -- the book tells no failure more
-pub quiet_faults : (s : State) (e : Entry) (faults : ℕ) → Keeps s → is_fault e ≡ false → s.faults ≤ faults
+pub quiet_faults : {s : State} (e : Entry) (faults : ℕ) → Keeps s → is_fault e ≡ false → s.faults ≤ faults
     → min (count_by is_fault (s.entries ++ e ∷ [])) (2 ^ 63) ≤ faults
-quiet_faults s e faults k quiet rose = let none = ap {B = ℕ} (λ (b : Bool). cond b 1 0) quiet in
+quiet_faults {s} e faults k quiet rose = let none = ap {B = ℕ} (λ (b : Bool). cond b 1 0) quiet in
     omega (arith, (faults_push s.entries e))
 
 -- a machine that keeps what its book says, with what the store says of it, keeps the whole promise
@@ -18,9 +18,9 @@ pub kept_with : (now : State) → KeepsBook (seen now) → StoreSays now
 kept_with now book says few processors processes works = assumption few
 
 -- the owner is at work still where another processor changes
-pub works_elsewhere : (s : State) (c : ℕ) (p : Processor) → Keeps s → IsNoOwner s c → (o : Owner) → s.owner ≡ Some o
+pub works_elsewhere : {s : State} (c : ℕ) (p : Processor) → Keeps s → IsNoOwner s c → (o : Owner) → s.owner ≡ Some o
     → IsAtWork (processor_at (set s.processors c p) o.cpu)
-works_elsewhere s c p k other o h = subst IsAtWork
+works_elsewhere {s} c p k other o h = subst IsAtWork
     (sym (get_or-set_other s.processors c o.cpu p no_processor (other o h))) (k.at_work o h)
 
 -- ---- the end of a transfer
@@ -59,9 +59,9 @@ module _ (s : State) (c : ℕ) (t : Transfer) (k : Keeps s)
       → Keeps (transferred (with_faults s faults) c t)
   transferred_kept faults rose says = kept_with (transferred (with_faults s faults) c t)
       (subst KeepsBook (sym (brought_seen s c t k.store.kept.places reader_there read_within
-      (k.book.tied.out t.frame t.uid t.page read_frame))) (end_keeps (seen s) c t k.book mine read_active)) says
-      (quiet_faults s (entry.Here t.frame t.uid t.page) faults k refl rose)
-      (length-set s.processors c _ ∙ k.sizes.processors) k.sizes.processes (works_elsewhere s c _ k reader_no_owner)
+      (k.book.tied.out t.frame t.uid t.page read_frame))) (end_keeps c k.book mine read_active)) says
+      (quiet_faults (entry.Here t.frame t.uid t.page) faults k refl rose)
+      (length-set s.processors c _ ∙ k.sizes.processors) k.sizes.processes (works_elsewhere c _ k reader_no_owner)
 
   -- it failed: the frame is free, and the failure is told
   abbrev lost_state : ℕ → State
@@ -73,10 +73,10 @@ module _ (s : State) (c : ℕ) (t : Transfer) (k : Keeps s)
   failed_kept faults rose may can says = kept_with (transfer_failed s c t faults) (told_keeps
       (fault_keeps (seen (frame_lost s c t)) (Some (process_at s c))
       (subst KeepsBook (sym (lose_seen s c t reader_there read_within
-      (k.book.tied.unbound t.frame t.uid t.page read_frame))) (lose_keeps (seen s) c t k.book mine)) may) can) says
+      (k.book.tied.unbound t.frame t.uid t.page read_frame))) (lose_keeps c k.book mine)) may) can) says
       few (length-set lost_ps c _ ∙ (length-set s.processors c _ ∙ k.sizes.processors))
       (length-set s.runs (process_at (lost_state faults) c) _ ∙ k.sizes.processes)
-      (λ o h. works_counted lost_ps c _ o.cpu can.there (works_elsewhere s c _ k reader_no_owner o h))
+      (λ o h. works_counted lost_ps c _ o.cpu can.there (works_elsewhere c _ k reader_no_owner o h))
     where
       lost_ps : List Processor
       lost_ps = (frame_lost s c t).processors
@@ -95,11 +95,11 @@ module _ (s : State) (c : ℕ) (t : Transfer) (k : Keeps s)
 
 -- ---- a transfer begins
 
-pub started_kept : (s : State) (c f u p : ℕ) → Keeps s → c < length s.processors → f < length s.store.pages.core.frames
+pub started_kept : {s : State} (c f u p : ℕ) → Keeps s → c < length s.processors → f < length s.store.pages.core.frames
     → CanStart (seen s) c (record { frame = f; uid = u; page = p }) → IsIdle s.owner → is_pending s.owner ≡ false
     → StoreSays (started s c f u p) → Keeps (started s c f u p)
-started_kept s c f u p k there within can idle still says = kept_with (started s c f u p)
+started_kept {s} c f u p k there within can idle still says = kept_with (started s c f u p)
     (subst KeepsBook (sym (start_seen s c (record { frame = f; uid = u; page = p }) None there within can.unbound))
-    (owner_keeps (start_keeps (seen s) c (record { frame = f; uid = u; page = p }) k.book can) idle nobody still)) says
-    (quiet_faults s (entry.Start f u p) s.faults k refl (omega arith))
+    (owner_keeps (start_keeps k.book can) idle nobody still)) says
+    (quiet_faults (entry.Start f u p) s.faults k refl (omega arith))
     (length-set s.processors c _ ∙ k.sizes.processors) k.sizes.processes (λ o h. cc)

@@ -23,11 +23,11 @@ transfer_of : (processors : ℕ → Processor) (c : ℕ) (t : Option Transfer)
 transfer_of processors c t = rw (put_here processors c (with_transfer (processors c) t))
 
 -- a processor begins to read into a frame into which none reads
-under_way_more : (reads : ℕ → Option (ℕ × ℕ)) (processors : ℕ → Processor) (c : ℕ) (t : Transfer)
+under_way_more : {reads : ℕ → Option (ℕ × ℕ)} {processors : ℕ → Processor} (c : ℕ) (t : Transfer)
     → AreUnderWay reads processors → (processors c).cpu.transfer ≡ None → reads t.frame ≡ None
     → AreUnderWay (at_put reads t.frame (Some (t.uid, t.page)))
     (at_put processors c (with_transfer (processors c) (Some t)))
-under_way_more reads processors c t k idle unread = record {
+under_way_more {reads} {processors} c t k idle unread = record {
   reading = λ d x. by_place (λ (p : Processor). p.cpu.transfer ≡ Some x → at_put reads t.frame (Some (t.uid, t.page))
       x.frame ≡ Some (x.uid, x.page)) processors c (with_transfer (processors c) (Some t)) d
       (λ i h. (let same : t ≡ x = cc in rw (← same) (put_here reads t.frame (Some (t.uid, t.page))))) (λ n h. by_place
@@ -82,10 +82,10 @@ under_way_less {reads} {processors} c t k mine = record {
 }
 
 -- the frames once a page that was nowhere is in one
-frames_here : (v : Seen) (f u p : ℕ) → KeepsBook v → names (v.words u p) ≡ None → (g : ℕ)
-    → frame_use (at_put_two v.words u p (ptw.Here f)) (at_put v.bound f (Some (u, p)) g) (at_put v.reads f None g)
-    ≡ at_put (shown v).frame f (frame.Current u p) g
-frames_here v f u p k nowhere = one_place (shown v).frame
+frames_here : {v : Seen} (f u p : ℕ) → KeepsBook v → names (v.words u p) ≡ None → (g : ℕ)
+    → frame_use (at_put_two v.words u p (ptw.Here f)) (at_put v.bound f (Some (u, p)) g) (at_put v.reads f None g) ≡
+    at_put (shown v).frame f (frame.Current u p) g
+frames_here {v} f u p k nowhere = one_place (shown v).frame
     (λ h. frame_use words (at_put v.bound f (Some (u, p)) h) (at_put v.reads f None h)) f
     (frame.Current u p) here_is other
   where
@@ -100,7 +100,7 @@ frames_here v f u p k nowhere = one_place (shown v).frame
     other h n = cc (
       put_other v.bound f (Some (u, p)) h n,
       put_other v.reads f None h n,
-      other_use_here v.bound v.reads v.words k.tied f u p (ptw.Here f) nowhere h,
+      other_use_here k.tied f u p (ptw.Here f) nowhere h,
     )
 
 -- ---- started
@@ -118,11 +118,11 @@ pub record CanStart (v : Seen) (c : ℕ) (t : Transfer) : Type 0 where
 free_is : (v : Seen) (f : ℕ) → v.bound f ≡ None → v.reads f ≡ None → (shown v).frame f ≡ frame.Free
 free_is v f a b = cc
 
-pub start_keeps : (v : Seen) (c : ℕ) (t : Transfer) → KeepsBook v → CanStart v c t → KeepsBook (started v c t)
+pub start_keeps : {v : Seen} {c : ℕ} {t : Transfer} → KeepsBook v → CanStart v c t → KeepsBook (started v c t)
 unfolding IsLawful after_entry custody_next
-start_keeps v c t k can = book_next refl refl k (record {
+start_keeps {v} {c} {t} k can = book_next refl refl k (record {
   lawful = tt;
-  allowed = assumption (free, in_no_frame v t.uid t.page k (out_none (v.words t.uid t.page) can.out) can.alone);
+  allowed = assumption (free, in_no_frame t.uid t.page k (out_none (v.words t.uid t.page) can.out) can.alone);
   online = tt;
   next = λ i. record (shown v) {
     frame = λ g. one_place (shown v).frame (λ h. frame_use v.words (v.bound h) (reads h)) t.frame
@@ -130,12 +130,11 @@ start_keeps v c t k can = book_next refl refl k (record {
     seat = λ d. transfer_seat v c (Some t) d i;
   };
   pending = refl;
-  going_owned = owned_like (shown v) (record
-      (shown v) { frame = at_put (shown v).frame t.frame (frame.Started t.uid t.page) })
-      (like_frame (shown v) t.frame (frame.Started t.uid t.page) (ap is_going_frame free) refl) v.owner k.going_owned;
-  tied = tied_start v.bound v.reads v.words k.tied t.frame t.uid t.page can.unbound can.out can.alone;
+  going_owned = owned_like
+      (like_frame (shown v) t.frame (frame.Started t.uid t.page) (ap is_going_frame free) refl) k.going_owned;
+  tied = tied_start k.tied t.frame t.uid t.page can.unbound can.out can.alone;
   holding_right = transfer_right v.bound (shown v).descriptor v.processors c (Some t) k.holding_right;
-  under_way = under_way_more v.reads v.processors c t k.under_way can.idle can.unread;
+  under_way = under_way_more c t k.under_way can.idle can.unread;
   runs = k.runs;
 })
   where
@@ -153,7 +152,7 @@ start_keeps v c t k can = book_next refl refl k (record {
 
 -- ---- over
 
-module _ (v : Seen) (c : ℕ) (t : Transfer) (k : KeepsBook v) (mine : (v.processors c).cpu.transfer ≡ Some t) where
+module _ {v : Seen} (c : ℕ) {t : Transfer} (k : KeepsBook v) (mine : (v.processors c).cpu.transfer ≡ Some t) where
   being_read : v.reads t.frame ≡ Some (t.uid, t.page)
   being_read = k.under_way.reading c t mine
 
@@ -181,9 +180,9 @@ module _ (v : Seen) (c : ℕ) (t : Transfer) (k : KeepsBook v) (mine : (v.proces
       seat = λ d. transfer_seat v c None d i;
     };
     pending = refl;
-    going_owned = owned_like (shown v) (record (shown v) { frame = at_put (shown v).frame t.frame frame.Free })
-        (like_frame (shown v) t.frame frame.Free (ap is_going_frame started_is) refl) v.owner k.going_owned;
-    tied = tied_lost v.bound v.reads v.words k.tied t.frame t.uid t.page;
+    going_owned = owned_like
+        (like_frame (shown v) t.frame frame.Free (ap is_going_frame started_is) refl) k.going_owned;
+    tied = tied_lost k.tied t.frame t.uid t.page;
     holding_right = transfer_right v.bound (shown v).descriptor v.processors c None k.holding_right;
     under_way = under_way_less c t k.under_way mine;
     runs = k.runs;
@@ -197,15 +196,13 @@ module _ (v : Seen) (c : ℕ) (t : Transfer) (k : KeepsBook v) (mine : (v.proces
     allowed = inl (record { started = started_is; active = active });
     online = tt;
     next = λ i. record (shown v) {
-      frame = λ g. frames_here v t.frame t.uid t.page k nowhere g i;
+      frame = λ g. frames_here t.frame t.uid t.page k nowhere g i;
       seat = λ d. transfer_seat v c None d i;
     };
     pending = refl;
-    going_owned = owned_like (shown v) (record
-        (shown v) { frame = at_put (shown v).frame t.frame (frame.Current t.uid t.page) })
-        (like_frame (shown v) t.frame (frame.Current t.uid t.page)
-        (ap is_going_frame started_is) refl) v.owner k.going_owned;
-    tied = tied_here v.bound v.reads v.words k.tied t.frame t.uid t.page read_unbound nowhere
+    going_owned = owned_like
+        (like_frame (shown v) t.frame (frame.Current t.uid t.page) (ap is_going_frame started_is) refl) k.going_owned;
+    tied = tied_here k.tied t.frame t.uid t.page read_unbound nowhere
         (λ g n h. n (k.tied.alone g t.frame t.uid t.page h being_read));
     holding_right = transfer_right (at_put v.bound t.frame (Some (t.uid, t.page))) (shown v).descriptor v.processors c
         None (λ d. right_frame v.bound (shown v).descriptor t.frame (Some (t.uid, t.page)) (v.processors d)
@@ -227,17 +224,16 @@ pub record CanMake (v : Seen) (f u p : ℕ) : Type 0 where
   pub null : v.words u p ≡ ptw.Null
   pub active : v.active u ≡ true
 
-pub here_keeps : (v : Seen) (f u p : ℕ) → KeepsBook v → CanMake v f u p → KeepsBook (here v f u p)
+pub here_keeps : {v : Seen} {f u p : ℕ} → KeepsBook v → CanMake v f u p → KeepsBook (here v f u p)
 unfolding IsLawful after_entry custody_next
-here_keeps v f u p k can = book_next refl refl k (record {
+here_keeps {v} {f} {u} {p} k can = book_next refl refl k (record {
   lawful = tt;
-  allowed = inr (assumption (free, in_no_frame v u p k nowhere none));
+  allowed = inr (assumption (free, in_no_frame u p k nowhere none));
   online = tt;
-  next = λ i. record (shown v) { frame = λ g. frames_here v f u p k nowhere g i };
+  next = λ i. record (shown v) { frame = λ g. frames_here f u p k nowhere g i };
   pending = refl;
-  going_owned = owned_like (shown v) (record (shown v) { frame = at_put (shown v).frame f (frame.Current u p) })
-      (like_frame (shown v) f (frame.Current u p) (ap is_going_frame free) refl) v.owner k.going_owned;
-  tied = tied_here v.bound v.reads v.words k.tied f u p can.unbound nowhere (λ g n. none g);
+  going_owned = owned_like (like_frame (shown v) f (frame.Current u p) (ap is_going_frame free) refl) k.going_owned;
+  tied = tied_here k.tied f u p can.unbound nowhere (λ g n. none g);
   holding_right = λ d. right_frame v.bound (shown v).descriptor f (Some (u, p)) (v.processors d) (nobody d)
       (k.holding_right d);
   under_way = record { reading = reading; reader = reader; alone = k.under_way.alone };

@@ -10,7 +10,7 @@ pub record QuietWords (v : Seen) (words : ℕ → ℕ → Ptw) : Type 0 where
   pub each : (w q : ℕ) → (words w q ≡ v.words w q)
       ⊎ ((names (v.words w q) ≡ None) × (names (words w q) ≡ None) × ((f : ℕ) → v.reads f ≢ Some (w, q)))
 
-module _ (v : Seen) (words : ℕ → ℕ → Ptw) (k : KeepsBook v) (quiet : QuietWords v words) where
+module _ {v : Seen} {words : ℕ → ℕ → Ptw} (k : KeepsBook v) (quiet : QuietWords v words) where
   bound_same : (f w q : ℕ) → v.bound f ≡ Some (w, q) → words w q ≡ v.words w q
   bound_same f w q h = elim (quiet.each w q) [
     | inl e ↦ e
@@ -58,15 +58,15 @@ abbrev pub leaves : Seen → (ℕ → Bool) → List ℕ → Seen
 leaves v test [] = v
 leaves v test (f ∷ fs) = leaves (leaf v f (test f)) test fs
 
-leaf_keeps : (v : Seen) (f : ℕ) (fs : List ℕ) (ds : List CutDescriptor) (b : Bool) → KeepsBook v → GoesOn v (f ∷ fs) ds
+leaf_keeps : {v : Seen} (f : ℕ) (fs : List ℕ) {ds : List CutDescriptor} (b : Bool) → KeepsBook v → GoesOn v (f ∷ fs) ds
     → HasGone (leaf v f b) fs ds
-leaf_keeps v f fs ds true k on = assumption (
-  back_keeps v f (page_at v f).0 (page_at v f).1 (without_first_frame v.owner) k (first_finish v f fs ds k on),
+leaf_keeps {v} f fs {ds} true k on = assumption (
+  back_keeps v f (page_at v f).0 (page_at v f).1 (without_first_frame v.owner) k (first_finish f fs k on),
   back_on v f fs ds on,
 )
-leaf_keeps v f fs ds false k on = let back = back_on v f fs ds on in record {
+leaf_keeps {v} f fs {ds} false k on = let back = back_on v f fs ds on in record {
   book = gone_keeps v f (page_at v f).0 (page_at v f).1 (without_first_frame v.owner) k
-      (first_finish v f fs ds k on) ptw.Null refl;
+      (first_finish f fs k on) ptw.Null refl;
   on = goes_with refl back.none back;
 }
 
@@ -74,7 +74,7 @@ pub leaves_keep : (v : Seen) (test : ℕ → Bool) (fs : List ℕ) (ds : List Cu
     → HasGone (leaves v test fs) [] ds
 leaves_keep v test [] ds k on = assumption
 leaves_keep v test (f ∷ fs) ds k on = let first =
-    leaf_keeps v f fs ds (test f) k on in leaves_keep (leaf v f (test f)) test fs ds first.book first.on
+    leaf_keeps f fs (test f) k on in leaves_keep (leaf v f (test f)) test fs ds first.book first.on
 
 abbrev leaf_entry : (ℕ → Bool) → ℕ → Entry
 leaf_entry test f = if test f then entry.BackPage f else entry.GonePage f
@@ -117,8 +117,7 @@ leaves_done s test k on cut = gone_done (leaves (seen s) test (frames_of_owner s
 
 pub leaves_idle : (s : State) (test : ℕ → Bool) → KeepsBook (seen s) → IsIdle s.owner → is_pending s.owner ≡ false
     → IsDone (leaves (seen s) test (frames_of_owner s.owner))
-leaves_idle s test k idle still = subst IsDone (λ i. leaves (seen s) test (sym idle.frames i))
-    (idle_done (seen s) k idle still)
+leaves_idle s test k idle still = subst IsDone (λ i. leaves (seen s) test (sym idle.frames i)) (idle_done k idle still)
 
 module _ (s : State) (c k : ℕ) (path : Path) (size : ℕ) where
   abbrev pub segment : ℕ
@@ -150,7 +149,7 @@ module _ (s : State) (c k : ℕ) (path : Path) (size : ℕ) where
     rest = leaves_rest (seen s) (stays s.store size) fs
 
     cut_book : KeepsBook (record all_left { words = λ w q. word_of cut_store.ast w q })
-    cut_book = quiet_keeps all_left (λ w q. word_of cut_store.ast w q) done.book left.words
+    cut_book = quiet_keeps done.book left.words
 
     over : KeepsBook (record all_left { words = λ w q. word_of cut_store.ast w q; owner = None })
     over = job_over (record all_left { words = λ w q. word_of cut_store.ast w q }) None cut_book done.frames
@@ -183,5 +182,5 @@ module _ (s : State) (c k : ℕ) (path : Path) (size : ℕ) where
     pub truncate_kept : CanTell (with_owner (effected s k (command.Truncate path size)) None) c (process_at s c) None
         (reply_of s k (command.Truncate path size)) → StoreSays (committed s c k (command.Truncate path size))
         → Keeps (committed s c k (command.Truncate path size))
-    truncate_kept tell says = told_commit s c k (command.Truncate path size) keeps
+    truncate_kept tell says = told_commit k (command.Truncate path size) keeps
         (subst KeepsBook (sym truncated_seen) over) tell says

@@ -17,8 +17,8 @@ record IsBegun (st now : Storage) (u p : ℕ) : Type 0 where
   links : now.links ≡ st.links
   has_places : HasPlaces now
 
-begun_same : (st : Storage) (u p : ℕ) → HasPlaces st → IsBegun st st u p
-begun_same st u p h = assumption
+begun_same : {st : Storage} (u p : ℕ) → HasPlaces st → IsBegun st st u p
+begun_same u p h = assumption
 
 -- the page that the words cut: as it was where no frame has it, stored no more, or here again
 record IsCut (st now : Storage) (u p at : ℕ) : Type 0 where
@@ -59,7 +59,7 @@ module _ (st : Storage) (u p at f : ℕ) (h : HasPlaces st) (leaving : word_in s
   gone_store = without_page now u p (ptw.Leaving f)
 
   gone : IsCutOff now gone_store u p (ptw.Leaving f)
-  gone = page_cut_off now u p (ptw.Leaving f) places_now leaving
+  gone = page_cut_off u p (ptw.Leaving f) places_now leaving
 
   gone_null : word_in gone_store u p ≡ ptw.Null
   gone_null = gone.words u p ∙ put_two_here (λ x y. word_in st x y) u p ptw.Null
@@ -75,7 +75,7 @@ module _ (st : Storage) (u p at f : ℕ) (h : HasPlaces st) (leaving : word_in s
     leaving = λ g e. absurd (let no : ptw.Null ≡ ptw.Leaving g = sym gone_null ∙ e in cc);
     places = gone.places;
     links = gone.links;
-    has_places = cut_places now gone_store u p (ptw.Leaving f) places_now gone;
+    has_places = cut_places places_now gone;
   }
 
   gone_free : bound_in gone_store f ≡ None
@@ -135,7 +135,7 @@ page_cut st u p at h tie = by (word_in st u p) refl
   where
     same : (w : Ptw) → word_in st u p ≡ w → ((f : ℕ) → w ≢ ptw.Leaving f) → IsCut st st u p at
     same w e n = record {
-      begun = begun_same st u p h;
+      begun = begun_same u p h;
       quiet = λ i. refl;
       zeros = λ f i z. absurd (n f (sym e ∙ i));
       kept = λ f i z. absurd (n f (sym e ∙ i));
@@ -174,11 +174,11 @@ leaf_word : (v : Seen) (f : ℕ) (b : Bool) (w q : ℕ) → (w ≡ (page_at v f)
 leaf_word v f true w q n = put_two_other v.words (page_at v f).0 (page_at v f).1 (ptw.Here f) w q n
 leaf_word v f false w q n = put_two_other v.words (page_at v f).0 (page_at v f).1 ptw.Null w q n
 
-leaf_this : (v : Seen) (f : ℕ) (b : Bool) (w q : ℕ) → w ≡ (page_at v f).0 → q ≡ (page_at v f).1
+leaf_this : (v : Seen) (f : ℕ) (b : Bool) {w q : ℕ} → w ≡ (page_at v f).0 → q ≡ (page_at v f).1
     → (leaf v f b).words w q ≡ cond b (ptw.Here f) ptw.Null
-leaf_this v f true w q a b = by_places (λ (x : Ptw). x ≡ ptw.Here f) v.words (page_at v f).0 (page_at v f).1
+leaf_this v f true {w} {q} a b = by_places (λ (x : Ptw). x ≡ ptw.Here f) v.words (page_at v f).0 (page_at v f).1
     (ptw.Here f) w q (λ i j. refl) (λ m. absurd (m a b))
-leaf_this v f false w q a b = by_places (λ (x : Ptw). x ≡ ptw.Null) v.words (page_at v f).0 (page_at v f).1 ptw.Null
+leaf_this v f false {w} {q} a b = by_places (λ (x : Ptw). x ≡ ptw.Null) v.words (page_at v f).0 (page_at v f).1 ptw.Null
     w q (λ i j. refl) (λ m. absurd (m a b))
 
 -- each of some frames has a page of its own
@@ -187,9 +187,9 @@ record HavePages (v : Seen) (fs : List ℕ) (page : ℕ → ℕ × ℕ) : Type 0
   each : (f : ℕ) → has fs f ≡ true → page_at v f ≡ page f
   alone : (f g : ℕ) → has fs f ≡ true → has fs g ≡ true → (page f).0 ≡ (page g).0 → (page f).1 ≡ (page g).1 → f ≡ g
 
-next_pages : (v : Seen) (f : ℕ) (fs : List ℕ) (page : ℕ → ℕ × ℕ) (b : Bool) → HavePages v (f ∷ fs) page
+next_pages : {v : Seen} (f : ℕ) (fs : List ℕ) {page : ℕ → ℕ × ℕ} (b : Bool) → HavePages v (f ∷ fs) page
     → HavePages (leaf v f b) fs page
-next_pages v f fs page b h = record {
+next_pages {v} f fs b h = record {
   once = h.once.1;
   each = λ g i. cc (
     leaf_bound v f b g (λ e. not_both (subst (λ (x : ℕ). has fs x ≡ true) e i) h.once.0),
@@ -202,7 +202,7 @@ left_other : (v : Seen) (test : ℕ → Bool) (fs : List ℕ) {page : ℕ → �
     → ((f : ℕ) → has fs f ≡ true → (page f).0 ≡ w → (page f).1 ≡ q → ⊥) → (leaves v test fs).words w q ≡ v.words w q
 left_other v test [] w q h n = refl
 left_other v test (f ∷ fs) w q h n =
-    left_other (leaf v f (test f)) test fs w q (next_pages v f fs _ (test f) h) (λ g i. n g (has_tail f fs g i))
+    left_other (leaf v f (test f)) test fs w q (next_pages f fs (test f) h) (λ g i. n g (has_tail f fs g i))
     ∙ leaf_word v f (test f) w q (λ a b. n f (has_head f fs) (rw (h.each f (has_head f fs)) at (sym a))
     (rw (h.each f (has_head f fs)) at (sym b)))
 
@@ -210,11 +210,10 @@ left_this : (v : Seen) (test : ℕ → Bool) (fs : List ℕ) {page : ℕ → ℕ
     → has fs f ≡ true → (leaves v test fs).words (page f).0 (page f).1 ≡ cond (test f) (ptw.Here f) ptw.Null
 left_this v test [] f h i = cc
 left_this v test (g ∷ gs) {page} f h i = elim (eqb_tells g f) [
-  | inl e ↦ left_other (leaf v g (test g)) test gs (page f).0 (page f).1 (next_pages v g gs page (test g) h)
+  | inl e ↦ left_other (leaf v g (test g)) test gs (page f).0 (page f).1 (next_pages g gs (test g) h)
       (λ j x a b. not_both (rw (h.alone j f (has_tail g gs j x) i a b ∙ sym e.1) at x) h.once.0)
-      ∙ (cc (leaf_this v g (test g) (page f).0 (page f).1 (its e.1 (λ (x : ℕ × ℕ). x.0))
-      (its e.1 (λ (x : ℕ × ℕ). x.1))))
-  | inr m ↦ left_this (leaf v g (test g)) test gs f (next_pages v g gs page (test g) h) (rw m.0 at i)
+      ∙ (cc (leaf_this v g (test g) (its e.1 (λ (x : ℕ × ℕ). x.0)) (its e.1 (λ (x : ℕ × ℕ). x.1))))
+  | inr m ↦ left_this (leaf v g (test g)) test gs f (next_pages g gs (test g) h) (rw m.0 at i)
 ]
   where
     its : g ≡ f → (part : ℕ × ℕ → ℕ) → part (page f) ≡ part (page_at v g)
@@ -297,7 +296,7 @@ module _ (s : State) (c : ℕ) (path : Path) (size : ℕ) (keeps : Keeps s)
       going = cc (word_bound v q f e)
 
   frame_word : (f q : ℕ) → (seen s).bound f ≡ Some (u, q) → p ≤ q → word_in st u q ≡ ptw.Leaving f
-  frame_word f q e le = rw e at (going_word (seen s) f keeps.book (h.just.pages f u q
+  frame_word f q e le = rw e at (going_word f keeps.book (h.just.pages f u q
       (cc (e, page_bound (seen s).words (u, q) ((seen s).reads f))) (refl, le)))
 
   not_here : (f q : ℕ) → word_in st u q ≡ ptw.Here f → p ≤ q → ⊥
@@ -319,7 +318,7 @@ module _ (s : State) (c : ℕ) (path : Path) (size : ℕ) (keeps : Keeps s)
     past : p ≤ page
 
   mine : (f : ℕ) → has fs f ≡ true → IsMine f
-  mine f e = let word = taken_word s keeps f e in
+  mine f e = let word = taken_word keeps f e in
       let taken = word_taken (page_at (seen s) f).0 (page_at (seen s) f).1 f word in record {
         page = (page_at (seen s) f).1;
         its = λ i. (taken.1 i, (page_at (seen s) f).1);
@@ -333,8 +332,8 @@ module _ (s : State) (c : ℕ) (path : Path) (size : ℕ) (keeps : Keeps s)
   have_pages = record {
     once = keeps.book.going_owned.once;
     each = λ f i. refl;
-    alone = λ f g i j a b. leaving_same f g (sym (taken_word s keeps f i) ∙ ((λ t. word_in st (a t) (b t))
-        ∙ taken_word s keeps g j));
+    alone = λ f g i j a b. leaving_same f g (sym (taken_word keeps f i) ∙ ((λ t. word_in st (a t) (b t))
+        ∙ taken_word keeps g j));
   }
 
   has_places : HasPlaces st
@@ -358,17 +357,17 @@ module _ (s : State) (c : ℕ) (path : Path) (size : ℕ) (keeps : Keeps s)
   unpast : (q : ℕ) → q < first → has ps q ≡ false
   unpast q lt = elim (cases_Bool (has ps q)) [ inl i ↦ (let le = past_in q i in absurd (omega arith)) | inr i ↦ i ]
 
-  page_is_its : (f : ℕ) → has fs f ≡ true → (m : IsMine f) → (page_in st f).1 ≡ m.page
-  page_is_its f e m = cc (binding_is s f)
+  page_is_its : {f : ℕ} → has fs f ≡ true → (m : IsMine f) → (page_in st f).1 ≡ m.page
+  page_is_its {f} e m = cc (binding_is s f)
 
   -- a page past the words doesn't stay; the one that they cut does where it has a word that isn't zero then
-  test_past : (f : ℕ) → has fs f ≡ true → (m : IsMine f) → first ≤ m.page → test f ≡ false
-  test_past f e m le = let same = page_is_its f e m in
+  test_past : {f : ℕ} → has fs f ≡ true → (m : IsMine f) → first ≤ m.page → test f ≡ false
+  test_past {f} e m le = let same = page_is_its e m in
       let off : nat_lt (1024 * (page_in st f).1) size ≡ false = grind (arith, nat_tests) in rw off
 
-  test_cut : (f : ℕ) → has fs f ≡ true → (m : IsMine f) → m.page ≡ p → at ≢ 0
+  test_cut : {f : ℕ} → has fs f ≡ true → (m : IsMine f) → m.page ≡ p → at ≢ 0
       → test f ≡ not (are_zeros (words_in (cut st.pages f at) f))
-  test_cut f e m is n = let same = page_is_its f e m in
+  test_cut {f} e m is n = let same = page_is_its e m in
       let on : nat_lt (1024 * (page_in st f).1) size ≡ true = grind (arith, nat_tests) in rw on
 
   -- ---- the store, once the page that the words cut is cut
@@ -381,10 +380,7 @@ module _ (s : State) (c : ℕ) (path : Path) (size : ℕ) (keeps : Keeps s)
   mid_same e = cc
 
   begun : IsBegun st mid u p
-  begun = elim (eqb_tells at 0) [
-    | inl e ↦ rw (mid_same e.1) (begun_same st u p has_places)
-    | inr m ↦ (cut_in m.1).begun
-  ]
+  begun = elim (eqb_tells at 0) [ inl e ↦ rw (mid_same e.1) (begun_same u p has_places) | inr m ↦ (cut_in m.1).begun ]
 
   mid_leaving : (q g : ℕ) → word_in mid u q ≡ ptw.Leaving g → word_in st u q ≡ ptw.Leaving g
   mid_leaving q g e = elim (eqb_tells q p) [
@@ -411,7 +407,7 @@ module _ (s : State) (c : ℕ) (path : Path) (size : ℕ) (keeps : Keeps s)
   reads_now g = over.reads g (λ q e. mid_read ∙ still q (mid_leaving q g e)) ∙ mid_read
     where
       still : (q : ℕ) → word_in st u q ≡ ptw.Leaving g → read_in st g ≡ None
-      still q e = bound_unread s keeps g (u, q) (word_bound u q g e)
+      still q e = bound_unread keeps g (word_bound u q g e)
 
       mid_read : read_in mid g ≡ read_in st g
       mid_read = begun.reads g (λ e. still p e)
@@ -422,14 +418,14 @@ module _ (s : State) (c : ℕ) (path : Path) (size : ℕ) (keeps : Keeps s)
     word : word_in cut_off u m.page ≡ cond (test f) (ptw.Here f) ptw.Null
 
   left_past : (f : ℕ) → has fs f ≡ true → (m : IsMine f) → first ≤ m.page → IsLeft f m
-  left_past f e m le = let off = test_past f e m le in
+  left_past f e m le = let off = test_past e m le in
       let listed = in_past m.page le (λ n. (let no : ptw.Leaving f ≡ ptw.Null = sym m.word ∙ n in cc)) in record {
         bound = rw off (over.left f m.page listed (mid_past m.page le ∙ m.word));
         word = rw off (over.nulls m.page listed);
       }
 
-  left_cut : (f : ℕ) → has fs f ≡ true → (m : IsMine f) → m.page < first → IsLeft f m
-  left_cut f e m lt = elim (cases_Bool (are_zeros (words_in (cut st.pages f at) f))) [
+  left_cut : {f : ℕ} → has fs f ≡ true → (m : IsMine f) → m.page < first → IsLeft f m
+  left_cut {f} e m lt = elim (cases_Bool (are_zeros (words_in (cut st.pages f at) f))) [
     | inl z ↦ record {
       bound = rw (told ∙ ap not z) (over.free f (c_in.zeros f word z).1);
       word = rw (told ∙ ap not z) (same_word ∙ (c_in.zeros f word z).0);
@@ -453,7 +449,7 @@ module _ (s : State) (c : ℕ) (path : Path) (size : ℕ) (keeps : Keeps s)
       word = ap (λ (x : ℕ). word_in st u x) (sym is) ∙ m.word
 
       told : test f ≡ not (are_zeros (words_in (cut st.pages f at) f))
-      told = test_cut f e m is some
+      told = test_cut e m is some
 
       same_word : word_in cut_off u m.page ≡ word_in mid u p
       same_word = over.words u m.page (λ i. unpast m.page lt) ∙ ap (λ (x : ℕ). word_in mid u x) is
@@ -463,12 +459,12 @@ module _ (s : State) (c : ℕ) (path : Path) (size : ℕ) (keeps : Keeps s)
           let same = (page_is u q u m.page (sym was ∙ m.bound)).1 in
           let le = past_in q i in omega (arith, same, le, lt)
 
-  is_left : (f : ℕ) → has fs f ≡ true → (m : IsMine f) → IsLeft f m
-  is_left f e m = elim (leb_tells first m.page) [ inl x ↦ left_past f e m x.1 | inr x ↦ left_cut f e m x.1 ]
+  is_left : {f : ℕ} → has fs f ≡ true → (m : IsMine f) → IsLeft f m
+  is_left {f} e m = elim (leb_tells first m.page) [ inl x ↦ left_past f e m x.1 | inr x ↦ left_cut e m x.1 ]
 
   bound_now : (g : ℕ) → bound_in cut_off g ≡ (all_left s c (process_at s c) path size).bound g
   bound_now g = rw (left_bound (seen s) test fs g) (elim (cases_Bool (has fs g)) [
-    | inl e ↦ rw e (is_left g e (mine g e)).bound
+    | inl e ↦ rw e (is_left e (mine g e)).bound
     | inr e ↦ rw e (over.bound g (λ q i w. not_both (word_taken u q g (mid_leaving q g w)).0 e)
         ∙ begun.bound g (λ w. not_both (word_taken u p g w).0 e))
   ])
@@ -478,11 +474,11 @@ module _ (s : State) (c : ℕ) (path : Path) (size : ℕ) (keeps : Keeps s)
   -- no frame that the job took has the page
   left_same : (w q : ℕ) → ((f : ℕ) → word_in st w q ≢ ptw.Leaving f)
       → (all_left s c (process_at s c) path size).words w q ≡ word_in st w q
-  left_same w q n = left_other (seen s) test fs w q have_pages (λ f i a b. n f (rw (← a, ← b) (taken_word s keeps f i)))
+  left_same w q n = left_other (seen s) test fs w q have_pages (λ f i a b. n f (rw (← a, ← b) (taken_word keeps f i)))
 
-  left_its : (f : ℕ) → has fs f ≡ true → (m : IsMine f)
+  left_its : {f : ℕ} → has fs f ≡ true → (m : IsMine f)
       → (all_left s c (process_at s c) path size).words u m.page ≡ cond (test f) (ptw.Here f) ptw.Null
-  left_its f e m = (λ t. (all_left s c (process_at s c) path size).words (sym m.its t).0 (sym m.its t).1)
+  left_its {f} e m = (λ t. (all_left s c (process_at s c) path size).words (sym m.its t).0 (sym m.its t).1)
       ∙ left_this (seen s) test fs f have_pages e
 
   reads_none : (f q : ℕ) → p ≤ q → (all_left s c (process_at s c) path size).reads f ≡ Some (u, q) → ⊥
@@ -527,8 +523,8 @@ module _ (s : State) (c : ℕ) (path : Path) (size : ℕ) (keeps : Keeps s)
         | inr i ↦ inr (cc (left_same u q none), ap names i, λ f. reads_none f q le)
       ]
   quiet_past q le (ptw.Here f) e = absurd (not_here f q e le)
-  quiet_past q le (ptw.Leaving f) e = inl (rw same at ((is_left f listed (mine f listed)).word
-      ∙ sym (left_its f listed (mine f listed))))
+  quiet_past q le (ptw.Leaving f) e = inl (rw same at ((is_left listed (mine f listed)).word
+      ∙ sym (left_its listed (mine f listed))))
     where
       listed : has fs f ≡ true
       listed = (word_taken u q f e).0
@@ -584,10 +580,10 @@ module _ (s : State) (c : ℕ) (path : Path) (size : ℕ) (keeps : Keeps s)
               rw past (and-false (eqb u u))
 
   -- a page that is in a frame then isn't lost
-  stays_whole : (f q : ℕ) → has fs f ≡ true → (m : IsMine f) → m.page ≡ q → test f ≡ true
+  stays_whole : {f q : ℕ} → has fs f ≡ true → (m : IsMine f) → m.page ≡ q → test f ≡ true
       → is_lost words u size q ≡ false
-  stays_whole f q e m is on = elim (leb_tells first q) [
-    | inl x ↦ absurd (not_both on (test_past f e m (omega arith)))
+  stays_whole {f} {q} e m is on = elim (leb_tells first q) [
+    | inl x ↦ absurd (not_both on (test_past e m (omega arith)))
     | inr x ↦ (let lt = x.1 in let past = m.past in let same : q ≡ p = omega arith in
         rw same (cut_whole (is ∙ same) (λ z. (omega arith))))
   ]
@@ -598,12 +594,12 @@ module _ (s : State) (c : ℕ) (path : Path) (size : ℕ) (keeps : Keeps s)
           rw (past, in_it, kept_word f (cc) nonzero) refl
         where
           nonzero : are_zeros (words_in (cut st.pages f at) f) ≡ false
-          nonzero = not-true (are_zeros (words_in (cut st.pages f at) f)) (sym (test_cut f e m same some) ∙ on)
+          nonzero = not-true (are_zeros (words_in (cut st.pages f at) f)) (sym (test_cut e m same some) ∙ on)
 
   bound_whole : (f q : ℕ) → (seen s).bound f ≡ Some (u, q) → (has fs f ≡ true → test f ≡ true)
       → is_lost words u size q ≡ false
   bound_whole f q bound stays_on = elim (leb_tells p q) [
-    | inl x ↦ (let listed = (word_taken u q f (frame_word f q bound x.1)).0 in stays_whole f q listed (mine f listed)
+    | inl x ↦ (let listed = (word_taken u q f (frame_word f q bound x.1)).0 in stays_whole listed (mine f listed)
         (page_is u (mine f listed).page u q (sym (mine f listed).bound ∙ bound)).1 (stays_on listed))
     | inr x ↦ whole_before q x.1
   ]
@@ -638,7 +634,7 @@ module _ (s : State) (c : ℕ) (path : Path) (size : ℕ) (keeps : Keeps s)
           → OfNode (λ n. LosesNoPage (flat_of s) (shown (seen (with_owner (effected s (process_at s c)
           (command.Truncate path size)) None))) n.uid size) x
       by (Err r) e = tt
-      by (Ok n) e = rw (← (path_uid s path n keeps (only_found (node_at (flat_of s).nodes path) n e).0)) loses_none
+      by (Ok n) e = rw (← (path_uid path n keeps (only_found (node_at (flat_of s).nodes path) n e).0)) loses_none
 
   -- So a `truncate` may take effect.
   pub truncate_rests : Rests s c (command.Truncate path size)
@@ -657,11 +653,11 @@ module _ (s : State) (c : ℕ) (path : Path) (size : ℕ) (keeps : Keeps s)
 
 -- ---- What is left of a command's premises follows from what its job took.
 
-pub commit_rests : (s : State) (c : ℕ) → Keeps s → (cmd : Command) → IsTakenFor s (process_at s c) cmd
+pub commit_rests : {s : State} (c : ℕ) → Keeps s → (cmd : Command) → IsTakenFor s (process_at s c) cmd
     → RestsCommit s c (Some cmd)
-commit_rests s c keeps (command.Acl path row m) h = acl_rests s c keeps path row m h
-commit_rests s c keeps (command.Terminate number) h = terminate_rests s c keeps number h
-commit_rests s c keeps command.End h = end_rests s c keeps h
-commit_rests s c keeps (command.Truncate path words) h = truncate_rests s c path words keeps h
-commit_rests s c keeps (command.Delete path) h = delete_rests s c path keeps h
-commit_rests s c keeps _ h = tt
+commit_rests {s} c keeps (command.Acl path row m) h = acl_rests s c keeps path row m h
+commit_rests {s} c keeps (command.Terminate number) h = terminate_rests s c keeps number h
+commit_rests {s} c keeps command.End h = end_rests s c keeps h
+commit_rests {s} c keeps (command.Truncate path words) h = truncate_rests s c path words keeps h
+commit_rests {s} c keeps (command.Delete path) h = delete_rests s c path keeps h
+commit_rests c keeps _ h = tt

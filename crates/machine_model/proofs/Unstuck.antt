@@ -5,7 +5,7 @@ use Rattle.machine_model.proofs.MachineRounds.{kept_of, machine_step, not_ended}
 -- ---- In an outline that is kept and hasn't ended, some processor moves: the owner of the supervisor, or who it waits
 -- for; where nobody owns it a processor that has a process, or else processor 0.
 
-module _ (s : Outline) (k : IsKept s) (more : IsEnded s → ⊥) (all : HaveSteps s) where
+module _ {s : Outline} (k : IsKept s) (more : IsEnded s → ⊥) (all : HaveSteps s) where
   -- a step waits for the owner, for work, or as the owner; any other moves
   by_rule : (c : ℕ) → c < length s.runners → (rule_of s c ≡ Works → ⊥) → (rule_of s c ≡ Loads → s.ready ≡ 0 → ⊥)
       → (rule_of s c ≡ Commands → (o : Keeper) → s.owner ≡ Some o → ⊥) → Goes s all
@@ -28,8 +28,8 @@ module _ (s : Outline) (k : IsKept s) (more : IsEnded s → ⊥) (all : HaveStep
       (λ h none. not_both due (tells s d Loads h).0) (λ h o some. not_both due (tells s d Commands h).0)
 
   -- who reads a page in ends that, or drops something before
-  reader_goes : (d : ℕ) (r : Transfer) → d < length s.runners → (runner_at s.runners d).reading ≡ Some r → Goes s all
-  reader_goes d r there reading = by_rule d there (λ h. not_both is (tells s d Works h).1)
+  reader_goes : (d : ℕ) {r : Transfer} → d < length s.runners → (runner_at s.runners d).reading ≡ Some r → Goes s all
+  reader_goes d there reading = by_rule d there (λ h. not_both is (tells s d Works h).1)
       (λ h none. not_both is (tells s d Loads h).1) (λ h o some. not_both is (tells s d Commands h).1)
     where
       is : is_some (runner_at s.runners d).reading ≡ true
@@ -52,7 +52,7 @@ module _ (s : Outline) (k : IsKept s) (more : IsEnded s → ⊥) (all : HaveStep
       by x t e (ends ended) = absurd (more ended)
       by x t e (awaits_clear w d h waiting online due) = dropper_goes d (inside s.runners d online) due
       by x t e (awaits_transfer f uid page h look started) = let reader = k.tied.started f uid page started in
-          reader_goes reader.0 (record { frame = f; uid = uid; page = page }) reader.1 reader.2
+          reader_goes reader.0 reader.1 reader.2
       by x t e (idles busy h none) = cc (own, (tells s c Loads h).2)
       by x t e (waits o h some) = cc (own, (tells s c Commands h).2)
       by x t e _ = here e
@@ -96,7 +96,7 @@ all_steps : (s : State) → IsGoing s → HaveSteps (outline_of s)
 all_steps s going = record {
   turn = λ c. turn_of (action_of s c);
   next = λ c. outline_of (after s c (action_of s c) (no_call s));
-  steps = λ c there. machine_step s (after s c (action_of s c) (no_call s)) c going
+  steps = λ c there. machine_step (after s c (action_of s c) (no_call s)) c going
       (subst (λ (n : ℕ). c < n) (long_outline s) there) (record { outcome = no_call s; done = refl });
 }
 
@@ -111,4 +111,4 @@ some_moves s keeps on more = (
     going = assumption
 
     found : Goes (outline_of s) (all_steps s going)
-    found = outline_goes (outline_of s) (kept_of s keeps) (not_ended s keeps more) (all_steps s going)
+    found = outline_goes (kept_of s keeps) (not_ended s keeps more) (all_steps s going)

@@ -73,15 +73,15 @@ inferior_tells u o h = by (active.superior_in o) h
 
 module _ (ns : List Node) (t : IsTree ns) where
   -- what lies above a link is one
-  member_up : (xs : List ℕ) (v w : ℕ) → IsChain (above ns) xs → IsMember v xs → superior_in ns v ≡ Some w
+  member_up : (xs : List ℕ) (v : ℕ) {w : ℕ} → IsChain (above ns) xs → IsMember v xs → superior_in ns v ≡ Some w
       → IsMember w xs
-  member_up [] v w chain m h = absurd m
-  member_up (x ∷ xs) v w chain (inl e) h = inr (rw (chain.0 ∙ (ap (above ns) (sym e)
+  member_up [] v chain m h = absurd m
+  member_up (x ∷ xs) v chain (inl e) h = inr (rw (chain.0 ∙ (ap (above ns) (sym e)
       ∙ (above_once ns t v ∙ ap (step_up (above ns)) h))) (inl refl))
-  member_up (x ∷ xs) v w chain (inr m) h = inr (member_up xs v w chain.2 m h)
+  member_up (x ∷ xs) v {w} chain (inr m) h = inr (member_up xs v chain.2 m h)
 
-  pub link_up : (u v w : ℕ) → IsMember v (chain_of ns u) → superior_in ns v ≡ Some w → IsMember w (chain_of ns u)
-  link_up u v w m h = back_member (u ∷ above ns u) w (member_up (u ∷ above ns u) v w
+  pub link_up : (u v : ℕ) {w : ℕ} → IsMember v (chain_of ns u) → superior_in ns v ≡ Some w → IsMember w (chain_of ns u)
+  link_up u v {w} m h = back_member (u ∷ above ns u) w (member_up (u ∷ above ns u) v
       (refl, (has_chains ns t).under u, (has_chains ns t).chain u) (turn_member (u ∷ above ns u) v m) h)
 
   -- a chain ends at what it is the chain of, and has ten links at the most
@@ -130,17 +130,17 @@ module _ (s : State) (keeps : Keeps s) (about : ℕ) where
   off_uid None u h e = cc
   off_uid (Some x) u h e = let same : x.uid ≡ u = cc in not-true (is_link chain u) (rw same at h)
 
-  uid_off : (o : Option Entry) (u : ℕ) → uid_in o ≡ Some u → is_link chain u ≡ false → off_chain chain o ≡ true
-  uid_off None u e h = cc
-  uid_off (Some x) u e h = let same : x.uid ≡ u = cc in ap not (ap (is_link chain) same ∙ h)
+  uid_off : (o : Option Entry) {u : ℕ} → uid_in o ≡ Some u → is_link chain u ≡ false → off_chain chain o ≡ true
+  uid_off None e h = cc
+  uid_off (Some x) {u} e h = let same : x.uid ≡ u = cc in ap not (ap (is_link chain) same ∙ h)
 
-  superior_is : (q w u : ℕ) → uid_at entries q ≡ Some w → active.superior_at entries q ≡ Some u
+  superior_is : (q : ℕ) {w u : ℕ} → uid_at entries q ≡ Some w → active.superior_at entries q ≡ Some u
       → superior_in ns w ≡ Some u
-  superior_is q w u at sup = let n = some_there (node_in ns w) (keeps.store.counted.active.there q w at) in
+  superior_is q {w} at sup = let n = some_there (node_in ns w) (keeps.store.counted.active.there q w at) in
       superior_found ns w n.0 n.1 ∙ (sym (keeps.store.counted.active.superiors q w n.0 at n.1) ∙ sup)
 
-  off_step : (place q : ℕ) → is_off place ≡ true → least_inferior entries place ≡ Some q → is_off q ≡ true
-  off_step place q off h = let used = passed_there (λ (e : Entry). not (list_any (λ v. eqb v e.uid) chain))
+  off_step : (place : ℕ) {q : ℕ} → is_off place ≡ true → least_inferior entries place ≡ Some q → is_off q ≡ true
+  off_step place {q} off h = let used = passed_there (λ (e : Entry). not (list_any (λ v. eqb v e.uid) chain))
       (entry_at entries place) off in
       by used.0.uid (ap uid_in used.1) (cc)
     where
@@ -148,10 +148,10 @@ module _ (s : State) (keeps : Keeps s) (about : ℕ) where
       by u at i =
           let sup = inferior_tells u (entry_at entries q) (position_at (is_inferior_of u) entries None q i).1 in
           let w = some_entry (entry_at entries q) u sup in
-          uid_off (entry_at entries q) w.0 w.1 (elim (cases_Bool (is_link chain w.0)) [
-            | inl e ↦ absurd (not_both (member_link chain u (link_up ns keeps.store.accounts.tree about w.0 u
+          uid_off (entry_at entries q) w.1 (elim (cases_Bool (is_link chain w.0)) [
+            | inl e ↦ absurd (not_both (member_link chain u (link_up ns keeps.store.accounts.tree about w.0
                 (link_member chain w.0 e)
-                (superior_is q w.0 u w.1 sup))) (off_uid (entry_at entries place) u off at))
+                (superior_is q w.1 sup))) (off_uid (entry_at entries place) u off at))
             | inr e ↦ e
           ])
 
@@ -163,10 +163,10 @@ module _ (s : State) (keeps : Keeps s) (about : ℕ) where
     where
       by : (x : Option ℕ) → least_inferior entries place ≡ x → is_off (stead_of place x) ≡ true
       by None e = off
-      by (Some q) e = off_step place q off e
+      by (Some q) e = off_step place off e
 
-  pub victim_is_off : (pool place : ℕ) → victim_of s.store.ast pool chain ≡ Some place → is_off place ≡ true
-  victim_is_off pool place h = by (first_off_chain s.store.ast pool chain) refl h
+  pub victim_is_off : (pool : ℕ) {place : ℕ} → victim_of s.store.ast pool chain ≡ Some place → is_off place ≡ true
+  victim_is_off pool {place} h = by (first_off_chain s.store.ast pool chain) refl h
     where
       by : (x : Option ℕ) → first_off_chain s.store.ast pool chain ≡ x → leaf_of entries x ≡ Some place
           → is_off place ≡ true
@@ -178,8 +178,8 @@ module _ (s : State) (keeps : Keeps s) (about : ℕ) where
 -- ---- a pool has a victim
 
 module _ (ast : ActiveSegs) (pool : ℕ) where
-  in_round : (q : ℕ) → IsInPool ast.sizes pool q → IsMember q (round_pool ast pool)
-  in_round q h = elim (cases_lt q (hand_of ast pool)) [
+  in_round : {q : ℕ} → IsInPool ast.sizes pool q → IsMember q (round_pool ast pool)
+  in_round {q} h = elim (cases_lt q (hand_of ast pool)) [
     | inl lt ↦ (let from = h.from in
         member_right q (places_from (hand_of ast pool) (first_of ast.sizes pool + size_of ast.sizes pool)) _
         (range_has (first_of ast.sizes pool) (hand_of ast pool - first_of ast.sizes pool) q from (omega arith)))
@@ -188,12 +188,12 @@ module _ (ast : ActiveSegs) (pool : ℕ) where
         (omega arith) (omega arith)))
   ]
 
-  some_victim : (chain : List ℕ) → HasOneOffChain ast pool chain → victim_of ast pool chain ≢ None
-  some_victim chain one h = by (first_off_chain ast pool chain) refl h
+  some_victim : {chain : List ℕ} → HasOneOffChain ast pool chain → victim_of ast pool chain ≢ None
+  some_victim {chain} one h = by (first_off_chain ast pool chain) refl h
     where
       by : (x : Option ℕ) → first_off_chain ast pool chain ≡ x → leaf_of ast.entries x ≡ None → ⊥
       by None e i = member_found (λ q. off_chain chain (entry_at ast.entries q)) (round_pool ast pool) one.place
-          (in_round one.place one.in_pool) one.off e
+          (in_round one.in_pool) one.off e
       by (Some q) e i = none_some (sym i)
 
   pub all_used : free_place ast pool ≡ None → (q : ℕ) → IsInPool ast.sizes pool q
@@ -297,4 +297,4 @@ module _ (s : State) (m : IsMachine s) (about wanted : ℕ) where
 
     -- the full pool of the first link that isn't active has a victim
     pub has_victim : victim_of s.store.ast (pool_of n) (chain_of nodes about) ≢ None
-    has_victim = some_victim s.store.ast (pool_of n) (chain_of nodes about) one_off
+    has_victim = some_victim s.store.ast (pool_of n) one_off

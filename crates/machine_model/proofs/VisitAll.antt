@@ -110,9 +110,9 @@ module _ (s : State) (o : Outcome) (all : KeepsAll s) (over : is_over s ≡ true
   abbrev left_with : Bool → State
   left_with b = record (cond b (back s o) (gone s o)) { visited = place + 1 }
 
-  is_now : (page : ℕ × ℕ) → bound_page (frame_in s.store.pages place) ≡ Some page → (b : Bool) → o.failed ≡ b
+  is_now : {page : ℕ × ℕ} → bound_page (frame_in s.store.pages place) ≡ Some page → {b : Bool} → o.failed ≡ b
       → after_visit s o ≡ left_with b
-  is_now page bound b e = cc
+  is_now bound e = cc
 
   -- what left the place, as it was before the page was taken
   how_same : left_of (words_in before.store.pages place) ≡ left_of (words_in s.store.pages place)
@@ -131,9 +131,9 @@ module _ (s : State) (o : Outcome) (all : KeepsAll s) (over : is_over s ≡ true
       (one_still s.plan ((s.entries ++ entry.Take place ∷ []) ++ entry.Fault None ∷ []) (entry.BackPage place) refl)
 
   -- the page leaves
-  gone_says : (page : ℕ × ℕ) → bound_page (frame_in s.store.pages place) ≡ Some page → o.failed ≡ false
+  gone_says : {page : ℕ × ℕ} → bound_page (frame_in s.store.pages place) ≡ Some page → o.failed ≡ false
       → StoreSays (left_with false)
-  gone_says page bound well = says_by s (left_with false) (left_page s place (flat_of s)) keeps
+  gone_says {page} bound well = says_by (left_with false) keeps
       (subst (λ (x : State). StoreKept x.store) same says.kept)
       (subst (λ (x : State). IsFaithful s.plan (left_page s place (flat_of s)) x.store) same
       (says.gone well page bound (flat_of s) keeps.faithful))
@@ -146,19 +146,18 @@ module _ (s : State) (o : Outcome) (all : KeepsAll s) (over : is_over s ≡ true
       )) (ap cut_of_owner none))
     where
       same : after_visit s o ≡ left_with false
-      same = is_now page bound false well
+      same = is_now bound well
 
   -- the drive failed
-  back_says : (page : ℕ × ℕ) → bound_page (frame_in s.store.pages place) ≡ Some page → o.failed ≡ true
+  back_says : {page : ℕ × ℕ} → bound_page (frame_in s.store.pages place) ≡ Some page → o.failed ≡ true
       → StoreSays (left_with true)
-  back_says page bound ill = says_by s (left_with true) (flat_of s) keeps
-      (subst (λ (x : State). StoreKept x.store) same says.kept)
+  back_says {page} bound ill = says_by (left_with true) keeps (subst (λ (x : State). StoreKept x.store) same says.kept)
       (subst (λ (x : State). IsFaithful s.plan (flat_of s) x.store) same (says.stays ill (flat_of s) keeps.faithful))
       back_alike keeps.conserved.total (none_rest s (left_with true) refl (cc (back_pages s o, taken_pages s o))
       (cc (none)))
     where
       same : after_visit s o ≡ left_with true
-      same = is_now page bound true ill
+      same = is_now bound ill
 
   asks : (page : ℕ × ℕ) → bound_page (frame_in s.store.pages place) ≡ Some page → AsksVisit s o
   asks page bound = record {
@@ -166,20 +165,20 @@ module _ (s : State) (o : Outcome) (all : KeepsAll s) (over : is_over s ≡ true
     bare = over_bare s all over idle;
     well = λ e x h. (
       says.never_less,
-      λ released. (rw (taken_flat s o) (release_may s place x.0 x.1 keeps h (cc))),
-      gone_says page bound e,
+      λ released. (rw (taken_flat s o) (release_may place x.0 x.1 keeps h (cc))),
+      gone_says bound e,
     );
-    ill = λ e. (says.counted e, rw (taken_flat s o) (over_faults s all over), back_says page bound e);
+    ill = λ e. (says.counted e, rw (taken_flat s o) (over_faults s all over), back_says bound e);
   }
 
   visit_unbound : bound_page (frame_in s.store.pages place) ≡ None → Keeps (after_visit s o)
-  visit_unbound e = rw e (kept_visited s (place + 1) keeps)
+  visit_unbound e = rw e (kept_visited (place + 1) keeps)
 
   visit_kept : Keeps (after_visit s o)
   visit_kept = by (bound_page (frame_in s.store.pages place)) refl
     where
       by : (x : Option (ℕ × ℕ)) → bound_page (frame_in s.store.pages place) ≡ x → Keeps (after_visit s o)
-      by (Some page) e = visit_keeps s o keeps (asks page e)
+      by (Some page) e = visit_keeps keeps (asks page e)
       by None e = visit_unbound e
 
   seats : SameSeats s (after_visit s o)

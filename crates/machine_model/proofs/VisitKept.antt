@@ -40,10 +40,10 @@ module _ (s : State) (f u p : ℕ) (k : Keeps s) (none : s.owner ≡ None) (bare
   taking_is = take_one_seen s 0 aim.Evicting (what.Page f) f u p k.store.kept.places bound page_here
 
   taking_book : KeepsBook (seen taking)
-  taking_book = subst KeepsBook (sym taking_is) (take_keeps (seen s) 0 aim.Evicting (what.Page f) f u p k.book (record {
+  taking_book = subst KeepsBook (sym taking_is) (take_keeps 0 aim.Evicting (what.Page f) f u p k.book (record {
     here = page_here;
     still = ap waits_for none;
-    others = idle_names (shown (seen s)) s.owner (what.Page f) k.book.going_owned no_frames no_cut;
+    others = idle_names (what.Page f) k.book.going_owned no_frames no_cut;
     this = eqb_self f;
     aimed = (f, cc, refl, no_cut);
   }))
@@ -110,7 +110,7 @@ module _ (s : State) (f u p : ℕ) (k : Keeps s) (none : s.owner ≡ None) (bare
       → Keeps (record (page_gone (with_faults after_take faults) f) { visited = n })
   visit_gone faults n rose zeros says = kept_with (record (page_gone (with_faults after_take faults) f) { visited = n })
       (subst (λ (o : Option Owner). KeepsBook (seen (with_owner (page_gone after_take f) o))) (sym none)
-      (rw page_still (left_keeps waited f u p how None tables_still waited_book can_finish zeros))) says
+      (rw page_still (left_keeps waited how tables_still waited_book can_finish zeros))) says
       (let one = taken_faults in let few = k.few_faults in omega (
         arith,
         (left_faults (s.entries ++ entry.Take f ∷ []) f how (page_in after_take.store f)),
@@ -144,8 +144,8 @@ module _ (s : State) (f u p : ℕ) (k : Keeps s) (none : s.owner ≡ None) (bare
 -- ---- the visit
 
 -- how many frames were visited is no part of the promise
-pub kept_visited : (s : State) (n : ℕ) → Keeps s → Keeps (record s { visited = n })
-kept_visited s n k = assumption
+pub kept_visited : {s : State} (n : ℕ) → Keeps s → Keeps (record s { visited = n })
+kept_visited n k = assumption
 
 -- What a visit asks: of a frame that has a page, what the store says of the machine then.
 pub record AsksVisit (s : State) (o : Outcome) : Type 0 where
@@ -159,8 +159,8 @@ pub record AsksVisit (s : State) (o : Outcome) : Type 0 where
       × StoreSays (record (page_back (fault_told
       (page_taken s s.visited) None o.faults) s.visited) { visited = s.visited + 1 })
 
-pub visit_keeps : (s : State) (o : Outcome) → Keeps s → AsksVisit s o → Keeps (after_visit s o)
-visit_keeps s o k asks = by (bound_page (frame_in s.store.pages s.visited)) (binding_is s s.visited)
+pub visit_keeps : {s : State} {o : Outcome} → Keeps s → AsksVisit s o → Keeps (after_visit s o)
+visit_keeps {s} {o} k asks = by (bound_page (frame_in s.store.pages s.visited)) (binding_is s s.visited)
   where
     ended : (page : ℕ × ℕ) → (seen s).bound s.visited ≡ Some page → (b : Bool) → o.failed ≡ b
         → Keeps (record (cond b (page_back (fault_told (page_taken s s.visited) None o.faults) s.visited)
@@ -172,5 +172,5 @@ visit_keeps s o k asks = by (bound_page (frame_in s.store.pages s.visited)) (bin
 
     by : (x : Option (ℕ × ℕ)) → (seen s).bound s.visited ≡ x
         → Keeps (record (visited_if s s.visited o x) { visited = s.visited + 1 })
-    by None h = kept_visited s (s.visited + 1) k
+    by None h = kept_visited (s.visited + 1) k
     by (Some page) h = ended page h o.failed refl

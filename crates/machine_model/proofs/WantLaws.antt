@@ -3,7 +3,7 @@ use Rattle.machine_model.proofs.StepBasics.{◌≡◌, ℕ, ◌*◌, Bool, true,
 
 -- ---- a processor that has a process
 
-module _ (s : State) (c k : ℕ) (its : (cpu_at s.processors c).process ≡ Some k) where
+module _ (s : State) (c : ℕ) {k : ℕ} (its : (cpu_at s.processors c).process ≡ Some k) where
   runner_is : runner_at (outline_of s).runners c ≡ runner_by (around s) (processor_at s.processors c) (Some k)
   runner_is = cc (at_outline s c)
 
@@ -33,7 +33,7 @@ module _ (s : State) (k : ℕ) (keeps : Keeps s) (r : Reference) (u : ℕ) (insi
   ]
 
   allowed : permits (access_of (who_at s.store.whos k) inside.node.rows) r.kind ≡ true
-  allowed = cc (who_is s keeps k)
+  allowed = cc (who_is keeps k)
 
   pub refer_wants : want_of_reference (around s) k r
       ≡ Refer (chain_of s.store.accounts.nodes u) u (r.offset / 1024) (not (eqb (new_word 0 r.kind) 0))
@@ -73,19 +73,19 @@ chain_or _ = []
 
 module _ (nodes : List Node) (who : Who) (numbers : List (List (Option ℕ))) (k : ℕ) (r : Reference) (chain : List ℕ)
     (uid page : ℕ) (makes : Bool) where
-  none_refers : (w : Want) → w ≡ Refer chain uid page makes → is_refer w ≡ false → ⊥
+  none_refers : {w : Want} → w ≡ Refer chain uid page makes → is_refer w ≡ false → ⊥
   unfolding is_refer
-  none_refers w h off = not_both (ap is_refer h) off
+  none_refers h off = not_both (ap is_refer h) off
 
-  node_refers : (v : ℕ) (n : Node) → uid_of (kst_at numbers k) r.number ≡ Some v → node_in nodes v ≡ Some n
+  node_refers : {v : ℕ} (n : Node) → uid_of (kst_at numbers k) r.number ≡ Some v → node_in nodes v ≡ Some n
       → want_in nodes who r (Some n) ≡ Refer chain uid page makes → IsReferring nodes numbers k r chain uid page makes
   unfolding is_refer
-  node_refers v n e at h = by (not (permits (access_of who n.rows) r.kind)) (nat_le (1024 * n.pages) r.offset) h
+  node_refers {v} n e at h = by (not (permits (access_of who n.rows) r.kind)) (nat_le (1024 * n.pages) r.offset) h
     where
       by : (a b : Bool) → cond a Other (cond b Other (refer_to nodes r n.uid)) ≡ Refer chain uid page makes
           → IsReferring nodes numbers k r chain uid page makes
-      by true b i = absurd (none_refers Other i refl)
-      by false true i = absurd (none_refers Other i refl)
+      by true b i = absurd (none_refers i refl)
+      by false true i = absurd (none_refers i refl)
       by false false i = let same = sym (found_uid nodes v n at) ∙ ap uid_or i in record {
         stands = cc;
         node = n;
@@ -98,13 +98,13 @@ module _ (nodes : List Node) (who : Who) (numbers : List (List (Option ℕ))) (k
   number_refers : (x : Option ℕ) → uid_of (kst_at numbers k) r.number ≡ x
       → want_known nodes who r x ≡ Refer chain uid page makes → IsReferring nodes numbers k r chain uid page makes
   unfolding is_refer
-  number_refers None e h = absurd (none_refers Other h refl)
+  number_refers None e h = absurd (none_refers h refl)
   number_refers (Some v) e h = by (node_in nodes v) refl h
     where
       by : (y : Option Node) → node_in nodes v ≡ y → want_in nodes who r y ≡ Refer chain uid page makes
           → IsReferring nodes numbers k r chain uid page makes
-      by None at i = absurd (none_refers Other i refl)
-      by (Some n) at i = node_refers v n e at i
+      by None at i = absurd (none_refers i refl)
+      by (Some n) at i = node_refers n e at i
 
 pub refers : (s : State) (k : ℕ) (r : Reference) (chain : List ℕ) (uid page : ℕ) (makes : Bool)
     → want_of_reference (around s) k r ≡ Refer chain uid page makes

@@ -8,12 +8,12 @@ word_late : (w : ℕ) (how : RefKind) → is_early (word_reply w how) ≡ false
 word_late w kind.Read = refl
 word_late w _ = refl
 
-module _ (s : State) (k : ℕ) (t : Store) (shown : IsFaithful s.plan t s.store) where
+module _ (s : State) (k : ℕ) {t : Store} (shown : IsFaithful s.plan t s.store) where
   -- a reference to a word that is there is refused for its page alone, or its access list
-  reached_late : (r : Reference) → IsReached s.store.accounts.nodes s.store.links.known k r
+  reached_late : {r : Reference} → IsReached s.store.accounts.nodes s.store.links.known k r
       → is_early (reply_to_reference s.plan t k r) ≡ false
   unfolding reply_to_reference
-  reached_late r h = ap is_early (cc)
+  reached_late {r} h = ap is_early (cc)
       ∙ by (permits (access_of (who_of s.plan k) h.node.rows) r.kind) (nat_le (1024 * h.node.pages) r.offset)
       (stores_page t h.node.uid r.offset r.kind) (is_used_up t h.node.uid) (is_out_of_room s.plan t h.node) short
     where
@@ -57,7 +57,7 @@ module _ (s : State) (k : ℕ) (t : Store) (shown : IsFaithful s.plan t s.store)
   changes_late _ h = absurd h
 
   pub may_fail_is : (c : Command) → MayFailBy s.store k (Some c) → may_fail c (reply_to_command s.plan t k c) ≡ true
-  may_fail_is c (inl x) = cc (reached_late x.0 x.2)
+  may_fail_is c (inl x) = cc (reached_late x.2)
   may_fail_is c (inr x) = changes_late c x
 
   -- such a command isn't the end of its process
@@ -75,17 +75,17 @@ module _ (s : State) (k : ℕ) (t : Store) (shown : IsFaithful s.plan t s.store)
       by _ e = refl
 
 -- one frame is used otherwise: for nothing of the segment, or for what is going
-frame_whole : (c : Custody) (u f : ℕ) (x : FrameUse) → IsWhole c u
+frame_whole : {c : Custody} {u : ℕ} (f : ℕ) (x : FrameUse) → IsWhole c u
     → (uid_of_page (page_of x) ≡ Some u → is_going_frame x ≡ true) → IsWhole (with_frame c f x) u
-frame_whole c u f x w new = record {
+frame_whole {c} {u} f x w new = record {
   pages = λ g. by_place (λ (y : FrameUse). uid_of_page (page_of y) ≡ Some u → is_going_frame y ≡ true) c.frame f x g
       (λ e. new) (λ n. w.pages g);
   descriptors = w.descriptors;
 }
 
-descriptor_whole : (c : Custody) (u k n : ℕ) (x : DescriptorUse) → IsWhole c u
+descriptor_whole : {c : Custody} {u : ℕ} (k n : ℕ) (x : DescriptorUse) → IsWhole c u
     → (leads_to x ≡ Some u → is_going_descriptor x ≡ true) → IsWhole (with_descriptor c k n x) u
-descriptor_whole c u k n x w new = record {
+descriptor_whole {c} {u} k n x w new = record {
   pages = w.pages;
   descriptors = λ i j. by_places (λ (y : DescriptorUse). leads_to y ≡ Some u
       → is_going_descriptor y ≡ true) c.descriptor k n x i j (λ a b. new) (λ m. w.descriptors i j);
@@ -111,36 +111,36 @@ seat_whole e f d w = record {
 }
 
 -- An entry that spares the segment leaves it whole.
-pub whole_next : (p : Plan) (s : Store) (c : Custody) (u : ℕ) (e : Entry) → IsWhole c u → Spares u e
+pub whole_next : (p : Plan) (s : Store) {c : Custody} {u : ℕ} (e : Entry) → IsWhole c u → Spares u e
     → IsWhole (custody_next p s c e) u
 unfolding custody_next
-whole_next p s c u (entry.Do k i d f r) w h = seat_whole (custody_next p s c (entry.Do k i d f r)) refl refl w
-whole_next p s c u (entry.Online d) w h = seat_whole (custody_next p s c (entry.Online d)) refl refl w
-whole_next p s c u (entry.Load d k) w h = seat_whole (custody_next p s c (entry.Load d k)) refl refl w
-whole_next p s c u (entry.Leave d) w h = seat_whole (custody_next p s c (entry.Leave d)) refl refl w
-whole_next p s c u (entry.Activate v) w h = seat_whole (custody_next p s c (entry.Activate v)) refl refl w
-whole_next p s c u (entry.Deactivate v) w h = seat_whole (custody_next p s c (entry.Deactivate v)) refl refl w
-whole_next p s c u (entry.Start f v q) w h = frame_whole c u f (frame.Started v q) w (λ e. absurd (h (some_same v u e)))
-whole_next p s c u (entry.Lose f) w h = frame_whole c u f frame.Free w (λ e. cc)
-whole_next p s c u (entry.Here f v q) w h = frame_whole c u f (frame.Current v q) w (λ e. absurd (h (some_same v u e)))
-whole_next p s c u (entry.Connect k n v) w h =
-    descriptor_whole c u k n (descriptor.Current v) w (λ e. absurd (h (some_same v u e)))
-whole_next p s c u (entry.Take f) w h = frame_whole c u f (taken (c.frame f)) w (taken_whole (c.frame f) u (w.pages f))
-whole_next p s c u (entry.Cut k n) w h = descriptor_whole c u k n (cut (c.descriptor k n)) w
+whole_next p s {c} (entry.Do k i d f r) w h = seat_whole (custody_next p s c (entry.Do k i d f r)) refl refl w
+whole_next p s {c} (entry.Online d) w h = seat_whole (custody_next p s c (entry.Online d)) refl refl w
+whole_next p s {c} (entry.Load d k) w h = seat_whole (custody_next p s c (entry.Load d k)) refl refl w
+whole_next p s {c} (entry.Leave d) w h = seat_whole (custody_next p s c (entry.Leave d)) refl refl w
+whole_next p s {c} (entry.Activate v) w h = seat_whole (custody_next p s c (entry.Activate v)) refl refl w
+whole_next p s {c} (entry.Deactivate v) w h = seat_whole (custody_next p s c (entry.Deactivate v)) refl refl w
+whole_next p s {c} {u} (entry.Start f v q) w h = frame_whole f (frame.Started v q) w (λ e. absurd (h (some_same v u e)))
+whole_next p s {c} {u} (entry.Lose f) w h = frame_whole f frame.Free w (λ e. cc)
+whole_next p s {c} {u} (entry.Here f v q) w h = frame_whole f (frame.Current v q) w (λ e. absurd (h (some_same v u e)))
+whole_next p s {c} {u} (entry.Connect k n v) w h =
+    descriptor_whole k n (descriptor.Current v) w (λ e. absurd (h (some_same v u e)))
+whole_next p s {c} {u} (entry.Take f) w h = frame_whole f (taken (c.frame f)) w (taken_whole (c.frame f) u (w.pages f))
+whole_next p s {c} {u} (entry.Cut k n) w h = descriptor_whole k n (cut (c.descriptor k n)) w
     (cut_whole (c.descriptor k n) u (w.descriptors k n))
-whole_next p s c u (entry.Signal d x) w h = seat_whole (custody_next p s c (entry.Signal d x)) refl refl w
-whole_next p s c u (entry.Clear d x) w h = seat_whole (custody_next p s c (entry.Clear d x)) refl refl w
-whole_next p s c u (entry.FillSeg d n) w h = seat_whole (custody_next p s c (entry.FillSeg d n)) refl refl w
-whole_next p s c u (entry.FillPage d f) w h = seat_whole (custody_next p s c (entry.FillPage d f)) refl refl w
-whole_next p s c u (entry.GonePage f) w h = frame_whole c u f frame.Free w (λ e. cc)
-whole_next p s c u (entry.BackPage f) w h = absurd h
-whole_next p s c u (entry.GoneSeg k n) w h = descriptor_whole c u k n descriptor.Free w (λ e. cc)
-whole_next p s c u (entry.BackSeg k n) w h = absurd h
-whole_next p s c u _ w h = w
+whole_next p s {c} (entry.Signal d x) w h = seat_whole (custody_next p s c (entry.Signal d x)) refl refl w
+whole_next p s {c} (entry.Clear d x) w h = seat_whole (custody_next p s c (entry.Clear d x)) refl refl w
+whole_next p s {c} (entry.FillSeg d n) w h = seat_whole (custody_next p s c (entry.FillSeg d n)) refl refl w
+whole_next p s {c} (entry.FillPage d f) w h = seat_whole (custody_next p s c (entry.FillPage d f)) refl refl w
+whole_next p s {c} {u} (entry.GonePage f) w h = frame_whole f frame.Free w (λ e. cc)
+whole_next p s (entry.BackPage f) w h = absurd h
+whole_next p s {c} {u} (entry.GoneSeg k n) w h = descriptor_whole k n descriptor.Free w (λ e. cc)
+whole_next p s (entry.BackSeg k n) w h = absurd h
+whole_next p s _ w h = w
 
 -- a page that is being read spares a segment that is whole
-pub started_spares : (c : Custody) (u f v q : ℕ) → IsWhole c u → c.frame f ≡ frame.Started v q → v ≢ u
-started_spares c u f v q w started same = let no : false ≡ true = sym (ap is_going_frame started) ∙ (w.pages f (cc)) in
+pub started_spares : {c : Custody} {u : ℕ} (f v q : ℕ) → IsWhole c u → c.frame f ≡ frame.Started v q → v ≢ u
+started_spares f v q w started same = let no : false ≡ true = sym (ap is_going_frame started) ∙ (w.pages f (cc)) in
     cc
 
 -- ---- nothing is left

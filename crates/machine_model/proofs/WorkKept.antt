@@ -13,12 +13,12 @@ whole_list : (p : Plan) (es more : List Entry) (u : ℕ) → IsWhole (custody_af
     → IsWhole (custody_after p (es ++ more)) u
 whole_list p es [] u w spare = subst (λ (xs : List Entry). IsWhole (custody_after p xs) u) (sym (append-nil es)) w
 whole_list p es (e ∷ more) u w spare = rw (append_assoc es (e ∷ []) more) at (whole_list p (es ++ e ∷ []) more u
-    (rw (custody_after-push p es e) (whole_next p (store_after p es) (custody_after p es) u e w spare.0)) spare.1)
+    (rw (custody_after-push p es e) (whole_next p (store_after p es) e w spare.0)) spare.1)
 
 -- what goes of a segment is all of it still
-pub whole_on : (s now : State) (more : List Entry) (u : ℕ) → Keeps s → Keeps now → now.plan ≡ s.plan
+pub whole_on : {s now : State} (more : List Entry) {u : ℕ} → Keeps s → Keeps now → now.plan ≡ s.plan
     → now.entries ≡ s.entries ++ more → IsWhole (holding s) u → AllSpare u more → IsWhole (holding now) u
-whole_on s now more u k kept plan entries w spare = rw (kept.book.held ∙ λ i. custody_after (plan i) (entries i))
+whole_on {s} more {u} k kept plan entries w spare = rw (kept.book.held ∙ λ i. custody_after (plan i) (entries i))
     (whole_list s.plan s.entries more u (rw (← k.book.held) w) spare)
 
 -- ---- of which commands a failure may be told, by tables that are as before
@@ -46,17 +46,17 @@ fails_less old now k (Some c) less (inr h) = inr (by c h)
     by (command.Truncate path words) x = (x.0, cc)
     by _ x = absurd x
 
-fails_by_less : (a : Aim) (old now : Storage) (k : ℕ) (x : Option Command) → IsLess old now → FailsBy a old k x
+fails_by_less : (a : Aim) {old now : Storage} (k : ℕ) (x : Option Command) → IsLess old now → FailsBy a old k x
     → FailsBy a now k x
-fails_by_less aim.Committing old now k x less h = h
-fails_by_less _ old now k x less h = fails_less old now k x less h
+fails_by_less aim.Committing k x less h = h
+fails_by_less _ {old} {now} k x less h = fails_less old now k x less h
 
-pub fails_in_less : (ph : Phase) (old now : Storage) (k : ℕ) (x : Option Command) → IsLess old now → FailsIn ph old k x
+pub fails_in_less : (ph : Phase) {old now : Storage} (k : ℕ) (x : Option Command) → IsLess old now → FailsIn ph old k x
     → FailsIn ph now k x
-fails_in_less phase.Looking old now k x less h = tt
-fails_in_less (phase.Taken a w) old now k x less h = fails_by_less a old now k x less h
-fails_in_less (phase.Waiting a w) old now k x less h = fails_by_less a old now k x less h
-fails_in_less (phase.Moving m) old now k x less h = fails_less old now k x less h
+fails_in_less phase.Looking k x less h = tt
+fails_in_less (phase.Taken a w) {old} {now} k x less h = fails_by_less a k x less h
+fails_in_less (phase.Waiting a w) {old} {now} k x less h = fails_by_less a k x less h
+fails_in_less (phase.Moving m) {old} {now} k x less h = fails_less old now k x less h
 
 -- ---- what a move rests on, by tables that are as before
 
@@ -74,18 +74,18 @@ pub record LeavesMove (old now : Storage) : Type 0 where
   pub active : (u : ℕ) → is_active now.ast u ≡ is_active old.ast u
   pub unread : (u : ℕ) → IsUnread old.pages.core u → IsUnread now.pages.core u
 
-pub moved_on : (old now : Storage) (k : ℕ) (m : Mover) (x : Option Command) → LeavesMove old now
+pub moved_on : {old : Storage} (now : Storage) {k : ℕ} {m : Mover} {x : Option Command} → LeavesMove old now
     → IsMovedFor old k m x → IsMovedFor now k m x
-moved_on old now k m x leaves h = record {
+moved_on now {k} {m} leaves h = record {
   moves = rw leaves.tables h.moves;
   active = leaves.active m.uid ∙ h.active;
   unread = leaves.unread m.uid h.unread;
 }
 
-pub moves_in_on : (ph : Phase) (old now : Storage) (k : ℕ) (x : Option Command) → LeavesMove old now
+pub moves_in_on : (ph : Phase) {old now : Storage} (k : ℕ) (x : Option Command) → LeavesMove old now
     → MovesIn ph old k x → MovesIn ph now k x
-moves_in_on (phase.Moving m) old now k x leaves h = moved_on old now k m x leaves h
-moves_in_on _ old now k x leaves h = tt
+moves_in_on (phase.Moving m) {old} {now} k x leaves h = moved_on now leaves h
+moves_in_on _ k x leaves h = tt
 
 -- a page is copied: the move goes on past it
 past_moves : (t : Tables) (k : ℕ) (m : Mover) (p : ℕ) (x : Option Command) → MovesForNext t k m x
@@ -99,15 +99,15 @@ past_moves t k m p (Some c) h = record {
   its = ap (λ (x : Mover). past_page x p) h.its;
 }
 
-pub past_moved : (st : Storage) (k : ℕ) (m : Mover) (p : ℕ) (x : Option Command) → IsMovedFor st k m x
+pub past_moved : {st : Storage} {k : ℕ} {m : Mover} (p : ℕ) {x : Option Command} → IsMovedFor st k m x
     → IsMovedFor (with_copy st m p) k (past_page m p) x
-past_moved st k m p x h = assumption (past_moves (tables_of st) k m p x h.moves)
+past_moved {st} {k} {m} p {x} h = assumption (past_moves (tables_of st) k m p x h.moves)
 
 -- the frames into which pages are being read are as they were, or fewer
-pub unread_less : (old now : Core) (u : ℕ)
+pub unread_less : {old : Core} (now : Core) {u : ℕ}
     → ((f : ℕ) (page : ℕ × ℕ) → read_at (reads_of now) f ≡ Some page → read_at (reads_of old) f ≡ Some page)
     → IsUnread old u → IsUnread now u
-unread_less old now u less h = record { none = λ f p e. h.none f p (less f (u, p) e) }
+unread_less now {u} less h = record { none = λ f p e. h.none f p (less f (u, p) e) }
 
 -- one frame changes, and no page more is being read into it
 pub frame_less : (core : Core) (f : ℕ) (y : Frame)
@@ -143,10 +143,10 @@ none_from_is s k path pages n found stands = by (is_stored_from (flat_of s).stor
     by false e = refl
     by true e = cc
 
-module _ (s : State) (k : ℕ) (cmd : Command) (keeps : Keeps s) where
-  reference_fails : (r : Reference) → reference_of cmd ≡ Some r → outside_refusal s k r ≡ None
+module _ {s : State} (k : ℕ) (cmd : Command) (keeps : Keeps s) where
+  reference_fails : {r : Reference} → reference_of cmd ≡ Some r → outside_refusal s k r ≡ None
       → MayFailBy s.store k (Some cmd)
-  reference_fails r is inside = let h = inside_is s k r keeps inside in inl (
+  reference_fails {r} is inside = let h = inside_is s k r keeps inside in inl (
     r,
     is,
     record { uid = uid_of_number s.store k r.number; stands = cc; node = h.node; there = cc; within = h.within },
@@ -163,14 +163,14 @@ module _ (s : State) (k : ℕ) (cmd : Command) (keeps : Keeps s) where
 
   pub page_fails : (uid page : ℕ) → ((r : Reference) × FindsPage s k cmd r uid page) ⊎ FindsCut s k cmd uid page
       → MayFailBy s.store k (Some cmd)
-  page_fails uid page (inl x) = reference_fails x.0 x.1.is x.1.inside
+  page_fails uid page (inl x) = reference_fails x.1.is x.1.inside
   page_fails uid page (inr x) = truncate_fails x.path x.words x.is x.stands
 
-  pub about_fails : (u : ℕ) → IsAbout s k cmd u → MayFailBy s.store k (Some cmd)
-  about_fails u h = elim h.case [ inl x ↦ reference_fails x.0 x.1 x.3 | inr x ↦ truncate_fails x.0 x.1 x.2 x.3 ]
+  pub about_fails : {u : ℕ} → IsAbout s k cmd u → MayFailBy s.store k (Some cmd)
+  about_fails h = elim h.case [ inl x ↦ reference_fails x.1 x.3 | inr x ↦ truncate_fails x.0 x.1 x.2 x.3 ]
 
-  pub length_fails : (u : ℕ) → FindsActive s k cmd u → MayFailBy s.store k (Some cmd)
-  length_fails u finds = rw finds.is (inr (leads.node, same_path finds.path leads.node leads.found, none_filed))
+  pub length_fails : {u : ℕ} → FindsActive s k cmd u → MayFailBy s.store k (Some cmd)
+  length_fails finds = rw finds.is (inr (leads.node, same_path finds.path leads.node leads.found, none_filed))
     where
       stands : refusal_of s k (command.Length finds.path finds.pages) ≡ None
       stands = subst (λ (c : Command). refusal_of s k c ≡ None) finds.is finds.stands

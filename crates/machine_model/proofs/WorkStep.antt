@@ -22,8 +22,8 @@ record RestsOn (x : Phase) (s : State) (j : ℕ) : Type 0 where
   taken : TakenIn x s j (next_command s j)
   moves : MovesIn x s.store j (next_command s j)
 
-was_resting : (s : State) (q : Owner) → IsWorking s → s.owner ≡ Some q → RestsOn q.phase s (process_at s q.cpu)
-was_resting s q w mine = record { fails = w.fails q mine; taken = w.taken q mine; moves = w.moves q mine }
+was_resting : {s : State} {q : Owner} → IsWorking s → s.owner ≡ Some q → RestsOn q.phase s (process_at s q.cpu)
+was_resting {s} {q} w mine = record { fails = w.fails q mine; taken = w.taken q mine; moves = w.moves q mine }
 
 owner_work : (now : State) (q : Owner) → now.owner ≡ Some q → TakenWhole now
     → ((u : ℕ) → going_for now.owner ≡ Some u → IsLeaf now.store u)
@@ -59,9 +59,9 @@ looking_work now q mine looks numbered few =
 rests_still : {s now : State} {x : Phase} {j : ℕ} → IsLess s.store now.store → LeavesTaken s now
     → LeavesMove s.store now.store → next_command now j ≡ next_command s j → RestsOn x s j → RestsOn x now j
 rests_still {s} {now} {x} {j} less left leaves next h = record {
-  fails = rw next (fails_in_less x s.store now.store j (next_command s j) less h.fails);
-  taken = rw next (taken_in x s now j (next_command s j) left h.fails h.taken);
-  moves = rw next (moves_in_on x s.store now.store j (next_command s j) leaves h.moves);
+  fails = rw next (fails_in_less x j (next_command s j) less h.fails);
+  taken = rw next (taken_in x j (next_command s j) left h.fails h.taken);
+  moves = rw next (moves_in_on x j (next_command s j) leaves h.moves);
 }
 
 -- ---- another processor's action
@@ -92,13 +92,13 @@ leaf_like old now u nodes active h = record {
   inferiors = λ v e i. h.inferiors v (sym (active v) ∙ e) (cc);
 }
 
-pub leaves_work : (s now : State) → Keeps s → Keeps now → IsWorking s → Leaves s now → IsWorking now
-leaves_work s now k kept w l = record {
+pub leaves_work : {s now : State} → Keeps s → Keeps now → IsWorking s → Leaves s now → IsWorking now
+leaves_work {s} {now} k kept w l = record {
   few = subst OwnsFew (sym l.owner) w.few;
   numbered = rw (less.known, l.owner) w.numbered;
   whole = record {
     whole = λ u h. (let goes = ap going_for (sym l.owner) ∙ h in
-        whole_on s now l.more u k kept l.plan l.book (w.whole.whole u goes) (l.spares u goes));
+        whole_on l.more k kept l.plan l.book (w.whole.whole u goes) (l.spares u goes));
   };
   leaf = λ u h. leaf_like s.store now.store u less.nodes l.active (w.leaf u (cc));
   fails = λ o h. (rests o h).fails;
@@ -115,16 +115,15 @@ leaves_work s now k kept w l = record {
       known = less.known;
       active = l.active;
       out = l.out;
-      just = λ Page Descriptor j. just_on Page Descriptor s now l.more k kept l.plan l.book j
-          (l.stays Page Descriptor j);
+      just = λ Page Descriptor j. just_on Page Descriptor l.more k kept l.plan l.book j (l.stays Page Descriptor j);
       stands = stands_on s now k kept less.nodes less.known;
-    }) (assumption) (l.next o was) (was_resting s o w was))
+    }) (assumption) (l.next o was) (was_resting w was))
 
 module _ (s : State) (c : ℕ) (k : Keeps s) (w : IsWorking s) (other : IsNoOwner s c) where
   -- one processor changes alone
-  pub set_process : (p : Processor) (q : Owner) → s.owner ≡ Some q → (cpu_at (set s.processors c p) q.cpu).process
-      ≡ (cpu_at s.processors q.cpu).process
-  set_process p q h = cc (get_or-set_other s.processors c q.cpu p no_processor (other q h))
+  pub set_process : (p : Processor) {q : Owner} → s.owner ≡ Some q
+      → (cpu_at (set s.processors c p) q.cpu).process ≡ (cpu_at s.processors q.cpu).process
+  set_process p {q} h = cc (get_or-set_other s.processors c q.cpu p no_processor (other q h))
 
   -- one that changes nothing but itself, the ready list and the book
   seat_work : (now : State) (p : Processor) (e : Entry) → Keeps now → now ≡ record s {
@@ -133,7 +132,7 @@ module _ (s : State) (c : ℕ) (k : Keeps s) (w : IsWorking s) (other : IsNoOwne
     entries = s.entries ++ e ∷ [];
     spare = now.spare;
   } → ((u : ℕ) → AllSpare u (e ∷ [])) → ((Page : ℕ → ℕ → Type 0) → AllStay Page (e ∷ [])) → IsWorking now
-  seat_work now p e kept same spares stays = leaves_work s now k kept w (record {
+  seat_work now p e kept same spares stays = leaves_work k kept w (record {
     owner = cc;
     plan = cc;
     tables = cc;
@@ -144,14 +143,14 @@ module _ (s : State) (c : ℕ) (k : Keeps s) (w : IsWorking s) (other : IsNoOwne
     book = cc;
     spares = λ u h. spares u;
     stays = λ Page Descriptor j. stays Page;
-    process = λ q h. cc (set_process p q h);
+    process = λ q h. cc (set_process p h);
     next = λ q h. rw (same);
   })
 
   -- another process than the owner's is answered
-  other_process : (q : Owner) → s.owner ≡ Some q → IsMachine s → (cpu_at s.processors c).process ≡ Some (process_at s c)
+  other_process : {q : Owner} → s.owner ≡ Some q → IsMachine s → (cpu_at s.processors c).process ≡ Some (process_at s c)
       → process_at s q.cpu ≢ process_at s c
-  other_process q h m its same = other q h (m.scheduled.alone q.cpu c (process_at s c)
+  other_process {q} h m its same = other q h (m.scheduled.alone q.cpu c (process_at s c)
       (cc (some_of (cpu_at s.processors q.cpu).process (k.at_work q h).busy)) its)
     where
       some_of : (x : Option ℕ) → is_some x ≡ true → x ≡ Some (or_zero x)
@@ -163,7 +162,7 @@ module _ (s : State) (c : ℕ) (k : Keeps s) (w : IsWorking s) (other : IsNoOwne
       → command_at s.plan (process_at s q.cpu) (run_at (set s.runs (process_at s c) run) (process_at s q.cpu)).place
       ≡ next_command s (process_at s q.cpu)
   other_next q run h m its = cc (get_or-set_other s.runs (process_at s c) (process_at s q.cpu) run no_run
-      (other_process q h m its))
+      (other_process h m its))
 
 -- ---- a segment is taken
 
@@ -175,7 +174,7 @@ module _ (s : State) (c : ℕ) (a : Aim) (v : What) (fs : List ℕ) (pairs : Lis
   took_next = λ i. command_at ((took_like s c a v fs pairs).plan i) (process_at s c)
       (run_at ((took_like s c a v fs pairs).runs i) (process_at s c)).place
 
-module _ (s : State) (c u : ℕ) (k : Keeps s) (idle : IsIdle s.owner) (none : going_for s.owner ≡ None)
+module _ {s : State} (c u : ℕ) (k : Keeps s) (idle : IsIdle s.owner) (none : going_for s.owner ≡ None)
     (active : is_active s.store.ast u ≡ true) (unread : frame_reading s.store.pages.core u any_page ≡ None)
     (inferiors : (v : ℕ) → is_active s.store.ast v ≡ true → superior_in (node_in s.store.accounts.nodes v) ≢ Some u)
     (fails : MayFailBy s.store (process_at s c) (next_command s (process_at s c))) where
@@ -219,9 +218,9 @@ module _ (s : State) (c u : ℕ) (k : Keeps s) (idle : IsIdle s.owner) (none : g
 
   pub begun_work : IsWorking (deactivation_begun s c u)
   begun_work = by_lists (frames_from s.store.ast u 0) (trailers_in s.store u)
-      (begun_whole s c u k idle none active (unread_any s.store.pages.core u unread)) (took_numbered s c
+      (begun_whole c u k idle none active (unread_any s.store.pages.core u unread)) (took_numbered c
       (aim.Deactivating u) (what.Seg u) (frames_from s.store.ast u 0) (trailers_in s.store u) k (rw idle.cut tt)
-      (segment_takes s (aim.Deactivating u) (what.Seg u) u 0 k idle (eqb_self u) (λ gs cs. refl)).pairs_are) (took_few s
+      (segment_takes (aim.Deactivating u) (what.Seg u) u 0 k idle (eqb_self u) (λ gs cs. refl)).pairs_are) (took_few s
       c (aim.Deactivating u) (what.Seg u) (frames_from s.store.ast u 0) (trailers_in s.store u) idle
       (omega (arith, frames_from_few s u 0 k, trailers_few s u k)))
 
@@ -234,7 +233,7 @@ pub record IsEmptying (s : State) (c : ℕ) : Type 0 where
   pub what : What
   pub waits : owner.owner.phase ≡ phase.Waiting (aim.Deactivating uid) what
 
-module _ (s : State) (c : ℕ) (k : Keeps s) (w : IsWorking s) where
+module _ {s : State} (c : ℕ) (k : Keeps s) (w : IsWorking s) where
   goes_signalled : (o : Option Owner) → going_for (owner_signalled o) ≡ going_for o
   goes_signalled None = refl
   goes_signalled (Some q) = by q.phase
@@ -251,7 +250,7 @@ module _ (s : State) (c : ℕ) (k : Keeps s) (w : IsWorking s) where
 
   signal_work : (what : What) → IsMine s c → Keeps (signalled s c what) → IsWorking (signalled s c what)
   signal_work what mine kept = owner_work now _ (ap owner_signalled mine.mine) (record {
-    whole = λ u h. whole_on s now (entry.Signal c what ∷ []) u k kept refl refl
+    whole = λ u h. whole_on (entry.Signal c what ∷ []) k kept refl refl
         (w.whole.whole u (sym (goes_signalled s.owner) ∙ h)) (tt, tt);
   }) (λ u h. w.leaf u (sym (goes_signalled s.owner) ∙ h)) (rw (cut_signalled s.owner) w.numbered)
       (signalled_few s.owner w.few) (rests_signalled q.phase now (process_at now q.cpu)
@@ -260,10 +259,9 @@ module _ (s : State) (c : ℕ) (k : Keeps s) (w : IsWorking s) where
         known = refl;
         active = λ u. refl;
         out = λ u q e. e;
-        just =
-            λ Page Descriptor j. just_on Page Descriptor s now (entry.Signal c what ∷ []) k kept refl refl j (tt, tt);
+        just = λ Page Descriptor j. just_on Page Descriptor (entry.Signal c what ∷ []) k kept refl refl j (tt, tt);
         stands = stands_on s now k kept refl refl;
-      }) (record { tables = refl; active = λ u. refl; unread = λ u h. h }) refl (was_resting s q w mine.mine))))
+      }) (record { tables = refl; active = λ u. refl; unread = λ u h. h }) refl (was_resting w mine.mine))))
     where
       q : Owner
       q = mine.owner
@@ -288,7 +286,7 @@ module _ (s : State) (c : ℕ) (k : Keeps s) (w : IsWorking s) where
   page_work : (f faults : ℕ) → IsEmptying s c → Keeps (page_done (with_faults s faults) f)
       → IsWorking (page_done (with_faults s faults) f)
   page_work f faults emptying kept = owner_work now _ (ap without_first_frame emptying.owner.mine) (record {
-    whole = λ u h. whole_on s now (entries_left f how (page_in s.store f)) u k kept refl refl
+    whole = λ u h. whole_on (entries_left f how (page_in s.store f)) k kept refl refl
         (w.whole.whole u (sym (goes_less s.owner) ∙ h)) (spares_left u f how (page_in s.store f));
   }) (λ u h. leaf_like s.store now.store u (nodes_left how f (page_in s.store f)) (λ v. refl)
       (w.leaf u (sym (goes_less s.owner) ∙ h))) (rw (cut_less s.owner) w.numbered) (less_few s.owner w.few)
@@ -371,10 +369,10 @@ MayWork s c o (act.BeginMove u volume) = BeginsMove s c u volume
 MayWork s c o (act.CopyPage m p) = IsMoving s c m
 MayWork s c o _ = Unit {0}
 
-looking_goes : (s : State) (c : ℕ) → IsLooking s c → going_for s.owner ≡ None
-looking_goes s c l = cc
+looking_goes : {s : State} {c : ℕ} → IsLooking s c → going_for s.owner ≡ None
+looking_goes l = cc
 
-module _ (s : State) (c : ℕ) (o : Outcome) (m : IsMachine s) (w : IsWorking s) where
+module _ {s : State} (c : ℕ) (o : Outcome) (m : IsMachine s) (w : IsWorking s) where
   abbrev keeps : Keeps s
   keeps = m.keeps
 
@@ -385,7 +383,7 @@ module _ (s : State) (c : ℕ) (o : Outcome) (m : IsMachine s) (w : IsWorking s)
       → ((u : ℕ) → is_active st.ast u ≡ is_active s.store.ast u) → NoneOut s.store.ast st.ast
       → Keeps (told (with_store s st) c f r) → IsWorking (told (with_store s st) c f r)
   other_told st f r other its tables unread active out kept =
-      leaves_work s (told (with_store s st) c f r) keeps kept w (record {
+      leaves_work keeps kept w (record {
         owner = refl;
         plan = refl;
         tables = tables;
@@ -396,14 +394,14 @@ module _ (s : State) (c : ℕ) (o : Outcome) (m : IsMachine s) (w : IsWorking s)
         book = refl;
         spares = λ u h. (tt, tt);
         stays = λ Page Descriptor j. (tt, tt);
-        process = λ q h. ap or_zero (set_process s c keeps w other _ q h);
+        process = λ q h. ap or_zero (set_process s c keeps w other _ h);
         next = λ q h. other_next s c keeps w other q _ h m its;
       })
 
   -- a transfer's frame was being read into
-  was_started : (t : Transfer) → (cpu_at s.processors c).transfer ≡ Some t
+  was_started : {t : Transfer} → (cpu_at s.processors c).transfer ≡ Some t
       → (holding s).frame t.frame ≡ frame.Started t.uid t.page
-  was_started t mine = let reads = keeps.book.under_way.reading c t mine in
+  was_started {t} mine = let reads = keeps.book.under_way.reading c t mine in
       cc (keeps.book.tied.unbound t.frame t.uid t.page reads)
 
   -- the pages after a reference through a frame, by whether it writes
@@ -417,15 +415,15 @@ module _ (s : State) (c : ℕ) (o : Outcome) (m : IsMachine s) (w : IsWorking s)
 
   pages_unread : (f : ℕ) (r : Reference) (writes : Bool) (u : ℕ) → IsUnread s.store.pages.core u
       → IsUnread (pages_by f r writes).pages.core u
-  pages_unread f r true u h = unread_less s.store.pages.core _ u
+  pages_unread f r true u h = unread_less _
       (frame_less s.store.pages.core f _ (referred_less (frame_at s.store.pages.core f) true)) h
-  pages_unread f r false u h = unread_less s.store.pages.core _ u
+  pages_unread f r false u h = unread_less _
       (frame_less s.store.pages.core f _ (referred_less (frame_at s.store.pages.core f) false)) h
 
   victim_fails : (pool : ℕ) (chain : List ℕ) (u : ℕ) → Looks s c (λ x. FindsVictim s (process_at s c) x pool chain u)
       → IsWorking (victim_taken s c pool chain u)
-  victim_fails pool chain u l = begun_work now c u (hand_kept s pool chain keeps (hand_says s pool chain keeps)) l.idle
-      (looking_goes s c l.looking) (moved (first_off_chain s.store.ast pool chain)) l.finds.unread
+  victim_fails pool chain u l = begun_work c u (hand_kept pool chain keeps (hand_says pool chain keeps)) l.idle
+      (looking_goes l.looking) (moved (first_off_chain s.store.ast pool chain)) l.finds.unread
       (λ v h i. leaf_inferiors s l.finds.place u keeps at leaf.2 v (was v (first_off_chain s.store.ast pool chain) h)
       (ap (λ (ns : List Node). superior_in (node_in ns v)) keeps.faithful.tree.nodes ∙ i))
       (subst (MayFailBy now.store (process_at s c)) (sym l.next) (fails))
@@ -449,7 +447,7 @@ module _ (s : State) (c : ℕ) (o : Outcome) (m : IsMachine s) (w : IsWorking s)
       was v (Some place) h = h
 
       fails : MayFailBy s.store (process_at s c) (Some l.command)
-      fails = about_fails s (process_at s c) l.command keeps l.finds.link.about l.finds.link.case
+      fails = about_fails (process_at s c) l.command keeps l.finds.link.case
 
   -- the process that a failure of a transfer is told of
   abbrev told_process : Transfer → ℕ
@@ -494,20 +492,20 @@ module _ (s : State) (c : ℕ) (o : Outcome) (m : IsMachine s) (w : IsWorking s)
       same = cc (leads.uid, l.finds.is, l.finds.uid)
 
   -- a move goes on, and its owner has taken nothing
-  move_work : (now : State) (m : Mover) → now.owner ≡ Some (moving c m)
+  move_work : (now : State) {m : Mover} → now.owner ≡ Some (moving c m)
       → MayFailBy now.store (process_at now c) (next_command now (process_at now c))
       → IsMovedFor now.store (process_at now c) m (next_command now (process_at now c)) → IsWorking now
-  move_work now m mine fails moves = idle_work (moving c m) mine refl (rw mine tt)
+  move_work now {m} mine fails moves = idle_work (moving c m) mine refl (rw mine tt)
       (subst OwnsFew (sym mine) (omega arith)) (record { fails = fails; taken = tt; moves = moves })
 
   -- what the owner rests on that moves a segment
-  pub moving_fails : (m : Mover) → IsMoving s c m → MayFailBy s.store (process_at s c) (next_command s (process_at s c))
-  moving_fails m x = rw x.owner.same at (subst (λ (y : Phase). FailsIn y s.store (process_at s x.owner.owner.cpu)
+  pub moving_fails : {m : Mover} → IsMoving s c m → MayFailBy s.store (process_at s c) (next_command s (process_at s c))
+  moving_fails x = rw x.owner.same at (subst (λ (y : Phase). FailsIn y s.store (process_at s x.owner.owner.cpu)
       (next_command s (process_at s x.owner.owner.cpu))) x.moves (w.fails x.owner.owner x.owner.mine))
 
-  pub moving_rests : (m : Mover) → IsMoving s c m
+  pub moving_rests : {m : Mover} → IsMoving s c m
       → IsMovedFor s.store (process_at s c) m (next_command s (process_at s c))
-  moving_rests m x = rw x.owner.same at (subst (λ (y : Phase). MovesIn y s.store (process_at s x.owner.owner.cpu)
+  moving_rests x = rw x.owner.same at (subst (λ (y : Phase). MovesIn y s.store (process_at s x.owner.owner.cpu)
       (next_command s (process_at s x.owner.owner.cpu))) x.moves (w.moves x.owner.owner x.owner.mine))
 
   commits : (x : Option Command) → IsWorking (committed_at s c x)
@@ -525,32 +523,25 @@ module _ (s : State) (c : ℕ) (o : Outcome) (m : IsMachine s) (w : IsWorking s)
   work_kept (act.Clear v) may kept =
       seat_work s c keeps w may _ _ (entry.Clear c v) kept refl (λ u. (tt, tt)) (λ Page. (tt, tt))
   work_kept (act.EndTransfer t) may kept = by_end (λ x. Keeps x → IsWorking x) o _ _
-      (λ e kept_well. leaves_work s (transferred (with_faults s o.faults) c t) keeps kept_well w (record {
+      (λ e kept_well. leaves_work keeps kept_well w (record {
         owner = refl;
         plan = refl;
         tables = refl;
-        unread = λ u h. unread_less s.store.pages.core _ u (frame_less s.store.pages.core t.frame
+        unread = λ u h. unread_less _ (frame_less s.store.pages.core t.frame
             (Bound t.uid t.page false false) (λ page e. cc)) h;
         active = λ u. refl;
         out = word_out s.store.ast t.uid t.page (ptw.Here t.frame) refl;
         more = entry.Here t.frame t.uid t.page ∷ [];
         book = refl;
-        spares = λ u h. (
-          started_spares (holding s) u t.frame t.uid t.page (w.whole.whole u h) (was_started t may.1),
-          tt,
-        );
-        stays = λ Page Descriptor j. (
-          started_free Page Descriptor (holding s) t.frame t.uid t.page j (was_started t may.1),
-          tt,
-        );
-        process = λ q h. ap or_zero (set_process s c keeps w may.0 _ q h);
+        spares = λ u h. (started_spares t.frame t.uid t.page (w.whole.whole u h) (was_started may.1), tt);
+        stays = λ Page Descriptor j. (started_free Page Descriptor t.frame t.uid t.page j (was_started may.1), tt);
+        process = λ q h. ap or_zero (set_process s c keeps w may.0 _ h);
         next = λ q h. refl;
-      })) (λ failed kept_ill. leaves_work s (transfer_failed s c t o.faults) keeps kept_ill w (record {
+      })) (λ failed kept_ill. leaves_work keeps kept_ill w (record {
         owner = refl;
         plan = refl;
         tables = refl;
-        unread = λ u h. unread_less s.store.pages.core _ u (frame_less s.store.pages.core t.frame Free
-            (λ page e. cc)) h;
+        unread = λ u h. unread_less _ (frame_less s.store.pages.core t.frame Free (λ page e. cc)) h;
         active = λ u. refl;
         out = λ u q e. e;
         more = entry.Lose t.frame ∷ entry.Fault (Some (process_at s c))
@@ -563,7 +554,7 @@ module _ (s : State) (c : ℕ) (o : Outcome) (m : IsMachine s) (w : IsWorking s)
         stays = λ Page Descriptor j. (tt, (tt, (tt, tt)));
         process = λ q h. ap or_zero (ap (λ (x : Processor). x.cpu.process)
             (get_or-set_other (frame_lost s c t).processors c q.cpu _ no_processor (may.0 q h))
-            ∙ set_process s c keeps w may.0 _ q h);
+            ∙ set_process s c keeps w may.0 _ h);
         next = λ q h. rw (told_is t may.2 failed, other_next s c keeps w may.0 q _ h m (may.2 failed));
       })) kept
   work_kept (act.Load n) may kept =
@@ -585,40 +576,37 @@ module _ (s : State) (c : ℕ) (o : Outcome) (m : IsMachine s) (w : IsWorking s)
       (rw (taking_less f).known w.numbered) (let a = ap (λ (fs : List ℕ). length fs) may.idle.frames in
       let b = ap (λ (ds : List CutDescriptor). length ds) may.idle.cut in one_few f (omega arith)) (record {
         fails = rw may.next (fails_less s.store (eviction_begun s c f).store (process_at s c) (Some may.command)
-            (taking_less f) (page_fails s (process_at s c) may.command keeps may.finds.uid may.finds.page
+            (taking_less f) (page_fails (process_at s c) may.command keeps may.finds.uid may.finds.page
             may.finds.case));
         taken = tt;
         moves = tt;
       })
-  work_kept (act.Empty u) may kept = begun_work s c u keeps may.idle (looking_goes s c may.looking) may.finds.active
+  work_kept (act.Empty u) may kept = begun_work c u keeps may.idle (looking_goes may.looking) may.finds.active
       may.finds.unread (λ v h i. length_inferiors u may v (cc))
-      (rw may.next (length_fails s (process_at s c) may.command keeps u may.finds))
+      (rw may.next (length_fails (process_at s c) may.command keeps may.finds))
   work_kept (act.EmptyVictim pool chain u) may kept = victim_fails pool chain u may
   work_kept (act.TakeAway fs pairs v) may kept = idle_work _
       (took_owner s c aim.Committing v fs pairs may.1.frames may.2).owner refl
-      (rw (took_like s c aim.Committing v fs pairs).known (took_numbered s c aim.Committing v fs pairs keeps w.numbered
+      (rw (took_like s c aim.Committing v fs pairs).known (took_numbered c aim.Committing v fs pairs keeps w.numbered
       may.4)) (took_few s c aim.Committing v fs pairs may.1 may.6) (record {
         fails = rw (took_process s c aim.Committing v fs pairs, took_next s c aim.Committing v fs pairs) may.3;
         taken = rw (took_process s c aim.Committing v fs pairs, took_next s c aim.Committing v fs pairs) may.5;
         moves = tt;
       })
-  work_kept (act.BeginMove u volume) may kept = move_work (move_begun s c u volume) (mover_to s.store u volume) refl
+  work_kept (act.BeginMove u volume) may kept = move_work (move_begun s c u volume) refl
       (fails_less s.store (with_move s.store (mover_to s.store u volume)) (process_at s c)
       (next_command s (process_at s c)) (same_less s.store (with_move s.store (mover_to s.store u volume)) refl)
-      may.fails) (moved_on s.store (with_move s.store (mover_to s.store u volume)) (process_at s c)
-      (mover_to s.store u volume) (next_command s (process_at s c)) (assumption) may.moves)
-  work_kept (act.CopyPage m page) may kept = by_end (λ x. Keeps x → IsWorking x) o _ _
-      (λ e h. move_work (page_copied (with_faults s o.faults) c m page) (past_page m page) refl
-      (fails_less s.store (with_copy s.store m page) (process_at s c) (next_command s (process_at s c))
-      (same_less s.store (with_copy s.store m page) refl) (moving_fails m may))
-      (past_moved s.store (process_at s c) m page (next_command s (process_at s c)) (moving_rests m may)))
-      (λ e h. none_work _ refl) kept
+      may.fails) (moved_on (with_move s.store (mover_to s.store u volume)) (assumption) may.moves)
+  work_kept (act.CopyPage m page) may kept = by_end (λ x. Keeps x → IsWorking x) o _ _ (λ e h. move_work
+      (page_copied (with_faults s o.faults) c m page) refl (fails_less s.store (with_copy s.store m page)
+      (process_at s c) (next_command s (process_at s c)) (same_less s.store (with_copy s.store m page) refl)
+      (moving_fails may)) (past_moved page (moving_rests may))) (λ e h. none_work _ refl) kept
   work_kept (act.CommitMove m) may kept = looking_work _ (looking c) refl refl tt (omega arith)
-  work_kept (act.Signal v) may kept = signal_work s c keeps w v may kept
+  work_kept (act.Signal v) may kept = signal_work c keeps w v may kept
   work_kept (act.FinishEviction f) may kept = by_end (λ x. Keeps x → IsWorking x) o _ _
       (λ e h. looking_work _ (looking c) refl refl tt (omega arith)) (λ e h. none_work _ refl) kept
   work_kept (act.FinishPage f) may kept = by_end (λ x. Keeps x → IsWorking x) o _ _
-      (λ e h. page_work s c keeps w f o.faults may h) (λ e h. none_work _ refl) kept
+      (λ e h. page_work c keeps w f o.faults may h) (λ e h. none_work _ refl) kept
   work_kept (act.Deactivate u) may kept = looking_work _ (looking c) refl refl tt (omega arith)
   work_kept act.Commit may kept = commits (next_command s (process_at s c))
   work_kept _ may kept = none_work _ refl
