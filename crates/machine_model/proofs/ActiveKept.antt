@@ -63,16 +63,12 @@ pub record IsOver (s : State) : Type 0 where
 pub segs_are_gone : (s : State) (ds : List CutDescriptor) → KeepsBook (seen s) → GoesOn (seen s) [] ds
     → IsOver (segs_gone s ds)
 segs_are_gone s [] k on = assumption
-segs_are_gone s (d ∷ ds) k on = segs_are_gone (seg_gone s d) ds (subst KeepsBook (sym one) book) (rw one still)
+segs_are_gone s (d ∷ ds) k on = segs_are_gone (seg_gone s d) ds (subst KeepsBook (sym one)
+    (gone_seg_keeps (seen s) d (without_first_cut s.owner) k (first_finish_seg d ds on))) (rw one
+    (uncut_on (gone_seg (seen s) d (without_first_cut s.owner)) d ds on on.none refl))
   where
     one : seen (seg_gone s d) ≡ gone_seg (seen s) d (without_first_cut s.owner)
     one = refl
-
-    book : KeepsBook (gone_seg (seen s) d (without_first_cut s.owner))
-    book = gone_seg_keeps (seen s) d (without_first_cut s.owner) k (first_finish_seg d ds on)
-
-    still : GoesOn (gone_seg (seen s) d (without_first_cut s.owner)) [] ds
-    still = uncut_on (gone_seg (seen s) d (without_first_cut s.owner)) d ds on on.none refl
 
 -- an owner that looks
 pub looks_idle : (c : ℕ) → IsIdle (Some (looking c))

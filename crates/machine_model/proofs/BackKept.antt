@@ -38,7 +38,8 @@ pages_are_back : (s : State) (fs : List ℕ) (ds : List CutDescriptor) → HasTa
 pages_are_back s [] ds tables k on there = assumption
 pages_are_back s (f ∷ fs) ds tables k on there = let rest =
     pages_are_back now fs ds (here_tables s.store f (bound_page (frame_in s.store.pages f)) tables)
-    (subst KeepsBook (sym one) book) (rw one still)
+    (subst KeepsBook (sym one) (back_keeps (seen s) f u p (without_first_frame s.owner) k can)) (rw one
+    (back_on (seen s) f fs ds on))
     (here_there s.store f (bound_page (frame_in s.store.pages f)) ds there) in
     assumption
   where
@@ -56,12 +57,6 @@ pages_are_back s (f ∷ fs) ds tables k on there = let rest =
 
     one : seen now ≡ back (seen s) f u p (without_first_frame s.owner)
     one = back_seen s f u p (without_first_frame s.owner) tables k can.leaving
-
-    book : KeepsBook (back (seen s) f u p (without_first_frame s.owner))
-    book = back_keeps (seen s) f u p (without_first_frame s.owner) k can
-
-    still : GoesOn (back (seen s) f u p (without_first_frame s.owner)) fs ds
-    still = back_on (seen s) f fs ds on
 
 -- ---- descriptors come back
 
@@ -98,7 +93,8 @@ relink_there st c (d ∷ ds) h = (
 segs_are_back : (s : State) (ds : List CutDescriptor) → HasTables s → KeepsBook (seen s) → GoesOn (seen s) [] ds
     → AreThere s.store ds → IsBack s (segs_back s ds) []
 segs_are_back s [] tables k on there = assumption
-segs_are_back s (d ∷ ds) tables k on there = let rest = segs_are_back now ds tables (subst KeepsBook (sym one) book)
+segs_are_back s (d ∷ ds) tables k on there = let rest = segs_are_back now ds tables (subst KeepsBook (sym one)
+    (back_seg_keeps (seen s) d (without_first_cut s.owner) k (first_finish_seg d ds on)))
     (rw one still) (relink_there s.store d ds there.1) in
     assumption
   where
@@ -107,9 +103,6 @@ segs_are_back s (d ∷ ds) tables k on there = let rest = segs_are_back now ds t
 
     one : seen now ≡ back_seg (seen s) d (without_first_cut s.owner)
     one = back_seg_seen s d (without_first_cut s.owner) there.0.0 there.0.1 (active_place s.store.ast d.uid there.0.2).1
-
-    book : KeepsBook (back_seg (seen s) d (without_first_cut s.owner))
-    book = back_seg_keeps (seen s) d (without_first_cut s.owner) k (first_finish_seg d ds on)
 
     still : GoesOn (back_seg (seen s) d (without_first_cut s.owner)) [] ds
     still = uncut_on (back_seg (seen s) d (without_first_cut s.owner)) d ds on on.none refl
@@ -197,7 +190,8 @@ module _ (s : State) (c faults : ℕ) (fs : List ℕ) (ds : List CutDescriptor) 
       → CanTell (with_owner (all_back s c faults (f ∷ []) []) None) c (process_at (all_back s c faults (f ∷ []) []) c)
       None reply.Device → StoreSays (write_failed s c faults) → Keeps (write_failed s c faults)
   eviction_failed_kept {f} {u} {p} frames cut fs_is ds_is can tell says = subst Keeps (sym same)
-      (failed_with now (λ i. all_back s c faults (sym fs_is i) (sym ds_is i)) over tell (subst StoreSays same says))
+      (failed_with now (λ i. all_back s c faults (sym fs_is i) (sym ds_is i))
+      (job_over (seen looks) None book refl refl can.none refl nobody refl) tell (subst StoreSays same says))
     where
       now : State
       now = page_back told_of f
@@ -212,6 +206,3 @@ module _ (s : State) (c faults : ℕ) (fs : List ℕ) (ds : List CutDescriptor) 
       book = subst KeepsBook (sym (back_seen told_of f u p
           (Some (looking c)) k.store.kept.places told_book can.leaving))
           (back_keeps (seen told_of) f u p (Some (looking c)) told_book (finish_with refl refl can.none can))
-
-      over : KeepsBook (seen (with_owner now None))
-      over = job_over (seen looks) None book refl refl can.none refl nobody refl

@@ -149,7 +149,7 @@ module _ (s : State) (c k : ℕ) (keeps : Keeps s) (none : frames_of_owner s.own
   pub end_kept : CanTell ending c k None (reply_of s k command.End) → StoreSays (committed s c k command.End)
       → Keeps (committed s c k command.End)
   end_kept tell says = subst Keeps (sym same) (kept_with (left_at ended c)
-      (left_keeps_book ended c book there process_still may) (subst StoreSays same says)
+      (left_keeps_book ended c book there process_still (rw process_still (inl over_now))) (subst StoreSays same says)
       (let one = faults_push (effected s k command.End).entries
       (entry.Do k (run_at s.runs k).place c None (reply_of s k command.End)) in
       let two = cut_faults s.entries (cut_of_owner s.owner) in
@@ -181,6 +181,3 @@ module _ (s : State) (c k : ℕ) (keeps : Keeps s) (none : frames_of_owner s.own
       over_now = (book.runs k).ended ∙ (ap (λ (r : Run). r.ended) (get_or-set_same s.runs k
           (run_after (run_at s.runs k) (next_command s k) (reply_of s k command.End)) no_run tell.known) ∙ ap
           (λ (o : Option Command). (run_after (run_at s.runs k) o (reply_of s k command.End)).ended) next)
-
-      may : MayLeave (flat_of ended) (shown (seen ended)) c
-      may = rw process_still (inl over_now)

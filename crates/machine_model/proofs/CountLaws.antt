@@ -38,8 +38,7 @@ count_falls p q (x ∷ xs) zero d lt h passes out =
     omega (arith, ap bit passes, ap bit out, count_cons q x xs, count_cons p x xs)
 count_falls p q (x ∷ xs) (suc i) d lt h passes out =
     let rest = count_falls p q xs i d (omega arith) (λ k e l. h (suc k) e (omega arith)) passes out in
-    let one = cond_le (q x) (p x) (h zero x (omega arith)) in
-    omega (arith, count_cons q x xs, count_cons p x xs)
+    omega (arith, count_cons q x xs, count_cons p x xs, cond_le (q x) (p x) (h zero x (omega arith)))
 
 -- whether any element passes, where one that didn't was changed
 pub any_set : {A : Type 0} (p : A → Bool) (xs : List A) (i : ℕ) (y d : A) → i < length xs → p (get_or xs i d) ≡ false

@@ -227,12 +227,10 @@ connect_keeps {v} {j} {n} {u} k can = book_next refl refl k (record {
     nobody = nobody_holds_seg (shown v) (is_pending v.owner) j n k.stale_due (ap is_current_descriptor is)
         (ap is_going_descriptor is)
 
-    here : now j n ≡ descriptor.Current u
-    here = rw (put_two_here v.linked j n (Some u))
-
     other : (x y : ℕ) → (x ≡ j → y ≡ n → ⊥) → now x y ≡ (shown v).descriptor x y
     other x y m = by_places (λ (o : Option ℕ). descriptor_use o (cut_uid (cut_of_owner v.owner) x y)
         ≡ (shown v).descriptor x y) v.linked j n (Some u) x y (λ a b. absurd (m a b)) (λ z. refl)
 
     next_at : (x y : ℕ) → now x y ≡ at_put_two (shown v).descriptor j n (descriptor.Current u) x y
-    next_at = one_place_of_two (shown v).descriptor now j n (descriptor.Current u) here other
+    next_at = one_place_of_two (shown v).descriptor now j n (descriptor.Current u)
+        (rw (put_two_here v.linked j n (Some u))) other

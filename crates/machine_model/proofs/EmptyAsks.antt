@@ -110,14 +110,12 @@ pub length_asks : (s : State) (c : ℕ) (o : Outcome) (j u : ℕ) (cmd : Command
 unfolding after
 length_asks s c o j u cmd k idle still finds says = empty_asks c u k idle still says.store
     (says.shown (flat_of s) k.faithful) finds.active finds.unread (λ v active. segment_inferiors s u leads.node k
-    (ap (node_in s.store.accounts.nodes) (sym same) ∙ leads.there) leads.segment v)
+    (ap (node_in s.store.accounts.nodes) (sym
+    (sym leads.uid ∙ (sym (ap (uid_of_command s.store j) finds.is) ∙ finds.uid))) ∙ leads.there) leads.segment v)
   where
     leads : LeadsToSegment s finds.path
     leads = length_stands s j k finds.path finds.pages
         (subst (λ (x : Command). refusal_of s j x ≡ None) finds.is finds.stands)
-
-    same : leads.node.uid ≡ u
-    same = sym leads.uid ∙ (sym (ap (uid_of_command s.store j) finds.is) ∙ finds.uid)
 
 -- ---- the victim of a pool
 

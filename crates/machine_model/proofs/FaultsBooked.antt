@@ -47,8 +47,7 @@ told_later : (before rest xs ys : List Entry) (process : Option ℕ) (k place c 
     → before ++ entry.Fault process ∷ rest ≡ xs ++ entry.Do k place c f reply.Device ∷ ys → 1 ≤ count_by is_fault xs
 told_later [] rest [] ys process k place c f quiet e = cc
 told_later [] rest (x ∷ xs) ys process k place c f quiet e =
-    let here = ap tally (sym (ap (λ (es : List Entry). is_fault (first_or x es)) e)) in
-    omega (arith, count_cons x xs)
+    omega (arith, count_cons x xs, ap tally (sym (ap (λ (es : List Entry). is_fault (first_or x es)) e)))
 told_later (b ∷ bs) rest [] ys process k place c f quiet e =
     cc ((and_parts (is_quiet b) (list_all is_quiet bs) quiet).0)
 told_later (b ∷ bs) rest (x ∷ xs) ys process k place c f quiet e = omega (

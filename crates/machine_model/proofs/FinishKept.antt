@@ -32,7 +32,9 @@ left_keeps s {f} {u} {p} how {owner} tables k can zeros = by how zeros
         (entries_left f x (u, p))) owner))
     by left.Kept z = subst KeepsBook (sym (gone_seen s f u p left.Kept owner tables k within can.leaving)) (gone_keeps
         (seen s) f u p owner k can (word_of_left left.Kept (record_of s.store.pages (home_in s.store u) p)) refl)
-    by left.Released z = subst KeepsBook (sym whole) (release_keeps book may nowhere)
+    by left.Released z = subst KeepsBook (sym whole) (release_keeps book
+        (rw (flat_still s.plan s.entries (entry.GonePage f) (gone_quiet s.plan (flat_of s) f)) (z refl))
+        (in_no_frame u p book (ap names (put_two_here (seen s).words u p ptw.Null)) unread))
       where
         now : Seen
         now = gone (seen s) f u p ptw.Null owner
@@ -40,14 +42,8 @@ left_keeps s {f} {u} {p} how {owner} tables k can zeros = by how zeros
         book : KeepsBook now
         book = gone_keeps (seen s) f u p owner k can ptw.Null refl
 
-        may : MayRelease (flat now) u p
-        may = rw (flat_still s.plan s.entries (entry.GonePage f) (gone_quiet s.plan (flat_of s) f)) (z refl)
-
         unread : (g : ℕ) → (seen s).reads g ≢ Some (u, p)
         unread g h = let no = sym (ap is_out can.leaving) ∙ k.tied.out g u p h in cc
-
-        nowhere : IsInNoFrame (shown now) u p
-        nowhere = in_no_frame u p book (ap names (put_two_here (seen s).words u p ptw.Null)) unread
 
         whole : seen (with_owner (booked (with_store s (with_left s.store f left.Released (u, p)))
             (entries_left f left.Released (u, p))) owner) ≡ released now u p

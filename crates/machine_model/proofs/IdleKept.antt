@@ -68,10 +68,8 @@ module _ (s : State) (c : ℕ) (o : Outcome) (there : c < length s.processors) (
   unfolding after
   idle_kept act.Online busy = one _ own
   idle_kept (act.Clear w) busy = one _ (λ e. cc (own e))
-  idle_kept (act.EndTransfer t) busy = by_end (λ x. AreIdle x.processors) o _ _ (λ e. one _ own) (λ e. ill)
-    where
-      ill : AreIdle (transfer_failed s c t o.faults).processors
-      ill = set_idle c _ (rw (length-set s.processors c _) there) (one _ own) (λ e. (one _ own).held c e)
+  idle_kept (act.EndTransfer t) busy = by_end (λ x. AreIdle x.processors) o _ _ (λ e. one _ own) (λ e.
+      (set_idle c _ (rw (length-set s.processors c _) there) (one _ own) (λ e. (one _ own).held c e)))
   idle_kept (act.Load n) busy = one _ (λ e. cc)
   idle_kept act.Leave busy = one _ (λ e. refl)
   idle_kept (act.FillSeg n) busy = one _ (λ e. absurd (busy e))

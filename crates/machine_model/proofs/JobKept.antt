@@ -23,7 +23,7 @@ evict_kept {s} {c} f u p {o} k mine same idle bound says = kept_with (eviction_b
       here = here_still;
       still = idle.waits;
       others = idle_names (what.Page f) book.going_owned idle.frames idle.cut;
-      this = own;
+      this = eqb_self f;
       aimed = (f, cc, refl, idle.cut);
     }))) says (quiet_faults (entry.Take f) s.faults k refl (omega arith)) k.sizes.processors k.sizes.processes
     (λ q h. rw (← (same ∙ ap (λ (x : Owner). x.cpu) (let is : made ≡ q = cc in is))) (k.at_work o mine))
@@ -39,9 +39,6 @@ evict_kept {s} {c} f u p {o} k mine same idle bound says = kept_with (eviction_b
 
     here_still : (seen now).words u p ≡ ptw.Here f
     here_still = bound_here (seen now) f u p book idle.frames bound_still
-
-    own : eqb f f ≡ true
-    own = eqb_self f
 
     made : Owner
     made = record {

@@ -102,8 +102,7 @@ module _ (Page : ℕ → ℕ → Type 0) (Descriptor : ℕ → ℕ → ℕ → T
   -- a page that is being read isn't taken
   pub started_free : {c : Custody} (f v q : ℕ) → GoesJust c Page Descriptor → c.frame f ≡ frame.Started v q → Page v q
       → ⊥
-  started_free f v q j started h = let no : false ≡ true = sym (ap is_going_frame started)
-      ∙ (j.pages f v q (ap page_of started) h) in cc
+  started_free f v q j started h = cc (sym (ap is_going_frame started) ∙ (j.pages f v q (ap page_of started) h))
 
 -- ---- the segment of the command
 

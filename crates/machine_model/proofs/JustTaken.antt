@@ -233,8 +233,7 @@ module _ {s : State} (k : ℕ) (keeps : Keeps s) where
   pair_named w [] j n are h l = cc
   pair_named w (x ∷ xs) j n {v} are h l = elim (or_cases (is_pair j n x) (has_pair xs j n) h) [
     | inl e ↦ (let at = pair_tells j n x e in
-        let same = some_same are.0.0 v (sym are.0.1 ∙ ((λ i. (seen s).linked (at.0 i) (at.1 i)) ∙ l)) in
-        cc)
+        cc (some_same are.0.0 v (sym are.0.1 ∙ ((λ i. (seen s).linked (at.0 i) (at.1 i)) ∙ l))))
     | inr e ↦ pair_named w xs j n are.2 e l
   ]
 

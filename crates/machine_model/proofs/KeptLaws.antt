@@ -294,8 +294,7 @@ apart_from chain None uid there off h = let no = h in absurd cc
 apart_from chain (Some e) uid there off h =
     let at : eqb (get_or chain there.0 uid) e.uid ≡ true = rw (there.2, (ap (λ (o : Option ℕ). or_this e.uid o) h))
     (eqb_self uid) in
-    let no : false ≡ true = sym (ap not (list_any_at (λ u. eqb u e.uid) chain there.0 uid there.1 at)) ∙ off in
-    cc
+    cc (sym (ap not (list_any_at (λ u. eqb u e.uid) chain there.0 uid there.1 at)) ∙ off)
   where
     or_this : ℕ → Option ℕ → ℕ
     or_this d None = d
@@ -421,8 +420,7 @@ due_set : (s : Outline) (c : ℕ) (x : Runner) → c < length s.runners
     → ((runner_at s.runners c).due ≡ false → x.due ≡ false) → dues s.runners ≡ 0 → dues (set s.runners c x) ≡ 0
 due_set s c x lt still none =
     let count = dues_set s.runners c x lt in
-    let now = ap (λ (b : Bool). cond {A = ℕ} b 1 0) (still (none_due s.runners c lt none)) in
-    omega arith
+    omega (arith, ap (λ (b : Bool). cond {A = ℕ} b 1 0) (still (none_due s.runners c lt none)))
 
 -- ---- a step of the owner
 

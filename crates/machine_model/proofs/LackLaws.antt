@@ -116,8 +116,7 @@ not_page (frame.Bound u q used modified) uid page out h =
     let a = ap (λ (o : Option (ℕ × ℕ)). (page_or_zero o).0) h in
     let b : q ≡ page = ap (λ (o : Option (ℕ × ℕ)). (page_or_zero o).1) h in
     let is : (eqb u uid && eqb q page) ≡ true = and_from (eqb u uid) (eqb q page) (eq-eqb u uid a) (eq-eqb q page b) in
-    let no = sym is ∙ out in
-    absurd cc
+    absurd (cc (sym is ∙ out))
 not_page _ uid page out h = absurd (none-some (uid, page) h)
 
 pub freed_fits : {s : Outline} {f : ℕ} {stored : ℕ → ℕ → Bool} {full : ℕ → Bool} (w : Want) (r : Option Transfer)

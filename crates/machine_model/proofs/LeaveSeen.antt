@@ -77,15 +77,12 @@ gone_seen s f u p how owner tables book there leaving = λ i. record (seen s) {
   entries = s.entries ++ entry.GonePage f ∷ [];
 }
   where
-    bound : (seen s).bound f ≡ Some (u, p)
-    bound = book.tied.back f u p (ap names leaving)
-
     unread : (seen s).reads f ≡ None
     unread = by ((seen s).reads f) refl
       where
         by : (x : Option (ℕ × ℕ)) → (seen s).reads f ≡ x → x ≡ None
         by None e = refl
-        by (Some page) e = cc (book.tied.unbound f page.0 page.1 e, bound)
+        by (Some page) e = cc (book.tied.unbound f page.0 page.1 e, (book.tied.back f u p (ap names leaving)))
 
 -- ---- it stays
 

@@ -61,10 +61,11 @@ module _ (s : State) (u : ℕ) (k : Keeps s) (active : is_active s.store.ast u �
 
   -- its process is one of 32
   process_small : (j n : ℕ) → (seen s).linked j n ≡ Some u → j < 32
-  process_small j n h = omega (arith, outer, k.store.kept.linked.lists.few)
-    where
-      outer : j < length s.store.links.known
-      outer = within_by s.store.links.known j [] (λ e. none_some (sym (cc) ∙ known_as j n h))
+  process_small j n h = omega (
+    arith,
+    (within_by s.store.links.known j [] (λ e. none_some (sym (cc) ∙ known_as j n h))),
+    k.store.kept.linked.lists.few,
+  )
 
   uid_same : (v : ℕ) → is_uid u (Some v) ≡ true → v ≡ u
   uid_same v e = elim (eqb_tells v u) [ inl y ↦ y.1 | inr n ↦ cc ]

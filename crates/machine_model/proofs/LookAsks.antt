@@ -124,14 +124,11 @@ module _ (s : State) (c : ℕ) (o : Outcome) (m : IsMachine s) (idle : IsIdle s.
     says = connected_says n u keeps says idle.cut;
   }
     where
-      inside : IsInside s k finds.reference (uid_of_number s.store k finds.reference.number)
-      inside = inside_is s k finds.reference keeps finds.inside
-
       uid_is : uid_of_number s.store k finds.reference.number ≡ u
       uid_is = cc
 
       known : known_uid (flat_of s) k n ≡ Some u
-      known = cc (inside.known, uid_is)
+      known = cc ((inside_is s k finds.reference keeps finds.inside).known, uid_is)
 
       active : is_active s.store.ast u ≡ true
       active = chain_active nodes tree s.store.ast u finds.chain

@@ -390,11 +390,8 @@ module _ (s : State) (c : ℕ) (m : IsMachine s) (cmd : Command) (sp : Speaks s 
   victim_finds pool chain u finds = may_empty (victim_taken s c pool chain u) u active
       (cc (about_chain finds.link.case, place_same, off_there)) link
     where
-      victim : victim_of s.store.ast pool (chain_of nodes finds.link.about) ≡ Some finds.place
-      victim = cc
-
       off_there : off_chain (chain_of nodes finds.link.about) (entry_at s.store.ast.entries finds.place) ≡ true
-      off_there = victim_is_off s keeps finds.link.about pool victim
+      off_there = victim_is_off s keeps finds.link.about pool cc
 
       link : KeepsLink s (victim_taken s c pool chain u) c
       link = elim finds.link.case.case [

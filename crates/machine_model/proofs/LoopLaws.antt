@@ -154,8 +154,7 @@ way_falls s t c since is (inr nearer) =
     is_at_same (runner_at s.runners c) (runner_at t.runners c) since nearer.same.running nearer.same.since ∙ is in
     let a : command_gauge t c since ≡ command_rank t c + 1 =
     ap (λ (b : Bool). cond {A = ℕ} b (command_rank t c + 1) 0) still in
-    let b = ap (λ (b : Bool). cond {A = ℕ} b (command_rank s c + 1) 0) is in
-    omega arith
+    omega (arith, ap (λ (b : Bool). cond {A = ℕ} b (command_rank s c + 1) 0) is)
 
 -- the measure of all commands is less once the command is past, and no more before
 pub way_next : (s t : Outline) (c since all : ℕ) → is_at (runner_at s.runners c) since ≡ true
@@ -178,6 +177,5 @@ pub round_done : (s t : Outline) (c since : ℕ) → t.owner ≡ None
     → is_at (runner_at t.runners c) since ≡ false → RoundDone s t
 round_done s t c since none way gone = record {
   owner = none;
-  all = let bit = ap (λ (b : Bool). cond {A = ℕ} b 0 1) gone in
-      omega arith;
+  all = omega (arith, ap (λ (b : Bool). cond {A = ℕ} b 0 1) gone);
 }

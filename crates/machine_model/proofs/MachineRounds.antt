@@ -89,13 +89,15 @@ job_start s c mine = goes_self (outline_of s) c (stage_at s c mine) (is_in mine)
 -- while somebody owns the supervisor it is the processor whose job it is
 pub job_owner : (a b : State) {c : ℕ} → Goes (outline_of a) (outline_of b) c → {q : Owner} → b.owner ≡ Some q
     → IsOwnedBy b c
-job_owner a b {c} goes {q} mine = record { owner = q; mine = mine; cpu = ap cpu_or (sym is ∙ under.in_job) }
+job_owner a b {c} goes {q} mine = record {
+  owner = q;
+  mine = mine;
+  cpu = ap cpu_or (sym is ∙
+      (job_goes q.cpu (stage_of b.store.ast.entries q.frames q.phase) is goes).in_job);
+}
   where
     is : (outline_of b).owner ≡ Some (record { cpu = q.cpu; stage = stage_of b.store.ast.entries q.frames q.phase })
     is = in_job b q mine
-
-    under : IsUnderWay (outline_of a) (outline_of b) c
-    under = job_goes q.cpu (stage_of b.store.ast.entries q.frames q.phase) is goes
 
 -- a job goes on with its next turn
 pub job_next : (a : State) {b : State} (d : State) {c : ℕ} → Goes (outline_of a) (outline_of b) c → IsOwnedBy b c

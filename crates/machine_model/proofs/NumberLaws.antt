@@ -79,8 +79,7 @@ pub took_few : (s : State) (c : ℕ) (a : Aim) (w : What) (fs : List ℕ) (pairs
 took_few s c a w fs pairs idle few = let y = cut_long (take_all s c a w fs) c a w pairs in
     let z = ap (λ (gs : List ℕ). length gs) (cut_frames (take_all s c a w fs) c a w pairs) in
     let v = ap (λ (gs : List ℕ). length gs) idle.frames in
-    let t = ap (λ (ds : List CutDescriptor). length ds) (take_cut s c a w fs ∙ idle.cut) in
-    omega (arith, (take_long s c a w fs))
+    omega (arith, (take_long s c a w fs), ap (λ (ds : List CutDescriptor). length ds) (take_cut s c a w fs ∙ idle.cut))
 
 pub signalled_few : (o : Option Owner) → OwnsFew o → OwnsFew (owner_signalled o)
 signalled_few None h = h

@@ -132,8 +132,7 @@ one_off entries chain first n once used few = by (found_or (λ i. off_chain chai
     by (inl found) = found
     by (inr none) = let long = length-le_from_is_member nat_eq_equiv (uids entries first n) chain
         (distinct entries first n once used) (all_in entries chain first n used none) in
-        let same = uids_long entries first n in
-        absurd (omega arith)
+        absurd (omega (arith, uids_long entries first n))
 
 -- the same of a pool
 pub pool_one_off : (s : ActiveSegs) (pool : ℕ) (chain : List ℕ) → IsOneToOne s.entries

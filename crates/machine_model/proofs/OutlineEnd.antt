@@ -64,8 +64,7 @@ pub page_outlined : (s : State) {o : Owner} (uid : ℕ) (w : What) {f : ℕ} (re
 page_outlined s {o} uid w {f} rest owner h frames due may = job_to (outline_of (page_done s f)) (cc (
   rest_keeper s.store.ast.entries o uid w f rest h frames,
   (gone_outline s f (without_first_frame s.owner)),
-))
-    (frees_page (place_of s.store.ast.entries uid) f rest (stored_then s f) (full_then s f)
+)) (frees_page (place_of s.store.ast.entries uid) f rest (stored_then s f) (full_then s f)
     (cc (in_stage s owner h)) due may)
 
 -- ---- a segment becomes inactive

@@ -183,14 +183,11 @@ pub copy_outlined : (s : State) {o : Owner} (m : Mover) {p : ℕ} (n : ℕ) → 
     → next_out (table_of s.store.ast m.uid) m.next ≡ Some p
     → JobStep (outline_of s) o.cpu (outline_of (page_copied (with_faults s n) o.cpu m p))
 unfolding outline_of
-copy_outlined s {o} m {p} n owner moves next =
-    rw (← is) (copies (256 - m.next) (256 - (p + 1)) (in_stage s owner moves) fewer)
+copy_outlined s {o} m {p} n owner moves next = rw (← is) (copies (256 - m.next) (256 - (p + 1)) (in_stage s owner moves)
+    (omega (arith, first_past (table_of s.store.ast m.uid) (256 - m.next) m.next p next)))
   where
     is : at_stage (outline_of s) o.cpu (Copying (256 - (p + 1))) ≡ outline_of (page_copied (with_faults s n) o.cpu m p)
     is = refl
-
-    fewer : 256 - (p + 1) < 256 - m.next
-    fewer = omega (arith, first_past (table_of s.store.ast m.uid) (256 - m.next) m.next p next)
 
 -- ---- a copy failed
 

@@ -180,8 +180,7 @@ pub count_zero : {A : Type 0} (p : A → Bool) (xs : List A) (d : A) → ((i : �
     → count_by p xs ≡ 0
 count_zero p [] d none = refl
 count_zero p (x ∷ xs) d none = let rest = count_zero p xs d (λ i. none (suc i)) in
-    let here = ap (λ (b : Bool). cond {A = ℕ} b 1 0) (none zero) in
-    omega (arith, count_cons p x xs)
+    omega (arith, count_cons p x xs, ap (λ (b : Bool). cond {A = ℕ} b 1 0) (none zero))
 
 due_at : {s : State} {c : ℕ} (d : ℕ) → Foresees s c → position is_due s.processors ≡ None
     → is_some (cpu_at s.processors d).due ≡ false
@@ -249,10 +248,8 @@ module _ {s : State} {o : Owner} (out : Outcome) (f : Foresees s o.cpu) (rule : 
   unfolding after
   move_goal m moves (Some p) next = by_end (λ x. Step (outline_of s) o.cpu Moved (outline_of x)) out _ _
       (λ e. works _ rule (copy_outlined s m out.faults owner moves next)) (λ e. works _ rule
-      (copy_failed_outlined m out.faults owner moves due may_answer.can))
-    where
-      due : dues (outline_of s).runners ≡ 0
-      due = (f.kept.job.fits o.cpu (Copying (256 - m.next)) (in_stage s owner moves)).0
+      (copy_failed_outlined m out.faults owner moves
+      ((f.kept.job.fits o.cpu (Copying (256 - m.next)) (in_stage s owner moves)).0) may_answer.can))
   move_goal m moves None next = works _ rule (move_outlined s m owner moves (f.moves o m owner moves refl))
 
   phase_goal : (ph : Phase) → o.phase ≡ ph → Goal s o.cpu out (go_on_with s (process_at s o.cpu) o ph)

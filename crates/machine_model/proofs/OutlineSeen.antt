@@ -82,8 +82,7 @@ module _ {s : State} (m : IsMachine s) where
   sizes_seen = record {
     few_runners = omega (arith, long_outline s);
     some_runner = omega (arith, long_outline s);
-    few_entries = let same = ap (λ (xs : List ℕ). sum xs) m.pools in
-        omega (arith, pools_few s.plan.pools m.script.pools);
+    few_entries = omega (arith, pools_few s.plan.pools m.script.pools, ap (λ (xs : List ℕ). sum xs) m.pools);
     few_ready = ready_few;
     few_links = λ c. (short_at c).few;
     chains = λ c. (short_at c).ends;

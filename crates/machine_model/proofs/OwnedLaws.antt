@@ -209,11 +209,12 @@ owned_take {c} {o} cpu f aim {w} k current still others this aimed =
     made : Custody
     made = with_frame c f (taken (c.frame f))
 
-    here : is_going_frame (made.frame f) ≡ true
-    here = cc (put_here c.frame f (taken (c.frame f)), going_taken (c.frame f) current)
-
     goes : SomethingGoes made
-    goes = inl (record { at = f; going = here })
+    goes = inl (record {
+      at = f;
+      going =
+          (cc (put_here c.frame f (taken (c.frame f)), going_taken (c.frame f) current));
+    })
 
     named : (g : ℕ) → is_going_frame (made.frame g) ≡ true → names_frame c w g ≡ true
     named g = by_place (λ (x : FrameUse). is_going_frame x ≡ true → names_frame c w g ≡ true) c.frame f

@@ -122,8 +122,7 @@ module _ (ast : ActiveSegs) (pool : ℕ) where
           → (b || has_its ns q) ≡ false
       by false e rest = rest
       by true e rest = let same = for_same n.uid u (entry_at ast.entries q)
-          (and_parts (is_its n) (is_for n.uid (entry_at ast.entries q)) e).1 h in let less = below.0 in
-          absurd (omega arith)
+          (and_parts (is_its n) (is_for n.uid (entry_at ast.entries q)) e).1 h in absurd (omega (arith, below.0))
 
   joined_below : (ns : List Node) (o : Option ℕ) (n : Node) → Joins ns o n → AreBelow n.uid ns
   joined_below ns None n j = subst (AreBelow n.uid) (sym j.first) tt
@@ -174,13 +173,10 @@ module _ (ast : ActiveSegs) (pool : ℕ) where
   pub has_room : (ns : List Node) (place : ℕ) → IsTree ns → free_place ast pool ≡ Some place
       → ((n : Node) → IsMember n ns → is_its n ≡ true → IsInPool ast.sizes pool (place_of ast.entries n.uid))
       → count_by is_its ns < size_of ast.sizes pool
-  has_room ns place t free pools =
-      let less = count_new (has_its ns) (λ q. true) places place (λ q e. refl) member none refl in
+  has_room ns place t free pools = let less = count_new (has_its ns) (λ q. true) places place (λ q e. refl)
+      (found_member (λ q. is_none (entry_at ast.entries q)) places place free) none refl in
       let all = count_all (λ q. true) places in omega (arith, (few_nodes ns t pools), less, all, places_count)
     where
-      member : IsMember place places
-      member = found_member (λ q. is_none (entry_at ast.entries q)) places place free
-
       none : has_its ns place ≡ false
       none = false_from_ne_true (has_its ns place) (λ e. not_both (entry_at ast.entries place)
           (find_passes (λ q. is_none (entry_at ast.entries q)) places place free) (has_some ns place e))

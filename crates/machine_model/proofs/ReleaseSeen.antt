@@ -188,11 +188,8 @@ bound_is_there k f u p h = let active = k.store.kept.paged.bound f u p h in
 -- each page that the owner has taken may leave its frame
 pub leaves_may : {s : State} → Keeps s → (o : Owner) (f : ℕ) (fs : List ℕ) → s.owner ≡ Some o → o.frames ≡ f ∷ fs
     → MayRelease (outline_of s) f (stored_then s f) (full_then s f)
-leaves_may {s} k o f fs mine frames = by ((seen s).bound f) refl going
+leaves_may {s} k o f fs mine frames = by ((seen s).bound f) refl (cc (k.book.going_owned.frames f, has_head f fs))
   where
-    going : is_going_frame ((shown (seen s)).frame f) ≡ true
-    going = cc (k.book.going_owned.frames f, has_head f fs)
-
     read : (y : Option (ℕ × ℕ)) → is_going_frame (read_use y) ≡ false
     read None = refl
     read (Some page) = refl

@@ -70,11 +70,12 @@ others_relink : (st : Storage) (d : CutDescriptor) (ds : List CutDescriptor) →
     → d.number < length (sdws_at st.links.descriptors d.process) → has_cut ds d.process d.number ≡ false
     → AllRelinkable st ds → AllRelinkable (with_relink st d) ds
 others_relink st d [] outer inner apart all = tt
-others_relink st d (e ∷ es) outer inner apart all = (assumption still, others_relink st d es outer inner parts.1 all.1)
+others_relink st d (e ∷ es) outer inner apart all = (
+  assumption still,
+  others_relink st d es outer inner
+      (or_parts (is_cut_at d.process d.number e) (has_cut es d.process d.number) apart).1 all.1,
+)
   where
-    parts : (is_cut_at d.process d.number e ≡ false) × (has_cut es d.process d.number ≡ false)
-    parts = or_parts (is_cut_at d.process d.number e) (has_cut es d.process d.number) apart
-
     word : Sdw
     word = sdw.Present (place_of st.ast.entries d.uid) d.mode d.pages
 

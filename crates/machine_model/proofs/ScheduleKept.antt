@@ -181,12 +181,10 @@ module _ (s : State) (c : ℕ) (o : Outcome) (h : IsScheduled s) (there : c < le
       (rw (← (front_is s s.ready refl may.2)) h) may.1 refl may.0
   schedule_kept act.Leave may = leaves (run_at s.runs (process_at s c)).ended refl
     where
-      goes : (run_at s.runs (process_at s c)).ended ≡ false
-      goes = subst (λ (j : ℕ). (run_at s.runs j).ended ≡ false) (cc) (h.running c may.0 may.1).going
-
       leaves : (b : Bool) → (run_at s.runs (process_at s c)).ended ≡ b
           → AreScheduled s.plan s.runs (cond b s.ready (s.ready ++ process_at s c ∷ [])) (left_at s c).processors
-      leaves true e = cc (sym e ∙ goes)
+      leaves true e = cc (sym e ∙
+          (subst (λ (j : ℕ). (run_at s.runs j).ended ≡ false) (cc) (h.running c may.0 may.1).going))
       leaves false e = subst (λ (j : ℕ). AreScheduled s.plan s.runs (s.ready ++ j ∷ []) (left_at s c).processors)
           (cc) (leave_kept s.plan s.runs s.processors c _ there may.0 s.ready h may.1 refl)
   schedule_kept (act.FillSeg n) may = one_changed _ refl (λ e. e)

@@ -156,12 +156,9 @@ module _ (s : State) (c : ℕ) (o : Outcome) (m : IsMachine s) (there : c < leng
   come_follows its None e = take_follows s.owner
   come_follows its (Some cmd) e = by (reference_of cmd) refl
     where
-      sp : Speaks s c k cmd
-      sp = speaks_of c m there its e
-
       by : (y : Option Reference) → reference_of cmd ≡ y → Follows s c o (refer_or_take s p.cpu k y)
       by None i = take_follows s.owner
-      by (Some r) i = refer_follows cmd sp r i
+      by (Some r) i = refer_follows cmd (speaks_of c m there its e) r i
 
   run_follows : (x : Option ℕ) → p.cpu.process ≡ x → Follows s c o (run_process s p x)
   run_follows None e = by s.ready

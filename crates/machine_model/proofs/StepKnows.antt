@@ -54,8 +54,7 @@ as_many test [] (y ∷ ys) same = let none = same y.0 in let some = own_page y y
 as_many test (x ∷ xs) ys same = let some = own_page x xs in let here = same x.0 in
     let there : 0 < pages_of (λ n. eqb n x.0) ys = omega arith in
     let rest = as_many test xs (without_one x.0 ys) (λ u. (let one = pages_cons (λ n. eqb n u) x xs in
-    let less = one_less (λ n. eqb n u) x.0 ys there in
-    omega (arith, (same u)))) in
+    omega (arith, (same u), one_less (λ n. eqb n u) x.0 ys there))) in
     omega (arith, one_less test x.0 ys there, (pages_cons test x xs))
 
 -- each account is charged for as many pages
@@ -160,16 +159,14 @@ module _ (s : State) (k : ℕ) (cmd : Command) (keeps : Keeps s) (u volume : ℕ
         ∙ (ap (λ (ns : List Node). is_volume_full s.plan t (volume_in ns u)) (sym keeps.faithful.tree.nodes) ∙ to.0);
   }
     where
-      same : inside.node.uid ≡ u
-      same = found_uid t.nodes u inside.node inside.there
-
       spent : (stored : List (ℕ × ℕ)) → Counts s.store.accounts stored
           → is_spent s.store.accounts.nodes stored u ≡ false
       spent stored counts = ap
           (λ (n : ℕ). eqb n (quota_in s.store.accounts.nodes (account_of s.store.accounts.nodes u))) (charged_alike
           s.store.accounts.nodes stored t.stored (account_of s.store.accounts.nodes u)
           (λ v. sym (counts v) ∙ keeps.faithful.tree.counts v)) ∙ (ap (λ (ns : List Node). is_spent ns t.stored u)
-          (sym keeps.faithful.tree.nodes) ∙ (ap (is_used_up t) (sym same) ∙ unspent))
+          (sym keeps.faithful.tree.nodes) ∙ (ap (is_used_up t) (sym
+          (found_uid t.nodes u inside.node inside.there)) ∙ unspent))
 
   moves_for : MovesFor (tables_of s.store) k (mover_to s.store u volume) cmd
   moves_for = record { reference = r; is = finds.finds.is; lacks = lacks; first = first; its = refl }
@@ -289,14 +286,11 @@ module _ (s : State) (c : ℕ) (o : Outcome) (m : IsMachine s) (there : c < leng
     come_knows other its None e = take_knows s.owner
     come_knows other its (Some cmd) e = by (reference_of cmd) refl
       where
-        sp : Speaks s c k cmd
-        sp = speaks_of c m there its e
-
         by : (y : Option Reference) → reference_of cmd ≡ y → Knows s c (refer_or_take s p.cpu k y)
         by None i = take_knows s.owner
         by (Some r) i = move_knows (record {
           other = other;
-          one = record { command = cmd; speaks = sp; more = reference_more cmd i };
+          one = record { command = cmd; speaks = speaks_of c m there its e; more = reference_more cmd i };
         }) r (move_of s p.cpu k r)
 
     run_knows : IsNoOwner s c → (x : Option ℕ) → p.cpu.process ≡ x → Knows s c (run_process s p x)

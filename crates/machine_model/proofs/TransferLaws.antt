@@ -87,13 +87,10 @@ frames_here : {v : Seen} (f u p : ℕ) → KeepsBook v → names (v.words u p) �
     at_put (shown v).frame f (frame.Current u p) g
 frames_here {v} f u p k nowhere = one_place (shown v).frame
     (λ h. frame_use words (at_put v.bound f (Some (u, p)) h) (at_put v.reads f None h)) f
-    (frame.Current u p) here_is other
+    (frame.Current u p) (cc (put_here v.bound f (Some (u, p)), put_two_here v.words u p (ptw.Here f))) other
   where
     words : ℕ → ℕ → Ptw
     words = at_put_two v.words u p (ptw.Here f)
-
-    here_is : frame_use words (at_put v.bound f (Some (u, p)) f) (at_put v.reads f None f) ≡ frame.Current u p
-    here_is = cc (put_here v.bound f (Some (u, p)), put_two_here v.words u p (ptw.Here f))
 
     other : (h : ℕ) → h ≢ f → frame_use words (at_put v.bound f (Some (u, p)) h) (at_put v.reads f None h)
         ≡ (shown v).frame h

@@ -148,11 +148,9 @@ module _ (s : State) (c k : ℕ) (path : Path) (size : ℕ) where
     rest : LeavesRest (seen s) all_left
     rest = leaves_rest (seen s) (stays s.store size) fs
 
-    cut_book : KeepsBook (record all_left { words = λ w q. word_of cut_store.ast w q })
-    cut_book = quiet_keeps done.book left.words
-
     over : KeepsBook (record all_left { words = λ w q. word_of cut_store.ast w q; owner = None })
-    over = job_over (record all_left { words = λ w q. word_of cut_store.ast w q }) None cut_book done.frames
+    over = job_over (record all_left { words = λ w q. word_of cut_store.ast w q }) None
+        (quiet_keeps done.book left.words) done.frames
         done.cut done.none done.still nobody refl
 
     entries_are : s.entries ++ gone_entries s segment (command.Truncate path size) ≡ all_left.entries

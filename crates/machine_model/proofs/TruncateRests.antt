@@ -286,12 +286,10 @@ module _ (s : State) (c : ℕ) (path : Path) (size : ℕ) (keeps : Keeps s)
   word_bound v q f e = keeps.book.tied.back f v q (ap names e)
 
   word_taken : (v q f : ℕ) → word_in st v q ≡ ptw.Leaving f → (has fs f ≡ true) × (v ≡ u) × (p ≤ q)
-  word_taken v q f e = let its = h.just.its_pages f v q page going in
+  word_taken v q f e = let its = h.just.its_pages f v q
+      (cc (word_bound v q f e, page_bound (seen s).words (v, q) ((seen s).reads f))) going in
       (sym (keeps.book.going_owned.frames f) ∙ going, its.0, its.1)
     where
-      page : page_of ((shown (seen s)).frame f) ≡ Some (v, q)
-      page = cc (word_bound v q f e, page_bound (seen s).words (v, q) ((seen s).reads f))
-
       going : is_going_frame ((shown (seen s)).frame f) ≡ true
       going = cc (word_bound v q f e)
 
@@ -300,8 +298,7 @@ module _ (s : State) (c : ℕ) (path : Path) (size : ℕ) (keeps : Keeps s)
       (cc (e, page_bound (seen s).words (u, q) ((seen s).reads f))) (refl, le)))
 
   not_here : (f q : ℕ) → word_in st u q ≡ ptw.Here f → p ≤ q → ⊥
-  not_here f q e le = let no : ptw.Here f ≡ ptw.Leaving f = sym e
-      ∙ frame_word f q (keeps.book.tied.back f u q (ap names e)) le in cc
+  not_here f q e le = cc (sym e ∙ frame_word f q (keeps.book.tied.back f u q (ap names e)) le)
 
   not_read : (f q : ℕ) → (seen s).reads f ≡ Some (u, q) → p ≤ q → ⊥
   not_read f q e le = not_both (h.just.pages f u q (ap page_of is) (refl, le)) (ap is_going_frame is)
@@ -591,10 +588,12 @@ module _ (s : State) (c : ℕ) (path : Path) (size : ℕ) (keeps : Keeps s)
       cut_whole : m.page ≡ p → at ≢ 0 → is_lost words u size p ≡ false
       cut_whole same some = let past : nat_le size (1024 * p) ≡ false = grind (arith, nat_tests) in
           let in_it : nat_lt size (1024 * p + 1024) ≡ true = grind (arith, nat_tests) in
-          rw (past, in_it, kept_word f (cc) nonzero) refl
-        where
-          nonzero : are_zeros (words_in (cut st.pages f at) f) ≡ false
-          nonzero = not-true (are_zeros (words_in (cut st.pages f at) f)) (sym (test_cut e m same some) ∙ on)
+          rw (
+            past,
+            in_it,
+            kept_word f (cc)
+                (not-true (are_zeros (words_in (cut st.pages f at) f)) (sym (test_cut e m same some) ∙ on)),
+          ) refl
 
   bound_whole : (f q : ℕ) → (seen s).bound f ≡ Some (u, q) → (has fs f ≡ true → test f ≡ true)
       → is_lost words u size q ≡ false

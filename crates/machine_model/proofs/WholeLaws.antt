@@ -140,8 +140,7 @@ whole_next p s _ w h = w
 
 -- a page that is being read spares a segment that is whole
 pub started_spares : {c : Custody} {u : ℕ} (f v q : ℕ) → IsWhole c u → c.frame f ≡ frame.Started v q → v ≢ u
-started_spares f v q w started same = let no : false ≡ true = sym (ap is_going_frame started) ∙ (w.pages f (cc)) in
-    cc
+started_spares f v q w started same = cc (sym (ap is_going_frame started) ∙ (w.pages f (cc)))
 
 -- ---- nothing is left
 
