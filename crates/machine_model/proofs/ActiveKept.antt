@@ -1,8 +1,8 @@
 -- The machine keeps its promise where a segment becomes active, is connected, or is active no more, where a page is
 -- made, and where a word is reached through a frame.
-use Rattle.machine_model.proofs.Laws.{◌≡◌, ◌≢◌, ◌<◌, ℕ, ◌%◌, Bool, true, false, cond, count_by, List, [], ◌∷◌, ◌++◌, length, Option, Some, None, refl, sym, ap, subst, ◌∙◌, arith, length-set, Plan, Reference, binding_at, frame_in, referred, word_put, Frame, after_reference, bound_page, started_page, IsOneToOne, entry_at, uid_at, leads_at, place_of, sdws_at, table_of, read_at, alters, new_word, word_reply, MayActivate, MayDeactivate, NoneDue, gone_seg, KeepsBook, is_pending, seen, deactivated_one, emptied, seg_gone, segs_gone, IsAtWork, Keeps, StoreSays, is_fault, cut_of_owner, flat_of, frames_of_owner, process_at, processor_at, run_at, shown, CutDescriptor, Owner, State, Storage, activated_at, connected_to, looking, old_word, page_created, page_made, pages_after, went_through, with_owner, with_pages, with_store, without_first_cut, map_kept, Entry as entry, Frame as frame, page_referred, activate_keeps, deactivate_keeps, activate_seen, blank_less, deactivate_seen, inactive_blank, names_table, words_less, words_more, words_new, owner_keeps, GoesOn, first_finish_seg, uncut_on, CanConnect, connect_keeps, gone_seg_keeps, faults_push, quiet_push, IsIdle, owned_laws_nobody as nobody, job_over, tell_kept_CanTell as CanTell, told_keeps, works_counted, CanMake, here_keeps}
+use Rattle.machine_model.proofs.Laws.{◌≡◌, ◌≢◌, ◌<◌, ℕ, ◌%◌, Bool, true, false, cond, count_by, List, [], ◌∷◌, ◌++◌, length, Option, Some, None, refl, sym, ap, subst, ◌∙◌, arith, length-set, Plan, Reference, binding_at, frame_in, referred, word_put, Frame, after_reference, bound_page, started_page, IsOneToOne, entry_at, uid_at, leads_at, place_of, sdws_at, table_of, read_at, alters, new_word, word_reply, MayActivate, MayDeactivate, NoneDue, gone_seg, KeepsBook, is_pending, seen, deactivated_one, emptied, seg_gone, segs_gone, IsAtWork, Keeps, StoreSays, is_fault, cut_of_owner, flat_of, frames_of_owner, process_at, processor_at, run_at, shown, CutDescriptor, Owner, State, Storage, activated_at, connected_to, looking, old_word, page_created, page_made, pages_after, went_through, with_owner, with_pages, with_store, without_first_cut, map_kept, Entry as entry, Frame as frame, page_referred, activate_keeps, deactivate_keeps, activate_seen, blank_less, deactivate_seen, inactive_blank, names_table, words_less, words_more, words_new, owner_keeps, GoesOn, first_finish_seg, uncut_on, CanConnect, connect_keeps, gone_seg_keeps, faults_push, quiet_push, tell_kept_CanTell as CanTell, told_keeps, works_counted, IsIdle, owned_laws_nobody as nobody, job_over}
+use Rattle.machine_model.proofs.TransferKept.{CanMake, here_keeps, kept_with, quiet_faults}
 use Rattle.machine_model.proofs.MoveSeen.{connect_seen, made_seen}
-use Rattle.machine_model.proofs.TransferKept.{kept_with, quiet_faults}
 
 -- ---- a segment becomes active
 

@@ -1,7 +1,71 @@
 -- Once no process is ready or running each has ended, and the book is complete.
-use Rattle.machine_model.proofs.Prelude.{◌≡◌, ◌≢◌, ◌<◌, ℕ, zero, suc, ◌+◌, Bool, true, false, not, ◌||◌, cond, eqb, length, List, [], ◌∷◌, get_or, set, Option, Some, None, inl, inr, refl, sym, ap, ◌∙◌, arith, replicate, filter, list_any, eqb_tells, get_or-set_other, get_or-set_same, Plan, command_at, Command, Entry, Reply, has, after_command, effect_of, gone_on, is_end, takes_effect, tries_on, IsAnswer, IsComplete, IsEnd, IsLawful, IsLegal, IsLegalFrom, MayFault, after_do, after_entry, after_fault, is_part, last_of, part, store_after, store_from, Progress, Store, at_first, boot, progress_of, with_progress, has_process, is_empty, is_over, KeepsAll, cpu_at, flat_of, run_at, HasTurn, MayRun, State, Processor, and_parts, not_both, going_within, Command as command, Entry as entry, true_from_ne_false, cond_both, eq-eqb}
-use Rattle.machine_model.proofs.RunLaws.{base_same}
+use Rattle.machine_model.proofs.Prelude.{◌≡◌, ◌≢◌, ◌<◌, ℕ, zero, suc, ◌+◌, Bool, true, false, not, ◌||◌, cond, eqb, length, List, [], ◌∷◌, get_or, set, Option, Some, None, inl, inr, refl, sym, ap, ◌∙◌, arith, replicate, filter, list_any, eqb_tells, get_or-set_other, get_or-set_same, Plan, command_at, Command, Entry, Reply, has, after_command, effect_of, gone_on, is_end, takes_effect, tries_on, IsAnswer, IsComplete, IsEnd, IsLawful, IsLegal, IsLegalFrom, MayFault, after_do, after_entry, after_fault, is_part, last_of, part, store_after, store_from, Progress, Store, at_first, boot, progress_of, with_progress, has_process, is_empty, is_over, KeepsAll, cpu_at, flat_of, run_at, HasTurn, MayRun, State, Processor, and_parts, not_both, going_within, Command as command, Entry as entry, true_from_ne_false, cond_both, eq-eqb, ◌≤◌, if◌then◌else◌, subst, leb_tells, at_put, IsRun, Run, effect_advances}
 use Rattle.machine_model.proofs.TieLaws.{none_some}
+use Rattle.machine_model.proofs.Places.{by_place}
+
+-- ---- How far each process has come by the flat store, once a command was answered or a drive's failure was told.
+
+-- ---- one process has come to another place
+
+abbrev ended : Progress
+ended = record { place = 0; tries = 0; ended = true; faulted = false }
+
+put_progress : (ps : List Progress) (k : ℕ) (q : Progress) (j : ℕ) → k < length ps
+    → get_or (set ps k q) j ended ≡ at_put (λ i. get_or ps i ended) k q j
+put_progress ps k q j within = by_place (λ (x : Progress). get_or (set ps k q) j ended ≡ x) (λ i. get_or ps i ended) k q
+    j (λ e. cc (get_or-set_same ps k q ended within)) (λ n. get_or-set_other ps k j q ended n)
+
+-- an effect leaves how far each has come
+pub base_same : (p : Plan) (s : Store) (j : ℕ) (c : Command) (r : Reply)
+    → (cond (takes_effect r) (effect_of p s j c) s).processes ≡ s.processes
+base_same p s j c r = cond_both (takes_effect r) (effect_of p s j c) s (λ (x : Store). x.processes ≡ s.processes)
+    (λ e. (effect_advances p s j c).processes) (λ e. refl)
+
+-- a command was answered
+pub runs_answered : (p : Plan) (s : Store) (k : ℕ) (c : Command) (r : Reply) {run : Run} (runs : ℕ → Run)
+    → (progress_of s k).ended ≡ false → IsRun (gone_on (progress_of s k) c r) run
+    → ((j : ℕ) → IsRun (progress_of s j) (runs j)) → (j : ℕ)
+    → IsRun (progress_of (after_command p s k c r) j) (at_put runs k run j)
+unfolding after_command
+runs_answered p s k c r {run} runs going is others j = rw moved_to cases
+  where
+    base : Store
+    base = if takes_effect r then effect_of p s k c else s
+
+    moved_to : progress_of (with_progress base k (gone_on (progress_of s k) c r)) j
+        ≡ at_put (progress_of s) k (gone_on (progress_of s k) c r) j
+    moved_to = cc (
+      base_same p s k c r,
+      put_progress s.processes k (gone_on (progress_of s k) c r) j (going_within s k going),
+    )
+
+    cases : IsRun (at_put (progress_of s) k (gone_on (progress_of s k) c r) j) (at_put runs k run j)
+    cases = elim (eqb_tells j k) [ inl e ↦ rw e.0 is | inr n ↦ rw n.0 (others j) ]
+
+set_past : (ps : List Progress) (k : ℕ) (q : Progress) → length ps ≤ k → set ps k q ≡ ps
+set_past [] k q h = refl
+set_past (x ∷ xs) zero q h = absurd (omega arith)
+set_past (x ∷ xs) (suc k) q h = cc (set_past xs k q (omega arith))
+
+-- a drive's failure was told
+pub runs_failed : (s : Store) (o : Option ℕ) (runs : ℕ → Run) → ((j : ℕ) → IsRun (progress_of s j) (runs j)) → (j : ℕ)
+    → IsRun (progress_of (after_fault s o) j) (runs j)
+runs_failed s None runs others j = others j
+runs_failed s (Some k) runs others j = elim (leb_tells (length s.processes) k) [
+  | inl e ↦ rw (past e.1) (others j)
+  | inr n ↦ rw (put_progress s.processes k _ j n.1) (cases)
+]
+  where
+    told : Progress
+    told = record (progress_of s k) { faulted = true }
+
+    past : length s.processes ≤ k → get_or (set s.processes k told) j ended ≡ progress_of s j
+    past h = cc (set_past s.processes k told h)
+
+    cases : IsRun (at_put (progress_of s) k told j) (runs j)
+    cases = by_place (λ (q : Progress). IsRun q (runs j)) (progress_of s) k told j
+        (λ e. (let was = subst (λ (i : ℕ). IsRun (progress_of s i) (runs j)) e (others j) in
+        assumption)) (λ n. others j)
 
 -- ---- nobody is ready or running
 

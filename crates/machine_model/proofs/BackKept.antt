@@ -1,7 +1,225 @@
 -- The machine keeps its promise where a write failed: all that was still going comes back, and the process is told.
-use Rattle.machine_model.proofs.Laws.{◌≡◌, ◌≤◌, ℕ, zero, suc, count_by, List, [], ◌∷◌, ◌++◌, length, set, get_or, Option, Some, None, refl, sym, subst, ◌∙◌, arith, length-set, ◌^◌, min, Rose, bound_page, frame_in, Sdw, place_of, sdws_at, MayFault, page_at, back, back_seg, KeepsBook, seen, here_if, page_back, pages_back, seg_back, segs_back, with_relink, write_failed, AreThere, Keeps, StoreSays, is_fault, cut_of_owner, flat_of, frames_of_owner, process_at, run_at, CutDescriptor, State, Storage, fault_told, looking, told, with_owner, without_first_cut, without_first_frame, Entry as entry, Reply as reply, active_place, fault_keeps, GoesOn, back_on, first_finish, first_finish_seg, uncut_on, goes_with, back_seg_keeps, CanFinish, back_keeps, finish_with, faults_push, quiet_push, back_seen, owned_laws_nobody as nobody, job_over, HasTables, tell_kept_CanTell as CanTell, told_keeps}
+use Rattle.machine_model.proofs.Laws.{◌≡◌, ◌≤◌, ℕ, zero, suc, count_by, List, [], ◌∷◌, ◌++◌, length, set, get_or, Option, Some, None, refl, sym, subst, ◌∙◌, arith, length-set, ◌^◌, min, Rose, bound_page, frame_in, Sdw, place_of, sdws_at, MayFault, page_at, back, back_seg, KeepsBook, seen, here_if, page_back, pages_back, seg_back, segs_back, with_relink, write_failed, AreThere, Keeps, StoreSays, is_fault, cut_of_owner, flat_of, frames_of_owner, process_at, run_at, CutDescriptor, State, Storage, fault_told, looking, told, with_owner, without_first_cut, without_first_frame, Entry as entry, Reply as reply, ◌+◌, true, eqb, inl, inr, ap, eqb_tells, What, Plan, after_entry, store_after, Store, binding_at, read_at, Aim, Phase, dropped, told_at, FitsPhase, IsShaped, is_pending, is_pending_in, says, says_in, eviction_begun, owner_signalled, phase_signalled, signalled, told_from, with_choice, HadRights, IsAtWork, IsConserved, IsFaithful, processor_at, Seen, shown, Processor, Owner, with_store, What as what, Ptw as ptw, Aim as aim, Phase as phase, eqb_self, ◌≢◌, ◌<◌, map, Entry, Left, word_of_left, record_of, words_in, MayRelease, IsInNoFrame, gone, released, is_out, names, entries_left, eviction_done, left_of, page_done, page_gone, page_in, with_left, home_in, flat, booked, with_faults, rest_of, Left as left, active_place, fault_keeps, GoesOn, back_on, first_finish, first_finish_seg, uncut_on, goes_with, back_seg_keeps, CanFinish, back_keeps, finish_with, take_keeps, gone_keeps, in_no_frame, release_keeps, faults_push, quiet_push, flat_still, tell_kept_CanTell as CanTell, told_keeps, back_seen, signal_seen, told_reads, gone_seen, owned_laws_nobody as nobody, IsIdle, job_over, bound_here, idle_names, HasTables, take_one_seen, binding_is, choice_bindings, choice_reads, signal_keeps, HasSaid, map_length, within_by, put_two_here, none_some}
 use Rattle.machine_model.proofs.MoveSeen.{back_seg_seen}
-use Rattle.machine_model.proofs.TransferKept.{kept_with}
+use Rattle.machine_model.proofs.TransferKept.{kept_with, quiet_faults}
+
+-- ---- The machine keeps its promise where a page leaves its frame, where a write failed, and where a segment is inactive at
+-- last.
+
+append_two : (es : List Entry) (a b : Entry) → es ++ a ∷ b ∷ [] ≡ (es ++ a ∷ []) ++ b ∷ []
+append_two [] a b = refl
+append_two (e ∷ es) a b = cc (append_two es a b)
+
+gone_quiet : (p : Plan) (t : Store) (f : ℕ) → after_entry p t (entry.GonePage f) ≡ t
+unfolding after_entry
+gone_quiet p t f = refl
+
+-- a frame that is bound to a page is one of the frames
+pub bound_within : (s : State) (f : ℕ) (page : ℕ × ℕ) → (seen s).bound f ≡ Some page
+    → f < length s.store.pages.core.frames
+bound_within s f page h = rw (← (map_length bound_page s.store.pages.core.frames))
+    (within_by (map bound_page s.store.pages.core.frames) f None (λ e. none_some (sym e ∙ h)))
+
+-- a page leaves its frame; one of zeros is released
+pub left_keeps : (s : State) {f u p : ℕ} (how : Left) {owner : Option Owner} → HasTables s → KeepsBook (seen s)
+    → CanFinish (seen s) f u p owner → (how ≡ left.Released → MayRelease (flat_of s) u p)
+    → KeepsBook
+    (seen (with_owner (booked (with_store s (with_left s.store f how (u, p))) (entries_left f how (u, p))) owner))
+left_keeps s {f} {u} {p} how {owner} tables k can zeros = by how zeros
+  where
+    within : f < length s.store.pages.core.frames
+    within = bound_within s f (u, p) (k.tied.back f u p (ap names can.leaving))
+
+    by : (x : Left) → (x ≡ left.Released → MayRelease (flat_of s) u p)
+        → KeepsBook (seen (with_owner (booked (with_store s (with_left s.store f x (u, p)))
+        (entries_left f x (u, p))) owner))
+    by left.Kept z = subst KeepsBook (sym (gone_seen s f u p left.Kept owner tables k within can.leaving)) (gone_keeps
+        (seen s) f u p owner k can (word_of_left left.Kept (record_of s.store.pages (home_in s.store u) p)) refl)
+    by left.Released z = subst KeepsBook (sym whole) (release_keeps book
+        (rw (flat_still s.plan s.entries (entry.GonePage f) (gone_quiet s.plan (flat_of s) f)) (z refl))
+        (in_no_frame u p book (ap names (put_two_here (seen s).words u p ptw.Null)) unread))
+      where
+        now : Seen
+        now = gone (seen s) f u p ptw.Null owner
+
+        book : KeepsBook now
+        book = gone_keeps (seen s) f u p owner k can ptw.Null refl
+
+        unread : (g : ℕ) → (seen s).reads g ≢ Some (u, p)
+        unread g h = let no = sym (ap is_out can.leaving) ∙ k.tied.out g u p h in cc
+
+        whole : seen (with_owner (booked (with_store s (with_left s.store f left.Released (u, p)))
+            (entries_left f left.Released (u, p))) owner) ≡ released now u p
+        whole = ap (λ (v : Seen). record v { entries = s.entries ++ entry.GonePage f ∷ entry.Release u p ∷ [] })
+            (gone_seen s f u p left.Released owner tables k within can.leaving)
+            ∙ (λ i. record now { entries = append_two s.entries (entry.GonePage f) (entry.Release u p) i })
+
+pub left_faults : (es : List Entry) (f : ℕ) (how : Left) (page : ℕ × ℕ)
+    → count_by is_fault (es ++ entries_left f how page) ≡ count_by is_fault es
+left_faults es f left.Kept page = omega (arith, faults_push es (entry.GonePage f))
+left_faults es f left.Released page = let one = faults_push es (entry.GonePage f) in
+    let two = faults_push (es ++ entry.GonePage f ∷ []) (entry.Release page.0 page.1) in
+    ap (count_by is_fault) (append_two es (entry.GonePage f) (entry.Release page.0 page.1)) ∙ (omega arith)
+
+module _ (s : State) (f u p faults : ℕ) (owner : Option Owner) (k : Keeps s) (can : CanFinish (seen s) f u p owner)
+    (rose : s.faults ≤ faults) where
+  abbrev how : Left
+  how = left_of (words_in s.store.pages f)
+
+  page_is : page_in s.store f ≡ (u, p)
+  page_is = cc (binding_is s f, k.book.tied.back f u p (ap names can.leaving))
+
+  -- the page in a frame leaves it, and the owner goes on so
+  pub gone_kept : (how ≡ left.Released → MayRelease (flat_of s) u p)
+      → StoreSays (with_owner (page_gone (with_faults s faults) f) owner)
+      → ((o : Owner) → owner ≡ Some o → IsAtWork (processor_at s.processors o.cpu))
+      → Keeps (with_owner (page_gone (with_faults s faults) f) owner)
+  gone_kept zeros says works = kept_with (with_owner (page_gone (with_faults s faults) f) owner)
+      (rw page_is (left_keeps s how k.store.kept.places k.book can zeros)) says
+      (omega (arith, left_faults s.entries f how (page_in s.store f))) k.sizes.processors k.sizes.processes works
+
+-- ---- the owner goes on
+
+-- after an eviction the look is made again
+pub eviction_kept : {s : State} {c f u p : ℕ} (faults : ℕ) {o : Owner} → Keeps s → s.owner ≡ Some o → o.cpu ≡ c
+    → s.faults ≤ faults → CanFinish (seen s) f u p (Some (looking c))
+    → (left_of (words_in s.store.pages f) ≡ left.Released → MayRelease (flat_of s) u p)
+    → StoreSays (eviction_done (with_faults s faults) c f) → Keeps (eviction_done (with_faults s faults) c f)
+eviction_kept {s} {c} {f} {u} {p} faults {o} k mine same rose can zeros says =
+    gone_kept s f u p faults (Some (looking c)) k can rose zeros says
+    (λ q h. (rw (same ∙ ap (λ (x : Owner). x.cpu) (let is : looking c ≡ q = cc in is)) at (k.at_work o mine)))
+
+cpu_of_rest : (o q : Owner) → without_first_frame (Some o) ≡ Some q → o.cpu ≡ q.cpu
+cpu_of_rest o q h = ap (λ (x : Owner). x.cpu)
+    (let is : ◌≡◌ {A = Owner} (record o { frames = rest_of o.frames }) q = cc in is)
+
+-- a deactivation goes on with the next page
+pub page_kept : (s : State) (f faults : ℕ) (fs : List ℕ) (ds : List CutDescriptor) (o : Owner) → Keeps s
+    → s.owner ≡ Some o → s.faults ≤ faults → GoesOn (seen s) (f ∷ fs) ds
+    → (left_of (words_in s.store.pages f) ≡ left.Released
+    → MayRelease (flat_of s) (page_at (seen s) f).0 (page_at (seen s) f).1)
+    → StoreSays (page_done (with_faults s faults) f) → Keeps (page_done (with_faults s faults) f)
+page_kept s f faults fs ds o k mine rose on zeros says =
+    gone_kept s f (page_at (seen s) f).0 (page_at (seen s) f).1 faults (without_first_frame s.owner) k
+    (first_finish f fs k.book on) rose zeros says (λ q h. (rw (cpu_of_rest o q (cc)) at (k.at_work o mine)))
+
+-- ---- The machine keeps its promise through the phases of a job: a page is evicted, a segment's pages and descriptors are
+-- taken, the signal is given, and what was taken goes, or comes back where a drive failed.
+
+-- ---- the clock
+
+-- custody doesn't see the marks and the hand
+pub choice_seen : (s : State) (f : ℕ) → seen (with_store s (with_choice s.store f)) ≡ seen s
+choice_seen s f = λ i. record (seen s) {
+  bound = λ g. binding_at (choice_bindings s.store.pages.core f i) g;
+  reads = λ g. read_at (choice_reads s.store.pages.core f i) g;
+}
+
+-- ---- an eviction begins
+
+pub evict_kept : {s : State} {c : ℕ} (f u p : ℕ) {o : Owner} → Keeps s → s.owner ≡ Some o → o.cpu ≡ c → IsIdle s.owner
+    → (seen s).bound f ≡ Some (u, p) → StoreSays (eviction_begun s c f) → Keeps (eviction_begun s c f)
+evict_kept {s} {c} f u p {o} k mine same idle bound says = kept_with (eviction_begun s c f)
+    (subst KeepsBook (sym (take_one_seen now c aim.Evicting
+    (what.Page f) f u p k.store.kept.places bound_still here_still))
+    (take_keeps c aim.Evicting (what.Page f) f u p book (record {
+      here = here_still;
+      still = idle.waits;
+      others = idle_names (what.Page f) book.going_owned idle.frames idle.cut;
+      this = eqb_self f;
+      aimed = (f, cc, refl, idle.cut);
+    }))) says (quiet_faults (entry.Take f) s.faults k refl (omega arith)) k.sizes.processors k.sizes.processes
+    (λ q h. rw (← (same ∙ ap (λ (x : Owner). x.cpu) (let is : made ≡ q = cc in is))) (k.at_work o mine))
+  where
+    now : State
+    now = with_store s (with_choice s.store f)
+
+    book : KeepsBook (seen now)
+    book = subst KeepsBook (sym (choice_seen s f)) k.book
+
+    bound_still : (seen now).bound f ≡ Some (u, p)
+    bound_still = subst (λ (v : Seen). v.bound f ≡ Some (u, p)) (sym (choice_seen s f)) bound
+
+    here_still : (seen now).words u p ≡ ptw.Here f
+    here_still = bound_here (seen now) f u p book idle.frames bound_still
+
+    made : Owner
+    made = record {
+      cpu = c;
+      phase = phase.Taken aim.Evicting (what.Page f);
+      frames = frames_of_owner s.owner ++ f ∷ [];
+      cut = cut_of_owner s.owner;
+    }
+
+-- ---- the signal
+
+said : (o : Owner) (a : Aim) (w : What) → o.phase ≡ phase.Taken a w → IsShaped (Some o)
+    → HasSaid (Some o) (owner_signalled (Some o)) w
+said o a w h shaped = record {
+  frames = refl;
+  cut = refl;
+  waits = cc;
+  says = cc;
+  shaped = subst (λ (x : Phase). FitsPhase (phase_signalled x) o.frames o.cut) (sym h)
+      (subst (λ (x : Phase). FitsPhase x o.frames o.cut) h shaped);
+}
+
+signal_quiet : (p : Plan) (t : Store) (d : ℕ) (v : What) → after_entry p t (entry.Signal d v) ≡ t
+unfolding after_entry
+signal_quiet p t d v = refl
+
+told_length : (c : ℕ) (w : What) (from : ℕ) (ps : List Processor) → length (told_from c w from ps) ≡ length ps
+told_length c w from [] = refl
+told_length c w from (p ∷ ps) = cc (told_length c w (from + 1) ps)
+
+pub signal_kept : {s : State} {c : ℕ} {o : Owner} (a : Aim) (w : What) → Keeps s → s.owner ≡ Some o → o.cpu ≡ c
+    → o.phase ≡ phase.Taken a w → Keeps (signalled s c w)
+signal_kept {s} {c} {o} a w k mine same taken_phase = record {
+  book = subst KeepsBook (sym (signal_seen s c w (owner_signalled s.owner)))
+      (signal_keeps c w (owner_signalled s.owner) k.book (record {
+        online = subst (λ (d : ℕ). (processor_at s.processors d).cpu.online ≡ true) same (k.at_work o mine).online;
+        says = ap says mine ∙ ap says_in taken_phase;
+        said = subst (λ (x : Option Owner). HasSaid x (owner_signalled x) w) (sym mine)
+            (said o a w taken_phase (subst IsShaped mine k.book.going_owned.shaped));
+        still = ap (λ (x : Option Owner). is_pending (owner_signalled x)) mine
+            ∙ ap (λ (x : Phase). is_pending_in (phase_signalled x)) taken_phase;
+      }));
+  store = k.store;
+  faithful = subst (λ (t : Store). IsFaithful s.plan t s.store) (sym flat_same) k.faithful;
+  rights = subst (HadRights s.store.accounts.nodes s.store.whos) (cut_same s.owner) k.rights;
+  cut = subst (AreThere s.store) (cut_same s.owner) k.cut;
+  conserved = subst (IsConserved s.plan) (sym flat_same) k.conserved;
+  few_faults = quiet_faults (entry.Signal c w) s.faults k refl (omega arith);
+  sizes = assumption (told_length c w 0 s.processors ∙ k.sizes.processors);
+  at_work = λ q h. works q (subst (λ (x : Option Owner). owner_signalled x ≡ Some q) mine h);
+}
+  where
+    cut_same : (x : Option Owner) → cut_of_owner x ≡ cut_of_owner (owner_signalled x)
+    cut_same None = refl
+    cut_same (Some x) = refl
+
+    flat_same : store_after s.plan (s.entries ++ entry.Signal c w ∷ []) ≡ store_after s.plan s.entries
+    flat_same = flat_still s.plan s.entries (entry.Signal c w) (signal_quiet s.plan (store_after s.plan s.entries) c w)
+
+    own : (p : Processor) → told_at c w c p ≡ dropped p w
+    own p = elim (eqb_tells c c) [ inl e ↦ rw e.0 refl | inr n ↦ absurd (n.1 refl) ]
+
+    dropped_works : (p : Processor) → IsAtWork p → IsAtWork (dropped p w)
+    dropped_works p x = record { online = x.online; busy = x.busy; clear = x.clear; idle = x.idle }
+
+    works : (q : Owner) → owner_signalled (Some o) ≡ Some q
+        → IsAtWork (processor_at (told_from c w 0 s.processors) q.cpu)
+    works q h = rw (← (sym same ∙ cpu_is)) (subst IsAtWork (sym (told_reads c w s.processors 0 c
+        ∙ (ap (λ (n : ℕ). told_at c w n (processor_at s.processors c)) plus ∙ own (processor_at s.processors c))))
+        (dropped_works (processor_at s.processors c) (subst (λ (d : ℕ). IsAtWork (processor_at s.processors d)) same
+        (k.at_work o mine))))
+      where
+        cpu_is : o.cpu ≡ q.cpu
+        cpu_is = let is : ◌≡◌ {A = Owner} (record o { phase = phase_signalled o.phase }) q =
+            cc in ap (λ (x : Owner). x.cpu) is
+
+        plus : 0 + c ≡ c
+        plus = omega arith
 
 -- ---- pages come back
 

@@ -1,5 +1,5 @@
 -- The machine keeps its promise where a tree command takes effect.
-use Rattle.machine_model.proofs.Laws.{◌≡◌, ◌<◌, ℕ, Bool, true, false, count_by, List, [], ◌∷◌, ◌++◌, map, length, set, Option, Some, None, inl, refl, sym, ap, subst, ◌∙◌, arith, get_or-set_same, length-set, Command, Entry, Row, parts_of, Store, progress_of, MayLeave, queued_by, gone_segs, counted, gone_seg, left, committed, cut_entry, gone_entries, inactive_entries, left_after, with_effect, with_made, IsRun, KeepsBook, is_pending, seen, Keeps, StoreSays, is_fault, cut_of_owner, flat_of, frames_of_owner, next_command, no_processor, no_run, or_zero, process_at, processor_at, run_at, reply_of, uid_of_command, Seen, shown, Processor, Run, CutDescriptor, Owner, State, Storage, booked, left_at, queued, run_after, told, told_by, with_owner, with_store, without_first_cut, append-nil, append_assoc, Command as command, Entry as entry, changes_emptied as emptied, owner_keeps, GoesOn, gone_segs_keep, faults_push, quiet_push, IsIdle, owned_laws_nobody as nobody, job_over, leave_keeps, reseated_seen, tell_kept_CanTell as CanTell, told_keeps, none_some}
+use Rattle.machine_model.proofs.Laws.{◌≡◌, ◌<◌, ℕ, Bool, true, false, count_by, List, [], ◌∷◌, ◌++◌, map, length, set, Option, Some, None, inl, refl, sym, ap, subst, ◌∙◌, arith, get_or-set_same, length-set, Command, Entry, Row, parts_of, Store, progress_of, MayLeave, queued_by, gone_segs, counted, gone_seg, left, committed, cut_entry, gone_entries, inactive_entries, left_after, with_effect, with_made, IsRun, KeepsBook, is_pending, seen, Keeps, StoreSays, is_fault, cut_of_owner, flat_of, frames_of_owner, next_command, no_processor, no_run, or_zero, process_at, processor_at, run_at, reply_of, uid_of_command, Seen, shown, Processor, Run, CutDescriptor, Owner, State, Storage, booked, left_at, queued, run_after, told, told_by, with_owner, with_store, without_first_cut, append-nil, append_assoc, Command as command, Entry as entry, changes_emptied as emptied, owner_keeps, GoesOn, gone_segs_keep, faults_push, quiet_push, tell_kept_CanTell as CanTell, told_keeps, IsIdle, owned_laws_nobody as nobody, job_over, leave_keeps, reseated_seen, none_some}
 use Rattle.machine_model.proofs.TransferKept.{kept_with}
 
 -- ---- a process leaves its processor

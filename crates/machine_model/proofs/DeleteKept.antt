@@ -1,6 +1,6 @@
 -- The machine keeps its promise where a `delete` takes effect: the pages of the node have left their frames, its
 -- descriptors are gone, and it is active no more.
-use Rattle.machine_model.proofs.Kept.{not_both, cond_both, [], ◌≡◌, ◌≢◌, ◌<◌, ℕ, Bool, not, not-true, and_parts, list_all, Command, frame_entry, inactive_entries, told, true, false, cond, if◌then◌else◌, count_by, List, ◌∷◌, ◌++◌, map, length, Option, Some, None, refl, sym, ap, subst, ◌∙◌, arith, length-set, Path, Entry, reads_of, Ptw, erased, framed, Plain, binding_at, bindings, word_of, read_at, MayDeactivate, has, at_put, gone_segs, gones, page_at, page_or_zero, no_more_active, gone, gone_seg, committed, cut_entry, frames_freed, gone_entries, AreDistinct, KeepsBook, is_pending, names, seen, with_inactive, Keeps, StoreSays, is_fault, cut_of_owner, frames_of_owner, home_in, is_active, process_at, run_at, reply_of, uid_of_command, Seen, flat, shown, CutDescriptor, State, Storage, booked, with_owner, with_pages, with_store, without_first_cut, without_first_frame, append-nil, append_assoc, Core, has_head, has_tail, Command as command, Entry as entry, Frame as frame, Ptw as ptw, commits_lost as lost, list_all-append, core_map_with_frame as with_frame, deactivate_keeps, active_less, blank_less, deactivate_seen, words_less, GoesOn, IsDone, gone_done, idle_done, going_word, gone_segs_keep, gones_keep, LeavesRest, frame_entry_has, faults_push, quiet_push, unread_put, IsIdle, owned_laws_nobody as nobody, job_over, by_place, by_places, bound_put, reads_put, tell_kept_CanTell as CanTell, told_keeps, kept_with, effected, bound_within}
+use Rattle.machine_model.proofs.Kept.{not_both, cond_both, [], ◌≡◌, ◌≢◌, ◌<◌, ℕ, Bool, not, not-true, and_parts, list_all, Command, frame_entry, inactive_entries, told, true, false, cond, if◌then◌else◌, count_by, List, ◌∷◌, ◌++◌, map, length, Option, Some, None, refl, sym, ap, subst, ◌∙◌, arith, length-set, Path, Entry, reads_of, Ptw, erased, framed, Plain, binding_at, bindings, word_of, read_at, MayDeactivate, has, at_put, gone_segs, gones, page_at, page_or_zero, no_more_active, gone, gone_seg, committed, cut_entry, frames_freed, gone_entries, AreDistinct, KeepsBook, is_pending, names, seen, with_inactive, Keeps, StoreSays, is_fault, cut_of_owner, frames_of_owner, home_in, is_active, process_at, run_at, reply_of, uid_of_command, Seen, flat, shown, CutDescriptor, State, Storage, booked, with_owner, with_pages, with_store, without_first_cut, without_first_frame, append-nil, append_assoc, Core, has_head, has_tail, Command as command, Entry as entry, Frame as frame, Ptw as ptw, commits_lost as lost, list_all-append, core_map_with_frame as with_frame, deactivate_keeps, active_less, blank_less, deactivate_seen, words_less, GoesOn, IsDone, gone_done, idle_done, going_word, gone_segs_keep, gones_keep, LeavesRest, frame_entry_has, faults_push, quiet_push, tell_kept_CanTell as CanTell, told_keeps, unread_put, IsIdle, owned_laws_nobody as nobody, job_over, by_place, by_places, bound_put, reads_put, kept_with, effected, bound_within}
 
 -- ---- frames that are freed
 

@@ -1,5 +1,5 @@
 -- A look takes for a tree command just what the command takes.
-use Rattle.machine_model.proofs.Kept.{◌≡◌, ◌≢◌, ◌<◌, ◌≤◌, ℕ, zero, suc, ◌+◌, ◌-◌, ◌/◌, Bool, true, false, ◌||◌, cond, eqb, List, [], ◌∷◌, ◌++◌, map, length, drop, get_or, Option, Some, None, ◌⊎◌, inl, inr, refl, sym, ap, ◌∙◌, arith, nat_le, filter, list_any, range_with_len, eqb_tells, leb_tells, list_any-append, Command, AccountMaps, What, Ptw, Sdw, Core, frame_at, reads_of, started_page, is_for, sdws_at, table_of, read_at, has, is_going_descriptor, is_going_frame, leads_to, page_of, Aim, CutDescriptor, descriptors_taken, first_taken, frame_read_from, frames_taken, KeepsBook, has_cut, names, led_to, seen, cut_all, cut_one, note_of, take_all, take_one, took, Keeps, cut_of_owner, descriptor_of, frame_reading, frames_from, frames_of_owner, is_active, is_connected, is_page_of, trailers_in, refusal_of, uid_of_command, cut_uid, descriptor_use, frame_use, is_cut_at, shown, State, GoesJust, IsAlone, IsTakenFor, TakesDescriptor, TakesPage, WasBrought, Segment, not_both, or_cases, none_has, eqb_self, page_is, some_same, Command as command, What as what, Ptw as ptw, Sdw as sdw, Frame as frame, Aim as aim, chain_active, IsBrought, FindsTaken, names_uid, delete_stands, position_none, map_list, LooksLike, took_like, IsIdle, cut_at_tells, took_stands, linked_within, none_some, page_used, active_at, brought_on, same_uid, took_out, ArePairs, CanTook, has_pair, is_pair, linked_before, noted, noted_has, pairs_left, took_keeps}
+use Rattle.machine_model.proofs.Kept.{◌≡◌, ◌≢◌, ◌<◌, ◌≤◌, ℕ, zero, suc, ◌+◌, ◌-◌, ◌/◌, Bool, true, false, ◌||◌, cond, eqb, List, [], ◌∷◌, ◌++◌, map, length, drop, get_or, Option, Some, None, ◌⊎◌, inl, inr, refl, sym, ap, ◌∙◌, arith, nat_le, filter, list_any, range_with_len, eqb_tells, leb_tells, list_any-append, Command, AccountMaps, What, Ptw, Sdw, Core, frame_at, reads_of, started_page, is_for, sdws_at, table_of, read_at, has, is_going_descriptor, is_going_frame, leads_to, page_of, Aim, CutDescriptor, descriptors_taken, first_taken, frame_read_from, frames_taken, KeepsBook, has_cut, names, led_to, seen, cut_all, cut_one, note_of, take_all, take_one, took, Keeps, cut_of_owner, descriptor_of, frame_reading, frames_from, frames_of_owner, is_active, is_connected, is_page_of, trailers_in, refusal_of, uid_of_command, cut_uid, descriptor_use, frame_use, is_cut_at, shown, State, GoesJust, IsAlone, IsTakenFor, TakesDescriptor, TakesPage, WasBrought, Segment, not_both, or_cases, none_has, eqb_self, page_is, some_same, Command as command, What as what, Ptw as ptw, Sdw as sdw, Frame as frame, Aim as aim, chain_active, IsBrought, FindsTaken, names_uid, delete_stands, position_none, map_list, LooksLike, took_like, took_stands, IsIdle, cut_at_tells, linked_within, none_some, page_used, active_at, brought_on, same_uid, took_out, ArePairs, CanTook, has_pair, is_pair, linked_before, noted, noted_has, pairs_left, took_keeps}
 use Rattle.machine_model.proofs.TakeLists.{dropped_word, frame_word, trailers_taken}
 use Rattle.machine_model.proofs.TakeWhole.{cut_pages, frame_listed, note_at, take_rest, trailer_listed, take_linked, took_linked, cut_frames}
 use Rattle.machine_model.proofs.NumberLaws.{take_cut}

@@ -1,6 +1,5 @@
 -- Each step keeps what is true of an outline, where its sizes stay, and where what a command's effect leaves is kept.
-use Rattle.machine_model.proofs.Basics.{◌≡◌, ◌≢◌, ◌<◌, ℕ, zero, suc, Bool, true, false, not, cond, eqb, List, [], ◌∷◌, length, Option, Some, None, is_some, set, get_or, Contains, refl, sym, ap, subst, ◌∙◌, inl, inr, arith, list_any, eqb_tells, get_or-set_other, length-set, list_any_at, Frame, entry_at, uid_in, off_chain, IsOffChain, Transfer, Want, Refer, Truncate, Runner, no_runner, Work, EvictFrame, EmptyPlace, CommitCommand, Stage, Look, Taken, Waiting, Copying, Keeper, Outline, Turn, runner_at, want_at, at_stage, is_of, is_here, dues, Comes, Clears, Loads, Leaves, Commands, rule_of, owns, IsIn, JobStep, activates, connects, takes_segment, takes_frame, takes_for_commit, signals, frees_frame, frees_page, empties, empties_at_once, gives_up, starts, answers, begins_move, copies, commits_move, AreAlike, AreOf, CanStart, is_wanted_here, with_link, with_runners, without_owner, now_reading, IsAnswered, Step, comes, clears, reads, loses, works, loads, leaves, fills, replies, faults, enters, IsReplied, IsKept, HasSizes, AreTied, HasJob, FitsStage, FitsWork, AreSpared, EndsChain, is_wanted, is_spared, first_false, not_both, second_false, Frame as frame, Active as Entry, outline_frame_in as frame_in, wanted_chain as chain_of, finishing_is_bound as is_bound, finishing_page_of as page_of, finishing_uid_of as uid_of, OutlineKeptIsAtWork as IsAtWork, false_from_ne_true, eqb_self, ◌⊎◌, cases_eq, get_or-set_same, dues_set, rule_laws_tells as tells}
-use Rattle.machine_model.proofs.StepLaws.{inside, none_due}
+use Rattle.machine_model.proofs.Basics.{◌≡◌, ◌≢◌, ◌<◌, ℕ, zero, suc, Bool, true, false, not, cond, eqb, List, [], ◌∷◌, length, Option, Some, None, is_some, set, get_or, Contains, refl, sym, ap, subst, ◌∙◌, inl, inr, arith, list_any, eqb_tells, get_or-set_other, length-set, list_any_at, Frame, entry_at, uid_in, off_chain, IsOffChain, Transfer, Want, Refer, Truncate, Runner, no_runner, Work, EvictFrame, EmptyPlace, CommitCommand, Stage, Look, Taken, Waiting, Copying, Keeper, Outline, Turn, runner_at, want_at, at_stage, is_of, is_here, dues, Comes, Clears, Loads, Leaves, Commands, rule_of, owns, IsIn, JobStep, activates, connects, takes_segment, takes_frame, takes_for_commit, signals, frees_frame, frees_page, empties, empties_at_once, gives_up, starts, answers, begins_move, copies, commits_move, AreAlike, AreOf, CanStart, is_wanted_here, with_link, with_runners, without_owner, now_reading, IsAnswered, Step, comes, clears, reads, loses, works, loads, leaves, fills, replies, faults, enters, IsReplied, IsKept, HasSizes, AreTied, HasJob, FitsStage, FitsWork, AreSpared, EndsChain, is_wanted, is_spared, first_false, not_both, second_false, Frame as frame, Active as Entry, outline_frame_in as frame_in, wanted_chain as chain_of, finishing_is_bound as is_bound, finishing_page_of as page_of, finishing_uid_of as uid_of, OutlineKeptIsAtWork as IsAtWork, false_from_ne_true, eqb_self, ◌⊎◌, cases_eq, get_or-set_same, dues_set, rule_laws_tells as tells, inside, step_laws_none_due as none_due}
 
 -- ---- What ties processors and frames together goes on as they change.
 

@@ -1,5 +1,5 @@
 -- The machine keeps its promise through the steps of a move.
-use Rattle.machine_model.proofs.Kept.{◌≡◌, ◌≤◌, ℕ, false, List, [], ◌∷◌, ◌++◌, Option, Some, None, ◌⊎◌, inl, inr, refl, sym, ap, subst, ◌∙◌, arith, count_by, suc, zero, ◌^◌, min, Rose, IsLawful, MayFault, after_entry, MayMove, MayRehome, custody_next, Ptw, ptw_at, rehomed, rehomed_word, binding_at, bindings_modified, reads_modified, ActiveSegs, Mover, map_at, place_of, table_of, word_of, tabled, read_at, KeepsBook, is_out, is_pending, names, seen, IsAtWork, Keeps, StoreSays, is_fault, copy_failed, move_begun, move_committed, mover_to, moving, page_copied, past_page, volumes_in, without_move, flat_of, process_at, processor_at, run_at, Seen, bound_use, frame_use, shown, Owner, State, fault_told, looking, with_faults, with_store, length-set, Entry as entry, Reply as reply, Ptw as ptw, fault_keeps, owner_keeps, faults_push, IsIdle, owned_laws_nobody as nobody, set_either, tell_kept_CanTell as CanTell, told_keeps, kept_with, quiet_faults, book_apart, looks_idle}
+use Rattle.machine_model.proofs.Kept.{◌≡◌, ◌≤◌, ℕ, false, List, [], ◌∷◌, ◌++◌, Option, Some, None, ◌⊎◌, inl, inr, refl, sym, ap, subst, ◌∙◌, arith, count_by, suc, zero, ◌^◌, min, Rose, IsLawful, MayFault, after_entry, MayMove, MayRehome, custody_next, Ptw, ptw_at, rehomed, rehomed_word, binding_at, bindings_modified, reads_modified, ActiveSegs, Mover, map_at, place_of, table_of, word_of, tabled, read_at, KeepsBook, is_out, is_pending, names, seen, IsAtWork, Keeps, StoreSays, is_fault, copy_failed, move_begun, move_committed, mover_to, moving, page_copied, past_page, volumes_in, without_move, flat_of, process_at, processor_at, run_at, Seen, bound_use, frame_use, shown, Owner, State, fault_told, looking, with_faults, with_store, length-set, Entry as entry, Reply as reply, Ptw as ptw, fault_keeps, owner_keeps, faults_push, tell_kept_CanTell as CanTell, told_keeps, IsIdle, owned_laws_nobody as nobody, set_either, kept_with, quiet_faults, book_apart, looks_idle}
 
 -- ---- owners that have taken nothing
 

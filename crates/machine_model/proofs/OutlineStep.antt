@@ -1,5 +1,5 @@
 -- Each step of the machine is a step of its outline, where the machine finds what its actions ask.
-use Rattle.machine_model.proofs.Basics.{◌≡◌, ℕ, ◌*◌, ◌/◌, Bool, true, false, not, cond, ◌&&◌, eqb, nat_lt, nat_le, List, [], ◌∷◌, length, count_by, Option, Some, None, is_some, refl, sym, ap, ◌∙◌, inl, inr, arith, Decides-ltb, reference_of, Command, Reference, RefKind, What, HeldSeg, Held, frame_of, seg_of, Ptw, Sdw, sdw_at, new_word, permits, word_reply, Transfer, Move, by_descriptor, by_held, by_page, by_seg, by_word, State, Owner, or_zero, next_command, processor_at, cpu_at, process_at, run_at, sdws_at, word_of, uid_of_held, has_had_its_turn, is_empty, Outcome, after, turn_of, Moved, Comes, Clears, Reads, Works, Loads, Leaves, Commands, rule_of, Step, reference_in, holds_page, outline_of, Foresees, MayAnswer, MayEnter, MayLose, Ptw as ptw, Sdw as sdw, Reply as reply, Move as move, Action, by_move, come_to, has_process, load_or_idle, move_of, refer_or_take, run_process, take_or_wait, Action as act, cond_both, ◌≢◌, ◌<◌, zero, suc, ◌+◌, map, set, subst, append-nil, get_or-set_same, get_or-set_other, length-set, Plan, is_end, released_by, Processor, no_processor, no_run, fault_told, frame_lost, goes_on, run_after, transfer_failed, Runner, runner_at, with_runner, with_frame, HasLost, loses, Around, around, bare, runner_by, runner_of, CanTell, IsPlaced, Frame as frame, by_end, is_owner, rule_seen, IsFree, enter_outlined, fault_outlined, fill_page_outlined, fill_seg_outlined, idle_outlined, leave_outlined, load_outlined, owned_outlined, transfer_outlined, plain_outlined, through_outlined, at_outline, set_map, seen_online, seen_running, seen_due, seen_reading, seen_since, step_to, map_change, told_left, outline_left, left_is}
+use Rattle.machine_model.proofs.Basics.{◌≡◌, ℕ, ◌*◌, ◌/◌, Bool, true, false, not, cond, ◌&&◌, eqb, nat_lt, nat_le, List, [], ◌∷◌, length, count_by, Option, Some, None, is_some, refl, sym, ap, ◌∙◌, inl, inr, arith, Decides-ltb, reference_of, Command, Reference, RefKind, What, HeldSeg, Held, frame_of, seg_of, Ptw, Sdw, sdw_at, new_word, permits, word_reply, Transfer, Move, by_descriptor, by_held, by_page, by_seg, by_word, State, Owner, or_zero, next_command, processor_at, cpu_at, process_at, run_at, sdws_at, word_of, uid_of_held, has_had_its_turn, is_empty, Outcome, after, turn_of, Moved, Comes, Clears, Reads, Works, Loads, Leaves, Commands, rule_of, Step, reference_in, holds_page, outline_of, Foresees, MayAnswer, MayEnter, MayLose, Ptw as ptw, Sdw as sdw, Reply as reply, Move as move, Action, by_move, come_to, has_process, load_or_idle, move_of, refer_or_take, run_process, take_or_wait, Action as act, cond_both, ◌≢◌, ◌<◌, zero, suc, ◌+◌, map, set, subst, append-nil, get_or-set_same, get_or-set_other, length-set, Plan, is_end, released_by, Processor, no_processor, no_run, fault_told, frame_lost, goes_on, run_after, transfer_failed, Runner, runner_at, with_runner, with_frame, HasLost, loses, Around, around, bare, runner_by, runner_of, CanTell, IsPlaced, Frame as frame, by_end, is_owner, rule_seen, at_outline, set_map, seen_online, seen_running, seen_due, seen_reading, seen_since, IsFree, enter_outlined, fault_outlined, fill_page_outlined, fill_seg_outlined, idle_outlined, leave_outlined, load_outlined, owned_outlined, transfer_outlined, step_to, plain_outlined, through_outlined, told_left, outline_left, left_is, map_change}
 
 -- ---- In the outline of the machine, a transfer that fails is a step that frees its frame and leaves less to come.
 

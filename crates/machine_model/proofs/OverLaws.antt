@@ -1,7 +1,6 @@
 -- Once no process is ready or running nobody owns the supervisor, and no processor holds anything, is to drop anything,
 -- or reads a page; and a drive's failure may be told of no process.
-use Rattle.machine_model.proofs.Kept.{◌≡◌, ◌≢◌, ℕ, zero, suc, true, false, length, is_some, List, [], ◌∷◌, get_or, Option, Some, None, inl, inr, refl, sym, ap, ◌∙◌, arith, cases_lt, get_or_past, What, Transfer, MayFault, have_ended, Progress, progress_of, is_over, KeepsAll, cpu_at, flat_of, no_run, processor_at, Owner, State, AreIdle, Run, none_some}
-use Rattle.machine_model.proofs.AllEnded.{over_ended, over_idle}
+use Rattle.machine_model.proofs.Kept.{◌≡◌, ◌≢◌, ℕ, zero, suc, true, false, length, is_some, List, [], ◌∷◌, get_or, Option, Some, None, inl, inr, refl, sym, ap, ◌∙◌, arith, cases_lt, get_or_past, What, Transfer, MayFault, have_ended, Progress, progress_of, is_over, KeepsAll, cpu_at, flat_of, no_run, processor_at, Owner, State, AreIdle, Run, none_some, over_ended, over_idle}
 use Rattle.machine_model.proofs.VisitKept.{AreBare}
 
 -- ---- of lists of progress

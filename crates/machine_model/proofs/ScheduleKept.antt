@@ -1,5 +1,5 @@
 -- After each action each process that goes on is at one processor, ready, or kept back by the initializer.
-use Rattle.machine_model.proofs.Kept.{◌≡◌, ◌<◌, ℕ, ◌+◌, ◌-◌, Bool, true, false, ◌&&◌, cond, eqb, List, [], ◌∷◌, ◌++◌, drop, length, set, Option, Some, None, refl, sym, ap, subst, ◌∙◌, length-set, get_or-set_same, Plan, Command, Reply, What, is_end, word_reply, IsFront, range, released_by, Processor, Run, Outcome, after, committed_at, told_from, write_failed, without_move, cpu_at, next_command, no_processor, or_zero, process_at, processor_at, run_at, reply_of, AreScheduled, IsScheduled, State, fault_told, frame_lost, goes_on, is_its_end, left_at, old_word, page_made, run_after, told, told_by, with_store, pages_after, with_pages, no_run, append-nil, Command as command, Reply as reply, Aim as aim, Action, Action as act, cond_both, Stays, all_taken, emptying, is_back, is_emptied, emptying_victim, by_end, told_reads, told_online, told_process, SameSeats, schedule_laws_end_kept as end_kept, schedule_laws_leave_kept as leave_kept, schedule_laws_load_kept as load_kept, one_run, one_seat, runs_kept, seats_kept, effected}
+use Rattle.machine_model.proofs.Kept.{◌≡◌, ◌<◌, ℕ, ◌+◌, ◌-◌, Bool, true, false, ◌&&◌, cond, eqb, List, [], ◌∷◌, ◌++◌, drop, length, set, Option, Some, None, refl, sym, ap, subst, ◌∙◌, length-set, get_or-set_same, Plan, Command, Reply, What, is_end, word_reply, IsFront, range, released_by, Processor, Run, Outcome, after, committed_at, told_from, write_failed, without_move, cpu_at, next_command, no_processor, or_zero, process_at, processor_at, run_at, reply_of, AreScheduled, IsScheduled, State, fault_told, frame_lost, goes_on, is_its_end, left_at, old_word, page_made, run_after, told, told_by, with_store, pages_after, with_pages, no_run, append-nil, Command as command, Reply as reply, Aim as aim, Action, Action as act, cond_both, Stays, all_taken, emptying, is_back, is_emptied, emptying_victim, by_end, told_reads, told_online, told_process, SameSeats, schedule_laws_end_kept as end_kept, leave_kept, load_kept, one_run, one_seat, runs_kept, seats_kept, effected}
 
 -- ---- nobody's process and run changes
 

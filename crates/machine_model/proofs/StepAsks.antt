@@ -1,8 +1,8 @@
 -- What a step asks, along the rules in their order, follows from the whole promise and from what the calls of the store
 -- say.
-use Rattle.machine_model.proofs.StepBasics.{cases_Bool, inl, inr, eqb-true, and_parts, not-true, not-false, Move, [], ◌≡◌, ◌<◌, ℕ, ◌+◌, ◌*◌, true, false, not, ◌&&◌, eqb, List, ◌∷◌, get_or, length, position, Option, Some, None, refl, sym, ap, subst, ◌∙◌, arith, zero, suc, ◌/◌, ◌%◌, nat_le, cond_both, Rose, reference_of, Command, Reference, HeldSeg, What, frame_of, seg_of, Ptw, Sdw, words_in, by_descriptor, by_held, by_page, by_seg, by_word, Transfer, MayMove, word_reply, Mover, IsMovedFor, is_active, sdws_at, word_of, table_of, next_out, MayRelease, new_word, permits, words_zero, Aim, Phase, Processor, action_of, by_move, clear_or, come_to, finish_of, go_on_with, has_had_its_turn, is_empty, load_or_idle, look_of, move_of, once_cleared, own_or_run, refer_or_take, run_process, take_or_wait, transfer_or, copy_or_commit, Outcome, page_at, IsEntitledToAll, seen, are_zeros, left_of, Keeps, IsMachine, IsReading, cpu_at, cut_of_owner, descriptor_of, flat_of, frames_of_owner, is_due, next_command, or_zero, process_at, processor_at, Says, Owner, State, write_failed, StoreSays, aimed_at, going_for, IsTakenBy, TakenIn, FailsBy, FailsIn, IsWorking, MayFailBy, TakesSome, has_head, What as what, Ptw as ptw, Sdw as sdw, Left as left, Move as move, Reply as reply, Aim as aim, Phase as phase, Action, ForTransfer, Action as act, length-map, IsTree, IsLawful, after_entry, moved, store_after-push, entry_total, modified_of, after, copy_failed, move_begun, move_committed, page_copied, without_move, run_at, fault_told, with_faults, with_store, Entry as entry, action_by, LookFinds, look_finds, IsIdle, bound_word, deactivated_says, eviction_failed_says, evicted_says, evicting_says, page_failed_says, page_left_says, read_says, started_says, failed_says, gone_is, fails_more, Speaks, speaks, speaks_of, takes_tree, active_at, taken_bound, bound_stored, length_asks as too_long_asks, no_access_asks, through_asks, zero_asks, Asks, AsksCommit, IsLooking, look_idle, look_still, process_here, HasWaited, IsMoving, IsAnswering, segs_are_gone, commit_asks, look_rests, taken_rests, look_taken, CanFailWrite, IsMine, empties_goes, alike, alike_by, alike_on, fault_alike, refused_alike, none_rest, says_is}
+use Rattle.machine_model.proofs.StepBasics.{cases_Bool, inl, inr, eqb-true, and_parts, not-true, not-false, Move, [], ◌≡◌, ◌<◌, ℕ, ◌+◌, ◌*◌, true, false, not, ◌&&◌, eqb, List, ◌∷◌, get_or, length, position, Option, Some, None, refl, sym, ap, subst, ◌∙◌, arith, zero, suc, ◌/◌, ◌%◌, nat_le, cond_both, Rose, reference_of, Command, Reference, HeldSeg, What, frame_of, seg_of, Ptw, Sdw, words_in, by_descriptor, by_held, by_page, by_seg, by_word, Transfer, MayMove, word_reply, Mover, IsMovedFor, is_active, sdws_at, word_of, table_of, next_out, MayRelease, new_word, permits, words_zero, Aim, Phase, Processor, action_of, by_move, clear_or, come_to, finish_of, go_on_with, has_had_its_turn, is_empty, load_or_idle, look_of, move_of, once_cleared, own_or_run, refer_or_take, run_process, take_or_wait, transfer_or, copy_or_commit, Outcome, page_at, IsEntitledToAll, seen, are_zeros, left_of, Keeps, IsMachine, IsReading, cpu_at, cut_of_owner, descriptor_of, flat_of, frames_of_owner, is_due, next_command, or_zero, process_at, processor_at, Says, Owner, State, write_failed, StoreSays, aimed_at, going_for, IsTakenBy, TakenIn, FailsBy, FailsIn, IsWorking, MayFailBy, TakesSome, has_head, What as what, Ptw as ptw, Sdw as sdw, Left as left, Move as move, Reply as reply, Aim as aim, Phase as phase, Action, ForTransfer, Action as act, length-map, IsTree, IsLawful, after_entry, moved, store_after-push, entry_total, modified_of, after, copy_failed, move_begun, move_committed, page_copied, without_move, run_at, fault_told, with_faults, with_store, Entry as entry, action_by, LookFinds, look_finds, IsIdle, bound_word, deactivated_says, eviction_failed_says, evicted_says, evicting_says, page_failed_says, page_left_says, read_says, started_says, failed_says, gone_is, none_rest, says_is, fails_more, Speaks, speaks, speaks_of, takes_tree, active_at, taken_bound, bound_stored, length_asks as too_long_asks, no_access_asks, through_asks, zero_asks, Asks, AsksCommit, IsLooking, look_idle, look_still, process_here, HasWaited, IsMoving, IsAnswering, segs_are_gone, commit_asks, look_rests, taken_rests, look_taken, CanFailWrite, IsMine, empties_goes, alike, alike_by, alike_on, fault_alike, refused_alike}
 use Rattle.machine_model.proofs.EmptyAsks.{length_asks, victim_asks, may_deactivate}
-use Rattle.machine_model.proofs.LackingLaws.{may_move, may_rehome}
+use Rattle.machine_model.proofs.WantLaws.{may_move, may_rehome}
 use Rattle.machine_model.proofs.LookAsks.{activate_asks, answer_asks, connect_asks, create_asks}
 use Rattle.machine_model.proofs.ReadKept.{read_fails}
 use Rattle.machine_model.proofs.TruncateRests.{commit_rests}

@@ -1,7 +1,6 @@
 -- Each action of a processor keeps the machine's promise.
-use Rattle.machine_model.proofs.Kept.{[], ◌≡◌, ◌<◌, ◌≤◌, ℕ, ◌-◌, Bool, true, false, map, List, ◌∷◌, ◌++◌, length, ◌⊎◌, inl, inr, Option, Some, None, refl, sym, ap, subst, ◌∙◌, Rose, HeldSeg, What, Command, Reference, Reply, words_in, entry_at, uid_at, first_off_chain, hand_past, Transfer, place_of, sdws_at, table_of, MayFault, MayRelease, MayMove, word_reply, IsFront, MayActivate, MayDeactivate, MayLeave, MayRehome, Mover, Aim, Outcome, after, by_outcome, page_at, committed, cut_entry, KeepsBook, is_pending, seen, emptied, eviction_begun, eviction_done, left_of, page_done, segment_taken, segs_gone, took, victim_taken, with_hand_moved, write_failed, IsAtWork, Keeps, StoreSays, copy_failed, move_begun, move_committed, page_copied, cpu_at, cut_of_owner, descriptor_of, flat_of, frames_from, frames_of_owner, next_command, process_at, processor_at, trailers_in, reply_of, shown, Owner, State, Storage, activated_at, connected_to, fault_told, frame_lost, held_page, held_seg, looking, old_word, page_created, page_made, pages_after, started, told, transfer_failed, transferred, went_through, with_faults, with_owner, with_pages, with_store, position, is_for, word_of, has, NoneDue, gone_segs, gones, stays, FitsPhase, IsShaped, is_out, says, is_due, no_processor, CutDescriptor, has_head, some_unwrapped, committed_at, deactivation_begun, eqb_self, What as what, Command as command, Reply as reply, Left as left, Aim as aim, Phase as phase, Action, Action as act, by_end, GoesOn, IsDone, IsSteady, CanConnect, CanFinish, IsNoOwner, clear_kept, fill_page_kept, fill_seg_kept, leave_kept, load_kept, online_kept, IsIdle, owned_laws_nobody as nobody, CanFillPage, CanFillSeg, tell_kept_CanTell as CanTell, owner_kept, tell_kept, none_some, failed_kept, kept_with, started_kept, transferred_kept, within_some, none_due, choice_bound, free_frame, position_none, unread_page, mover_tied_IsLook as IsLook, looking_idle, moves_idle, word_within, IsOver, activate_kept, connect_kept, created_kept, emptied_kept, looks_idle, through_kept, segs_are_gone, all_back, all_failed_kept, eviction_failed_kept, commit_kept, effected, end_kept, ready_left, eviction_kept, page_kept, CanTook, Owns, took_kept}
+use Rattle.machine_model.proofs.Kept.{[], ◌≡◌, ◌<◌, ◌≤◌, ℕ, ◌-◌, Bool, true, false, map, List, ◌∷◌, ◌++◌, length, ◌⊎◌, inl, inr, Option, Some, None, refl, sym, ap, subst, ◌∙◌, Rose, HeldSeg, What, Command, Reference, Reply, words_in, entry_at, uid_at, first_off_chain, hand_past, Transfer, place_of, sdws_at, table_of, MayFault, MayRelease, MayMove, word_reply, IsFront, MayActivate, MayDeactivate, MayLeave, MayRehome, Mover, Aim, Outcome, after, by_outcome, page_at, committed, cut_entry, KeepsBook, is_pending, seen, emptied, eviction_begun, eviction_done, left_of, page_done, segment_taken, segs_gone, took, victim_taken, with_hand_moved, write_failed, IsAtWork, Keeps, StoreSays, copy_failed, move_begun, move_committed, page_copied, cpu_at, cut_of_owner, descriptor_of, flat_of, frames_from, frames_of_owner, next_command, process_at, processor_at, trailers_in, reply_of, shown, Owner, State, Storage, activated_at, connected_to, fault_told, frame_lost, held_page, held_seg, looking, old_word, page_created, page_made, pages_after, started, told, transfer_failed, transferred, went_through, with_faults, with_owner, with_pages, with_store, position, is_for, word_of, has, NoneDue, gone_segs, gones, stays, FitsPhase, IsShaped, is_out, says, is_due, no_processor, CutDescriptor, has_head, some_unwrapped, committed_at, deactivation_begun, eqb_self, What as what, Command as command, Reply as reply, Left as left, Aim as aim, Phase as phase, Action, Action as act, by_end, GoesOn, IsDone, IsSteady, CanConnect, CanFinish, IsNoOwner, clear_kept, fill_page_kept, fill_seg_kept, tell_kept_leave_kept as leave_kept, tell_kept_load_kept as load_kept, online_kept, tell_kept_CanTell as CanTell, owner_kept, tell_kept, IsIdle, owned_laws_nobody as nobody, CanFillPage, CanFillSeg, none_some, failed_kept, kept_with, started_kept, transferred_kept, within_some, none_due, choice_bound, free_frame, position_none, unread_page, mover_tied_IsLook as IsLook, looking_idle, moves_idle, word_within, IsOver, activate_kept, connect_kept, created_kept, emptied_kept, looks_idle, through_kept, segs_are_gone, all_back, all_failed_kept, eviction_failed_kept, evict_kept, signal_kept, eviction_kept, page_kept, commit_kept, effected, end_kept, ready_left, CanTook, Owns, took_kept}
 use Rattle.machine_model.proofs.DeleteKept.{taken_word, delete_inactive_kept, delete_kept, GoesWhole, TookNothing}
-use Rattle.machine_model.proofs.JobKept.{evict_kept, signal_kept}
 use Rattle.machine_model.proofs.MovingKept.{begun_kept, copied_kept, copy_failed_kept, copy_failing, moved_kept}
 use Rattle.machine_model.proofs.TruncateKept.{truncate_kept, leaves, LeavesCut}
 use Rattle.machine_model.proofs.TakeLists.{segment_takes}

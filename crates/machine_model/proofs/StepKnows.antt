@@ -1,12 +1,12 @@
 -- What the rules know where they choose an action: who owns the supervisor, and whose command it is.
-use Rattle.machine_model.proofs.StepBasics.{eqb_self, not_both, eqb-true, ◌≡◌, ◌≢◌, ◌<◌, ℕ, true, false, not, ◌&&◌, eqb, List, [], ◌∷◌, length, position, Option, Some, None, inl, inr, refl, sym, ap, subst, ◌∙◌, ◌⊎◌, ◌/◌, cond_both, reference_of, Command, Reference, What, Mover, table_of, next_out, IsMovedFor, IsTakenBy, IsTakenFor, TakenIn, Transfer, Aim, Phase, Processor, action_of, by_move, clear_or, come_to, finish_of, go_on_with, has_had_its_turn, is_empty, load_or_idle, look_of, move_of, once_cleared, own_or_run, refer_or_take, run_process, take_or_wait, transfer_or, copy_or_commit, Outcome, IsMachine, flat_of, is_due, next_command, or_zero, process_at, processor_at, Owner, State, FailsIn, IsWorking, MayFailBy, TakesSome, Reply, is_end, reply_to_command, is_refusal, Move, What as what, Move as move, Aim as aim, Phase as phase, Command as command, Action, ForTransfer, Action as act, zero, suc, Bool, cond, arith, cases_eq, Who, permits, access_of, Node, account_of, node_in, quota_in, volume_in, Counts, is_stored, is_out_of_room, is_used_up, is_volume_full, stores_page, word_reply, first_below, has_room_flat, room_for, Store, uid_of, kst_at, is_spent, Keeps, IsFirstWithRoom, LacksRecord, MovesFor, tables_of, mover_to, is_active, is_of_room, move_to, only, room_refusal, nonzero_alters, found_uid, Reply as reply, ◌+◌, count_by, eqb_tells, sum_by-cons, used_by, action_by, LookFinds, look_finds, FindsActive, FindsFull, FindsOut, FindsTaken, FindsVictim, IsIdle, Speaks, speaks, speaks_of, takes_tree, fails_more, IsNoOwner, due_is, inside_is, FindsMove, IsInside, null_word, stored_is, look_taken, IsLooking, look_idle, process_here, IsMoving, IsMine, page_fails, who_is}
+use Rattle.machine_model.proofs.StepBasics.{eqb_self, not_both, eqb-true, ◌≡◌, ◌≢◌, ◌<◌, ℕ, true, false, not, ◌&&◌, eqb, List, [], ◌∷◌, length, position, Option, Some, None, inl, inr, refl, sym, ap, subst, ◌∙◌, ◌⊎◌, ◌/◌, cond_both, reference_of, Command, Reference, What, Mover, table_of, next_out, IsMovedFor, IsTakenBy, IsTakenFor, TakenIn, Transfer, Aim, Phase, Processor, action_of, by_move, clear_or, come_to, finish_of, go_on_with, has_had_its_turn, is_empty, load_or_idle, look_of, move_of, once_cleared, own_or_run, refer_or_take, run_process, take_or_wait, transfer_or, copy_or_commit, Outcome, IsMachine, flat_of, is_due, next_command, or_zero, process_at, processor_at, Owner, State, FailsIn, IsWorking, MayFailBy, TakesSome, Reply, is_end, reply_to_command, is_refusal, Move, What as what, Move as move, Aim as aim, Phase as phase, Command as command, Action, ForTransfer, Action as act, zero, suc, Bool, cond, arith, cases_eq, Who, permits, access_of, Node, account_of, node_in, quota_in, volume_in, Counts, is_stored, is_out_of_room, is_used_up, is_volume_full, stores_page, word_reply, first_below, has_room_flat, room_for, Store, uid_of, kst_at, is_spent, Keeps, IsFirstWithRoom, LacksRecord, MovesFor, tables_of, mover_to, is_active, is_of_room, move_to, only, room_refusal, nonzero_alters, found_uid, Reply as reply, ◌+◌, count_by, eqb_tells, sum_by-cons, used_by, action_by, LookFinds, look_finds, FindsActive, FindsFull, FindsOut, FindsTaken, FindsVictim, FindsMove, IsInside, IsIdle, Speaks, speaks, speaks_of, takes_tree, fails_more, IsNoOwner, due_is, inside_is, null_word, stored_is, look_taken, IsLooking, look_idle, process_here, IsMoving, IsMine, page_fails, who_is}
 use Rattle.machine_model.proofs.LookAsks.{page_active}
 use Rattle.machine_model.proofs.ReadyLaws.{IsOutOfUse}
 use Rattle.machine_model.proofs.WorkStep.{IsEmptying, Looks, BeginsMove, moving_rests}
 use Rattle.machine_model.proofs.TakeAsks.{takes_none}
 use Rattle.machine_model.proofs.RulesKept.{some_again}
 use Rattle.machine_model.proofs.EmptyAsks.{unread_any}
-use Rattle.machine_model.proofs.LackingLaws.{full_is, room_same}
+use Rattle.machine_model.proofs.WantLaws.{full_is, room_same}
 
 -- ---- What a move rests on holds where a look finds that a segment moves.
 

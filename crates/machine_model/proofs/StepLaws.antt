@@ -1,6 +1,8 @@
 -- What each step brings while the loop waits for it: a step of the owner, of a processor that is to clear, of one that
 -- reads a page in, and of one that has a process while nobody owns the supervisor.
-use Rattle.machine_model.proofs.Basics.{◌≡◌, ◌≢◌, ◌<◌, ℕ, zero, suc, Bool, true, false, cond, List, [], ◌∷◌, length, Option, is_some, refl, sym, ap, ◌∙◌, le_refl, le_of_eq, arith, get_or-set_other, Transfer, Runner, no_runner, Stage, Waiting, Keeper, Outline, Turn, runner_at, with_runner, rank_of, lack, dues, job_rank, Clears, Works, rule_of, owns, IsIn, Step, ends, comes, clears, reads, loses, works, awaits_clear, awaits_transfer, loads, idles, leaves, fills, replies, faults, enters, waits, IsCleared, IsKept, IsUnderWay, AwaitsClear, OwnerStep, Rule, not_both, measures_parts_of as parts_of, false_from_ne_true, eqb_self, readers_set, dues_set, falls_due, ranked, job_falls, over_same, goes, all_set}
+use Rattle.machine_model.proofs.Prelude.{◌≡◌, ◌≢◌, ◌<◌, ℕ, zero, suc, Bool, true, false, cond, List, [], ◌∷◌, length, Option, is_some, refl, sym, ap, ◌∙◌, le_refl, le_of_eq, arith, get_or-set_other, Transfer, Runner, no_runner, Stage, Waiting, Keeper, Outline, Turn, runner_at, with_runner, rank_of, lack, dues, job_rank, Clears, Works, rule_of, owns, IsIn, Step, ends, comes, clears, reads, loses, works, awaits_clear, awaits_transfer, loads, idles, leaves, fills, replies, faults, enters, waits, IsCleared, IsKept, IsUnderWay, AwaitsClear, OwnerStep, Rule, not_both, measures_parts_of as parts_of, false_from_ne_true, eqb_self}
+use Rattle.machine_model.proofs.CountLaws.{readers_set, dues_set}
+use Rattle.machine_model.proofs.JobLaws.{falls_due, ranked, job_falls, over_same, goes, all_set}
 
 -- ---- processors
 
