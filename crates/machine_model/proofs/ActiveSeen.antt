@@ -1,5 +1,5 @@
 -- What custody sees of a machine where a segment becomes active, or is it no more.
-use Rattle.machine_model.proofs.Basics.{◌≡◌, ◌≢◌, ◌<◌, ℕ, zero, suc, ◌+◌, Bool, true, false, not, ◌||◌, cond, eqb, List, [], ◌∷◌, ◌++◌, length, set, get_or, replicate, Option, Some, None, inl, inr, refl, sym, ap, ◌∙◌, arith, list_any, position_or_len, cases_Bool, or_parts, eqb-true, eqb_tells, leb_tells, get_or_past, get_or-set_same, get_or-set_other, length-set, position_or_len-set, Ptw, ActiveSegs, IsOneToOne, entry_at, table_at, uid_at, uid_in, Sdw, is_for, leads, leads_at, place_of, word_of, filed_word, made_active, table_for, at_put, activated, no_more_active, names, led_to, seen, descriptor_of, is_active, State, passed_there, Ptw as ptw, Active as Entry, active_deactivated as deactivated, Sdw as sdw, Entry as entry, true_from_ne_false, by_place, none_some, found, any_set}
+use Rattle.machine_model.proofs.Basics.{◌≡◌, ◌≢◌, ◌<◌, ℕ, zero, suc, ◌+◌, Bool, true, false, not, ◌||◌, cond, eqb, List, [], ◌∷◌, ◌++◌, length, set, get_or, replicate, Option, Some, None, inl, inr, refl, sym, ap, ◌∙◌, arith, list_any, position_or_len, cases_Bool, or_parts, eqb-true, eqb_tells, leb_tells, get_or_past, get_or-set_same, get_or-set_other, length-set, position_or_len-set, Ptw, ActiveSegs, IsOneToOne, entry_at, table_at, uid_at, uid_in, Sdw, is_for, leads, leads_at, place_of, word_of, filed_word, made_active, table_for, at_put, activated, no_more_active, names, led_to, seen, descriptor_of, is_active, State, passed_there, Ptw as ptw, Active as Entry, active_deactivated as deactivated, Sdw as sdw, Entry as entry, true_from_ne_false, by_place, none_some, found, any_set, or_true}
 
 -- ---- where something is found
 
@@ -29,11 +29,7 @@ module _ {X : Type 0} (p : X → Bool) where
 
   -- what passes is found
   pub any_at : (xs : List X) (i : ℕ) (d : X) → p (get_or xs i d) ≡ true → p d ≡ false → list_any p xs ≡ true
-  any_at (x ∷ xs) (suc i) d h none = or_right (p x) (any_at xs i d h none)
-    where
-      or_right : (a : Bool) {b : Bool} → b ≡ true → (a || b) ≡ true
-      or_right true e = refl
-      or_right false e = e
+  any_at (x ∷ xs) (suc i) d h none = rw (any_at xs i d h none) (or_true (p x))
   any_at _ _ d h none = cc
 
 -- ---- active segments

@@ -3,8 +3,8 @@ use Rattle.machine_model.proofs.Laws.{◌≡◌, ◌≤◌, ℕ, zero, suc, coun
 use Rattle.machine_model.proofs.MoveSeen.{back_seg_seen}
 use Rattle.machine_model.proofs.TransferKept.{kept_with, quiet_faults}
 
--- ---- The machine keeps its promise where a page leaves its frame, where a write failed, and where a segment is inactive at
--- last.
+-- ---- The machine keeps its promise where a page leaves its frame, where a write failed, and where a segment is
+-- inactive at last.
 
 append_two : (es : List Entry) (a b : Entry) → es ++ a ∷ b ∷ [] ≡ (es ++ a ∷ []) ++ b ∷ []
 append_two [] a b = refl
@@ -103,8 +103,8 @@ page_kept s f faults fs ds o k mine rose on zeros says =
     gone_kept s f (page_at (seen s) f).0 (page_at (seen s) f).1 faults (without_first_frame s.owner) k
     (first_finish f fs k.book on) rose zeros says (λ q h. (rw (cpu_of_rest o q (cc)) at (k.at_work o mine)))
 
--- ---- The machine keeps its promise through the phases of a job: a page is evicted, a segment's pages and descriptors are
--- taken, the signal is given, and what was taken goes, or comes back where a drive failed.
+-- ---- The machine keeps its promise through the phases of a job: a page is evicted, a segment's pages and descriptors
+-- are taken, the signal is given, and what was taken goes, or comes back where a drive failed.
 
 -- ---- the clock
 

@@ -1,5 +1,5 @@
 -- How counts over the lists of an outline change as one element changes.
-use Rattle.machine_model.proofs.Prelude.{◌≡◌, ◌≤◌, ◌<◌, ℕ, ◌+◌, zero, suc, Bool, true, false, not, cond, ◌||◌, eqb, List, [], ◌∷◌, length, Option, Some, None, is_some, set, get_or, count_by, Contains, refl, sym, ap, ◌∙◌, arith, list_any, nat_tests, get_or-set_same, length-set, Contains-get_or, list_any_at, sum_by-set, sum_by-cons, count_by-le-length, Frame, is_free, entry_at, off_chain, IsOffChain, is_for, Runner, runner_at, no_runner, idle_links, off_links, readers, dues, has_free, eqb_self, Frame as frame, Active as Entry, measures_is_active as is_active, false_from_ne_true, ◌≢◌, ◌&&◌, ◌⊎◌, inl, inr, le_refl, eqb_tells, none-some, Transfer, Want, Refer, Truncate, Length, Other, Outline, with_frame, is_of, is_here, reads_page, page_fits, wanted_fits, wanted_link, want_lack, lack, with_stored, is_wanted, is_spared, and_from, or_left, and_parts, jobs_page_or_zero as page_or_zero, outline_frame_in as frame_in, FinishingMayRelease as MayRelease, finishing_page_of as page_of, eq-eqb}
+use Rattle.machine_model.proofs.Prelude.{◌≡◌, ◌≤◌, ◌<◌, ℕ, ◌+◌, zero, suc, Bool, true, false, not, cond, ◌||◌, eqb, List, [], ◌∷◌, length, Option, Some, None, is_some, set, get_or, count_by, Contains, refl, sym, ap, ◌∙◌, arith, list_any, nat_tests, get_or-set_same, length-set, Contains-get_or, list_any_at, sum_by-set, sum_by-cons, count_by-le-length, Frame, is_free, entry_at, off_chain, IsOffChain, is_for, Runner, runner_at, no_runner, idle_links, off_links, readers, dues, has_free, eqb_self, Frame as frame, Active as Entry, measures_is_active as is_active, false_from_ne_true, ◌≢◌, ◌&&◌, ◌⊎◌, inl, inr, le_refl, eqb_tells, none-some, Transfer, Want, Refer, Truncate, Length, Other, Outline, with_frame, is_of, is_here, reads_page, page_fits, wanted_fits, wanted_link, want_lack, lack, with_stored, is_wanted, is_spared, and_from, or_left, and_parts, jobs_page_or_zero as page_or_zero, outline_frame_in as frame_in, FinishingMayRelease as MayRelease, finishing_page_of as page_of, eq-eqb, or_true}
 
 -- ---- any list
 
@@ -207,10 +207,6 @@ fits_more s t r q uid page makes here reads stored h =
       | inl e ↦ or_left _ _ e
       | inr e ↦ rw e (or_true (is_here t.frames uid page))
     ]
-      where
-        or_true : (x : Bool) → (x || true) ≡ true
-        or_true true = refl
-        or_true false = refl
     by false false true i j k g = let no = g in absurd cc
     by false false false i j k g = rw (stored k) (last (is_here t.frames uid page) (reads_page q uid page) (not makes)
         g)
@@ -246,11 +242,7 @@ pub here_more : (frames : List Frame) (f uid page : ℕ) (x : Frame) → f < len
     → is_here (set frames f x) uid page ≡ true
 unfolding is_here
 here_more frames f uid page x lt was h = any_set (is_of uid page) frames f x frame.Free lt was
-    ∙ or_last (is_of uid page x) (list_any (is_of uid page) frames) h
-  where
-    or_last : (a b : Bool) → b ≡ true → (a || b) ≡ true
-    or_last true b e = refl
-    or_last false b e = e
+    ∙ rw h (or_true (is_of uid page x))
 
 pub here_now : (frames : List Frame) (f uid page : ℕ) (x : Frame) → f < length frames
     → is_of uid page (frame_in frames f) ≡ false → is_of uid page x ≡ true → is_here (set frames f x) uid page ≡ true

@@ -1,5 +1,5 @@
 -- Each step of the owner makes the measure of its job fall.
-use Rattle.machine_model.proofs.Prelude.{◌≡◌, ◌≤◌, ◌<◌, ℕ, ◌+◌, Bool, true, false, cond, List, [], ◌∷◌, length, Option, None, set, ◌&&◌, refl, le_refl, le_of_eq, arith, get_or-set_same, Frame, Want, Refer, Truncate, Length, Other, Runner, no_runner, Work, EvictFrame, EmptyPlace, CommitCommand, Stage, Look, Taken, Waiting, Copying, Outline, runner_at, want_at, at_stage, IsSmall, idle_links, off_links, readers, has_free, frame_lack, room_lack, work_left, stage_left, rank_of, job_rank, IsIn, JobStep, activates, connects, takes_segment, takes_frame, takes_for_commit, signals, frees_frame, frees_page, empties, empties_at_once, begins_move, copies, commits_move, HasMoved, gives_up, starts, answers, AreAlike, with_link, with_runners, IsKept, FitsStage, FitsWork, Frame as frame, Active as Entry, wanted_chain as chain_of, measures_unlinked as unlinked, measures_parts_of as parts_of, Parts, not, ◌||◌, eqb, Some, sym, ap, subst, ◌∙◌, inl, inr, eqb_tells, Transfer, with_entry, with_frame, is_here, page_fits, reads_page, wanted_fits, wanted_link, want_lack, all_rank, lack, offline, over, CanStart, IsWantedPage, IsAnswered, with_stored, without_owner, now_reading, entry_for, lack_at, is_at, IsReference, IsSameCommand, IsPast, IsMended, Goes, measures_is_over as is_over, eq-eqb, count_by-le-length, HasSizes}
+use Rattle.machine_model.proofs.Prelude.{◌≡◌, ◌≤◌, ◌<◌, ℕ, ◌+◌, Bool, true, false, cond, List, [], ◌∷◌, length, Option, None, set, ◌&&◌, refl, le_refl, le_of_eq, arith, get_or-set_same, Frame, Want, Refer, Truncate, Length, Other, Runner, no_runner, Work, EvictFrame, EmptyPlace, CommitCommand, Stage, Look, Taken, Waiting, Copying, Outline, runner_at, want_at, at_stage, IsSmall, idle_links, off_links, readers, has_free, frame_lack, room_lack, work_left, stage_left, rank_of, job_rank, IsIn, JobStep, activates, connects, takes_segment, takes_frame, takes_for_commit, signals, frees_frame, frees_page, empties, empties_at_once, begins_move, copies, commits_move, HasMoved, gives_up, starts, answers, AreAlike, with_link, with_runners, IsKept, FitsStage, FitsWork, Frame as frame, Active as Entry, wanted_chain as chain_of, measures_unlinked as unlinked, measures_parts_of as parts_of, Parts, not, ◌||◌, eqb, Some, sym, ap, subst, ◌∙◌, inl, inr, eqb_tells, Transfer, with_entry, with_frame, is_here, page_fits, reads_page, wanted_fits, wanted_link, want_lack, all_rank, lack, offline, over, CanStart, IsWantedPage, IsAnswered, with_stored, without_owner, now_reading, entry_for, lack_at, is_at, IsReference, IsSameCommand, IsPast, IsMended, Goes, measures_is_over as is_over, eq-eqb, count_by-le-length, HasSizes, or_true}
 use Rattle.machine_model.proofs.CountLaws.{activation_falls, emptying_off, emptying_idle, freed_is_free, readers_like, readers_set, dues_few, idle_few, off_few, lack_le, freed_fits, count_set, count_like}
 
 -- ---- The measure of a job falls where one of its parts falls and none before it rises.
@@ -194,7 +194,8 @@ job_falls {s} {c} k l (connects chain uid page makes owner want off) =
     connect_falls c chain uid page makes k l owner want off
 job_falls {s} k l (takes_segment place frames runners can of few alike) =
     stage_falls s Look (Taken (EmptyPlace place frames)) can.look alike l (le_refl _) (omega arith)
-job_falls {s} {c} k l (takes_frame f can) = stage_falls s Look (Taken (EvictFrame f)) can.look (alike_self s.runners c) l
+job_falls {s} {c} k l (takes_frame f can) = stage_falls s Look (Taken (EvictFrame f)) can.look (alike_self s.runners c)
+    l
     (full_lacks s.frames can.full) (omega arith)
 job_falls {s} k l (takes_for_commit runners owner alike) =
     stage_falls s Look (Taken CommitCommand) owner alike l (le_refl _) (omega arith)
@@ -234,14 +235,15 @@ job_falls {s} {c} k l (begins_move left owner few) =
     stage_falls s Look (Copying left) owner (alike_self s.runners c) l (le_refl _) (omega arith)
 job_falls {s} {c} k l (copies left fewer owner less) =
     stage_falls s (Copying left) (Copying fewer) owner (alike_self s.runners c) l (le_refl _) (omega arith)
-job_falls {s} {c} k l (commits_move left stored full owner has) = between s _ c (Copying left) Look owner refl (falls_room
+job_falls {s} {c} k l (commits_move left stored full owner has) = between s _ c (Copying left) Look owner refl
+    (falls_room
     _ (small_of c Look l refl) (le_refl _) (le_refl _) (le_refl _) (le_refl _) (room_falls has))
 job_falls {s} {c} k l (gives_up chain uid page makes owner want fits) = over_falls s _ c Look owner refl
 job_falls {s} {c} k l (starts f uid page can) = over_falls s _ c Look can.look refl
 job_falls {s} {c} {t} k l (answers stage _ owner due given) = over_falls s t c stage owner given.owner
 
--- ---- What each step of the owner brings: the job goes on with the same command, the command is past, or what it lacked is
--- there.
+-- ---- What each step of the owner brings: the job goes on with the same command, the command is past, or what it
+-- lacked is there.
 
 -- ---- The measure of all commands, as one processor or all of them change.
 
@@ -424,11 +426,7 @@ connects_goes s c within owner = inl (record {
 started_page : (s : Outline) (f uid page u q : ℕ) (makes : Bool) → u ≡ uid → q ≡ page
     → page_fits s (Some (record { frame = f; uid = uid; page = page })) u q makes ≡ true
 started_page s f uid page u q makes a b =
-    rw (eq-eqb uid u (sym a), eq-eqb page q (sym b)) (last (is_here s.frames u q))
-  where
-    last : (x : Bool) → (x || true) ≡ true
-    last true = refl
-    last false = refl
+    rw (eq-eqb uid u (sym a), eq-eqb page q (sym b)) (or_true (is_here s.frames u q))
 
 started_fits : (s : Outline) (w : Want) (linked : Bool) (f uid page : ℕ) → IsWantedPage w linked uid page
     → (wanted_link w linked && wanted_fits s w (Some (record { frame = f; uid = uid; page = page }))) ≡ true

@@ -1,5 +1,5 @@
 -- A look takes for a tree command just what the command takes.
-use Rattle.machine_model.proofs.Kept.{◌≡◌, ◌≢◌, ◌<◌, ◌≤◌, ℕ, zero, suc, ◌+◌, ◌-◌, ◌/◌, Bool, true, false, ◌||◌, cond, eqb, List, [], ◌∷◌, ◌++◌, map, length, drop, get_or, Option, Some, None, ◌⊎◌, inl, inr, refl, sym, ap, ◌∙◌, arith, nat_le, filter, list_any, range_with_len, eqb_tells, leb_tells, list_any-append, Command, AccountMaps, What, Ptw, Sdw, Core, frame_at, reads_of, started_page, is_for, sdws_at, table_of, read_at, has, is_going_descriptor, is_going_frame, leads_to, page_of, Aim, CutDescriptor, descriptors_taken, first_taken, frame_read_from, frames_taken, KeepsBook, has_cut, names, led_to, seen, cut_all, cut_one, note_of, take_all, take_one, took, Keeps, cut_of_owner, descriptor_of, frame_reading, frames_from, frames_of_owner, is_active, is_connected, is_page_of, trailers_in, refusal_of, uid_of_command, cut_uid, descriptor_use, frame_use, is_cut_at, shown, State, GoesJust, IsAlone, IsTakenFor, TakesDescriptor, TakesPage, WasBrought, Segment, not_both, or_cases, none_has, eqb_self, page_is, some_same, Command as command, What as what, Ptw as ptw, Sdw as sdw, Frame as frame, Aim as aim, chain_active, IsBrought, FindsTaken, names_uid, delete_stands, position_none, map_list, LooksLike, took_like, took_stands, IsIdle, cut_at_tells, linked_within, none_some, page_used, active_at, brought_on, same_uid, took_out, ArePairs, CanTook, has_pair, is_pair, linked_before, noted, noted_has, pairs_left, took_keeps}
+use Rattle.machine_model.proofs.Kept.{◌≡◌, ◌≢◌, ◌<◌, ◌≤◌, ℕ, zero, suc, ◌+◌, ◌-◌, ◌/◌, Bool, true, false, ◌||◌, cond, eqb, List, [], ◌∷◌, ◌++◌, map, length, drop, get_or, Option, Some, None, ◌⊎◌, inl, inr, refl, sym, ap, ◌∙◌, arith, nat_le, filter, list_any, range_with_len, eqb_tells, leb_tells, list_any-append, Command, AccountMaps, What, Ptw, Sdw, Core, frame_at, reads_of, started_page, is_for, sdws_at, table_of, read_at, has, is_going_descriptor, is_going_frame, leads_to, page_of, Aim, CutDescriptor, descriptors_taken, first_taken, frame_read_from, frames_taken, KeepsBook, has_cut, names, led_to, seen, cut_all, cut_one, note_of, take_all, take_one, took, Keeps, cut_of_owner, descriptor_of, frame_reading, frames_from, frames_of_owner, is_active, is_connected, is_page_of, trailers_in, refusal_of, uid_of_command, cut_uid, descriptor_use, frame_use, is_cut_at, shown, State, GoesJust, IsAlone, IsTakenFor, TakesDescriptor, TakesPage, WasBrought, Segment, not_both, or_cases, none_has, eqb_self, page_is, some_same, Command as command, What as what, Ptw as ptw, Sdw as sdw, Frame as frame, Aim as aim, chain_active, IsBrought, FindsTaken, names_uid, delete_stands, position_none, map_list, LooksLike, took_like, took_stands, IsIdle, cut_at_tells, linked_within, none_some, page_used, active_at, brought_on, same_uid, took_out, ArePairs, CanTook, has_pair, is_pair, linked_before, noted, noted_has, pairs_left, took_keeps, or_true}
 use Rattle.machine_model.proofs.TakeLists.{dropped_word, frame_word, trailers_taken}
 use Rattle.machine_model.proofs.TakeWhole.{cut_pages, frame_listed, note_at, take_rest, trailer_listed, take_linked, took_linked, cut_frames}
 use Rattle.machine_model.proofs.NumberLaws.{take_cut}
@@ -12,10 +12,6 @@ or_moved false false c = refl
 or_false : (a : Bool) → a ≡ (a || false)
 or_false true = refl
 or_false false = refl
-
-or_second : (a : Bool) {b : Bool} → b ≡ true → (a || b) ≡ true
-or_second true h = refl
-or_second false h = h
 
 pair_own : (k : ℕ) {n m : ℕ} → n ≡ m → is_pair k n (k, m) ≡ true
 pair_own k {n} {m} same = rw (eqb_self k) (cc (eqb_self m))
@@ -290,7 +286,7 @@ module _ {s : State} (k : ℕ) (keeps : Keeps s) where
           (range_with_len (from + 1) count)) (filter (λ i. is_connected (descriptor_of s.store.links k i))
           (range_with_len (from + 1) count)))) k n ≡ true
       by true e (inl same) later = cc (pair_own k (sym same.1))
-      by true e (inr other) later = or_second (is_pair k n (k, from)) (later (omega arith) (omega arith))
+      by true e (inr other) later = rw (later (omega arith) (omega arith)) (or_true (is_pair k n (k, from)))
       by false e (inl same) later = cc (is_linked k n v h)
       by false e (inr other) later = later (omega arith) (omega arith)
 

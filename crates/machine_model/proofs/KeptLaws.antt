@@ -482,7 +482,8 @@ job_keeps {s} {c} k sizes given (takes_frame f can) = kept sizes k.tied
       ),
       tt,
     ))
-job_keeps {s} {c} k sizes given (takes_for_commit runners owner alike) = kept sizes (tied_same (ties_alike alike) k.tied)
+job_keeps {s} {c} k sizes given (takes_for_commit runners owner alike) = kept sizes
+    (tied_same (ties_alike alike) k.tied)
     (job_of c (Taken CommitCommand) refl (work_alike alike (k.job.at_work c Look owner)) tt)
 job_keeps {s} {c} k sizes given (signals w runners owner alike) = kept sizes (tied_same (ties_alike alike) k.tied)
     (job_of c (Waiting w) refl (work_alike alike (k.job.at_work c (Taken w) owner))

@@ -1,6 +1,6 @@
 -- How much a job takes at the most of a segment: each of its pages, 256 at the most, and a descriptor of each process,
 -- 32 at the most.
-use Rattle.machine_model.proofs.Kept.{◌≡◌, ◌<◌, ◌≤◌, ℕ, Bool, true, false, ◌||◌, cond, eqb, is_some, length, map, List, [], ◌∷◌, Option, Some, None, inl, inr, refl, sym, ap, ◌∙◌, arith, ◌+◌, ◌/◌, suc, drop, filter, position_or_len, range_with_len, get_or_past, length-range_with_len, Command, trailers_of, descriptors_taken, first_taken, frames_taken, AllByRecursion, IsDistinct, list_any, nat_le, eqb_tells, length-map, length-le_from_distinct_below, Node, node_in, pool_for, pool_of, uid_of, Ptw, Sdw, uid_at, Links, is_for, kst_at, leads, place_of, table_of, IsKnownAt, words_few, is_uid, seen, Keeps, connected_of, descriptor_of, frames_from, frames_in, is_active, is_connected, trailers_in, State, few_kept, Command as command, What as what, Ptw as ptw, Sdw as sdw, eqb_self, active_place, none_length, within_by, none_some, ArePairs, has_pair, is_pair}
+use Rattle.machine_model.proofs.Kept.{◌≡◌, ◌<◌, ◌≤◌, ℕ, Bool, true, false, ◌||◌, cond, eqb, is_some, length, map, List, [], ◌∷◌, Option, Some, None, inl, inr, refl, sym, ap, ◌∙◌, arith, ◌+◌, ◌/◌, suc, drop, filter, position_or_len, range_with_len, get_or_past, length-range_with_len, Command, trailers_of, descriptors_taken, first_taken, frames_taken, AllByRecursion, IsDistinct, list_any, nat_le, eqb_tells, length-map, length-le_from_distinct_below, Node, node_in, pool_for, pool_of, uid_of, Ptw, Sdw, uid_at, Links, is_for, kst_at, leads, place_of, table_of, IsKnownAt, words_few, is_uid, seen, Keeps, connected_of, descriptor_of, frames_from, frames_in, is_active, is_connected, trailers_in, State, few_kept, Command as command, What as what, Ptw as ptw, Sdw as sdw, eqb_self, active_place, none_length, within_by, none_some, ArePairs, has_pair, is_pair, first_false, second_false}
 use Rattle.machine_model.proofs.TakeLists.{trailers_taken}
 
 -- ---- pages
@@ -76,24 +76,16 @@ module _ (s : State) (u : ℕ) (k : Keeps s) (active : is_active s.store.ast u �
   apart x [] leads_there other are = tt
   apart x (y ∷ ys) leads_there other are = (
     elim (eqb_tells x.0 y.0) [ inl e ↦ absurd (one e.1) | inr n ↦ n.0 ],
-    apart x ys leads_there (later (is_pair x.0 x.1 y) (has_pair ys x.0 x.1) other) are.2,
+    apart x ys leads_there (second_false (is_pair x.0 x.1 y) (has_pair ys x.0 x.1) other) are.2,
   )
     where
-      later : (a b : Bool) → (a || b) ≡ false → b ≡ false
-      later true b h = cc
-      later false b h = h
-
-      first : (a b : Bool) → (a || b) ≡ false → a ≡ false
-      first true b h = cc
-      first false b h = refl
-
       its : (seen s).linked y.0 y.1 ≡ Some u
       its = cc (uid_same are.0.0 are.0.2)
 
       one : x.0 ≡ y.0 → ⊥
       one e = elim (eqb_tells y.0 x.0) [
         | inl a ↦ elim (eqb_tells y.1 x.1) [
-          | inl b ↦ (let none : true ≡ false = sym (rw (a.0, b.0) refl) ∙ first (is_pair x.0 x.1 y)
+          | inl b ↦ (let none : true ≡ false = sym (rw (a.0, b.0) refl) ∙ first_false (is_pair x.0 x.1 y)
               (has_pair ys x.0 x.1) other in cc)
           | inr b ↦ b.1 (k.store.kept.linked.each x.0 y.1 x.1 u (cc (known_as y.0 y.1 its))
               (known_as x.0 x.1 leads_there))

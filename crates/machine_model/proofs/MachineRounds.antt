@@ -1,5 +1,5 @@
 -- How the turns of the loop that makes the machine end join, said of machines.
-use Rattle.machine_model.proofs.StepBasics.{◌≡◌, ◌≢◌, ◌≤◌, ◌<◌, ℕ, zero, suc, ◌+◌, Bool, true, false, not, cond, ◌&&◌, ◌||◌, eqb, length, List, [], ◌∷◌, Option, Some, None, is_some, ◌⊎◌, inl, inr, refl, sym, ap, subst, ◌∙◌, arith, list_any, ForClear, ForOwner, ForTransfer, WhileIdle, action_of, has_process, is_empty, is_over, IsEnded, IsIn, Step, AwaitsClear, AwaitsTransfer, CommandDone, CommandStep, Goes, HasTaken, IsReader, JobDone, IsUnderWay, JobFell, OwnerStep, RoundDone, is_at, all_rank, Ended, Keeper, Moved, Stage, Look, Turn, WaitsFor, runner_at, around, outline_of, stage_of, IsKept, KeepsAll, cpu_at, processor_at, HasStepped, IsGoing, IsOwnedBy, Owner, State, turn_of, Processor, and_parts, ◌-◌, nat_lt, set, get_or-set_same, Transfer, Want, Refer, Runner, no_runner, Outline, want_at, with_runner, with_frame, wanted_fits, want_lack, lack, command_rank, command_left, Comes, Clears, Works, Loads, Leaves, Commands, rule_of, ends, comes, clears, reads, loses, works, awaits_clear, awaits_transfer, loads, idles, leaves, fills, replies, faults, enters, waits, HasLost, HasLoaded, HasLeft, IsFilled, IsReplied, with_bound, not_reading, IsReference, IsPast, IsNearer, not_both, Frame as frame, outline_frame_in as frame_in, measures_is_over as prelude_is_over, get_or-set_other, is_of, over, dues, readers, job_rank, Reads, Rule, measures_parts_of as parts_of, lack_few, lack_le, wanted_more, here_more, here_now, here_same, readers_set, in_job, step_outlined, at_outline, long_outline, seen_since, owner_none, kept_seen, no_owner, running_is, clear_step, inside, owner_step, step_laws_none_due as none_due, other_than, rule_laws_tells as tells}
+use Rattle.machine_model.proofs.StepBasics.{◌≡◌, ◌≢◌, ◌≤◌, ◌<◌, ℕ, zero, suc, ◌+◌, Bool, true, false, not, cond, ◌&&◌, ◌||◌, eqb, length, List, [], ◌∷◌, Option, Some, None, is_some, ◌⊎◌, inl, inr, refl, sym, ap, subst, ◌∙◌, arith, list_any, ForClear, ForOwner, ForTransfer, WhileIdle, action_of, has_process, is_empty, is_over, IsEnded, IsIn, Step, AwaitsClear, AwaitsTransfer, CommandDone, CommandStep, Goes, HasTaken, IsReader, JobDone, IsUnderWay, JobFell, OwnerStep, RoundDone, is_at, all_rank, Ended, Keeper, Moved, Stage, Look, Turn, WaitsFor, runner_at, around, outline_of, stage_of, IsKept, KeepsAll, cpu_at, processor_at, HasStepped, IsGoing, IsOwnedBy, Owner, State, turn_of, Processor, and_parts, ◌-◌, nat_lt, set, get_or-set_same, Transfer, Want, Refer, Runner, no_runner, Outline, want_at, with_runner, with_frame, wanted_fits, want_lack, lack, command_rank, command_left, Comes, Clears, Works, Loads, Leaves, Commands, rule_of, ends, comes, clears, reads, loses, works, awaits_clear, awaits_transfer, loads, idles, leaves, fills, replies, faults, enters, waits, HasLost, HasLoaded, HasLeft, IsFilled, IsReplied, with_bound, not_reading, IsReference, IsPast, IsNearer, not_both, Frame as frame, outline_frame_in as frame_in, measures_is_over as turn_is_over, get_or-set_other, is_of, over, dues, readers, job_rank, Reads, Rule, measures_parts_of as parts_of, lack_few, lack_le, wanted_more, here_more, here_now, here_same, readers_set, in_job, step_outlined, at_outline, long_outline, seen_since, owner_none, kept_seen, no_owner, running_is, clear_step, inside, owner_step, step_laws_none_due as none_due, other_than, rule_laws_tells as tells}
 use Rattle.machine_model.proofs.ForeseeAll.{foresees}
 use Rattle.machine_model.proofs.LoopLaws.{goes_on, goes_self, job_goes, job_over, reader_there, taken_done, waited_fell}
 use Rattle.machine_model.proofs.JobLaws.{over_set, offline_set, over_same, all_fewer, all_turn, all_loaded, all_online, all_set, gone_from, same_command, falls_reading, ranked, small_of}
@@ -185,13 +185,14 @@ fill_nearer s c {x} within none filled =
 
 -- a processor that left its process isn't over its turn any more
 left_past : (s : Outline) (c : ℕ) (x : Runner) → IsKept (record (with_runner s c x) { ready = s.ready + 1 })
-    → c < length s.runners → s.owner ≡ None → prelude_is_over (runner_at s.runners c) ≡ true → HasLeft x
+    → c < length s.runners → s.owner ≡ None → turn_is_over (runner_at s.runners c) ≡ true → HasLeft x
     → IsPast s (record (with_runner s c x) { ready = s.ready + 1 }) c
 left_past s c x l within none turn left =
     let same : runner_at (set s.runners c x) c ≡ x = get_or-set_same s.runners c x no_runner within in
     let count = over_set s.runners c x within in
-    let was : cond {A = ℕ} (prelude_is_over (runner_at s.runners c)) 1 0 ≡ 1 = ap (λ (b : Bool). cond {A = ℕ} b 1 0) turn in
-    let now : cond {A = ℕ} (prelude_is_over x) 1 0 ≡ 0 = rw (left.running) refl in
+    let was : cond {A = ℕ} (turn_is_over (runner_at s.runners c)) 1 0 ≡ 1 = ap (λ (b : Bool). cond {A = ℕ} b 1 0)
+    turn in
+    let now : cond {A = ℕ} (turn_is_over x) 1 0 ≡ 0 = rw (left.running) refl in
     record {
       owner = none;
       gone = gone_from (runner_at (set s.runners c x) c) (runner_at s.runners c).since (λ h. cc);
@@ -225,8 +226,8 @@ is_no_reference (Refer chain uid page makes) h is = h chain uid page makes refl
 is_no_reference _ h is = is
 
 -- a processor leaves a process that has had its turn
-turn_over : (s : Outline) (c : ℕ) → rule_of s c ≡ Leaves → prelude_is_over (runner_at s.runners c) ≡ true
-turn_over s c h = (and_parts (prelude_is_over (runner_at s.runners c)) (nat_lt 0 s.ready) (tells s c Leaves h).4).0
+turn_over : (s : Outline) (c : ℕ) → rule_of s c ≡ Leaves → turn_is_over (runner_at s.runners c) ≡ true
+turn_over s c h = (and_parts (turn_is_over (runner_at s.runners c)) (nat_lt 0 s.ready) (tells s c Leaves h).4).0
 
 -- ---- a step
 
@@ -262,7 +263,7 @@ loaded_round : (s : Outline) (c : ℕ) {x : Runner} → IsKept (record (with_run
     → all_rank (record (with_runner s c x) { ready = s.ready - 1 }) < all_rank s
 loaded_round s c {x} l within some idle loaded =
     let count = over_set s.runners c x within in
-    let now : cond {A = ℕ} (prelude_is_over x) 1 0 ≡ 0 = rw (loaded.running, loaded.since, loaded.tried) refl in
+    let now : cond {A = ℕ} (turn_is_over x) 1 0 ≡ 0 = rw (loaded.running, loaded.since, loaded.tried) refl in
     all_loaded s l.sizes refl (omega arith) (omega arith)
 
 online_round : (s : Outline) (c : ℕ) → c < length s.runners → (runner_at s.runners c).online ≡ false

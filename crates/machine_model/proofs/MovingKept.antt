@@ -36,7 +36,8 @@ pub copy_failed_kept : {s : State} {c : ℕ} (faults : ℕ) → Keeps s → IsId
     → Rose s.faults faults → MayFault (flat_of s) (Some (process_at s c))
     → CanTell (copy_failing s c faults) c (process_at s c) None reply.Device → StoreSays (copy_failed s c faults)
     → Keeps (copy_failed s c faults)
-copy_failed_kept {s} {c} faults k idle still rose may can says = kept_with (copy_failed s c faults) (owner_keeps (told_keeps
+copy_failed_kept {s} {c} faults k idle still rose may can says = kept_with (copy_failed s c faults)
+    (owner_keeps (told_keeps
     (fault_keeps (seen s) (Some (process_at s c)) k.book may) can) idle nobody still) says few
     (length-set s.processors c _ ∙ k.sizes.processors) (length-set s.runs (process_at s c) _ ∙ k.sizes.processes)
     (λ o h. cc)

@@ -1,5 +1,5 @@
 -- A pool with more places than a chain has links has a segment off the chain, once each of its places is used.
-use Rattle.machine_model.proofs.Prelude.{◌≡◌, ◌<◌, ℕ, zero, suc, ◌+◌, Bool, true, false, not, ◌||◌, eqb, List, [], ◌∷◌, length, Option, Some, None, is_some, refl, sym, subst, ◌∙◌, ◌⊎◌, inl, inr, add-zero, arith, list_any, AllByRecursion, IsDistinct, nat_eq_equiv, eqb_tells, length-le_from_is_member, ActiveSegs, IsOneToOne, entry_at, uid_at, uid_in, first_of, size_of, HasOneOffChain, off_chain, or_zero, Active as Entry}
+use Rattle.machine_model.proofs.Prelude.{◌≡◌, ◌<◌, ℕ, zero, suc, ◌+◌, Bool, true, false, not, ◌||◌, eqb, List, [], ◌∷◌, length, Option, Some, None, is_some, refl, sym, subst, ◌∙◌, ◌⊎◌, inl, inr, add-zero, arith, list_any, AllByRecursion, IsDistinct, nat_eq_equiv, eqb_tells, length-le_from_is_member, ActiveSegs, IsOneToOne, entry_at, uid_at, uid_in, first_of, size_of, HasOneOffChain, off_chain, or_zero, Active as Entry, or_true}
 
 -- ---- a search
 
@@ -82,11 +82,7 @@ any_turn (x ∷ xs) q h = by (eqb x q) refl (any_turn xs q) h
     by : (b : Bool) → eqb x q ≡ b → (list_any (λ u. eqb u q) xs ≡ true → list_any (eqb q) xs ≡ true)
         → (b || list_any (λ u. eqb u q) xs) ≡ true → (eqb q x || list_any (eqb q) xs) ≡ true
     by true e rest i = rw (eqb_turn x q e) refl
-    by false e rest i = or_last (eqb q x) (list_any (eqb q) xs) (rest i)
-      where
-        or_last : (a b : Bool) → b ≡ true → (a || b) ≡ true
-        or_last true b h = refl
-        or_last false b h = h
+    by false e rest i = rw (rest i) (or_true (eqb q x))
 
 in_chain : (chain : List ℕ) (o : Option Entry) → is_some o ≡ true → off_chain chain o ≡ false
     → list_any (eqb (or_zero (uid_in o))) chain ≡ true

@@ -1,6 +1,6 @@
 -- Each step of the owner of the supervisor is a step of the outline, where it finds what its actions ask; and so each
 -- step of the machine is.
-use Rattle.machine_model.proofs.Laws.{◌≡◌, ◌≢◌, ◌≤◌, ℕ, zero, suc, Bool, true, false, not, cond, eqb, List, [], ◌∷◌, length, position, count_by, Option, Some, None, is_some, get_or, refl, sym, ap, subst, ◌∙◌, inl, inr, arith, ◌-◌, position_or_len, cases_lt, Decides-ltb, eqb_tells, get_or_past, position-Some, fails_before_first, Command, What, first_off_chain, hand_past, place_of, table_of, next_out, Transfer, Mover, Aim, Phase, State, Owner, or_zero, no_processor, is_due, next_command, processor_at, cpu_at, process_at, frames_of_owner, frames_from, trailers_in, action_of, is_over, Outcome, after, turn_of, with_faults, with_store, deactivation_begun, segment_taken, took, write_failed, committed, committed_at, Moved, Runner, no_runner, Stage, Look, Copying, dues, Works, rule_of, IsIn, JobStep, Step, works, AreOf, CanEmpty, around, stage_of, outline_of, Foresees, IsLook, KeepsLink, MayAnswer, MayEmpty, What as what, Aim as aim, Phase as phase, Action, ForTransfer, clear_or, copy_or_commit, finish_of, go_on_with, look_of, once_cleared, own_or_run, run_process, transfer_or, Action as act, ◌||◌, list_any, Processor, ForClear, has_process, is_empty, Ended, WaitsFor, IsEnded, ends, awaits_clear, awaits_transfer, bare, work_of, and_parts, not_true, Frame as frame, outline_frame_in as frame_in, by_end, count_cons, at_outline, is_owner, seen_due, outline_reads_map_at as map_at, seen_online, seen_running, clear_outlined, online_outlined, answer_outlined, commit_outlined, create_outlined, failed_outlined, running_at, activate_outlined, connect_outlined, in_job, in_look, deactivate_at_once_outlined, deactivate_outlined, eviction_outlined, give_up_outlined, in_stage, page_outlined, start_outlined, copy_failed_outlined, copy_outlined, move_outlined, begin_outlined}
+use Rattle.machine_model.proofs.Laws.{◌≡◌, ◌≢◌, ◌≤◌, ℕ, zero, suc, Bool, true, false, not, cond, eqb, List, [], ◌∷◌, length, position, count_by, Option, Some, None, is_some, get_or, refl, sym, ap, subst, ◌∙◌, inl, inr, arith, ◌-◌, position_or_len, cases_lt, Decides-ltb, eqb_tells, get_or_past, position-Some, fails_before_first, Command, What, first_off_chain, hand_past, place_of, table_of, next_out, Transfer, Mover, Aim, Phase, State, Owner, or_zero, no_processor, is_due, next_command, processor_at, cpu_at, process_at, frames_of_owner, frames_from, trailers_in, action_of, is_over, Outcome, after, turn_of, with_faults, with_store, deactivation_begun, segment_taken, took, write_failed, committed, committed_at, Moved, Runner, no_runner, Stage, Look, Copying, dues, Works, rule_of, IsIn, JobStep, Step, works, AreOf, CanEmpty, around, stage_of, outline_of, Foresees, IsLook, KeepsLink, MayAnswer, MayEmpty, What as what, Aim as aim, Phase as phase, Action, ForTransfer, clear_or, copy_or_commit, finish_of, go_on_with, look_of, once_cleared, own_or_run, run_process, transfer_or, Action as act, ◌||◌, list_any, Processor, ForClear, has_process, is_empty, Ended, WaitsFor, IsEnded, ends, awaits_clear, awaits_transfer, bare, work_of, and_parts, not_true, Frame as frame, outline_frame_in as frame_in, by_end, count_cons, at_outline, is_owner, seen_due, outline_reads_map_at as map_at, seen_online, seen_running, clear_outlined, online_outlined, answer_outlined, commit_outlined, create_outlined, failed_outlined, running_at, activate_outlined, connect_outlined, in_job, in_look, deactivate_at_once_outlined, deactivate_outlined, eviction_outlined, give_up_outlined, in_stage, page_outlined, start_outlined, copy_failed_outlined, copy_outlined, move_outlined, begin_outlined, first_false, second_false}
 use Rattle.machine_model.proofs.OutlineTake.{evict_outlined, signal_outlined, take_away_outlined, take_segment_outlined, took_like, took_owner}
 use Rattle.machine_model.proofs.OutlineStep.{Goal, IsAtRest, clears_rule, comes_rule, reads_rule, run_goal, transfer_goal, works_seen}
 
@@ -35,16 +35,8 @@ awaits_transfer_outlined s {o} f uid page h owner looks started =
 
 none_has : (ps : List Processor) (d : ℕ) → list_any has_process ps ≡ false → is_some (cpu_at ps d).process ≡ false
 none_has [] d h = refl
-none_has (p ∷ ps) zero h = first (has_process p) (list_any has_process ps) h
-  where
-    first : (a b : Bool) → (a || b) ≡ false → a ≡ false
-    first true b e = e
-    first false b e = refl
-none_has (p ∷ ps) (suc d) h = none_has ps d (rest (has_process p) (list_any has_process ps) h)
-  where
-    rest : (a b : Bool) → (a || b) ≡ false → b ≡ false
-    rest true b e = let no = e in absurd cc
-    rest false b e = e
+none_has (p ∷ ps) zero h = first_false (has_process p) (list_any has_process ps) h
+none_has (p ∷ ps) (suc d) h = none_has ps d (second_false (has_process p) (list_any has_process ps) h)
 
 no_length : (xs : List ℕ) → is_empty xs ≡ true → length xs ≡ 0
 no_length [] h = refl
@@ -121,7 +113,8 @@ commit_is {s} {c} may = sym (ap (λ (j : ℕ). committed_at s c (next_command s 
 commit_goal : {s : State} {c : ℕ} (o : Outcome) (stage : Stage) → rule_of (outline_of s) c ≡ Works
     → IsIn (outline_of s) c stage → dues (outline_of s).runners ≡ 0 → MayAnswer s c → Goal s c o act.Commit
 unfolding after
-commit_goal {s} {c} o stage h owner due may = rw (commit_is may) at (works _ h (commit_outlined stage owner due may.can))
+commit_goal {s} {c} o stage h owner due may = rw (commit_is may) at
+    (works _ h (commit_outlined stage owner due may.can))
 
 -- ---- a look
 
@@ -314,7 +307,8 @@ over_goal s c out f false is = online_goal out f (cpu_at s.processors c).online 
 pub step_outlined : {s : State} {c : ℕ} (out : Outcome) → s.stopped ≡ false → Foresees s c
     → Step (outline_of s) c (turn_of (action_of s c)) (outline_of (after s c (action_of s c) out))
 unfolding action_of
-step_outlined {s} {c} out going f = subst (λ (b : Bool). Goal s c out (cond b act.IsStopped (cond (is_over s) act.HasEnded
+step_outlined {s} {c} out going f = subst
+    (λ (b : Bool). Goal s c out (cond b act.IsStopped (cond (is_over s) act.HasEnded
     (cond (not (cpu_at s.processors c).online) act.Online
     (clear_or s c (processor_at s.processors c) (cpu_at s.processors c).due))))) (sym going)
     (over_goal s c out f (is_over s) refl)

@@ -3,8 +3,8 @@ use Rattle.machine_model.proofs.Prelude.{◌≡◌, ◌≢◌, ℕ, Bool, true, 
 use Rattle.machine_model.proofs.Places.{by_place, by_places, put_here, put_two_here}
 use Rattle.machine_model.proofs.TieLaws.{none_some}
 
--- ---- What processors hold agrees with frames and descriptors, where an entry is filled in or dropped, and where a frame or
--- a descriptor that nobody holds is used otherwise.
+-- ---- What processors hold agrees with frames and descriptors, where an entry is filled in or dropped, and where a
+-- frame or a descriptor that nobody holds is used otherwise.
 
 -- ---- a fill
 

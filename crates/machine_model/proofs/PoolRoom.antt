@@ -1,5 +1,5 @@
 -- A pool with a free place has room: fewer segments of its nodes are active than it has places.
-use Rattle.machine_model.proofs.Basics.{◌≡◌, ◌<◌, ◌≤◌, ℕ, zero, suc, ◌+◌, ◌-◌, Bool, true, false, ◌&&◌, ◌||◌, cond, eqb, count_by, is_some, is_none, List, [], ◌∷◌, length, Option, Some, None, inl, inr, refl, sym, ap, subst, ◌∙◌, arith, list_any, range_with_len, eqb_tells, sum_by-cons, Node, pool_of, AreBelow, IsTree, Joins, IsMember, found_member, ActiveSegs, entry_at, uid_in, IsInPool, first_of, size_of, is_for, place_of, free_place, is_active, places_in, Active as Entry, false_from_ne_true, find_passes}
+use Rattle.machine_model.proofs.Basics.{◌≡◌, ◌<◌, ◌≤◌, ℕ, zero, suc, ◌+◌, ◌-◌, Bool, true, false, ◌&&◌, ◌||◌, cond, eqb, count_by, is_some, is_none, List, [], ◌∷◌, length, Option, Some, None, inl, inr, refl, sym, ap, subst, ◌∙◌, arith, list_any, range_with_len, eqb_tells, sum_by-cons, Node, pool_of, AreBelow, IsTree, Joins, IsMember, found_member, ActiveSegs, entry_at, uid_in, IsInPool, first_of, size_of, is_for, place_of, free_place, is_active, places_in, Active as Entry, false_from_ne_true, find_passes, or_true}
 use Rattle.machine_model.proofs.ActiveSeen.{active_place}
 
 -- ---- counts
@@ -96,10 +96,6 @@ module _ (ast : ActiveSegs) (pool : ℕ) where
   and_parts true b h = (refl, h)
   and_parts false b h = cc
 
-  or_right : (a : Bool) {b : Bool} → b ≡ true → (a || b) ≡ true
-  or_right true e = refl
-  or_right false e = e
-
   for_same : (u v : ℕ) (o : Option Entry) → is_for u o ≡ true → is_for v o ≡ true → u ≡ v
   for_same u v None a b = cc
   for_same u v (Some e) a b = elim (eqb_tells e.uid u) [
@@ -135,7 +131,7 @@ module _ (ast : ActiveSegs) (pool : ℕ) where
   few_nodes (n ∷ ns) t h = by (is_its n) refl (few_nodes ns t.1 (λ m member. h m (inr member)))
     where
       more : (q : ℕ) → has_its ns q ≡ true → has_its (n ∷ ns) q ≡ true
-      more q e = or_right (is_its n && is_for n.uid (entry_at ast.entries q)) e
+      more q e = rw e (or_true (is_its n && is_for n.uid (entry_at ast.entries q)))
 
       by : (b : Bool) → is_its n ≡ b → count_by is_its ns ≤ count_by (has_its ns) places
           → count_by is_its (n ∷ ns) ≤ count_by (has_its (n ∷ ns)) places

@@ -145,7 +145,8 @@ unfolding after
 through_says {s} {c} f {u} {r} {cmd} k says next is known page old = says_is k
     says refl (rw (effect_is s.plan (flat_of s) (process_at s c) cmd is
     ∙ sym (through_is s f (process_at s c) r (flat_of s) known page old)) at (done_alike s.plan s.entries
-    (process_at s c) (run_at s.runs (process_at s c)).place c (Some f) (word_reply (old_word s.store.pages f r) r.kind) next (word_done (old_word s.store.pages f r) r.kind))) (cc (nodes_through s f r (flat_of s)))
+    (process_at s c) (run_at s.runs (process_at s c)).place c (Some f) (word_reply (old_word s.store.pages f r) r.kind)
+    next (word_done (old_word s.store.pages f r) r.kind))) (cc (nodes_through s f r (flat_of s)))
     (same_rest k (is_same refl (pages_count s.store.pages f r) refl refl refl (λ v e. e) refl))
 
 -- a page that isn't stored is read, or 0 is written to it, where it is: the flat store is as it was
@@ -234,7 +235,8 @@ leaving_pages st f (Some page) = refl
 pub evicting_says : {s : State} {c : ℕ} {o : Outcome} (f : ℕ) → Keeps s → Says s c o (act.Evict f)
     → cut_of_owner s.owner ≡ [] → StoreSays (eviction_begun s c f)
 unfolding after
-evicting_says {s} {c} f k says none = says_is k says refl (still_alike s (entry.Take f) refl) k.conserved.total (none_rest
+evicting_says {s} {c} f k says none = says_is k says refl (still_alike s (entry.Take f) refl) k.conserved.total
+    (none_rest
     s (eviction_begun s c f) refl (ap (λ (pages : Plain). length pages.core.frames)
     (leaving_pages (with_choice s.store f) f _) ∙ choice_count s.store.pages.core f) none)
 

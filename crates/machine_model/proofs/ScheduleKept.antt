@@ -47,7 +47,8 @@ told_kept s c {k} f r h there its known more = rw (← (sym (append-nil s.ready)
     (sym (nobody_released s.plan k (next_command s k) more))))
     (runs_kept
     (one_run s.runs k (run_after (run_at s.runs k) (next_command s k) r) known (h.running c k its).going
-    (more_run (run_at s.runs k) (next_command s k) r (h.running c k its).going more)) (seats_kept (one_seat c _ there refl (λ e. e)) h))
+    (more_run (run_at s.runs k) (next_command s k) r (h.running c k its).going more))
+    (seats_kept (one_seat c _ there refl (λ e. e)) h))
 
 -- the machine is answered after steps that leave all as it is
 told_after : (s b : State) (c : ℕ) (f : Option ℕ) (r : Reply) → Sits s b → IsScheduled s → c < length s.processors

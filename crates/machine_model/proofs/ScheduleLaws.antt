@@ -1,5 +1,5 @@
 -- Which processes run and which are ready, where a process is loaded, leaves its processor, is answered or ends.
-use Rattle.machine_model.proofs.Basics.{◌≡◌, ◌≢◌, ◌<◌, ◌≤◌, ℕ, zero, suc, ◌+◌, ◌-◌, Bool, true, false, ◌||◌, ◌&&◌, cond, eqb, List, [], ◌∷◌, ◌++◌, length, set, Some, None, ◌⊎◌, inl, inr, refl, sym, ap, subst, ◌∙◌, arith, eqb_tells, get_or-set_other, get_or-set_same, Plan, has, range, AreDistinct, cpu_at, no_processor, no_run, processor_at, run_at, AreScheduled, HasTurn, MayRun, Processor, Run, append-nil, not_both, or_parts, eqb_self, some_same, false_from_ne_true, put_list, distinct_push, push_other, push_same, by_place, none_some}
+use Rattle.machine_model.proofs.Basics.{◌≡◌, ◌≢◌, ◌<◌, ◌≤◌, ℕ, zero, suc, ◌+◌, ◌-◌, Bool, true, false, ◌||◌, ◌&&◌, cond, eqb, List, [], ◌∷◌, ◌++◌, length, set, Some, None, ◌⊎◌, inl, inr, refl, sym, ap, subst, ◌∙◌, arith, eqb_tells, get_or-set_other, get_or-set_same, Plan, has, range, AreDistinct, cpu_at, no_processor, no_run, processor_at, run_at, AreScheduled, HasTurn, MayRun, Processor, Run, append-nil, not_both, or_parts, eqb_self, some_same, false_from_ne_true, put_list, distinct_push, push_other, push_same, by_place, none_some, or_true}
 
 -- ---- nobody's process changes
 
@@ -151,11 +151,7 @@ module _ (p : Plan) (runs : List Run) (ps : List Processor) (c : ℕ) (now : Pro
       ]
 
       later : (j : ℕ) → has ready j ≡ true → has (k ∷ ready) j ≡ true
-      later j e = or_right (eqb k j) e
-        where
-          or_right : (a : Bool) {b : Bool} → b ≡ true → (a || b) ≡ true
-          or_right true i = refl
-          or_right false i = i
+      later j e = rw e (or_true (eqb k j))
 
       mine : (d j : ℕ) → d ≡ c → (cpu_at (set ps c now) d).process ≡ Some j → k ≡ j
       mine d j same e = some_same k j (cc ((put_process ps c now there d).0 same))

@@ -91,7 +91,8 @@ pub record CanFillSeg (v : Seen) (c n : ℕ) (e : HeldSeg) : Type 0 where
 pub fill_seg_keeps : {v : Seen} {c n : ℕ} {e : HeldSeg} → KeepsBook v → CanFillSeg v c n e
     → KeepsBook (seg_filled v c e)
 unfolding IsLawful after_entry custody_next
-fill_seg_keeps {v} {c} {n} {e} k can = reseat_keeps c (with_held_seg (v.processors c) e) v.ready (entry.FillSeg c e.number) k
+fill_seg_keeps {v} {c} {n} {e} k can = reseat_keeps c (with_held_seg (v.processors c) e) v.ready
+    (entry.FillSeg c e.number) k
     tt refl refl refl k.runs (assumption (
       may (v.processors c).cpu.process can.process,
       same_seat v c v.ready (λ i. record (seat_of (v.processors c))
@@ -129,7 +130,8 @@ pub record CanFillPage (v : Seen) (c : ℕ) (e : HeldPage) : Type 0 where
 pub fill_page_keeps : {v : Seen} {c : ℕ} {e : HeldPage} → KeepsBook v → CanFillPage v c e
     → KeepsBook (page_filled v c e)
 unfolding IsLawful after_entry custody_next
-fill_page_keeps {v} {c} {e} k can = reseat_keeps c (with_held_page (v.processors c) e) v.ready (entry.FillPage c e.frame) k
+fill_page_keeps {v} {c} {e} k can = reseat_keeps c (with_held_page (v.processors c) e) v.ready
+    (entry.FillPage c e.frame) k
     tt refl refl refl k.runs (assumption (
       ap is_current_frame (use_bound k.tied e.frame e.uid e.page is can.word),
       same_seat v c v.ready (λ i. record (seat_of (v.processors c))

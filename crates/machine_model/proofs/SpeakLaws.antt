@@ -1,5 +1,5 @@
 -- A processor speaks for its process: what the flat store and custody ask of the answer to its next command.
-use Rattle.machine_model.proofs.Basics.{◌≡◌, ◌<◌, ℕ, Bool, true, false, not, ◌||◌, ◌&&◌, eqb, length, Option, Some, None, inl, inr, refl, sym, ap, ◌∙◌, eqb_tells, command_at, commands_of, reference_of, Command, Reference, Reply, reply_to_command, takes_effect, IsAnswer, is_turn, progress_of, refused_free, is_refusal, MayAnswerBy, is_word_or_done, IsRun, AllCome, seen, IsMachine, flat_of, next_command, processor_at, run_at, HasTurn, MayRun, shown, State, Reply as reply, ForeseenComes as Comes}
+use Rattle.machine_model.proofs.Basics.{◌≡◌, ◌<◌, ℕ, Bool, true, false, not, ◌||◌, ◌&&◌, eqb, length, Option, Some, None, inl, inr, refl, sym, ap, ◌∙◌, eqb_tells, command_at, commands_of, reference_of, Command, Reference, Reply, reply_to_command, takes_effect, IsAnswer, is_turn, progress_of, refused_free, is_refusal, MayAnswerBy, is_word_or_done, IsRun, AllCome, seen, IsMachine, flat_of, next_command, processor_at, run_at, HasTurn, MayRun, shown, State, Reply as reply, ForeseenComes as Comes, or_true}
 use Rattle.machine_model.proofs.TellKept.{CanTell}
 
 -- A processor has a process that goes on, and this is its next command.
@@ -56,17 +56,13 @@ speaks_like {s = s} {now = now} {c = c} {k = k} processors runs plan go sp = rec
 pub turn_is : {s : State} {c k : ℕ} {cmd : Command} → Speaks s c k cmd → is_turn s.plan (flat_of s) k ≡ true
 turn_is {s} {c} {k} h = by h.turn
   where
-    or_right : (a : Bool) {b : Bool} → b ≡ true → (a || b) ≡ true
-    or_right true e = refl
-    or_right false e = e
-
     by : HasTurn s.plan s.runs k → is_turn s.plan (flat_of s) k ≡ true
     by (inl off) = cc
     by (inr (inl first)) = elim (eqb_tells k 0) [
-      | inl e ↦ or_right (not s.plan.initializer) (cc)
+      | inl e ↦ rw e.0 (or_true (not s.plan.initializer))
       | inr n ↦ absurd (n.1 first)
     ]
-    by (inr (inr over)) = or_right (not s.plan.initializer) (or_right (eqb k 0) ((h.runs 0).ended ∙ over))
+    by (inr (inr over)) = rw ((h.runs 0).ended ∙ over, or_true (eqb k 0)) (or_true (not s.plan.initializer))
 
 -- so it may be answered, where the flat store and custody allow the answer
 pub can_tell : {s : State} {c k : ℕ} {cmd : Command} (f : Option ℕ) (r : Reply) → Speaks s c k cmd

@@ -1,7 +1,8 @@
 -- What a look that takes asks: what a tree command must have out of use, and what is taken of a segment.
 use Rattle.machine_model.proofs.StepBasics.{◌≡◌, ◌<◌, ℕ, zero, suc, ◌+◌, Bool, true, false, ◌&&◌, cond, eqb, List, [], ◌∷◌, map, Some, inl, inr, refl, ap, ◌∙◌, arith, ◌/◌, filter, range_with_len, eqb_tells, Command, What, Sdw, leads, IsKnownAt, descriptors_taken, first_taken, frames_taken, what_taken, Outcome, seen, Keeps, descriptor_of, is_connected, or_zero, uid_of_command, uid_of_number, Says, shown, State, and-false, eqb_self, Command as command, What as what, Sdw as sdw, Aim as aim, Action as act, ◌≢◌, ◌++◌, length, get_or, set, Option, None, ◌⊎◌, sym, subst, slice_get, get_or-set_other, get_or-set_same, length-set, Mode, Who, access_of, Node, node_in, bound_page, Plain, frame_in, uid_at, Links, sdws_at, unlinked, HaveRights, who_at, store_after, Aim, CutDescriptor, after, cut_all, cut_one, leaving_if, note_of, take_all, take_one, took, AreThere, HadRights, IsFaithful, StoreKept, StoreSays, cut_of_owner, flat_of, is_active, Storage, Entry as entry, CanTakeAll, FindsTaken, IsIdle, idle_names, AsksTake, pages_bound, pages_taken, trailers_taken, ArePairs, CanTook, has_pair, is_pair, pairs_left, alike, alike_by, one_still, by_places, says_by, there_still, leaving_pages, descriptors_put, led_place, linked_within, active_at, take_linked}
 
--- ---- What a job has cut had the right mode and length, and the store says so of a job that takes pages and descriptors.
+-- ---- What a job has cut had the right mode and length, and the store says so of a job that takes pages and
+-- descriptors.
 
 -- ---- lists
 

@@ -117,7 +117,8 @@ tries_of_run {q} {run} (Some c) x is s k e = cc (tries_alike q (progress_of_run 
 
 pub run_is : {q : Progress} {run : Run} (c : Command) (x : Reply) → IsRun q run
     → IsRun (gone_on q c x) (run_after run (Some c) x)
-run_is {q} {run} c x is = by (tries_on q c x) (goes_on run (Some c) x) (tries_alike q (progress_of_run run) c x is.tries)
+run_is {q} {run} c x is = by (tries_on q c x) (goes_on run (Some c) x)
+    (tries_alike q (progress_of_run run) c x is.tries)
   where
     by : (a b : Bool) → a ≡ b → IsRun (cond a (record q { tries = q.tries + 1; faulted = false })
         (record { place = q.place + 1; tries = 0; ended = is_end c; faulted = false }))

@@ -1,5 +1,5 @@
 -- The machine keeps its promise where a transfer begins and ends, and where a page is made.
-use Rattle.machine_model.proofs.Laws.{◌≡◌, ◌<◌, ◌≤◌, ℕ, Bool, true, false, cond, count_by, List, [], ◌∷◌, ◌++◌, map, length, set, Option, Some, None, inl, inr, refl, sym, ap, subst, ◌∙◌, arith, eqb_tells, get_or-set_other, length-set, ◌^◌, min, Rose, Entry, started_page, ActiveSegs, entry_at, uid_at, uid_in, Segment, Transfer, is_for, MayFault, KeepsBook, is_pending, seen, IsAtWork, Keeps, StoreSays, is_fault, flat_of, is_active, no_processor, process_at, processor_at, run_at, Processor, Owner, State, fault_told, frame_lost, started, transfer_failed, transferred, with_faults, Entry as entry, Reply as reply, ◌≢◌, Ptw, IsLawful, after_entry, DescriptorUse, NobodyHoldsPage, is_current_frame, is_going_frame, at_put, at_put_two, custody_next, nobody_holds_page, lost, here, with_transfer, HoldsRight, AreUnderWay, names, is_out, Seen, shown, seat_of, frame_use, page_is, Ptw as ptw, FrameUse as frame, custody_is_started as is_started, page_started as prelude_started, page_brought as brought, any_at, fault_keeps, owner_keeps, IsNoOwner, faults_push, tell_kept_CanTell as CanTell, told_keeps, works_counted, map_length, within_by, IsIdle, owned_laws_nobody as nobody, like_frame, owned_like, right_frame, right_like, none_some, out_none, tied_start, tied_lost, tied_here, other_use_here, book_next, by_place, one_place, put_here, put_other, put_two_here, in_no_frame}
+use Rattle.machine_model.proofs.Laws.{◌≡◌, ◌<◌, ◌≤◌, ℕ, Bool, true, false, cond, count_by, List, [], ◌∷◌, ◌++◌, map, length, set, Option, Some, None, inl, inr, refl, sym, ap, subst, ◌∙◌, arith, eqb_tells, get_or-set_other, length-set, ◌^◌, min, Rose, Entry, started_page, ActiveSegs, entry_at, uid_at, uid_in, Segment, Transfer, is_for, MayFault, KeepsBook, is_pending, seen, IsAtWork, Keeps, StoreSays, is_fault, flat_of, is_active, no_processor, process_at, processor_at, run_at, Processor, Owner, State, fault_told, frame_lost, started, transfer_failed, transferred, with_faults, Entry as entry, Reply as reply, ◌≢◌, Ptw, IsLawful, after_entry, DescriptorUse, NobodyHoldsPage, is_current_frame, is_going_frame, at_put, at_put_two, custody_next, nobody_holds_page, lost, here, with_transfer, HoldsRight, AreUnderWay, names, is_out, Seen, shown, seat_of, frame_use, page_is, Ptw as ptw, FrameUse as frame, custody_is_started as is_started, page_started, page_brought as brought, any_at, fault_keeps, owner_keeps, IsNoOwner, faults_push, tell_kept_CanTell as CanTell, told_keeps, works_counted, map_length, within_by, IsIdle, owned_laws_nobody as nobody, like_frame, owned_like, right_frame, right_like, none_some, out_none, tied_start, tied_lost, tied_here, other_use_here, book_next, by_place, one_place, put_here, put_other, put_two_here, in_no_frame}
 use Rattle.machine_model.proofs.MoveSeen.{brought_seen, lose_seen, start_seen}
 
 -- ---- A page is being read into a frame, is in it, or the reading failed; a page is made in a free frame.
@@ -117,7 +117,7 @@ pub record CanStart (v : Seen) (c : ℕ) (t : Transfer) : Type 0 where
 free_is : (v : Seen) (f : ℕ) → v.bound f ≡ None → v.reads f ≡ None → (shown v).frame f ≡ frame.Free
 free_is v f a b = cc
 
-pub start_keeps : {v : Seen} {c : ℕ} {t : Transfer} → KeepsBook v → CanStart v c t → KeepsBook (prelude_started v c t)
+pub start_keeps : {v : Seen} {c : ℕ} {t : Transfer} → KeepsBook v → CanStart v c t → KeepsBook (page_started v c t)
 unfolding IsLawful after_entry custody_next
 start_keeps {v} {c} {t} k can = book_next refl refl k (record {
   lawful = tt;

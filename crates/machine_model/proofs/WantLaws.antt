@@ -33,7 +33,8 @@ module _ (s : State) (keeps : Keeps s) where
       ) refl
 
   first_room : {u v : ℕ} → IsFirstWithRoom (tables_of s.store) u v → room_for s.plan t u ≡ Some v
-  first_room {u} {v} h = sym (room_is s.plan t u v (cc (room_same u v)) (λ w less. sym (room_same u w) ∙ h.before w less))
+  first_room {u} {v} h = sym
+      (room_is s.plan t u v (cc (room_same u v)) (λ w less. sym (room_same u w) ∙ h.before w less))
 
   -- ---- the reference
 
