@@ -10,7 +10,7 @@ pub use Rattle.machine_model.proofs.ListLaws.{map_length, map_list, put_list, pu
 pub use Rattle.machine_model.proofs.OutlineAlone.{IsFree, answer_outlined, clear_outlined, commit_outlined, create_outlined, ends_job, enter_outlined, failed_outlined, fault_outlined, fill_page_outlined, fill_seg_outlined, idle_outlined, leave_outlined, left_is, load_outlined, online_outlined, outline_left, owned_outlined, owner_none, plain_outlined, running_at, step_to, through_outlined, told_left, transfer_outlined}
 pub use Rattle.machine_model.proofs.OutlineJob.{activate_outlined, connect_outlined, deactivate_at_once_outlined, deactivate_outlined, eviction_outlined, give_up_outlined, in_job, in_look, in_stage, job_to, left_nodes, map_change, page_outlined, start_outlined}
 pub use Rattle.machine_model.proofs.OutlineReads.{at_outline, is_owner, long_outline, map_at as outline_reads_map_at, rule_seen, seen_due, seen_online, seen_owns, seen_reading, seen_running, seen_since, seen_tried, set_map}
-pub use Rattle.machine_model.proofs.OwnedLaws.{IsIdle, current_descriptor_is_not_going, cut_at_other, cut_at_same, cut_at_tells, distinct_push, filled_few, kept_step, like_active, like_descriptor, like_frame, like_seat, map_filled, nobody as owned_laws_nobody, owned_cut, owned_idle, owned_like, owned_take, pages_filled, pages_kept, push_other, push_same, right_alike, right_descriptor, right_frame, right_like, segs_filled, segs_kept, under_way_alike}
+pub use Rattle.machine_model.proofs.OwnedLaws.{IsIdle, current_descriptor_is_not_going, cut_at_other, cut_at_same, cut_at_tells, distinct_push, filled_few, kept_step, like_active, like_descriptor, like_frame, like_seat, map_filled, nobody as owned_laws_nobody, owned_cut, owned_idle, owned_like, owned_take, pages_filled, pages_kept, push_other, push_same, right_alike, right_descriptor, right_frame, right_like, segs_filled, segs_kept, under_way_alike, leads_cut}
 pub use Rattle.machine_model.proofs.Places.{by_place, by_places, one_place, one_place_of_two, put_here, put_map, put_other, put_two_here, put_two_map}
 pub use Rattle.machine_model.proofs.RuleLaws.{tells as rule_laws_tells}
 pub use Rattle.machine_model.proofs.SeenLaws.{bound_put, reads_put, reseated_seen}

@@ -1,5 +1,5 @@
 -- The chain of directories down to a node: which of its links are active, and what is above the first that isn't.
-use Rattle.machine_model.proofs.Prelude.{◌≡◌, ℕ, Bool, true, false, not, cond, is_some, List, [], ◌∷◌, ◌++◌, Option, Some, None, inl, inr, refl, sym, ap, subst, ◌∙◌, reverse, IfSome, find, reverse_onto, Node, above, node_in, step_up, AreDirectories, HasChains, IsChain, IsTree, has_chains, IsMember, found_front, found_member, member_parts, past_front, above_once, superior_found, chain_of, ActiveSegs, first_inactive, is_active, directory_there, tree_laws_superior_in as superior_in}
+use Rattle.machine_model.proofs.Prelude.{◌≡◌, ℕ, Bool, true, false, not, cond, is_some, List, [], ◌∷◌, ◌++◌, Option, Some, None, inl, inr, refl, sym, ap, subst, ◌∙◌, reverse, IfSome, find, reverse_onto, Node, above, node_in, step_up, AreDirectories, HasChains, IsChain, IsTree, has_chains, IsMember, found_front, found_member, member_parts, past_front, above_once, superior_found, chain_of, ActiveSegs, first_inactive, is_active, directory_there, tree_laws_superior_in as superior_in, by_not}
 
 -- ---- the first of a list turned round
 
@@ -81,11 +81,7 @@ module _ (ns : List Node) (t : IsTree ns) (ast : ActiveSegs) where
   whole u = (refl, chains.under u, chains.chain u)
 
   active_of : (u : ℕ) → idle u ≡ false → is_active ast u ≡ true
-  active_of u h = by (is_active ast u) h
-    where
-      by : (b : Bool) → not b ≡ false → b ≡ true
-      by true e = refl
-      by false e = cc
+  active_of u h = by_not (is_active ast u) h
 
   -- where the whole chain is active, the node at its end is
   pub chain_active : (u : ℕ) → first_inactive ast (chain_of ns u) ≡ None → is_active ast u ≡ true

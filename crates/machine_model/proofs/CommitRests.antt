@@ -1,5 +1,5 @@
 -- What a tree command must have out of use is so where it takes effect: its job took just that.
-use Rattle.machine_model.proofs.StepBasics.{cases_Bool, or_parts, eqb_self, cond_both, [], ◌≡◌, ◌≢◌, ◌<◌, ℕ, Bool, true, false, ◌||◌, eqb, List, ◌∷◌, ◌++◌, map, length, Option, Some, None, ◌⊎◌, inl, inr, refl, sym, ap, subst, ◌∙◌, Result, Ok, Err, list_all, list_any, eqb_tells, Command, Path, Named, Mode, Entry, Reply, Node, is_inferior, node_in, branch_at, node_at, segment_at, Store, store_after, Ptw, Sdw, reads_of, erased, Plain, binding_at, bindings, read_at, DescriptorUse, FrameUse, MayDeactivate, superior_in, has, is_going_descriptor, is_going_frame, leads_to, page_of, uid_of_page, HasNoDescriptor, HasNoPage, IsOutOfUse, OfNode, at_put, CutDescriptor, gone_segs, gones, page_at, gone, gone_seg, cut_entry, frames_freed, inactive_if, has_cut, led_to, seen, with_inactive, Keeps, cut_of_owner, descriptor_of, flat_of, frames_of_owner, home_in, is_active, process_at, uid_at_path, Seen, bound_use, cut_uid, descriptor_use, flat, frame_use, shown, Owner, State, Storage, with_owner, with_pages, IsTakenFor, rest_of, without_first_cut, without_first_frame, branch_found, only_found, has_head, not_both, some_same, Command as command, Ptw as ptw, Sdw as sdw, DescriptorUse as descriptor, FrameUse as frame, active_less, LeavesRest, all_still, is_still, cut_at_same, by_place, none_some, page_used, active_at, IsOut, Rests, cuts_still, effected, taken_bound, all_gone, chain_leaves, freed, freed_bound, freed_reads, gone_entry, gones_bound, gones_entries, node, segs_bound, segs_entries, bound_within, cut_active}
+use Rattle.machine_model.proofs.StepBasics.{cases_Bool, or_parts, eqb_self, cond_both, [], ◌≡◌, ◌≢◌, ◌<◌, ℕ, Bool, true, false, ◌||◌, eqb, List, ◌∷◌, ◌++◌, map, length, Option, Some, None, ◌⊎◌, inl, inr, refl, sym, ap, subst, ◌∙◌, Result, Ok, Err, list_all, list_any, eqb_tells, Command, Path, Named, Mode, Entry, Reply, Node, is_inferior, node_in, branch_at, node_at, segment_at, Store, store_after, Ptw, Sdw, reads_of, erased, Plain, binding_at, bindings, read_at, DescriptorUse, FrameUse, MayDeactivate, superior_in, has, is_going_descriptor, is_going_frame, leads_to, page_of, uid_of_page, HasNoDescriptor, HasNoPage, IsOutOfUse, OfNode, at_put, CutDescriptor, gone_segs, gones, page_at, gone, gone_seg, cut_entry, frames_freed, inactive_if, has_cut, led_to, seen, with_inactive, Keeps, cut_of_owner, descriptor_of, flat_of, frames_of_owner, home_in, is_active, process_at, uid_at_path, Seen, bound_use, cut_uid, descriptor_use, flat, frame_use, shown, Owner, State, Storage, with_owner, with_pages, IsTakenFor, rest_of, without_first_cut, without_first_frame, branch_found, only_found, has_head, not_both, some_same, Command as command, Ptw as ptw, Sdw as sdw, DescriptorUse as descriptor, FrameUse as frame, active_less, LeavesRest, all_still, is_still, cut_at_same, by_place, none_some, page_used, active_at, IsOut, Rests, cuts_still, effected, taken_bound, all_gone, chain_leaves, freed, freed_bound, freed_reads, gone_entry, gones_bound, gones_entries, node, segs_bound, segs_entries, bound_within, cut_active, cut_less}
 
 -- ---- what goes
 
@@ -148,11 +148,7 @@ cut_gone v (d ∷ ds) e = cut_gone (gone_seg v d (without_first_cut v.owner)) ds
 cut_stays : (v : Seen) (fs : List ℕ) → cut_of_owner (gones v fs).owner ≡ cut_of_owner v.owner
 cut_stays v [] = refl
 cut_stays v (f ∷ fs) = cut_stays (gone v f (page_at v f).0 (page_at v f).1 ptw.Null (without_first_frame v.owner)) fs
-    ∙ less v.owner
-  where
-    less : (o : Option Owner) → cut_of_owner (without_first_frame o) ≡ cut_of_owner o
-    less None = refl
-    less (Some q) = refl
+    ∙ cut_less v.owner
 
 gone_all_still : (fs : List ℕ) → list_all is_still (map gone_entry fs) ≡ true
 gone_all_still [] = refl

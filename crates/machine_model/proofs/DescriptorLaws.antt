@@ -1,5 +1,5 @@
 -- A descriptor is connected, cut, gone, or back.
-use Rattle.machine_model.proofs.Basics.{◌≡◌, ℕ, true, false, List, [], ◌∷◌, ◌++◌, Option, Some, None, refl, sym, ap, subst, ◌∙◌, What, IsLawful, after_entry, known_uid, DescriptorUse, NamesAllGoing, NobodyHoldsSeg, is_current_descriptor, is_going_descriptor, names_descriptor, leads_to, reconnected, NoneDue, at_put_two, custody_next, nobody_holds_seg, nobody_holds_going_seg, cut, gone_seg, back_seg, connected, Aim, KeepsBook, HoldsRight, IsAimed, AreApart, has_cut, is_pending, waits_for, Seen, flat, shown, descriptor_use, cut_uid, cut_use, is_cut_at, frames_of_owner, cut_of_owner, CutDescriptor, Owner, Entry, IsAllowed, FillsOnline, pending_after, IsRun, progress_of, or_parts, Entry as entry, DescriptorUse as descriptor, custody_cut as descriptor_cut, book_next, right_alike, right_descriptor, owned_cut, owned_like, like_descriptor, cut_at_same, cut_at_other, current_descriptor_is_not_going, by_places, one_place_of_two, put_two_here}
+use Rattle.machine_model.proofs.Basics.{◌≡◌, ℕ, true, false, List, [], ◌∷◌, ◌++◌, Option, Some, None, refl, sym, ap, subst, ◌∙◌, What, IsLawful, after_entry, known_uid, DescriptorUse, NamesAllGoing, NobodyHoldsSeg, is_current_descriptor, is_going_descriptor, names_descriptor, leads_to, reconnected, NoneDue, at_put_two, custody_next, nobody_holds_seg, nobody_holds_going_seg, cut, gone_seg, back_seg, connected, Aim, KeepsBook, HoldsRight, IsAimed, AreApart, has_cut, is_pending, waits_for, Seen, flat, shown, descriptor_use, cut_uid, cut_use, is_cut_at, frames_of_owner, cut_of_owner, CutDescriptor, Owner, Entry, IsAllowed, FillsOnline, pending_after, IsRun, progress_of, or_parts, Entry as entry, DescriptorUse as descriptor, custody_cut as descriptor_cut, book_next, right_alike, right_descriptor, owned_cut, owned_like, like_descriptor, cut_at_same, cut_at_other, current_descriptor_is_not_going, by_places, one_place_of_two, put_two_here, leads_cut}
 use Rattle.machine_model.proofs.DueLaws.{HasLeftCut, owned_left_cut}
 
 -- ---- what was cut
@@ -45,10 +45,6 @@ pub record CanCut (v : Seen) (aim : Aim) (w : What) (d : CutDescriptor) : Type 0
   pub others : NamesAllGoing (shown v) w
   pub this : names_descriptor (shown v) w d.process d.number ≡ true
   pub aimed : IsAimed aim w (frames_of_owner v.owner) (cut_of_owner v.owner ++ d ∷ [])
-
-leads_cut : (x : DescriptorUse) → leads_to (descriptor_cut x) ≡ leads_to x
-leads_cut descriptor.Free = refl
-leads_cut _ = refl
 
 pub cut_keeps : {v : Seen} (c : ℕ) (aim : Aim) (w : What) (d : CutDescriptor) → KeepsBook v → CanCut v aim w d
     → KeepsBook (cut v c aim w d)

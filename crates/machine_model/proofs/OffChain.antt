@@ -1,5 +1,5 @@
 -- A pool with more places than a chain has links has a segment off the chain, once each of its places is used.
-use Rattle.machine_model.proofs.Prelude.{◌≡◌, ◌<◌, ℕ, zero, suc, ◌+◌, Bool, true, false, not, ◌||◌, eqb, List, [], ◌∷◌, length, Option, Some, None, is_some, refl, sym, subst, ◌∙◌, ◌⊎◌, inl, inr, add-zero, arith, list_any, AllByRecursion, IsDistinct, nat_eq_equiv, eqb_tells, length-le_from_is_member, ActiveSegs, IsOneToOne, entry_at, uid_at, uid_in, first_of, size_of, HasOneOffChain, off_chain, or_zero, Active as Entry, or_true}
+use Rattle.machine_model.proofs.Prelude.{◌≡◌, ◌<◌, ℕ, zero, suc, ◌+◌, Bool, true, false, not, ◌||◌, eqb, List, [], ◌∷◌, length, Option, Some, None, is_some, refl, sym, subst, ◌∙◌, ◌⊎◌, inl, inr, add-zero, arith, list_any, AllByRecursion, IsDistinct, nat_eq_equiv, eqb_tells, length-le_from_is_member, ActiveSegs, IsOneToOne, entry_at, uid_at, uid_in, first_of, size_of, HasOneOffChain, off_chain, or_zero, Active as Entry, or_true, by_not}
 
 -- ---- a search
 
@@ -87,11 +87,7 @@ any_turn (x ∷ xs) q h = by (eqb x q) refl (any_turn xs q) h
 in_chain : (chain : List ℕ) (o : Option Entry) → is_some o ≡ true → off_chain chain o ≡ false
     → list_any (eqb (or_zero (uid_in o))) chain ≡ true
 in_chain chain None some on = let no = some in absurd cc
-in_chain chain (Some e) some on = any_turn chain e.uid (by (list_any (λ u. eqb u e.uid) chain) on)
-  where
-    by : (b : Bool) → not b ≡ false → b ≡ true
-    by true h = refl
-    by false h = let no = h in absurd cc
+in_chain chain (Some e) some on = any_turn chain e.uid (by_not (list_any (λ u. eqb u e.uid) chain) on)
 
 all_in : (entries : List (Option Entry)) (chain : List ℕ) (first n : ℕ) → AreUsed entries first n
     → ((i : ℕ) → i < n → off_chain chain (entry_at entries (first + i)) ≡ false) → (q : ℕ)

@@ -456,7 +456,7 @@ apart_push (x ∷ xs) d apart new = (
     not_it : x.process ≡ d.process → x.number ≡ d.number → ⊥
     not_it a b = not_both (cc (cut_at_same x)) both.0
 
-leads_cut : (x : DescriptorUse) → leads_to (cut x) ≡ leads_to x
+pub leads_cut : (x : DescriptorUse) → leads_to (cut x) ≡ leads_to x
 leads_cut descriptor.Free = refl
 leads_cut _ = refl
 
