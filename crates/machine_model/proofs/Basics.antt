@@ -16,4 +16,4 @@ pub use Rattle.machine_model.proofs.RuleLaws.{tells as rule_laws_tells}
 pub use Rattle.machine_model.proofs.SeenLaws.{bound_put, reads_put, reseated_seen}
 pub use Rattle.machine_model.proofs.StepLaws.{clear_step, inside, none_due as step_laws_none_due, other_than, owner_step}
 pub use Rattle.machine_model.proofs.TieLaws.{bound_used, none_some, not_there, other_use, other_use_here, out_none, page_used, tied_gone, tied_here, tied_lost, tied_start, tied_word, use_bound}
-pub use Rattle.machine_model.proofs.WordLaws.{found, word_put as word_laws_word_put, word_within}
+pub use Rattle.machine_model.proofs.WordLaws.{found, word_put as word_laws_word_put, word_within, is_for_same}

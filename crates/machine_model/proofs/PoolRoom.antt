@@ -1,5 +1,5 @@
 -- A pool with a free place has room: fewer segments of its nodes are active than it has places.
-use Rattle.machine_model.proofs.Basics.{◌≡◌, ◌<◌, ◌≤◌, ℕ, zero, suc, ◌+◌, ◌-◌, Bool, true, false, ◌&&◌, ◌||◌, cond, eqb, count_by, is_some, is_none, List, [], ◌∷◌, length, Option, Some, None, inl, inr, refl, sym, ap, subst, ◌∙◌, arith, list_any, range_with_len, eqb_tells, sum_by-cons, Node, pool_of, AreBelow, IsTree, Joins, IsMember, found_member, ActiveSegs, entry_at, uid_in, IsInPool, first_of, size_of, is_for, place_of, free_place, is_active, places_in, Active as Entry, false_from_ne_true, find_passes, or_true}
+use Rattle.machine_model.proofs.Basics.{◌≡◌, ◌<◌, ◌≤◌, ℕ, zero, suc, ◌+◌, ◌-◌, Bool, true, false, ◌&&◌, ◌||◌, cond, eqb, count_by, is_some, is_none, List, [], ◌∷◌, length, Option, Some, None, inl, inr, refl, sym, ap, subst, ◌∙◌, arith, list_any, range_with_len, eqb_tells, sum_by-cons, Node, pool_of, AreBelow, IsTree, Joins, IsMember, found_member, ActiveSegs, entry_at, uid_in, IsInPool, first_of, size_of, is_for, place_of, free_place, is_active, places_in, Active as Entry, false_from_ne_true, find_passes, or_true, and_parts, is_for_same}
 use Rattle.machine_model.proofs.ActiveSeen.{active_place}
 
 -- ---- counts
@@ -92,17 +92,6 @@ module _ (ast : ActiveSegs) (pool : ℕ) where
   abbrev has_its : List Node → ℕ → Bool
   has_its ns q = list_any (λ n. is_its n && is_for n.uid (entry_at ast.entries q)) ns
 
-  and_parts : (a b : Bool) → (a && b) ≡ true → (a ≡ true) × (b ≡ true)
-  and_parts true b h = (refl, h)
-  and_parts false b h = cc
-
-  for_same : (u v : ℕ) (o : Option Entry) → is_for u o ≡ true → is_for v o ≡ true → u ≡ v
-  for_same u v None a b = cc
-  for_same u v (Some e) a b = elim (eqb_tells e.uid u) [
-    | inl x ↦ elim (eqb_tells e.uid v) [ inl y ↦ sym x.1 ∙ y.1 | inr n ↦ cc ]
-    | inr n ↦ cc
-  ]
-
   is_at : (u : ℕ) (o : Option Entry) → uid_in o ≡ Some u → is_for u o ≡ true
   is_at u None h = cc
   is_at u (Some e) h = elim (eqb_tells e.uid u) [ inl x ↦ x.0 | inr n ↦ absurd (n.1 (cc)) ]
@@ -117,7 +106,7 @@ module _ (ast : ActiveSegs) (pool : ℕ) where
       by : (b : Bool) → (is_its n && is_for n.uid (entry_at ast.entries q)) ≡ b → has_its ns q ≡ false
           → (b || has_its ns q) ≡ false
       by false e rest = rest
-      by true e rest = let same = for_same n.uid u (entry_at ast.entries q)
+      by true e rest = let same = is_for_same n.uid u (entry_at ast.entries q)
           (and_parts (is_its n) (is_for n.uid (entry_at ast.entries q)) e).1 h in absurd (omega (arith, below.0))
 
   joined_below : (ns : List Node) (o : Option ℕ) (n : Node) → Joins ns o n → AreBelow n.uid ns

@@ -8,7 +8,7 @@ pub found : {X : Type 0} (p : X → Bool) (xs : List X) (d : X) → position_or_
     → p (get_or xs (position_or_len p xs) d) ≡ true
 found p xs d h = by_not (p (get_or xs (position_or_len p xs) d)) (prefix_len_stops (λ x. not (p x)) xs d h)
 
-is_for_same : (u v : ℕ) (o : Option Entry) → is_for u o ≡ true → is_for v o ≡ true → u ≡ v
+pub is_for_same : (u v : ℕ) (o : Option Entry) → is_for u o ≡ true → is_for v o ≡ true → u ≡ v
 is_for_same u v None h i = cc
 is_for_same u v (Some e) h i = elim (eqb_tells e.uid u) [
   | inl a ↦ elim (eqb_tells e.uid v) [
