@@ -1,5 +1,5 @@
 -- Once no process is ready or running each has ended, and the book is complete.
-use Rattle.machine_model.proofs.Prelude.{◌≡◌, ◌≢◌, ◌<◌, ℕ, zero, suc, ◌+◌, Bool, true, false, not, ◌||◌, cond, eqb, length, List, [], ◌∷◌, get_or, set, Option, Some, None, inl, inr, refl, sym, ap, ◌∙◌, arith, replicate, filter, list_any, eqb_tells, get_or-set_other, get_or-set_same, Plan, command_at, Command, Entry, Reply, has, after_command, effect_of, gone_on, is_end, takes_effect, tries_on, IsAnswer, IsComplete, IsEnd, IsLawful, IsLegal, IsLegalFrom, MayFault, after_do, after_entry, after_fault, is_part, last_of, part, store_after, store_from, Progress, Store, at_first, boot, progress_of, with_progress, has_process, is_empty, is_over, KeepsAll, cpu_at, flat_of, run_at, HasTurn, MayRun, State, Processor, and_parts, not_both, going_within, Command as command, Entry as entry, true_from_ne_false, cond_both, eq-eqb, ◌≤◌, if◌then◌else◌, subst, leb_tells, at_put, IsRun, Run, effect_advances, not-true}
+use Rattle.machine_model.proofs.Prelude.{◌≡◌, ◌≢◌, ◌<◌, ℕ, zero, suc, ◌+◌, Bool, true, false, ◌||◌, cond, length, List, [], ◌∷◌, get_or, set, Option, Some, None, inl, inr, refl, sym, ap, ◌∙◌, arith, replicate, filter, list_any, eqb_tells, get_or-set_other, get_or-set_same, Plan, command_at, Command, Entry, Reply, has, after_command, effect_of, gone_on, is_end, takes_effect, tries_on, IsAnswer, IsComplete, IsEnd, IsLawful, IsLegal, IsLegalFrom, MayFault, after_do, after_entry, after_fault, is_part, last_of, part, store_after, store_from, Progress, Store, at_first, boot, progress_of, with_progress, has_process, is_empty, is_over, KeepsAll, cpu_at, flat_of, run_at, HasTurn, MayRun, State, Processor, and_parts, not_both, going_within, Command as command, Entry as entry, true_from_ne_false, cond_both, eq-eqb, ◌≤◌, if◌then◌else◌, subst, leb_tells, at_put, IsRun, Run, effect_advances, not-true}
 use Rattle.machine_model.proofs.TieLaws.{none_some}
 use Rattle.machine_model.proofs.Places.{by_place}
 

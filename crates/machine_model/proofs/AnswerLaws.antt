@@ -1,5 +1,5 @@
 -- A command is answered, a drive's failure is told, or the owner of the supervisor changes.
-use Rattle.machine_model.proofs.Basics.{◌≡◌, ℕ, List, ◌++◌, Option, Some, refl, command_at, Command, Reply, gone_on, IsLawful, IsLawfulDo, MayFault, after_entry, progress_of, MayDo, at_put, custody_next, is_try, released_by, with_seat, answered, counted, KeepsBook, HoldsRight, IsRun, is_pending, Seen, flat, shown, seat_of, Processor, Run, Owner, Entry as entry, next_of as next_command, changes_failed as failed, book_apart, book_next, right_like, under_way_alike, IsIdle, like_seat, owned_like, owned_idle, by_place, put_map, runs_answered, runs_failed}
+use Rattle.machine_model.proofs.Basics.{◌≡◌, ℕ, List, ◌++◌, Option, Some, refl, command_at, Command, Reply, gone_on, IsLawful, IsLawfulDo, MayFault, after_entry, progress_of, MayDo, at_put, custody_next, is_try, released_by, answered, counted, KeepsBook, HoldsRight, IsRun, is_pending, Seen, flat, shown, seat_of, Processor, Run, Owner, Entry as entry, next_of as next_command, changes_failed as failed, book_apart, book_next, right_like, under_way_alike, IsIdle, like_seat, owned_like, owned_idle, by_place, put_map, runs_answered, runs_failed}
 use Rattle.machine_model.proofs.OwnerLaws.{owner_next}
 
 -- ---- a command

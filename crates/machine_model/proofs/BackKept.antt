@@ -1,5 +1,5 @@
 -- The machine keeps its promise where a write failed: all that was still going comes back, and the process is told.
-use Rattle.machine_model.proofs.Laws.{◌≡◌, ◌≤◌, ℕ, zero, suc, count_by, List, [], ◌∷◌, ◌++◌, length, set, get_or, Option, Some, None, refl, sym, subst, ◌∙◌, arith, length-set, ◌^◌, min, Rose, bound_page, frame_in, Sdw, place_of, sdws_at, MayFault, page_at, back, back_seg, KeepsBook, seen, here_if, page_back, pages_back, seg_back, segs_back, with_relink, write_failed, AreThere, Keeps, StoreSays, is_fault, cut_of_owner, flat_of, frames_of_owner, process_at, run_at, CutDescriptor, State, Storage, fault_told, looking, told, with_owner, without_first_cut, without_first_frame, Entry as entry, Reply as reply, ◌+◌, true, eqb, inl, inr, ap, eqb_tells, What, Plan, after_entry, store_after, Store, binding_at, read_at, Aim, Phase, dropped, told_at, FitsPhase, IsShaped, is_pending, is_pending_in, says, says_in, eviction_begun, owner_signalled, phase_signalled, signalled, told_from, with_choice, HadRights, IsAtWork, IsConserved, IsFaithful, processor_at, Seen, shown, Processor, Owner, with_store, What as what, Ptw as ptw, Aim as aim, Phase as phase, eqb_self, ◌≢◌, ◌<◌, map, Entry, Left, word_of_left, record_of, words_in, MayRelease, IsInNoFrame, gone, released, is_out, names, entries_left, eviction_done, left_of, page_done, page_gone, page_in, with_left, home_in, flat, booked, with_faults, rest_of, Left as left, active_place, fault_keeps, GoesOn, back_on, first_finish, first_finish_seg, uncut_on, goes_with, back_seg_keeps, CanFinish, back_keeps, finish_with, take_keeps, gone_keeps, in_no_frame, release_keeps, faults_push, quiet_push, flat_still, tell_kept_CanTell as CanTell, told_keeps, back_seen, signal_seen, told_reads, gone_seen, owned_laws_nobody as nobody, IsIdle, job_over, bound_here, idle_names, HasTables, take_one_seen, binding_is, choice_bindings, choice_reads, signal_keeps, HasSaid, map_length, within_by, put_two_here, none_some}
+use Rattle.machine_model.proofs.Laws.{◌≡◌, ◌≤◌, ℕ, zero, suc, count_by, List, [], ◌∷◌, ◌++◌, length, set, get_or, Option, Some, None, refl, sym, subst, ◌∙◌, arith, length-set, ◌^◌, min, Rose, bound_page, frame_in, Sdw, place_of, sdws_at, MayFault, page_at, back, back_seg, KeepsBook, seen, here_if, page_back, pages_back, seg_back, segs_back, with_relink, write_failed, AreThere, Keeps, StoreSays, is_fault, cut_of_owner, flat_of, frames_of_owner, process_at, run_at, CutDescriptor, State, Storage, fault_told, looking, told, with_owner, without_first_cut, without_first_frame, Entry as entry, Reply as reply, ◌+◌, true, inl, inr, ap, eqb_tells, What, Plan, after_entry, store_after, Store, binding_at, read_at, Aim, Phase, dropped, told_at, FitsPhase, IsShaped, is_pending, is_pending_in, says, says_in, eviction_begun, owner_signalled, phase_signalled, signalled, told_from, with_choice, HadRights, IsAtWork, IsConserved, IsFaithful, processor_at, Seen, Processor, Owner, with_store, What as what, Ptw as ptw, Aim as aim, Phase as phase, eqb_self, ◌≢◌, ◌<◌, map, Entry, Left, word_of_left, record_of, words_in, MayRelease, gone, released, is_out, names, entries_left, eviction_done, left_of, page_done, page_gone, page_in, with_left, home_in, booked, with_faults, rest_of, Left as left, active_place, fault_keeps, GoesOn, back_on, first_finish, first_finish_seg, uncut_on, goes_with, back_seg_keeps, CanFinish, back_keeps, finish_with, take_keeps, gone_keeps, in_no_frame, release_keeps, faults_push, quiet_push, flat_still, tell_kept_CanTell as CanTell, told_keeps, back_seen, signal_seen, told_reads, gone_seen, owned_laws_nobody as nobody, IsIdle, job_over, bound_here, idle_names, HasTables, take_one_seen, binding_is, choice_bindings, choice_reads, signal_keeps, HasSaid, map_length, within_by, put_two_here, none_some}
 use Rattle.machine_model.proofs.MoveSeen.{back_seg_seen}
 use Rattle.machine_model.proofs.TransferKept.{kept_with, quiet_faults}
 

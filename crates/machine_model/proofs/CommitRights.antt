@@ -1,6 +1,6 @@
 -- What processors hold stays what their processes may do where a command leaves the access lists, the lengths and the
 -- numbers of what it doesn't take away.
-use Rattle.machine_model.proofs.StepBasics.{option_map, cond_both, ◌≡◌, ◌<◌, ℕ, Bool, true, false, cond, eqb, length, set, List, [], ◌∷◌, Option, Some, None, refl, sym, inl, inr, ap, ◌∙◌, arith, eqb_tells, length-set, Who, HeldSeg, uid_of, Node, above, node_in, without_node, getter_of, giver_of, with_quota_of, ◌+◌, ◌-◌, ℤ, map, is_positive, unsigned_abs, kst_at, node_gone, Mover, AreEntitled, HoldEntitled, IsEntitled, move_committed, cpu_at, Processor, Command, Row, Ptw, erased, parts_of, committed, committed_at, with_made, with_truncated, frames_freed, inactive_if, with_deleted, without_page, IsEntitledToAll, with_inactive, Keeps, frames_of_owner, home_in, is_active, process_at, reply_of, uid_of_command, State, Storage, told, with_pages, Sdw, leads, leads_to, AreHeldSegs, led_to, seen, descriptor_of, shown, slice_index_or, with_node, uid_at, Segment, sdw_at, node_without, Command as command, Ptw as ptw, Sdw as sdw, effected, set_entitled, node_mapped, none_some, truncated_has}
+use Rattle.machine_model.proofs.StepBasics.{option_map, cond_both, ◌≡◌, ◌<◌, ℕ, Bool, true, false, cond, eqb, length, set, List, [], ◌∷◌, Option, Some, None, refl, sym, inl, inr, ap, ◌∙◌, arith, eqb_tells, length-set, Who, HeldSeg, uid_of, Node, above, node_in, without_node, getter_of, giver_of, with_quota_of, ◌+◌, ◌-◌, ℤ, map, is_positive, unsigned_abs, kst_at, node_gone, Mover, AreEntitled, HoldEntitled, IsEntitled, move_committed, cpu_at, Processor, Command, Row, Ptw, erased, parts_of, committed, committed_at, with_made, with_truncated, frames_freed, inactive_if, with_deleted, without_page, IsEntitledToAll, with_inactive, Keeps, frames_of_owner, home_in, is_active, process_at, uid_of_command, State, Storage, with_pages, Sdw, leads, leads_to, AreHeldSegs, led_to, seen, descriptor_of, shown, slice_index_or, with_node, uid_at, Segment, sdw_at, node_without, Command as command, Ptw as ptw, Sdw as sdw, set_entitled, node_mapped, none_some, truncated_has}
 use Rattle.machine_model.proofs.CommitRests.{led_now}
 
 -- each older node that is there now was there, with these rows and pages

@@ -1,5 +1,5 @@
 -- How counts over the lists of an outline change as one element changes.
-use Rattle.machine_model.proofs.Prelude.{◌≡◌, ◌≤◌, ◌<◌, ℕ, ◌+◌, zero, suc, Bool, true, false, not, cond, ◌||◌, eqb, List, [], ◌∷◌, length, Option, Some, None, is_some, set, get_or, count_by, Contains, refl, sym, ap, ◌∙◌, arith, list_any, nat_tests, get_or-set_same, length-set, Contains-get_or, list_any_at, sum_by-set, sum_by-cons, count_by-le-length, Frame, is_free, entry_at, off_chain, IsOffChain, is_for, Runner, runner_at, no_runner, idle_links, off_links, readers, dues, has_free, eqb_self, Frame as frame, Active as Entry, measures_is_active as is_active, false_from_ne_true, ◌≢◌, ◌&&◌, ◌⊎◌, inl, inr, le_refl, eqb_tells, none-some, Transfer, Want, Refer, Truncate, Length, Other, Outline, with_frame, is_of, is_here, reads_page, page_fits, wanted_fits, wanted_link, want_lack, lack, with_stored, is_wanted, is_spared, and_from, or_left, and_parts, jobs_page_or_zero as page_or_zero, outline_frame_in as frame_in, FinishingMayRelease as MayRelease, finishing_page_of as page_of, eq-eqb, or_true, not-true}
+use Rattle.machine_model.proofs.Prelude.{◌≡◌, ◌≤◌, ◌<◌, ℕ, ◌+◌, zero, suc, Bool, true, false, not, cond, ◌||◌, eqb, List, [], ◌∷◌, length, Option, Some, None, is_some, set, get_or, count_by, Contains, refl, sym, ap, ◌∙◌, arith, list_any, nat_tests, get_or-set_same, length-set, Contains-get_or, list_any_at, sum_by-set, sum_by-cons, count_by-le-length, Frame, is_free, entry_at, off_chain, IsOffChain, is_for, Runner, runner_at, no_runner, idle_links, off_links, readers, dues, has_free, eqb_self, Frame as frame, Active as Entry, measures_is_active as is_active, false_from_ne_true, ◌≢◌, ◌&&◌, ◌⊎◌, inl, inr, le_refl, none-some, Transfer, Want, Refer, Truncate, Length, Other, Outline, with_frame, is_of, is_here, reads_page, page_fits, wanted_fits, wanted_link, want_lack, lack, with_stored, is_wanted, is_spared, and_from, or_left, and_parts, jobs_page_or_zero as page_or_zero, outline_frame_in as frame_in, FinishingMayRelease as MayRelease, finishing_page_of as page_of, eq-eqb, or_true, not-true}
 
 -- ---- any list
 

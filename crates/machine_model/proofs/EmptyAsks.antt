@@ -1,5 +1,5 @@
 -- What a look asks that makes a segment inactive, for its length or as the victim of a pool.
-use Rattle.machine_model.proofs.StepBasics.{◌≡◌, ◌≢◌, ℕ, Bool, true, false, cond, eqb, List, [], ◌∷◌, Option, Some, None, refl, sym, ap, subst, ◌∙◌, Command, Node, has_directory, node_in, IsUp, superior_up, superior_found, Core, frame_at, reads_of, started_page, HasNoInferior, uid_at, first_off_chain, hand_past, read_at, MayDeactivate, node_superior, any_page, Outcome, after, is_pending, seen, deactivation_begun, emptied, segment_taken, segs_gone, with_hand_moved, IsFaithful, Keeps, StoreKept, StoreSays, cut_of_owner, flat_of, frame_reading, frames_from, is_active, is_page_of, or_zero, trailers_in, Says, shown, State, with_store, refusal_of, uid_of_command, eqb_self, What as what, Frame as frame, Aim as aim, Action as act, superior_in, is_going_descriptor, leads_to, holding, led_to, descriptor_of, frames_of_owner, cut_uid, descriptor_use, CutDescriptor, Storage, IsWhole, TakenWhole, going_for, LeadsToSegment, length_stands, position_none, leaf_inferiors, victim_leaf, map_list, FindsActive, FindsVictim, IsIdle, emptied_says, is_same, same_rest, says_by, none_some, active_at, alike, no_page_left, AsksEmpty, AsksSegment, AsksVictim, nothing_over, hand_kept, trailers_taken, nothing_whole, ArePairs, IsOver, segs_gone_rest, directory_is}
+use Rattle.machine_model.proofs.StepBasics.{◌≡◌, ◌≢◌, ℕ, Bool, true, false, List, [], ◌∷◌, Option, Some, None, refl, sym, ap, subst, ◌∙◌, Command, Node, node_in, IsUp, superior_up, superior_found, Core, frame_at, reads_of, started_page, HasNoInferior, uid_at, first_off_chain, hand_past, read_at, MayDeactivate, node_superior, any_page, Outcome, after, is_pending, seen, deactivation_begun, segment_taken, segs_gone, with_hand_moved, IsFaithful, Keeps, StoreKept, StoreSays, cut_of_owner, flat_of, frame_reading, frames_from, is_active, is_page_of, or_zero, trailers_in, Says, shown, State, with_store, refusal_of, uid_of_command, eqb_self, What as what, Frame as frame, Aim as aim, Action as act, superior_in, is_going_descriptor, leads_to, holding, led_to, descriptor_of, frames_of_owner, cut_uid, descriptor_use, CutDescriptor, Storage, IsWhole, TakenWhole, going_for, LeadsToSegment, length_stands, position_none, leaf_inferiors, victim_leaf, map_list, FindsActive, FindsVictim, IsIdle, emptied_says, is_same, same_rest, says_by, none_some, active_at, alike, no_page_left, AsksEmpty, AsksSegment, AsksVictim, nothing_over, hand_kept, trailers_taken, nothing_whole, ArePairs, IsOver, segs_gone_rest, directory_is}
 use Rattle.machine_model.proofs.TakeAsks.{took_says}
 
 -- ---- A job that makes a segment inactive takes it whole, and once all that it took is gone the segment may become

@@ -1,5 +1,5 @@
 -- What processors hold stays what their processes may do, through every action that no command ends.
-use Rattle.machine_model.proofs.Kept.{◌≡◌, ◌≢◌, ◌<◌, ℕ, Bool, true, false, not, eqb, List, [], ◌∷◌, ◌++◌, drop, filter, length, set, ◌+◌, Option, Some, ◌⊎◌, inl, inr, refl, sym, ap, subst, ◌∙◌, eqb_tells, get_or-set_other, get_or-set_same, length-set, Who, filled, names_seg, HeldSeg, What, Sdw, leads, Node, node_in, Processor, Outcome, after, AreEntitled, HoldEntitled, IsEntitled, IsEntitledToAll, led_to, told_from, write_failed, Keeps, move_committed, cpu_at, descriptor_of, no_processor, or_zero, process_at, processor_at, State, frame_lost, held_seg, transfer_failed, Sdw as sdw, Aim as aim, jobs_told_at as told_at, Action, Action as act, cond_both, Stays, job_stays_all_back as all_back, all_taken, emptying, job_stays_evicted as evicted, evicting, is_back, is_emptied, page_left, emptying_victim, by_end, told_reads, told_has, told_process}
+use Rattle.machine_model.proofs.Kept.{◌≡◌, ◌≢◌, ◌<◌, ℕ, Bool, true, false, not, eqb, List, [], ◌∷◌, ◌++◌, drop, filter, length, set, ◌+◌, Option, Some, ◌⊎◌, inl, inr, refl, sym, ap, subst, ◌∙◌, eqb_tells, get_or-set_other, get_or-set_same, length-set, Who, filled, names_seg, HeldSeg, What, Sdw, leads, Node, node_in, Processor, Outcome, after, AreEntitled, HoldEntitled, IsEntitled, IsEntitledToAll, led_to, told_from, write_failed, Keeps, move_committed, cpu_at, descriptor_of, no_processor, or_zero, process_at, processor_at, State, held_seg, transfer_failed, Sdw as sdw, Aim as aim, jobs_told_at as told_at, Action, Action as act, cond_both, Stays, job_stays_all_back as all_back, all_taken, emptying, job_stays_evicted as evicted, evicting, is_back, is_emptied, page_left, emptying_victim, by_end, told_reads, told_has, told_process}
 use Rattle.machine_model.proofs.StepKept.{CanDo, CanFill}
 
 -- ---- the entries of one processor

@@ -1,5 +1,5 @@
 -- What a job has taken isn't what its command wants, after each step.
-use Rattle.machine_model.proofs.StepBasics.{◌≡◌, ◌<◌, ℕ, Bool, true, false, not, ◌&&◌, cond, eqb, is_some, length, List, [], ◌∷◌, get_or, map, set, Option, Some, None, inl, inr, refl, sym, ap, subst, ◌∙◌, arith, cond_both, eqb_tells, command_at, alters, reference_of, Command, Reference, Reply, What, uid_of, kst_at, who_at, after_reference, Frame, Segment, Move, Transfer, Aim, Phase, Processor, action_of, is_over, Outcome, after, IsEntitledToAll, Commands, IsReplied, rule_of, IsFitting, Keeps, Other, Runner, want_at, around, bare, outline_of, runner_by, stage_of, want_by, want_known, want_of, work_of, FitsStage, FitsWork, IsKept, IsMachine, IsReading, turn_of, cpu_at, next_command, or_zero, process_at, processor_at, run_at, Owner, State, Storage, pages_after, told, with_pages, with_store, IsWorking, not_both, map_kept, Frame as frame, Move as move, Phase as phase, Action, by_move, clear_or, come_to, go_on_with, has_had_its_turn, is_empty, load_or_idle, move_of, own_or_run, refer_or_take, run_process, take_or_wait, transfer_or, Action as act, Plain, action_by, IsNoOwner, fits_alike, step_keeps, in_job, step_outlined, at_outline, is_owner, long_outline, seen_owns, owner_none, kept_seen, no_owner, outline_seen_none_due as none_due, reading_is, sizes_seen, rule_laws_tells as tells}
+use Rattle.machine_model.proofs.StepBasics.{◌≡◌, ◌<◌, ℕ, Bool, true, false, not, ◌&&◌, cond, eqb, is_some, length, List, [], ◌∷◌, get_or, map, set, Option, Some, None, inl, inr, refl, sym, ap, subst, ◌∙◌, arith, cond_both, eqb_tells, command_at, alters, reference_of, Command, Reference, Reply, What, uid_of, kst_at, who_at, after_reference, Frame, Segment, Move, Transfer, Aim, Phase, Processor, action_of, is_over, Outcome, after, IsEntitledToAll, Commands, IsReplied, rule_of, IsFitting, Keeps, Other, Runner, want_at, around, bare, outline_of, runner_by, stage_of, want_by, want_known, want_of, work_of, FitsStage, FitsWork, IsKept, IsMachine, IsReading, cpu_at, next_command, or_zero, process_at, processor_at, run_at, Owner, State, Storage, pages_after, told, with_pages, with_store, IsWorking, not_both, map_kept, Frame as frame, Move as move, Phase as phase, Action, by_move, clear_or, come_to, go_on_with, has_had_its_turn, is_empty, load_or_idle, move_of, own_or_run, refer_or_take, run_process, take_or_wait, transfer_or, Action as act, Plain, action_by, IsNoOwner, fits_alike, step_keeps, in_job, step_outlined, at_outline, is_owner, long_outline, seen_owns, owner_none, kept_seen, no_owner, outline_seen_none_due as none_due, reading_is, sizes_seen, rule_laws_tells as tells}
 use Rattle.machine_model.proofs.WorkStep.{other_next, set_process}
 use Rattle.machine_model.proofs.ForeseeAll.{foresees}
 use Rattle.machine_model.proofs.WantLaws.{want_here}

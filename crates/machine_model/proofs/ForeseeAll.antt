@@ -1,5 +1,5 @@
 -- A machine that keeps its promise finds what its actions ask of its outline.
-use Rattle.machine_model.proofs.StepBasics.{◌≡◌, ◌≢◌, ◌<◌, ℕ, length, suc, List, [], Some, sym, ap, subst, ◌∙◌, arith, What, Mover, Phase, FitsPhase, IsShaped, IsEntitledToAll, HasMoved, IsFitting, Foresees, IsLook, full_there, IsMovedFor, MovesForNext, MovesIn, tables_of, outline_of, IsMachine, IsReading, cpu_at, next_command, process_at, processor_at, Owner, State, IsAtWork, IsWorking, some_unwrapped, Aim as aim, Phase as phase, look_of, ◌+◌, ◌-◌, Bool, true, false, not, ◌&&◌, eqb, Option, get_or, is_some, inl, inr, refl, ◌⊎◌, ◌/◌, count_by, nat_lt, ne_eqb, Decides-ltb, eqb_tells, get_or-set_other, get_or-set_same, Command, Node, volume_in, chain_of, count_of, size, map_at, begun, flags_taken, has_taken, pair_of, volumes_of, home_of, Keeps, LacksRecord, MovesFor, with_moved, is_active, within_from, counts_taken as taken, cond, ◌||◌, None, nat_le, ◌*◌, new_word, permits, reference_of, Reference, frame_of, seg_of, HeldSeg, Ptw, Sdw, sdws_at, word_of, Move, Transfer, by_descriptor, by_held, by_page, by_seg, by_word, word_reply, names, MayAnswer, MayEnter, MayLose, seen, page_fits, want_lack, Want, Refer, Other, Runner, runner_at, want_at, around, runner_by, want_of_reference, descriptor_of, flat_of, frames_of_owner, is_connected, or_zero, MayFailBy, Ptw as ptw, Sdw as sdw, Move as move, Reply as reply, Action, by_move, come_to, move_of, refer_or_take, Action as act, and-false, kept_seen, leaves_may, not_here, stored_outlined, speaks, Speaks, fails_more, at_outline, seen_reading, bound_here, put_is, put_there, held_active, known}
+use Rattle.machine_model.proofs.StepBasics.{◌≡◌, ◌≢◌, ◌<◌, ℕ, length, suc, List, [], Some, sym, ap, subst, ◌∙◌, arith, What, Mover, Phase, FitsPhase, IsShaped, IsEntitledToAll, HasMoved, IsFitting, Foresees, IsLook, full_there, IsMovedFor, MovesForNext, MovesIn, tables_of, outline_of, IsMachine, IsReading, cpu_at, next_command, process_at, processor_at, Owner, State, IsAtWork, IsWorking, some_unwrapped, Aim as aim, Phase as phase, look_of, ◌+◌, ◌-◌, Bool, true, false, not, ◌&&◌, eqb, Option, get_or, is_some, inl, inr, refl, ◌⊎◌, ◌/◌, count_by, nat_lt, ne_eqb, Decides-ltb, eqb_tells, get_or-set_other, get_or-set_same, Command, Node, volume_in, chain_of, count_of, size, map_at, begun, flags_taken, has_taken, pair_of, volumes_of, home_of, Keeps, LacksRecord, MovesFor, with_moved, is_active, within_from, counts_taken as taken, cond, ◌||◌, None, nat_le, ◌*◌, new_word, permits, reference_of, Reference, frame_of, seg_of, HeldSeg, Ptw, Sdw, sdws_at, word_of, Move, Transfer, by_descriptor, by_held, by_page, by_seg, by_word, word_reply, names, MayAnswer, MayEnter, MayLose, seen, page_fits, want_lack, Want, Refer, Other, Runner, runner_at, want_at, around, runner_by, want_of_reference, descriptor_of, frames_of_owner, is_connected, or_zero, MayFailBy, Ptw as ptw, Sdw as sdw, Move as move, Reply as reply, Action, by_move, come_to, move_of, refer_or_take, Action as act, and-false, kept_seen, leaves_may, not_here, stored_outlined, speaks, Speaks, fails_more, at_outline, seen_reading, bound_here, put_is, put_there, held_active, known}
 use Rattle.machine_model.proofs.LookSeen.{has_answer, looks_empty, off_quiet, look_seen}
 use Rattle.machine_model.proofs.WantLaws.{inside, refer_wants, want_here, IsReferring, is_refer, linked_here, refers, tree_wants}
 use Rattle.machine_model.proofs.StepAsks.{ReadsFor, reads_for}

@@ -1,5 +1,5 @@
 -- A processor without a process holds nothing, and after each action of a step too.
-use Rattle.machine_model.proofs.Laws.{◌≡◌, ◌≢◌, ◌<◌, ℕ, ◌+◌, true, false, eqb, set, length, List, Option, Some, None, ◌⊎◌, inl, inr, refl, sym, subst, eqb_tells, get_or-set_other, get_or-set_same, length-set, What, nothing_held, Command, Processor, Outcome, after, committed_at, told_from, write_failed, cpu_at, next_command, no_processor, process_at, processor_at, AreIdle, State, transfer_failed, Command as command, Aim as aim, jobs_told_at as told_at, Action, Action as act, by_end, Stays, job_stays_all_back as all_back, all_taken, emptying, job_stays_evicted as evicted, evicting, is_back, is_emptied, page_left, emptying_victim, told_reads, told_has, told_process}
+use Rattle.machine_model.proofs.Laws.{◌≡◌, ◌≢◌, ◌<◌, ℕ, ◌+◌, true, false, eqb, set, length, List, Option, Some, None, ◌⊎◌, inl, inr, refl, sym, subst, eqb_tells, get_or-set_other, get_or-set_same, length-set, What, nothing_held, Command, Processor, Outcome, after, committed_at, told_from, write_failed, cpu_at, next_command, no_processor, process_at, processor_at, AreIdle, State, Command as command, Aim as aim, jobs_told_at as told_at, Action, Action as act, by_end, Stays, job_stays_all_back as all_back, all_taken, emptying, job_stays_evicted as evicted, evicting, is_back, is_emptied, page_left, emptying_victim, told_reads, told_has, told_process}
 
 -- ---- one processor is another
 

@@ -1,5 +1,5 @@
 -- Each step of the owner makes the measure of its job fall.
-use Rattle.machine_model.proofs.Prelude.{◌≡◌, ◌≤◌, ◌<◌, ℕ, ◌+◌, Bool, true, false, cond, List, [], ◌∷◌, length, Option, None, set, ◌&&◌, refl, le_refl, le_of_eq, arith, get_or-set_same, Frame, Want, Refer, Truncate, Length, Other, Runner, no_runner, Work, EvictFrame, EmptyPlace, CommitCommand, Stage, Look, Taken, Waiting, Copying, Outline, runner_at, want_at, at_stage, IsSmall, idle_links, off_links, readers, has_free, frame_lack, room_lack, work_left, stage_left, rank_of, job_rank, IsIn, JobStep, activates, connects, takes_segment, takes_frame, takes_for_commit, signals, frees_frame, frees_page, empties, empties_at_once, begins_move, copies, commits_move, HasMoved, gives_up, starts, answers, AreAlike, with_link, with_runners, IsKept, FitsStage, FitsWork, Frame as frame, Active as Entry, wanted_chain as chain_of, measures_unlinked as unlinked, measures_parts_of as parts_of, Parts, not, ◌||◌, eqb, Some, sym, ap, subst, ◌∙◌, inl, inr, eqb_tells, Transfer, with_entry, with_frame, is_here, page_fits, reads_page, wanted_fits, wanted_link, want_lack, all_rank, lack, offline, over, CanStart, IsWantedPage, IsAnswered, with_stored, without_owner, now_reading, entry_for, lack_at, is_at, IsReference, IsSameCommand, IsPast, IsMended, Goes, measures_is_over as is_over, eq-eqb, count_by-le-length, HasSizes, or_true}
+use Rattle.machine_model.proofs.Prelude.{◌≡◌, ◌≤◌, ◌<◌, ℕ, ◌+◌, Bool, true, false, cond, List, [], ◌∷◌, length, Option, None, set, ◌&&◌, refl, le_refl, le_of_eq, arith, get_or-set_same, Frame, Want, Refer, Truncate, Runner, no_runner, Work, EvictFrame, EmptyPlace, CommitCommand, Stage, Look, Taken, Waiting, Copying, Outline, runner_at, want_at, at_stage, IsSmall, idle_links, off_links, readers, has_free, frame_lack, room_lack, work_left, stage_left, rank_of, job_rank, IsIn, JobStep, activates, connects, takes_segment, takes_frame, takes_for_commit, signals, frees_frame, frees_page, empties, empties_at_once, begins_move, copies, commits_move, HasMoved, gives_up, starts, answers, AreAlike, with_link, with_runners, IsKept, FitsStage, FitsWork, Frame as frame, Active as Entry, wanted_chain as chain_of, measures_unlinked as unlinked, measures_parts_of as parts_of, Parts, not, ◌||◌, eqb, Some, sym, ap, subst, ◌∙◌, inl, inr, eqb_tells, Transfer, with_entry, with_frame, is_here, page_fits, reads_page, wanted_fits, wanted_link, want_lack, all_rank, lack, offline, over, CanStart, IsWantedPage, IsAnswered, with_stored, without_owner, now_reading, entry_for, lack_at, is_at, IsReference, IsSameCommand, IsPast, IsMended, Goes, measures_is_over as is_over, eq-eqb, count_by-le-length, HasSizes, or_true}
 use Rattle.machine_model.proofs.CountLaws.{activation_falls, emptying_off, emptying_idle, freed_is_free, readers_like, readers_set, dues_few, idle_few, off_few, lack_le, freed_fits, count_set, count_like}
 
 -- ---- The measure of a job falls where one of its parts falls and none before it rises.

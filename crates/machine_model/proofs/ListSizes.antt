@@ -1,6 +1,6 @@
 -- How much a job takes at the most of a segment: each of its pages, 256 at the most, and a descriptor of each process,
 -- 32 at the most.
-use Rattle.machine_model.proofs.Kept.{◌≡◌, ◌<◌, ◌≤◌, ℕ, Bool, true, false, ◌||◌, cond, eqb, is_some, length, map, List, [], ◌∷◌, Option, Some, None, inl, inr, refl, sym, ap, ◌∙◌, arith, ◌+◌, ◌/◌, suc, drop, filter, position_or_len, range_with_len, get_or_past, length-range_with_len, Command, trailers_of, descriptors_taken, first_taken, frames_taken, AllByRecursion, IsDistinct, list_any, nat_le, eqb_tells, length-map, length-le_from_distinct_below, Node, node_in, pool_for, pool_of, uid_of, Ptw, Sdw, uid_at, Links, is_for, kst_at, leads, place_of, table_of, IsKnownAt, words_few, is_uid, seen, Keeps, connected_of, descriptor_of, frames_from, frames_in, is_active, is_connected, trailers_in, State, few_kept, Command as command, What as what, Ptw as ptw, Sdw as sdw, eqb_self, active_place, none_length, within_by, none_some, ArePairs, has_pair, is_pair, first_false, second_false}
+use Rattle.machine_model.proofs.Kept.{◌≡◌, ◌<◌, ◌≤◌, ℕ, Bool, true, false, cond, eqb, is_some, length, map, List, [], ◌∷◌, Option, Some, None, inl, inr, refl, sym, ap, ◌∙◌, arith, ◌+◌, ◌/◌, suc, drop, filter, position_or_len, range_with_len, get_or_past, length-range_with_len, Command, trailers_of, descriptors_taken, first_taken, frames_taken, AllByRecursion, IsDistinct, list_any, nat_le, eqb_tells, length-map, length-le_from_distinct_below, Node, node_in, pool_for, pool_of, uid_of, Ptw, Sdw, uid_at, Links, is_for, kst_at, leads, place_of, table_of, IsKnownAt, words_few, is_uid, seen, Keeps, connected_of, descriptor_of, frames_from, frames_in, is_active, is_connected, trailers_in, State, few_kept, Command as command, What as what, Ptw as ptw, Sdw as sdw, eqb_self, active_place, none_length, within_by, none_some, ArePairs, has_pair, is_pair, first_false, second_false}
 use Rattle.machine_model.proofs.TakeLists.{trailers_taken}
 
 -- ---- pages

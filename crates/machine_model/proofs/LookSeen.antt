@@ -1,5 +1,5 @@
 -- A look of the owner finds what its outline asks of its actions.
-use Rattle.machine_model.proofs.StepBasics.{passed_there, ◌≡◌, ◌<◌, ℕ, zero, suc, Bool, true, false, not, cond, ◌&&◌, ◌||◌, eqb, List, [], ◌∷◌, length, get_or, map, Option, Some, None, Ok, ◌⊎◌, inl, inr, refl, sym, ap, subst, ◌∙◌, arith, ◌/◌, list_any, length-map, new_word, reference_of, Command, Reference, Node, node_in, found_member, chain_of, segment_at, is_free, least_free_frame, Frame, Ptw, store_frame, has_record, entry_at, uid_at, uid_in, off_chain, victim_of, known_uid, place_of, word_of, has, no_call, is_out, names, AreOf, CanActivate, CanEmpty, CanEvict, CanStart, IsIn, IsWantedPage, is_wanted_here, IsLook, KeepsLink, MayAnswer, MayConnect, MayEmpty, WantsPage, lack_of, seen, deactivation_begun, took, victim_taken, with_hand_moved, Keeps, has_free, is_here, page_fits, want_lack, wanted_chain, Want, Refer, Truncate, Length, Look, runner_at, want_at, around, bare, cut_page, is_linked, outline_of, want_by, want_lengthened, want_truncated, IsMachine, cpu_at, descriptor_of, first_inactive, flat_of, frames_from, is_active, is_connected, next_command, or_zero, process_at, processor_at, trailers_in, outside_refusal, refusal_of, uid_of_command, uid_of_number, shown, Owner, State, with_store, has_head, has_tail, Command as command, Frame as frame, Ptw as ptw, Active as Entry, Aim as aim, Phase as phase, finishing_is_bound as is_bound, finishing_page_of as page_of, outline_frame_in as frame_in, Action, ForTransfer, look_of, Action as act, command_at, What, Sdw, Links, leads, descriptor_cut, unlinked, trailer_gone, Aim, CutDescriptor, seg_gone, segment_taken, segs_gone, reference_in, runner_by, cut_of_owner, run_at, What as what, Sdw as sdw, is_some, started_page, frame_in as core_frame_in, ForeseenIsReading as IsReading, active_place, chain_active, first_there, runs_stay, SameRuns, all_taken, emptying, emptying_victim, LeadsToSegment, length_stands, truncate_stands, choice_bound, free_frame, position_at, position_none, first_idle, bound_outlined, frame_outlined, named_here, not_here, stored_outlined, inside_is, within_by, FindsActive, FindsAll, FindsCut, FindsFull, FindsLink, FindsNoFrame, FindsNoVictim, FindsOut, FindsPage, FindsPlace, FindsVictim, IsAbout, IsInside, LookFinds, look_finds, in_look, at_outline, seen_reading, IsIdle, bound_here, looking_idle, Speaks, none_some, active_at, one_read, frames_from_few, listed_bound, some_there, has_victim, member_contains, victim_is_off, by_places, took_has, descriptors_put, linked_within, or_true}
+use Rattle.machine_model.proofs.StepBasics.{passed_there, ◌≡◌, ◌<◌, ℕ, zero, suc, Bool, true, false, not, cond, ◌&&◌, eqb, List, [], ◌∷◌, length, get_or, map, Option, Some, None, Ok, ◌⊎◌, inl, inr, refl, sym, ap, subst, ◌∙◌, arith, ◌/◌, list_any, length-map, new_word, reference_of, Command, Reference, Node, node_in, found_member, chain_of, segment_at, is_free, least_free_frame, Frame, Ptw, store_frame, has_record, entry_at, uid_at, uid_in, off_chain, known_uid, place_of, word_of, has, no_call, is_out, names, AreOf, CanActivate, CanEmpty, CanEvict, CanStart, IsIn, IsWantedPage, is_wanted_here, IsLook, KeepsLink, MayAnswer, MayConnect, MayEmpty, WantsPage, lack_of, seen, deactivation_begun, took, victim_taken, with_hand_moved, Keeps, has_free, is_here, page_fits, want_lack, wanted_chain, Want, Refer, Truncate, Length, Look, runner_at, want_at, around, bare, cut_page, is_linked, outline_of, want_by, want_lengthened, want_truncated, IsMachine, cpu_at, descriptor_of, first_inactive, flat_of, frames_from, is_active, is_connected, next_command, or_zero, process_at, processor_at, trailers_in, outside_refusal, refusal_of, uid_of_command, uid_of_number, shown, Owner, State, with_store, has_head, has_tail, Command as command, Frame as frame, Ptw as ptw, Active as Entry, Aim as aim, Phase as phase, finishing_is_bound as is_bound, finishing_page_of as page_of, outline_frame_in as frame_in, Action, ForTransfer, look_of, Action as act, command_at, What, Sdw, Links, leads, descriptor_cut, unlinked, trailer_gone, Aim, CutDescriptor, seg_gone, segment_taken, segs_gone, reference_in, runner_by, cut_of_owner, run_at, What as what, Sdw as sdw, is_some, started_page, frame_in as core_frame_in, ForeseenIsReading as IsReading, active_place, chain_active, first_there, runs_stay, SameRuns, all_taken, emptying, emptying_victim, LeadsToSegment, length_stands, truncate_stands, choice_bound, free_frame, position_at, position_none, first_idle, bound_outlined, frame_outlined, named_here, not_here, stored_outlined, inside_is, within_by, FindsActive, FindsAll, FindsCut, FindsFull, FindsLink, FindsNoFrame, FindsNoVictim, FindsOut, FindsPage, FindsPlace, FindsVictim, IsAbout, IsInside, LookFinds, look_finds, in_look, at_outline, seen_reading, IsIdle, bound_here, looking_idle, Speaks, none_some, active_at, one_read, frames_from_few, listed_bound, some_there, has_victim, member_contains, victim_is_off, by_places, took_has, descriptors_put, linked_within, or_true}
 use Rattle.machine_model.proofs.LookAsks.{about_there, free_is, free_within, known_within, page_active}
 use Rattle.machine_model.proofs.WantLaws.{linked_here, refer_wants, want_here}
 use Rattle.machine_model.proofs.StepGoes.{may_answer}

@@ -1,5 +1,5 @@
 -- What a reference that a processor makes by itself asks follows from the promise, and from what it holds.
-use Rattle.machine_model.proofs.Kept.{cases_Bool, eqb-true, and_parts, cond_both, eqb_self, ◌≡◌, ℕ, ◌*◌, Bool, true, false, ◌&&◌, ◌||◌, cond, eqb, suc, List, [], ◌∷◌, map, get_or, Option, Some, None, inl, inr, refl, sym, ap, subst, ◌∙◌, arith, ◌/◌, nat_le, find, option_map, eqb_tells, leb_tells, ProcessPlan, nobody, who_of, reference_of, Command, RefKind, Reference, Reply, HeldPage, HeldSeg, frame_of, is_number, is_page, seg_of, access_of, Node, node_in, Ptw, Sdw, uid_at, has_record, word_of, who_at, reply_to_command, is_stored, alters, new_word, permits, reply_to_reference, room_reply, stores_page, word_reply, written, Store, known_uid, DescriptorUse, IsPageAt, MayDo, is_word_or_done, stores, has, leads_to, Outcome, AreHeldPages, AreHeldSegs, names, AreEntitled, IsEntitled, IsEntitledToAll, led_to, seen, page_in, AreThere, Keeps, cpu_at, cut_of_owner, descriptor_of, flat_of, is_active, process_at, Says, Seen, cut_uid, cut_use, descriptor_use, is_cut_at, shown, State, Storage, old_word, CutDescriptor, not_both, RefKind as kind, Reply as reply, Ptw as ptw, Sdw as sdw, references_after_reference as after_reference, custody_bound_page as bound_page, same_Some, Action as act, through_seen, bound_shown, find_true, IsAlike, alike, stored_due, zero_due, zero_free, stored_free, IsInside, active_there, bound_word, null_word, stored_is, plain_says, refused_says, through_says, Speaks, can_refuse, can_tell, binding_is, tell_kept_CanTell as CanTell, active_at, some_there, or_true}
+use Rattle.machine_model.proofs.Kept.{cases_Bool, eqb-true, and_parts, cond_both, eqb_self, ◌≡◌, ℕ, ◌*◌, true, false, ◌&&◌, cond, eqb, suc, List, [], ◌∷◌, map, get_or, Option, Some, None, inl, inr, refl, sym, ap, subst, ◌∙◌, arith, ◌/◌, nat_le, find, option_map, eqb_tells, leb_tells, ProcessPlan, nobody, who_of, reference_of, Command, RefKind, Reference, Reply, HeldPage, HeldSeg, frame_of, is_number, is_page, seg_of, access_of, Node, node_in, Ptw, Sdw, uid_at, has_record, word_of, who_at, reply_to_command, is_stored, alters, new_word, permits, reply_to_reference, room_reply, stores_page, word_reply, written, Store, known_uid, DescriptorUse, IsPageAt, MayDo, is_word_or_done, stores, has, leads_to, Outcome, AreHeldPages, AreHeldSegs, names, AreEntitled, IsEntitled, IsEntitledToAll, led_to, seen, page_in, AreThere, Keeps, cpu_at, cut_of_owner, descriptor_of, flat_of, is_active, process_at, Says, Seen, cut_uid, cut_use, descriptor_use, is_cut_at, shown, State, Storage, old_word, CutDescriptor, not_both, RefKind as kind, Reply as reply, Ptw as ptw, Sdw as sdw, references_after_reference as after_reference, custody_bound_page as bound_page, same_Some, Action as act, through_seen, bound_shown, find_true, IsAlike, alike, stored_due, zero_due, zero_free, stored_free, IsInside, active_there, bound_word, null_word, stored_is, plain_says, refused_says, through_says, Speaks, can_refuse, can_tell, binding_is, tell_kept_CanTell as CanTell, active_at, some_there, or_true}
 use Rattle.machine_model.proofs.StepKept.{CanGoThrough, CanReply}
 
 -- ---- what is held

@@ -1,5 +1,5 @@
 -- A pool with more places than a chain has links has a segment off the chain, once each of its places is used.
-use Rattle.machine_model.proofs.Prelude.{◌≡◌, ◌<◌, ℕ, zero, suc, ◌+◌, Bool, true, false, not, ◌||◌, eqb, List, [], ◌∷◌, length, Option, Some, None, is_some, refl, sym, subst, ◌∙◌, ◌⊎◌, inl, inr, add-zero, arith, list_any, AllByRecursion, IsDistinct, nat_eq_equiv, eqb_tells, length-le_from_is_member, ActiveSegs, IsOneToOne, entry_at, uid_at, uid_in, first_of, size_of, HasOneOffChain, off_chain, or_zero, Active as Entry, or_true, by_not}
+use Rattle.machine_model.proofs.Prelude.{◌≡◌, ◌<◌, ℕ, zero, suc, ◌+◌, Bool, true, false, ◌||◌, eqb, List, [], ◌∷◌, length, Option, Some, None, is_some, refl, sym, subst, ◌∙◌, ◌⊎◌, inl, inr, add-zero, arith, list_any, AllByRecursion, IsDistinct, nat_eq_equiv, eqb_tells, length-le_from_is_member, ActiveSegs, IsOneToOne, entry_at, uid_at, uid_in, first_of, size_of, HasOneOffChain, off_chain, or_zero, Active as Entry, or_true, by_not}
 
 -- ---- a search
 

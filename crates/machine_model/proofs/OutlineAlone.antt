@@ -1,5 +1,5 @@
 -- In the outline of the machine, the steps that a processor makes without the supervisor are steps of the outline.
-use Rattle.machine_model.proofs.Prelude.{◌≡◌, ◌≢◌, ◌<◌, ℕ, ◌+◌, ◌-◌, ◌/◌, Bool, true, false, cond, ◌&&◌, eqb, List, [], ◌∷◌, ◌++◌, length, drop, Option, Some, None, is_some, option_map, refl, sym, ap, subst, ◌∙◌, arith, find, Reference, What, HeldSeg, HeldPage, Held, frame_of, is_number, is_page, nothing_held, seg_of, with_page, with_seg, Transfer, Sdw, ForOwner, WhileIdle, Processor, Run, State, Owner, processor_at, cpu_at, process_at, run_at, descriptor_of, came_online, held_page, held_seg, left_at, loaded, looking, page_filled, queued, seg_filled, transferred, uid_of_held, with_faults, with_owner, Refer, Runner, Look, Outline, Turn, Moved, WaitsFor, runner_at, want_at, with_runner, at_stage, lack, Comes, Clears, Reads, Loads, Leaves, Commands, rule_of, Step, comes, clears, reads, loads, idles, leaves, fills, faults, enters, waits, IsCleared, HasLoaded, HasLeft, IsFilled, with_bound, not_reading, Around, around, reference_in, holds_seg, holds_page, bare, runner_by, runner_of, keeper_of, stage_of, outline_of, eqb_self, held_cleared as cleared, held_page_of as page_of, Sdw as sdw, Frame as frame, steps_cleared_at as cleared_at, slice_get, inl, inr, ◌⊎◌, get_or-set_same, length-set, commands_of, Command, Reply, CutDescriptor, or_zero, no_processor, next_command, frames_of_owner, cut_of_owner, with_store, with_pages, pages_after, fault_told, page_created, page_made, run_after, told, went_through, page_back, pages_back, seg_back, segs_back, write_failed, committed, left_after, Stage, dues, IsIn, IsAnswered, IsReplied, JobStep, answers, replies, left_in, CanTell, Plain, Command as command, Reply as reply, steps_answered as answered}
+use Rattle.machine_model.proofs.Prelude.{◌≡◌, ◌≢◌, ◌<◌, ℕ, ◌+◌, ◌-◌, ◌/◌, Bool, true, false, cond, ◌&&◌, eqb, List, [], ◌∷◌, ◌++◌, length, drop, Option, Some, None, is_some, option_map, refl, sym, ap, subst, ◌∙◌, arith, find, Reference, What, HeldSeg, HeldPage, Held, frame_of, is_number, is_page, nothing_held, seg_of, with_page, with_seg, Transfer, Sdw, ForOwner, WhileIdle, Processor, Run, State, Owner, processor_at, cpu_at, process_at, run_at, descriptor_of, came_online, held_page, held_seg, left_at, loaded, looking, page_filled, queued, seg_filled, transferred, uid_of_held, with_faults, with_owner, Refer, Runner, Look, Outline, Turn, Moved, WaitsFor, runner_at, want_at, with_runner, at_stage, lack, Comes, Clears, Reads, Loads, Leaves, Commands, rule_of, Step, comes, clears, reads, loads, idles, leaves, fills, faults, enters, waits, IsCleared, HasLoaded, HasLeft, IsFilled, with_bound, Around, around, reference_in, holds_seg, holds_page, bare, runner_by, runner_of, keeper_of, stage_of, outline_of, eqb_self, held_cleared as cleared, held_page_of as page_of, Sdw as sdw, Frame as frame, steps_cleared_at as cleared_at, slice_get, inl, inr, ◌⊎◌, get_or-set_same, length-set, commands_of, Command, Reply, CutDescriptor, or_zero, no_processor, next_command, frames_of_owner, cut_of_owner, with_store, with_pages, pages_after, fault_told, page_created, page_made, run_after, told, went_through, page_back, pages_back, seg_back, segs_back, write_failed, committed, left_after, Stage, dues, IsIn, IsAnswered, IsReplied, JobStep, answers, replies, left_in, CanTell, Plain, Command as command, Reply as reply, steps_answered as answered}
 use Rattle.machine_model.proofs.OutlineReads.{at_outline, one_outlined, set_map, seen_online, seen_running, seen_due, seen_reading, seen_since, seen_tried, ready_seen}
 use Rattle.machine_model.proofs.LeftLaws.{answer_falls, left_falls}
 

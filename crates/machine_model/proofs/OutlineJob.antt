@@ -1,5 +1,5 @@
 -- In the outline of the machine, what the owner of the supervisor does is a step of its job in the outline.
-use Rattle.machine_model.proofs.Prelude.{◌≡◌, ◌≢◌, ◌<◌, ℕ, zero, suc, Bool, true, false, List, [], ◌∷◌, length, map, Option, Some, None, set, get_or, refl, sym, arith, get_or-set_same, get_or-set_other, Reference, Active, Links, place_of, sdws_at, Processor, State, Owner, node_in, no_processor, superior_of_node, mode_in, length_in, processor_at, descriptor_of, is_connected, with_link_of, activated_at, connected_to, Refer, Look, Outline, runner_at, want_at, with_entry, IsIn, JobStep, activates, connects, CanActivate, with_link, entry_for, Around, around, reference_in, is_linked, want_of, runner_by, runner_of, stage_of, keeper_of, outline_of, IsPlaced, HasDescriptor, Sdw as sdw, Phase as phase, ap, ◌∙◌, Frame, Left, words_in, Transfer, AccountMaps, Phase, What, CutDescriptor, Storage, next_command, cut_of_owner, looking, started, with_owner, accounts_left, emptied, eviction_done, left_of, page_done, page_gone, page_in, seg_gone, segs_gone, with_left, without_first_frame, EmptyPlace, Waiting, with_frame, at_stage, dues, lack, frees_frame, frees_page, empties, empties_at_once, gives_up, starts, CanEmpty, CanStart, with_runners, with_stored, without_owner, now_reading, bare, full_then, stored_then, Frame as frame, Left as left, Aim as aim, FinishingMayRelease as MayRelease}
+use Rattle.machine_model.proofs.Prelude.{◌≡◌, ◌≢◌, ◌<◌, ℕ, zero, suc, Bool, true, false, List, [], ◌∷◌, length, map, Option, Some, None, set, get_or, refl, sym, arith, get_or-set_same, get_or-set_other, Reference, Active, Links, place_of, sdws_at, Processor, State, Owner, node_in, no_processor, superior_of_node, mode_in, length_in, processor_at, descriptor_of, is_connected, with_link_of, activated_at, connected_to, Refer, Look, Outline, runner_at, want_at, with_entry, IsIn, JobStep, activates, connects, CanActivate, with_link, Around, around, reference_in, is_linked, want_of, runner_by, runner_of, stage_of, keeper_of, outline_of, IsPlaced, HasDescriptor, Sdw as sdw, Phase as phase, ap, ◌∙◌, Frame, Left, words_in, Transfer, AccountMaps, Phase, What, CutDescriptor, Storage, next_command, cut_of_owner, looking, started, with_owner, accounts_left, emptied, eviction_done, left_of, page_done, page_gone, page_in, seg_gone, segs_gone, with_left, without_first_frame, EmptyPlace, Waiting, with_frame, at_stage, dues, lack, frees_frame, frees_page, empties, empties_at_once, gives_up, starts, CanEmpty, CanStart, with_stored, without_owner, now_reading, bare, full_then, stored_then, Frame as frame, Left as left, Aim as aim, FinishingMayRelease as MayRelease}
 use Rattle.machine_model.proofs.OutlineReads.{at_outline, set_map}
 use Rattle.machine_model.proofs.JobLaws.{alike_self}
 

@@ -1,6 +1,6 @@
 -- Each step of the owner of the supervisor is a step of the outline, where it finds what its actions ask; and so each
 -- step of the machine is.
-use Rattle.machine_model.proofs.Laws.{◌≡◌, ◌≢◌, ◌≤◌, ℕ, zero, suc, Bool, true, false, not, cond, eqb, List, [], ◌∷◌, length, position, count_by, Option, Some, None, is_some, get_or, refl, sym, ap, subst, ◌∙◌, inl, inr, arith, ◌-◌, position_or_len, cases_lt, Decides-ltb, eqb_tells, get_or_past, position-Some, fails_before_first, Command, What, first_off_chain, hand_past, place_of, table_of, next_out, Transfer, Mover, Aim, Phase, State, Owner, or_zero, no_processor, is_due, next_command, processor_at, cpu_at, process_at, frames_of_owner, frames_from, trailers_in, action_of, is_over, Outcome, after, turn_of, with_faults, with_store, deactivation_begun, segment_taken, took, write_failed, committed, committed_at, Moved, Runner, no_runner, Stage, Look, Copying, dues, Works, rule_of, IsIn, JobStep, Step, works, AreOf, CanEmpty, around, stage_of, outline_of, Foresees, IsLook, KeepsLink, MayAnswer, MayEmpty, What as what, Aim as aim, Phase as phase, Action, ForTransfer, clear_or, copy_or_commit, finish_of, go_on_with, look_of, once_cleared, own_or_run, run_process, transfer_or, Action as act, ◌||◌, list_any, Processor, ForClear, has_process, is_empty, Ended, WaitsFor, IsEnded, ends, awaits_clear, awaits_transfer, bare, work_of, and_parts, not_true, Frame as frame, outline_frame_in as frame_in, by_end, count_cons, at_outline, is_owner, seen_due, outline_reads_map_at as map_at, seen_online, seen_running, clear_outlined, online_outlined, answer_outlined, commit_outlined, create_outlined, failed_outlined, running_at, activate_outlined, connect_outlined, in_job, in_look, deactivate_at_once_outlined, deactivate_outlined, eviction_outlined, give_up_outlined, in_stage, page_outlined, start_outlined, copy_failed_outlined, copy_outlined, move_outlined, begin_outlined, first_false, second_false}
+use Rattle.machine_model.proofs.Laws.{◌≡◌, ◌≢◌, ◌≤◌, ℕ, zero, suc, Bool, true, false, not, cond, eqb, List, [], ◌∷◌, length, position, count_by, Option, Some, None, is_some, get_or, refl, sym, ap, subst, ◌∙◌, inl, inr, arith, ◌-◌, position_or_len, cases_lt, Decides-ltb, eqb_tells, get_or_past, position-Some, fails_before_first, Command, What, first_off_chain, hand_past, place_of, table_of, next_out, Transfer, Mover, Aim, Phase, State, Owner, or_zero, no_processor, is_due, next_command, processor_at, cpu_at, process_at, frames_of_owner, frames_from, trailers_in, action_of, is_over, Outcome, after, turn_of, with_faults, with_store, deactivation_begun, segment_taken, write_failed, committed, committed_at, Moved, Runner, no_runner, Stage, Look, Copying, dues, Works, rule_of, IsIn, JobStep, Step, works, AreOf, CanEmpty, around, stage_of, outline_of, Foresees, IsLook, KeepsLink, MayAnswer, MayEmpty, What as what, Aim as aim, Phase as phase, Action, ForTransfer, clear_or, copy_or_commit, finish_of, go_on_with, look_of, once_cleared, own_or_run, run_process, transfer_or, Action as act, list_any, Processor, ForClear, has_process, is_empty, Ended, WaitsFor, IsEnded, ends, awaits_clear, awaits_transfer, bare, work_of, and_parts, not_true, Frame as frame, outline_frame_in as frame_in, by_end, count_cons, at_outline, is_owner, seen_due, outline_reads_map_at as map_at, seen_online, seen_running, clear_outlined, online_outlined, answer_outlined, commit_outlined, create_outlined, failed_outlined, running_at, activate_outlined, connect_outlined, in_job, in_look, deactivate_at_once_outlined, deactivate_outlined, eviction_outlined, give_up_outlined, in_stage, page_outlined, start_outlined, copy_failed_outlined, copy_outlined, move_outlined, begin_outlined, first_false, second_false}
 use Rattle.machine_model.proofs.OutlineTake.{evict_outlined, signal_outlined, take_away_outlined, take_segment_outlined, took_like, took_owner}
 use Rattle.machine_model.proofs.OutlineStep.{Goal, IsAtRest, clears_rule, comes_rule, reads_rule, run_goal, transfer_goal, works_seen}
 

@@ -1,5 +1,5 @@
 -- Once a page has left its frame, just that page may be stored no more, and no volume has fewer free records.
-use Rattle.machine_model.proofs.Laws.{◌≡◌, ◌≢◌, ℕ, zero, suc, Bool, true, false, ◌&&◌, is_some, List, [], ◌∷◌, get_or, set, Option, Some, None, ◌⊎◌, inl, inr, refl, sym, ap, ◌∙◌, ◌≤◌, arith, cond, count_by, eqb, le_refl, length, eqb_tells, length-set, count_by-le-length, sum_by-cons, volume_in, is_full, record_at, records_in, with_record, Home, Left, is_filed_at, record_of, words_in, flags_in, vtoc_in, home_of, is_filed, is_there, is_going_frame, full_then, stored_then, seen, left_of, page_in, with_left, Keeps, lacks_record, outline_of, home_in, shown, State, Owner, frame_use, read_use, bound_page, has_head, not_both, VtocEntry as Entry, vtoc_entry_at as entry_at, Left as left, tied_uid_at as uid_at, FinishingMayRelease as MayRelease, finishing_page_of as page_of, outline_frame_in as frame_in, Frame as frame, position_or_len, Frame, store_frame, has_record, word_of, names, is_here, is_of, bare, is_active, page_is, false_from_ne_true, map_list, any_at, some_within, outline_reads_map_at as map_at, found, stored_is}
+use Rattle.machine_model.proofs.Laws.{◌≡◌, ◌≢◌, ℕ, zero, suc, Bool, true, false, ◌&&◌, is_some, List, [], ◌∷◌, get_or, set, Option, Some, None, ◌⊎◌, inl, inr, refl, sym, ap, ◌∙◌, ◌≤◌, arith, cond, count_by, eqb, le_refl, length, eqb_tells, length-set, count_by-le-length, sum_by-cons, volume_in, is_full, record_at, records_in, with_record, Home, Left, is_filed_at, record_of, words_in, flags_in, vtoc_in, home_of, is_filed, is_there, is_going_frame, full_then, stored_then, seen, left_of, page_in, with_left, Keeps, lacks_record, outline_of, home_in, State, Owner, frame_use, read_use, bound_page, has_head, not_both, VtocEntry as Entry, vtoc_entry_at as entry_at, Left as left, tied_uid_at as uid_at, FinishingMayRelease as MayRelease, finishing_page_of as page_of, outline_frame_in as frame_in, Frame as frame, position_or_len, Frame, store_frame, has_record, word_of, names, is_here, is_of, bare, is_active, page_is, false_from_ne_true, map_list, any_at, some_within, outline_reads_map_at as map_at, found, stored_is}
 
 -- ---- What the outline of a machine shows of a page: whether it is in a frame, and whether it is stored.
 

@@ -1,5 +1,5 @@
 -- What the owner's job has taken may come back: its pages one after the other, and then its descriptors.
-use Rattle.machine_model.proofs.Kept.{◌≡◌, ◌<◌, ℕ, suc, Bool, true, false, ◌||◌, List, [], ◌∷◌, length, Option, Some, None, inr, refl, sym, ap, subst, ◌∙◌, length-set, Frame, bound_page, frame_at, is_bound, Ptw, frame_in, Sdw, leads, leads_at, place_of, sdws_at, word_of, has, CutDescriptor, page_at, AreApart, AreDistinct, has_cut, names, seen, here_if, with_here, with_relink, AreThere, HadRights, Keeps, cut_of_owner, descriptor_of, frames_of_owner, IsLeaving, IsRelinkable, MayComeBack, MayRelink, with_all_here, is_cut_at, State, Storage, AreNumbered, IsWorking, has_head, has_tail, not_both, or_parts, Frame as frame, Ptw as ptw, Sdw as sdw, jobs_page_or_zero as page_or_zero, active_place, going_word, map_list, cut_at_same, by_places, descriptors_put, not_null, words_put, relink_there, or_true}
+use Rattle.machine_model.proofs.Kept.{◌≡◌, ◌<◌, ℕ, suc, true, false, List, [], ◌∷◌, length, Option, Some, None, inr, refl, sym, ap, subst, ◌∙◌, length-set, Frame, bound_page, frame_at, is_bound, Ptw, frame_in, Sdw, leads, leads_at, place_of, sdws_at, word_of, has, CutDescriptor, page_at, AreApart, AreDistinct, has_cut, names, seen, here_if, with_here, with_relink, AreThere, HadRights, Keeps, cut_of_owner, descriptor_of, frames_of_owner, IsLeaving, IsRelinkable, MayComeBack, MayRelink, with_all_here, is_cut_at, State, Storage, AreNumbered, IsWorking, has_head, has_tail, not_both, or_parts, Frame as frame, Ptw as ptw, Sdw as sdw, jobs_page_or_zero as page_or_zero, active_place, going_word, map_list, cut_at_same, by_places, descriptors_put, not_null, words_put, relink_there, or_true}
 
 -- ---- pages
 

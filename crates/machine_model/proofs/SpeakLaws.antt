@@ -1,5 +1,5 @@
 -- A processor speaks for its process: what the flat store and custody ask of the answer to its next command.
-use Rattle.machine_model.proofs.Basics.{◌≡◌, ◌<◌, ℕ, Bool, true, false, not, ◌||◌, ◌&&◌, eqb, length, Option, Some, None, inl, inr, refl, sym, ap, ◌∙◌, eqb_tells, command_at, commands_of, reference_of, Command, Reference, Reply, reply_to_command, takes_effect, IsAnswer, is_turn, progress_of, refused_free, is_refusal, MayAnswerBy, is_word_or_done, IsRun, AllCome, seen, IsMachine, flat_of, next_command, processor_at, run_at, HasTurn, MayRun, shown, State, Reply as reply, ForeseenComes as Comes, or_true}
+use Rattle.machine_model.proofs.Basics.{◌≡◌, ◌<◌, ℕ, Bool, true, false, not, ◌&&◌, eqb, length, Option, Some, None, inl, inr, refl, sym, ap, ◌∙◌, eqb_tells, command_at, commands_of, reference_of, Command, Reference, Reply, reply_to_command, takes_effect, IsAnswer, is_turn, progress_of, refused_free, is_refusal, MayAnswerBy, is_word_or_done, IsRun, AllCome, seen, IsMachine, flat_of, next_command, processor_at, run_at, HasTurn, MayRun, shown, State, Reply as reply, ForeseenComes as Comes, or_true}
 use Rattle.machine_model.proofs.TellKept.{CanTell}
 
 -- A processor has a process that goes on, and this is its next command.

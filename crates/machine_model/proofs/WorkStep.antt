@@ -1,5 +1,5 @@
 -- After each action the owner's job rests on what it rested on, or has another.
-use Rattle.machine_model.proofs.StepBasics.{◌≡◌, ◌≢◌, ℕ, Bool, true, false, not, ◌&&◌, cond, eqb, is_some, List, [], ◌∷◌, ◌++◌, set, Option, Some, None, ◌⊎◌, inl, inr, refl, sym, ap, subst, ◌∙◌, get_or-set_other, get_or-set_same, length-append, ◌≤◌, ◌+◌, arith, length, Mover, frame_at, Bound, Free, CutDescriptor, IsMovedFor, MovesIn, tables_of, move_begun, mover_to, moving, page_copied, past_page, with_copy, with_move, frames_of_owner, ◌%◌, Reference, referred, word_put, HasNoInferior, uid_at, alters, new_word, leaving_if, phase_signalled, with_choice, with_left, old_word, command_at, Command, What, Entry, Reply, Node, node_in, Transfer, Left, words_in, Segment, AccountMaps, Plain, is_for, IsUnread, list_any, first_off_chain, hand_past, is_stored, word_reply, is_stored-without, is_filed, superior_in, Phase, Processor, Run, any_page, Outcome, after, committed_at, holding, seen, deactivation_begun, emptied, entries_left, eviction_begun, left_of, owner_signalled, page_done, page_in, segment_taken, signalled, took, victim_taken, with_hand_moved, without_first_frame, Keeps, IsMachine, cpu_at, cut_of_owner, flat_of, frame_reading, frames_from, is_active, next_command, no_processor, no_run, or_zero, process_at, run_at, trailers_in, without_left, Owner, State, Storage, fault_told, frame_lost, looking, pages_after, told, transfer_failed, transferred, with_faults, with_pages, with_store, TakenWhole, goes_in, going_for, GoesJust, IsTakenBy, TakenIn, AreNumbered, OwnsFew, FailsIn, IsLeaf, IsWorking, MayFailBy, TakesSome, append_assoc, some_same, What as what, Entry as entry, Reply as reply, Left as left, Ptw as ptw, FrameUse as frame, Aim as aim, Phase as phase, Action, Action as act, eqb_self, Aim, and-false, by_end, LeadsToSegment, length_stands, leaf_inferiors, victim_leaf, within_by, FindsActive, FindsFull, FindsVictim, active_at, IsNoOwner, HasTakenFrames, LooksLike, took_like, took_owner, stands_on, IsIdle, left_flat, cut_less, none_some, started_spares, whole_idle, hand_kept, IsMine, about_fails, length_fails, page_fails, AllSpare, IsLess, fails_in_less, fails_less, whole_on, frame_less, moved_on, moves_in_on, past_moved, referred_less, same_less, unread_less, LeavesMove, NoneOut, word_out, AllStay, LeavesTaken, just_on, started_free, taken_in, frames_from_few, trailers_few, IsLooking, IsMoving, told_seats, segment_takes, begun_whole, ArePairs}
+use Rattle.machine_model.proofs.StepBasics.{◌≡◌, ◌≢◌, ℕ, Bool, true, false, not, ◌&&◌, cond, eqb, is_some, List, [], ◌∷◌, ◌++◌, set, Option, Some, None, ◌⊎◌, inl, inr, refl, sym, ap, subst, ◌∙◌, get_or-set_other, get_or-set_same, length-append, ◌≤◌, ◌+◌, arith, length, Mover, frame_at, Bound, Free, CutDescriptor, IsMovedFor, MovesIn, tables_of, move_begun, mover_to, moving, page_copied, with_copy, with_move, frames_of_owner, ◌%◌, Reference, referred, word_put, HasNoInferior, uid_at, alters, new_word, leaving_if, phase_signalled, with_choice, with_left, old_word, command_at, Command, What, Entry, Reply, Node, node_in, Transfer, Left, words_in, Segment, AccountMaps, Plain, is_for, IsUnread, list_any, first_off_chain, hand_past, is_stored, word_reply, is_stored-without, is_filed, superior_in, Phase, Processor, Run, any_page, Outcome, after, committed_at, holding, seen, deactivation_begun, emptied, entries_left, eviction_begun, left_of, owner_signalled, page_done, page_in, segment_taken, signalled, took, victim_taken, with_hand_moved, without_first_frame, Keeps, IsMachine, cpu_at, cut_of_owner, flat_of, frame_reading, frames_from, is_active, next_command, no_processor, no_run, or_zero, process_at, run_at, trailers_in, without_left, Owner, State, Storage, fault_told, frame_lost, looking, pages_after, told, with_faults, with_pages, with_store, TakenWhole, goes_in, going_for, GoesJust, IsTakenBy, TakenIn, AreNumbered, OwnsFew, FailsIn, IsLeaf, IsWorking, MayFailBy, TakesSome, append_assoc, some_same, What as what, Entry as entry, Reply as reply, Left as left, Ptw as ptw, FrameUse as frame, Aim as aim, Phase as phase, Action, Action as act, eqb_self, Aim, and-false, by_end, LeadsToSegment, length_stands, leaf_inferiors, victim_leaf, within_by, FindsActive, FindsFull, FindsVictim, active_at, IsNoOwner, HasTakenFrames, LooksLike, took_like, took_owner, stands_on, IsIdle, left_flat, cut_less, none_some, started_spares, whole_idle, hand_kept, IsMine, about_fails, length_fails, page_fails, AllSpare, IsLess, fails_in_less, fails_less, whole_on, frame_less, moved_on, moves_in_on, past_moved, referred_less, same_less, unread_less, LeavesMove, NoneOut, word_out, AllStay, LeavesTaken, just_on, started_free, taken_in, frames_from_few, trailers_few, IsLooking, IsMoving, told_seats, segment_takes, begun_whole, ArePairs}
 use Rattle.machine_model.proofs.EmptyAsks.{hand_says, segment_inferiors, unread_any}
 use Rattle.machine_model.proofs.NumberLaws.{cut_signalled, less_few, signalled_few, took_few, took_numbered}
 
