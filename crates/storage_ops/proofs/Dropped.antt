@@ -1,10 +1,5 @@
 -- A page is stored no more, and its account is credited.
-use Rattle.storage_ops.proofs.Prelude.{◌≡◌, ◌≢◌, ℕ, zero, suc, ◌+◌, ◌-◌, ◌≤◌, Bool, true, false, cond, eqb, List, [], ◌∷◌, get_or, length, map, Some, None, is_some, replicate, refl, sym, ap, ◌∙◌, arith, inl, inr, count_by, cases_eq, ne_eqb, nat_tests, sum_by-cons, get_or-map, Who, AccountMaps, Counts, Recounts, count_of, Node, taken_on, volume_in, ActiveSegs, Ptw, Here, Leaving, Null, Out, Home, KeepsCounts, entries, one_less, size, taken, used, dropped, unstored, ChangesStored, ChangesWords, is_filed_at, Plain, map_at, uid_at, Links, AreCounted, AreHoused, AreTaken, IsStore, home_of, is_filed, is_there, named_at, eq-eqb}
-use Rattle.storage_ops.proofs.Entries.{one_named, put_here, put_other, put_uid}
-use Rattle.seg_control.proofs.Homes.{home_cases}
-use Rattle.storage_ops.proofs.Homes.{filed_map}
-use Rattle.storage_ops.proofs.Lengths.{filed_there}
-use Rattle.storage_ops.proofs.Still.{tree_still}
+use Rattle.storage_ops.proofs.Prelude.{◌≡◌, ◌≢◌, ℕ, zero, suc, ◌+◌, ◌-◌, ◌≤◌, Bool, true, false, cond, eqb, List, [], ◌∷◌, get_or, length, map, is_some, refl, sym, ◌∙◌, arith, count_by, ne_eqb, sum_by-cons, get_or-map, AccountMaps, Counts, Recounts, count_of, Node, taken_on, volume_in, Ptw, Null, Home, KeepsCounts, entries, size, used, dropped, unstored, ChangesStored, Plain, home_of, is_filed, is_there, eq-eqb}
 
 -- ---- counts
 
@@ -42,15 +37,26 @@ pub record HasDropped (old now : Plain) (a b : AccountMaps) (u q : ℕ) : Type 0
   pub there : is_there a.nodes u ≡ true
   pub filed : is_filed a old.vtocs u q ≡ true
   pub vtocs : now.vtocs ≡ (unstored old (home_of a u) q).vtocs
-  pub words : ChangesWords old now u (home_of a u) q (replicate 1024 0)
   pub stored : ChangesStored old now (home_of a u) q false
-  pub taken : taken now.records ≡ one_less (taken old.records) (home_of a u).volume
   pub counts : KeepsCounts old now
 
 pub dropped_vtocs : (old : Plain) (home : Home) (q : ℕ) (w : Ptw)
     → (dropped old home q w).vtocs ≡ (unstored old home q).vtocs
 dropped_vtocs old home q Null = refl
 dropped_vtocs old home q _ = refl
+
+pub drop_done : {old now : Plain} {a b : AccountMaps} {u q : ℕ} {home : Home} (w : Ptw) → home ≡ home_of a u
+    → is_there a.nodes u ≡ true → is_filed a old.vtocs u q ≡ true → now ≡ dropped old home q w
+    → ChangesStored old now home q false → KeepsCounts old now → Recounts a b u (count_of a u - 1)
+    → HasDropped old now a b u q
+drop_done {old} {q} {home} w is there filed effect stored counts re = record {
+  accounts = re;
+  there = there;
+  filed = filed;
+  vtocs = cc (effect, dropped_vtocs old home q w, is);
+  stored = rw (← is) stored;
+  counts = counts;
+}
 
 kept_lengths : {X : Type 0} (f : List X → ℕ) (old new : List (List X)) (v : ℕ) → map f new ≡ map f old
     → f (get_or new v []) ≡ f (get_or old v [])
@@ -79,93 +85,3 @@ module _ {a b : AccountMaps} {u n : ℕ} (re : Recounts a b u n) where
 
   pub recount_here : count_of b u ≡ n
   recount_here = re.counts u ∙ rw (eq-eqb u u refl)
-
--- ---- what is true of the store
-
-module _ (old now : Plain) (a b : AccountMaps) (u q : ℕ) (d : HasDropped old now a b u q)
-    (housed : AreHoused a old.vtocs) where
-  home : Home
-  home = home_of a u
-
-  own : uid_at old.vtocs (home_of a u) ≡ Some u
-  own = housed.homes u d.there
-
-  uids : (other : Home) → uid_at now.vtocs other ≡ uid_at old.vtocs other
-  uids other = cc (d.vtocs, put_uid old.vtocs (home_of a u) q None own other)
-
-  apart : (v : ℕ) → v ≢ u → is_there a.nodes v ≡ true → home_of a v ≢ home_of a u
-  apart v ne t same = ne (cc (housed.homes v t, own))
-
-  maps : (v : ℕ) → v ≢ u → is_there a.nodes v ≡ true → map_at now.vtocs (home_of a v) ≡ map_at old.vtocs (home_of a v)
-  maps v ne t = cc (d.vtocs, put_other old.vtocs (home_of a u) q None own (home_of a v) (apart v ne t))
-
-  named : named_at now.vtocs (home_of a u) + 1 ≡ named_at old.vtocs (home_of a u)
-  named = rw (d.vtocs, put_here old.vtocs (home_of a u) q None own) (one_named (map_at old.vtocs (home_of a u)) q
-      (cc (filed_map old.vtocs (home_of a u) q, filed_there a old.vtocs u q d.there, d.filed)))
-
-  pub drop_housed : AreHoused b now.vtocs
-  drop_housed = record {
-    homes = λ v t. cc (
-      recount_homes d.accounts v,
-      uids (home_of a v),
-      housed.homes v (sym (recount_there d.accounts v) ∙ t),
-    );
-    there = λ h v e. recount_there d.accounts v ∙ housed.there h v (sym (uids h) ∙ e);
-    only = λ h v e. housed.only h v (sym (uids h) ∙ e) ∙ sym (recount_homes d.accounts v);
-  }
-
-  pub drop_counted : AreCounted a old.vtocs → AreCounted b now.vtocs
-  drop_counted h = record {
-    counts = λ v t. cc (recount_homes d.accounts v, counts v (sym (recount_there d.accounts v) ∙ t));
-    inside = λ v r t on. rw d.accounts.nodes (h.inside v r (sym (recount_there d.accounts v) ∙ t)
-        (was v r (cc (recount_homes d.accounts v))));
-    absent = λ v off. recount_other d.accounts v (λ is. cc (d.there, recount_there d.accounts v))
-        ∙ h.absent v (sym (recount_there d.accounts v) ∙ off);
-    most = λ v. rw d.accounts.nodes (h.most v);
-    flat = λ v. rw d.accounts.nodes (h.flat v);
-  }
-    where
-      counts : (v : ℕ) → is_there a.nodes v ≡ true → named_at now.vtocs (home_of a v) ≡ count_of b v
-      counts v t = elim (cases_eq v u) [
-        | inr ne ↦ ap (count_by is_some) (maps v ne t) ∙ h.counts v t ∙ sym (recount_other d.accounts v ne)
-        | inl same ↦ rw same (omega (arith, named, h.counts u d.there, recount_here d.accounts))
-      ]
-
-      was : (v r : ℕ) → is_filed_at now.vtocs (home_of a v) r ≡ true → is_filed_at old.vtocs (home_of a v) r ≡ true
-      was v r on = elim (cases_eq r q) [
-        | inr ne ↦ sym (d.stored.others (home_of a v) r (λ same at. ne at)) ∙ on
-        | inl at ↦ elim (home_cases (home_of a v) (home_of a u)) [
-          | inr ne ↦ sym (d.stored.others (home_of a v) r (λ same at. ne same)) ∙ on
-          | inl same ↦ cc (d.stored.here)
-        ]
-      ]
-
-  pub drop_taken : 1 ≤ count_of a u → AreTaken a old.records old.vtocs → AreTaken b now.records now.vtocs
-  unfolding one_less
-  drop_taken some h = record {
-    records = λ stored v counts.
-        let less = ap (λ (f : ℕ → ℕ). f v) d.taken in
-        let all = h.records (with_more u 1 stored) v (counts_more a b u 1 stored counts more) in
-        let sum = taken_more a.nodes u 1 stored v in
-        rw d.accounts.nodes (grind (arith, nat_tests));
-    entries = λ v. rw d.accounts.nodes (same_used v d.counts ∙ h.entries v);
-    short = λ v. rw (same_sizes v d.counts) (h.short v);
-  }
-    where
-      more : (s : ℕ) → count_of a s ≡ cond {A = ℕ} (eqb u s) 1 0 + count_of b s
-      more s = elim (cases_eq s u) [
-        | inr ne ↦ rw (ne_eqb u s (λ e. ne (sym e)), recount_other d.accounts s ne) (omega arith)
-        | inl same ↦ rw (same, eq-eqb u u refl, recount_here d.accounts) (omega arith)
-      ]
-
-pub store_dropped : {old now : Plain} {ast next : ActiveSegs} {links : Links} {a b : AccountMaps} {whos : List Who}
-    {u q : ℕ} → HasDropped old now a b u q → 1 ≤ count_of a u → next.entries ≡ ast.entries → next.sizes ≡ ast.sizes
-    → IsStore old ast links a whos → IsStore now next links b whos
-store_dropped {old} {now} {ast} {next} {a} {b} {u} {q} d some entries_same sizes h = record {
-  housed = drop_housed old now a b u q d h.housed;
-  counted = drop_counted old now a b u q d h.housed h.counted;
-  taken = drop_taken old now a b u q d h.housed some h.taken;
-  active = rw d.accounts.nodes (tree_still entries_same sizes h.active);
-  rights = rw (d.accounts.nodes, entries_same) h.rights;
-  known = rw d.accounts.next h.known;
-}

@@ -1,8 +1,5 @@
 -- Volumes of which nothing is in use, and a store of nothing at all.
-use Rattle.storage_ops.proofs.Prelude.{◌≡◌, ◌≢◌, ℕ, zero, suc, ◌+◌, ◌<◌, ◌≤◌, ◌%◌, Bool, true, false, cond, eqb, ◌&&◌, List, [], ◌∷◌, length, map, Option, Some, None, get_or, is_some, replicate, refl, sym, ap, ◌∙◌, arith, inl, inr, is_none, count_by, nat_le, nat_lt, slice_get, list_all, cases_lt, nat_tests, get_or-replicate, get_or_past, length-replicate, position-Some, sum_by-cons, Who, Plan, is_command, is_from, is_path, is_volume, VolumeLine, is_name, AccountMaps, Gains, root_alone, entries_on, taken_on, Store, at_first, boot, entries_in, sizes_in, root_of, VtocEntry, entry_at, least_free_entry, record_at, records_in, no_records, in_use, ActiveSegs, uid_in_place, uid_in, Home, Plain, AreFiled, flags_in, uid_at, vtoc_in, size, Links, kst_at, AreAtRest, AreFresh, IsStore, Shows, Storage, is_filed, picture, and_parts, all_same, eq-eqb, Entry}
-use Rattle.script.specs.declared.commands.Command.TheVariants as command
-use Rattle.vtoc.specs.Vtoc.{uid_of}
-use Rattle.known_segs.specs.Known.{uid_of as known_uid}
+use Rattle.storage_ops.proofs.Prelude.{◌≡◌, ◌≢◌, ℕ, zero, suc, ◌+◌, ◌<◌, ◌≤◌, ◌%◌, Bool, true, false, cond, eqb, ◌&&◌, List, [], ◌∷◌, length, map, Option, Some, None, get_or, is_some, replicate, refl, sym, ap, ◌∙◌, arith, inl, inr, is_none, count_by, nat_le, nat_lt, slice_get, list_all, cases_lt, nat_tests, get_or-replicate, get_or_past, length-replicate, position-Some, sum_by-cons, Who, Plan, is_command, is_from, is_path, is_volume, VolumeLine, is_name, AccountMaps, Gains, root_alone, entries_on, taken_on, Store, at_first, boot, entries_in, sizes_in, root_of, VtocEntry, entry_at, least_free_entry, record_at, records_in, no_records, in_use, ActiveSegs, uid_in_place, uid_in, Home, Plain, AreFiled, flags_in, uid_at, vtoc_in, size, Links, kst_at, AreAtRest, AreFresh, IsStore, Shows, Storage, is_filed, picture, and_parts, all_same, eq-eqb, Entry, Command as command, Vtoc_uid_of as uid_of, uid_of as known_uid}
 
 -- ---- volumes of which nothing is used
 

@@ -1,7 +1,5 @@
 -- Stored pages from one on, and the length of a segment.
-use Rattle.storage_ops.proofs.Prelude.{◌≡◌, ◌≢◌, ℕ, ◌<◌, ◌≤◌, Bool, true, false, cond, eqb, List, Option, Some, None, Ok, is_some, refl, sym, ap, ◌∙◌, arith, inl, inr, nat_le, cases_Bool, cases_eq, cases_lt, ne_eqb, nat_tests, Who, Plan, AccountMaps, Changes, Node, node_in, pool_of, with_node, has_segment, segment_at, is_stored, is_stored_from, after_length, length_reply, Store, none_from, stored_from, record_at, ActiveSegs, uid_in_place, Home, Plain, is_filed_at, vtoc_in, Links, IsInactive, AreCounted, IsStore, Shows, Storage, home_of, is_filed, is_there, pages_in, pages_of, no_directory, length_told, found_uid, Keeps, keeps_length, keeps_one, eq-eqb}
-use Rattle.book.specs.declared.replies.Reply.TheVariants as reply
-use Rattle.vtoc.specs.Vtoc.{Entry}
+use Rattle.storage_ops.proofs.Prelude.{◌≡◌, ◌≢◌, ℕ, ◌<◌, ◌≤◌, Bool, true, false, cond, eqb, List, Option, Some, None, Ok, is_some, refl, sym, ap, ◌∙◌, arith, inl, inr, nat_le, cases_Bool, cases_eq, cases_lt, ne_eqb, nat_tests, Who, Plan, AccountMaps, Changes, Node, node_in, pool_of, with_node, has_segment, segment_at, is_stored, is_stored_from, after_length, length_reply, Store, none_from, stored_from, record_at, ActiveSegs, uid_in_place, Home, Plain, is_filed_at, vtoc_in, Links, IsInactive, AreCounted, IsStore, Shows, Storage, home_of, is_filed, is_there, pages_in, pages_of, no_directory, length_told, found_uid, Keeps, keeps_length, keeps_one, eq-eqb, Reply as reply, VtocEntry as Entry}
 use Rattle.storage_ops.proofs.Alike.{active_alike, alike_changed, housed_alike, map_node, node_map, rights_alike, taken_alike}
 use Rattle.storage_ops.proofs.Changed.{shown_changed}
 use Rattle.storage_ops.proofs.Held.{tree_held}

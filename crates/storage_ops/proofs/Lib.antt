@@ -1,4 +1,5 @@
 mod Prelude
+mod Laws
 pub mod Alike
 pub mod ByDescriptor
 pub mod ChainDown

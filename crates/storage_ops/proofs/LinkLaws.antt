@@ -1,6 +1,5 @@
 -- Descriptors are connected, with the rights of their processes.
-use Rattle.storage_ops.proofs.Prelude.{◌≡◌, ℕ, suc, ◌<◌, List, [], ◌∷◌, length, Some, get_or, set, refl, sym, ap, ◌∙◌, arith, inl, inr, cases_eq, get_or-set_other, Mode, Who, AccountMaps, access_of, Node, node_in, Sdw, Fault, Present, sdw_at, ActiveSegs, uid_in_place, Plain, Links, sdws_at, linked, reconnected, pair_at, IsRight, IsStore, who_at}
-use Rattle.mnames.specs.declared.modes.Mode.TheVariants as mode
+use Rattle.storage_ops.proofs.Prelude.{◌≡◌, ℕ, suc, ◌<◌, List, [], ◌∷◌, length, Some, get_or, set, refl, sym, ap, ◌∙◌, arith, inl, inr, cases_eq, get_or-set_other, Mode, Who, AccountMaps, access_of, Node, node_in, Sdw, Fault, Present, sdw_at, ActiveSegs, uid_in_place, Plain, Links, sdws_at, linked, reconnected, pair_at, IsRight, IsStore, who_at, Mode as mode}
 use Rattle.storage_ops.proofs.Known.{set_told}
 
 same_place : {p q m n : ℕ} {x y : Mode} → ◌≡◌ {A = Sdw} (Present p x m) (Present q y n) → (p ≡ q) × (x ≡ y) × (m ≡ n)

@@ -1,6 +1,5 @@
 -- What is known of a page of an active segment: its home, its page table, and whether the file map names it.
-use Rattle.storage_ops.proofs.Prelude.{◌≡◌, ℕ, zero, suc, ◌+◌, ◌^◌, ◌<◌, ◌≤◌, Bool, true, false, cond, eqb, not, List, [], ◌∷◌, length, Option, Some, None, get_or, is_some, refl, sym, ap, ◌∙◌, arith, inl, inr, count_by, nat_le, cases_Bool, cases_lt, nat_tests, get_or_past, sum_by-cons, Who, AccountMaps, count_of, Node, has_directory, node_in, pool_for, pool_of, has_segment, Ptw, Entry, ActiveSegs, IsActive, table_at, uid_in_place, Plain, is_filed_at, has_record, map_at, Links, place_of, table_of, word_of, IsKept, field_found, IsStore, home_of, is_there, pages_in, pages_of}
-use Rattle.active_segs.specs.Active.{IsTree}
+use Rattle.storage_ops.proofs.Prelude.{◌≡◌, ℕ, zero, suc, ◌+◌, ◌^◌, ◌<◌, ◌≤◌, Bool, true, false, cond, eqb, not, List, [], ◌∷◌, length, Option, Some, None, get_or, is_some, refl, sym, ap, ◌∙◌, arith, inl, inr, count_by, nat_le, cases_Bool, cases_lt, nat_tests, get_or_past, sum_by-cons, Who, AccountMaps, count_of, Node, has_directory, node_in, pool_for, pool_of, has_segment, Ptw, Entry, ActiveSegs, IsActive, table_at, uid_in_place, Plain, is_filed_at, has_record, map_at, Links, place_of, table_of, word_of, IsKept, field_found, IsStore, home_of, is_there, pages_in, pages_of, Active_IsTree as IsTree}
 use Rattle.storage_ops.proofs.Homes.{filed_map}
 use Rattle.storage_ops.proofs.Lengths.{filed_there}
 use Rattle.storage_ops.proofs.NodeLaws.{found_there}

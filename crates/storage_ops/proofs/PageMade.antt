@@ -1,12 +1,11 @@
 -- A page of a segment is made, with one word in it, and is stored from then on.
-use Rattle.storage_ops.proofs.Prelude.{◌≡◌, ℕ, ◌+◌, ◌<◌, ◌/◌, Bool, true, false, cond, eqb, ◌&&◌, ◌||◌, List, Some, refl, replicate, set, sym, ap, ◌∙◌, arith, inl, inr, count_by, cases_eq, eq-eqb, ne_eqb, length-replicate, Who, Plan, AccountMaps, Counts, Recounts, count_of, is_stored, with_stored, Store, count_with, is_stored-with, once_with, ActiveSegs, IsActive, Here, Null, Home, Plain, plain, KeepsCounts, one_more, taken, created, next_record, ChangesStored, ChangesWords, is_filed_at, words_at, has_record, uid_at, Links, word_of, worded, IsKept, page_made, AreHoused, IsStore, Shows, Storage, home_of, is_filed, is_there, named_at, pages_in, picture, eqb_turned}
-use Rattle.storage_ops.proofs.Dropped.{recount_here, recount_other, same_entries, same_sizes}
-use Rattle.storage_ops.proofs.Entries.{map_put, put_other, put_uid}
+use Rattle.storage_ops.proofs.Prelude.{◌≡◌, ℕ, ◌+◌, ◌<◌, ◌/◌, Bool, true, false, cond, eqb, eqb-true, ◌&&◌, ◌||◌, List, Some, refl, replicate, set, sym, ap, ◌∙◌, arith, inl, inr, cases_eq, eq-eqb, ne_eqb, length-replicate, Who, Plan, AccountMaps, Counts, Recounts, count_of, is_stored, with_stored, Store, count_with, is_stored-with, once_with, ActiveSegs, IsActive, Here, Null, Home, Plain, plain, KeepsCounts, one_more, taken, created, next_record, ChangesStored, ChangesWords, is_filed_at, words_at, has_record, uid_at, Links, word_of, worded, IsKept, page_made, AreHoused, IsStore, Shows, Storage, home_of, is_filed, is_there, named_at, pages_in, picture, eqb_turned, ◌-◌, ◌%◌, get_or, without_pages, all_same}
+use Rattle.storage_ops.proofs.Dropped.{recount_here, recount_other, HasDropped}
+use Rattle.storage_ops.proofs.Entries.{put_other, put_uid}
 use Rattle.storage_ops.proofs.PageFacts.{filed_word}
-use Rattle.storage_ops.proofs.PageMoves.{named_more, records_more, store_recounted, weight}
+use Rattle.storage_ops.proofs.PageMoves.{filed_changed, named_more, records_more, shown_dropped, shown_recounted, store_recounted, weight}
 use Rattle.storage_ops.proofs.Paged.{active_home, active_there, picture_none, picture_there, word_filed}
 use Rattle.storage_ops.proofs.Lengths.{filed_there}
-use Rattle.storage_ops.proofs.PageLeft.{filed_changed, filed_recounted, picture_recounted}
 use Rattle.storage_ops.proofs.PageWords.{IsPageChanged, words_told}
 
 -- ---- what is stored
@@ -99,42 +98,50 @@ pub shown_made : {D : Type 0} {drive : D → List (List ℕ)} {plan : Plan} {s :
     → ChangesWords (plain drive t.segs.pages) (plain drive u.segs.pages) uid (home_of t.accounts uid) p
     (set (replicate 1024 0) at w) → KeepsCounts (plain drive t.segs.pages) (plain drive u.segs.pages)
     → Shows drive plan s t → Shows drive plan (page_made s uid p at w) u
-shown_made {drive} {s} {t} {u} {uid} {p} {at} w kept store active off within change whos links stored words keeps h = (
-    let old = plain drive t.segs.pages in
+shown_made {drive} {s} {t} {u} {uid} {p} {at} w kept store active off within change whos links stored words keeps h =
     let there = active_there kept store active in
-    let zeros = zeros_null p kept store active off in
-    record {
-      tree = assumption (
-        h.tree.nodes ∙ sym change.nodes,
-        h.tree.next ∙ sym change.next,
-        counts_more t.accounts u.accounts uid p s.stored change (h.pages.stored uid p
-            ∙ (filed_there t.accounts t.segs.pages.volumes.vtocs uid p there ∙ filed_word kept store active p
-            ∙ ap has_record off)) h.tree.counts,
-      );
-      known = rw links h.known;
-      pages = record {
-        stored = λ v q. cc (
-          is_stored-with s.stored uid p v q,
-          h.pages.stored v q,
-          eqb_turned uid v,
-          eqb_turned p q,
-          or_cond (eqb v uid && eqb q p) (is_filed t.accounts t.segs.pages.volumes.vtocs v q),
-          filed_changed uid store.housed there stored v q,
-          filed_recounted change u.segs.pages.volumes.vtocs v q,
-        );
-        once = once_with s.stored uid p h.pages.once;
-        words = λ v o. words_told t.accounts (words_at old) (words_at (plain drive u.segs.pages)) uid p at w
-            (replicate 1024 0) (changed_words store.housed there zeros words)
-            (length-replicate {A = ℕ} 1024 0) within s.words h.pages.words v o
-            ∙ sym (rw (picture_recounted change (words_at (plain drive u.segs.pages)) v (o / 1024)));
-      };
-      script = record {
-        records = λ v. h.script.records v ∙ sym (same_sizes v keeps);
-        entries = λ v. h.script.entries v ∙ sym (same_entries old (plain drive u.segs.pages) v keeps);
-        whos = cc;
-      };
-    })
+    let filed = h.pages.stored uid p ∙ filed_there t.accounts t.segs.pages.volumes.vtocs uid p there
+    ∙ filed_word kept store active p ∙ ap has_record off in
+    shown_recounted change whos (ap (λ (x : Links). x.known) links) keeps
+    (counts_more t.accounts u.accounts uid p s.stored change filed h.tree.counts)
+    (once_with s.stored uid p h.pages.once) (λ v q. cc (
+      is_stored-with s.stored uid p v q,
+      h.pages.stored v q,
+      eqb_turned uid v,
+      eqb_turned p q,
+      or_cond (eqb v uid && eqb q p) (is_filed t.accounts t.segs.pages.volumes.vtocs v q),
+      filed_changed uid store.housed there stored v q,
+    ))
+    (words_told t.accounts (words_at (plain drive t.segs.pages)) (words_at (plain drive u.segs.pages)) uid p at w
+    (replicate 1024 0) (changed_words store.housed there (zeros_null p kept store active off) words)
+    (length-replicate {A = ℕ} 1024 0) within s.words h.pages.words) h
   where
     or_cond : (k filed : Bool) → (k || filed) ≡ cond k true filed
     or_cond true filed = refl
     or_cond false filed = refl
+
+-- a page is stored no more, and its words are zeros
+pub shown_zeroed : {D : Type 0} {drive : D → List (List ℕ)} {p : Plan} {s : Store} {t n : Storage D} {u q : ℕ}
+    → HasDropped (plain drive t.segs.pages) (plain drive n.segs.pages) t.accounts n.accounts u q
+    → AreHoused t.accounts t.segs.pages.volumes.vtocs → n.segs.links.known ≡ t.segs.links.known → n.whos ≡ t.whos
+    → ChangesWords (plain drive t.segs.pages) (plain drive n.segs.pages) u (home_of t.accounts u) q (replicate 1024 0)
+    → Shows drive p s t → Shows drive p (without_pages s u (λ r. eqb r q)) n
+shown_zeroed {drive} {s} {t} {n} {u} {q} d housed known whos zeros h =
+    shown_dropped d housed known whos (λ v o. by v o (eqb v u) (eqb (o / 1024) q) refl refl) h
+  where
+    now : ℕ → Home → ℕ → List ℕ
+    now = words_at (plain drive n.segs.pages)
+
+    by : (v o : ℕ) (x y : Bool) → eqb v u ≡ x → eqb (o / 1024) q ≡ y
+        → cond (x && y) 0 (s.words v o) ≡ get_or (picture t.accounts now v (o / 1024)) (o % 1024) 0
+    by v o true true e f = cc (
+      eqb-true v u e,
+      eqb-true (o / 1024) q f,
+      picture_there t.accounts now u q d.there,
+      zeros.here,
+      all_same {X = ℕ} 1024 (o % 1024) 0,
+    )
+    by v o true false e f =
+        cc (h.pages.words v o, other_words housed zeros v {q = o / 1024} (λ same at. cc (eq-eqb (o / 1024) q at)))
+    by v o false y e f =
+        cc (h.pages.words v o, other_words housed zeros v {q = o / 1024} (λ same at. cc (eq-eqb v u same)))

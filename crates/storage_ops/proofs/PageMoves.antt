@@ -1,10 +1,11 @@
 -- A page of a segment is stored, or is stored no more.
-use Rattle.storage_ops.proofs.Prelude.{◌≡◌, ◌≢◌, ℕ, ◌+◌, ◌-◌, ◌<◌, ◌≤◌, Bool, true, false, cond, eqb, List, [], ◌∷◌, length, Option, Some, None, get_or, is_some, refl, sym, ap, ◌∙◌, arith, inl, inr, count_by, cases_eq, eqb-true, ne_eqb, length-set, sum_by-cons, sum_by-set, Who, AccountMaps, Counts, Recounts, count_of, Node, taken_on, volume_in, VtocEntry, ActiveSegs, Home, Plain, KeepsCounts, entries, one_less, one_more, taken, is_filed_at, map_at, uid_at, Links, AreCounted, AreHoused, IsStore, home_of, is_there, named_at, pages_in, eqb_turned, eq-eqb}
-use Rattle.storage_ops.proofs.Dropped.{recount_here, recount_homes, recount_other, recount_there, same_sizes, same_used}
-use Rattle.storage_ops.proofs.Entries.{map_put, put_here}
+use Rattle.storage_ops.proofs.Prelude.{◌≡◌, ◌≢◌, ℕ, ◌+◌, ◌-◌, ◌<◌, ◌≤◌, Bool, true, false, cond, eqb, List, [], ◌∷◌, length, Option, Some, None, get_or, is_some, refl, sym, ap, ◌∙◌, arith, inl, inr, count_by, cases_eq, eqb-true, ne_eqb, length-set, sum_by-cons, sum_by-set, Who, AccountMaps, Counts, Recounts, count_of, Node, taken_on, volume_in, VtocEntry, ActiveSegs, Home, Plain, KeepsCounts, entries, one_less, one_more, taken, is_filed_at, map_at, uid_at, Links, AreCounted, AreHoused, IsStore, home_of, is_there, named_at, pages_in, eqb_turned, eq-eqb, ◌/◌, ◌%◌, not, ◌&&◌, Plan, is_stored, Store, counted_less, is_stored-without, once_without, ChangesStored, words_at, plain, Shows, Storage, is_filed, picture, IsOnce, without_stored}
+use Rattle.storage_ops.proofs.Dropped.{recount_here, recount_homes, recount_other, recount_there, same_sizes, same_used, HasDropped, same_entries}
+use Rattle.storage_ops.proofs.Entries.{map_put, put_here, put_other, put_uid}
 use Rattle.storage_ops.proofs.Homes.{filed_map}
 use Rattle.storage_ops.proofs.PageFacts.{within_some}
 use Rattle.storage_ops.proofs.Still.{tree_still}
+use Rattle.storage_ops.proofs.Lengths.{filed_there}
 
 -- ---- lists of stored pages, by their uids
 
@@ -217,3 +218,101 @@ module _ (old now : Plain) {a b : AccountMaps} {uid count : ℕ} (change : Recou
     rights = rw (change.nodes, entries) h.rights;
     known = rw change.next h.known;
   }
+
+-- a page is stored no more
+pub store_dropped : {old now : Plain} {ast next : ActiveSegs} {links : Links} {a b : AccountMaps} {whos : List Who}
+    {u q : ℕ} → HasDropped old now a b u q → 1 ≤ count_of a u
+    → taken now.records ≡ one_less (taken old.records) (home_of a u).volume → next.entries ≡ ast.entries
+    → next.sizes ≡ ast.sizes → IsStore old ast links a whos → IsStore now next links b whos
+store_dropped {old} {now} {a} {b} {u} {q} d some less entries sizes h =
+    let own = h.housed.homes u d.there in
+    let on = sym (filed_there a old.vtocs u q d.there) ∙ d.filed in
+    let named : named_at now.vtocs (home_of a u) + 1 ≡ named_at old.vtocs (home_of a u)
+    = rw d.vtocs (named_less old.vtocs (home_of a u) q own on) in
+    store_recounted old now d.accounts d.there (λ other. cc (d.vtocs, put_uid old.vtocs (home_of a u) q None own other))
+    (λ other ne. cc (d.vtocs, put_other old.vtocs (home_of a u) q None own other ne)) h.housed entries sizes d.counts
+    (omega (arith, h.counted.counts u d.there)) (λ r filed. elim (cases_eq r q) [
+      | inl same ↦ cc d.stored.here
+      | inr ne ↦ h.counted.inside u r d.there (sym (d.stored.others (home_of a u) r (λ s at. ne at)) ∙ filed)
+    ]) (records_less old.records now.records d.accounts some less h.taken.records) h
+
+-- ---- what is shown
+
+-- what is filed, where one page is or isn't from now on
+pub filed_changed : {a : AccountMaps} {old now : Plain} (uid : ℕ) {p : ℕ} {flag : Bool} → AreHoused a old.vtocs
+    → is_there a.nodes uid ≡ true → ChangesStored old now (home_of a uid) p flag
+    → (v q : ℕ) → is_filed a now.vtocs v q ≡ cond (eqb v uid && eqb q p) flag (is_filed a old.vtocs v q)
+unfolding is_filed
+filed_changed {a} {old} {now} uid {p} {flag} housed there change v q = by (is_there a.nodes v) refl
+  where
+    apart : is_there a.nodes v ≡ true → v ≢ uid → home_of a v ≢ home_of a uid
+    apart t ne same = ne (cc (housed.homes v t, housed.homes uid there))
+
+    by : (z : Bool) → is_there a.nodes v ≡ z → (z && is_filed_at now.vtocs (home_of a v) q)
+        ≡ cond (eqb v uid && eqb q p) flag (z && is_filed_at old.vtocs (home_of a v) q)
+    by false t = rw (ne_eqb v uid (λ e. cc there)) refl
+    by true t = elim (cases_eq v uid) [
+      | inr ne ↦ rw (ne_eqb v uid ne) (change.others (home_of a v) q (λ same page. apart t ne same))
+      | inl is ↦ elim (cases_eq q p) [
+        | inr ne ↦ rw (eq-eqb v uid is, ne_eqb q p ne) (change.others (home_of a v) q (λ same page. ne page))
+        | inl same ↦ rw (is, same, eq-eqb uid uid refl, eq-eqb p p refl) change.here
+      ]
+    ]
+
+-- nodes and homes are as before
+pub filed_recounted : {a b : AccountMaps} {uid count : ℕ} → Recounts a b uid count
+    → (vtocs : List (List (Option VtocEntry))) (u q : ℕ) → is_filed b vtocs u q ≡ is_filed a vtocs u q
+unfolding is_filed
+filed_recounted {a} {b} {uid} {count} change vtocs u q = cc (recount_there change u, recount_homes change u)
+
+pub picture_recounted : {a b : AccountMaps} {uid count : ℕ} → Recounts a b uid count
+    → (image : ℕ → Home → ℕ → List ℕ) (u q : ℕ) → picture b image u q ≡ picture a image u q
+unfolding picture
+picture_recounted {a} {b} {uid} {count} change image u q = cc (recount_there change u, recount_homes change u)
+
+-- the stored pages and the words of one segment are others, and its account counts otherwise
+pub shown_recounted : {D : Type 0} {drive : D → List (List ℕ)} {p : Plan} {s : Store} {t u : Storage D} {uid n : ℕ}
+    {stored : List (ℕ × ℕ)} {words : ℕ → ℕ → ℕ} → Recounts t.accounts u.accounts uid n → u.whos ≡ t.whos
+    → u.segs.links.known ≡ t.segs.links.known → KeepsCounts (plain drive t.segs.pages) (plain drive u.segs.pages)
+    → Counts u.accounts stored → IsOnce stored
+    → ((v q : ℕ) → is_stored stored v q ≡ is_filed t.accounts u.segs.pages.volumes.vtocs v q)
+    → ((v o : ℕ) → words v o
+    ≡ get_or (picture t.accounts (words_at (plain drive u.segs.pages)) v (o / 1024)) (o % 1024) 0)
+    → Shows drive p s t → Shows drive p (record s { words = words; stored = stored }) u
+shown_recounted {drive} {t} {u} change whos known keeps counts once filed words h = record {
+  tree = assumption (h.tree.nodes ∙ sym change.nodes, h.tree.next ∙ sym change.next, counts);
+  known = cc;
+  pages = record {
+    stored = λ v q. filed v q ∙ sym (filed_recounted change u.segs.pages.volumes.vtocs v q);
+    once = once;
+    words = λ v o. cc (words v o, picture_recounted change (words_at (plain drive u.segs.pages)) v (o / 1024));
+  };
+  script = record {
+    records = λ v. h.script.records v ∙ sym (same_sizes v keeps);
+    entries = λ v. h.script.entries v
+        ∙ sym (same_entries (plain drive t.segs.pages) (plain drive u.segs.pages) v keeps);
+    whos = cc;
+  };
+}
+
+-- a page is stored no more
+pub shown_dropped : {D : Type 0} {drive : D → List (List ℕ)} {p : Plan} {s : Store} {t n : Storage D} {u q : ℕ}
+    {words : ℕ → ℕ → ℕ} → HasDropped (plain drive t.segs.pages) (plain drive n.segs.pages) t.accounts n.accounts u q
+    → AreHoused t.accounts t.segs.pages.volumes.vtocs → n.segs.links.known ≡ t.segs.links.known → n.whos ≡ t.whos
+    → ((v o : ℕ) → words v o
+    ≡ get_or (picture t.accounts (words_at (plain drive n.segs.pages)) v (o / 1024)) (o % 1024) 0)
+    → Shows drive p s t
+    → Shows drive p (record s { words = words; stored = without_stored s.stored u (λ r. eqb r q) }) n
+shown_dropped {s} {t} {n} {u} {q} d housed known whos words h =
+    shown_recounted d.accounts whos known d.counts (counted_less (count_of t.accounts) (count_of n.accounts) s.stored u
+    q h.tree.counts h.pages.once (h.pages.stored u q ∙ d.filed) d.accounts.counts)
+    (once_without s.stored u (λ r. eqb r q) h.pages.once) (λ v r. cc (
+      is_stored-without s.stored u (λ x. eqb x q) v r,
+      h.pages.stored v r,
+      not_or (eqb v u && eqb r q) (is_filed t.accounts t.segs.pages.volumes.vtocs v r),
+      filed_changed u housed d.there d.stored v r,
+    )) words h
+  where
+    not_or : (x y : Bool) → (not x && y) ≡ cond x false y
+    not_or true y = refl
+    not_or false y = refl

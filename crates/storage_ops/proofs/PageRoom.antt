@@ -1,7 +1,5 @@
 -- Whether there is room for a page more of a segment: quota of its account, and a record of its volume.
-use Rattle.storage_ops.proofs.Prelude.{◌≡◌, ◌≢◌, ℕ, suc, ◌+◌, ◌*◌, ◌/◌, ◌%◌, Bool, true, false, cond, List, [], ◌∷◌, All, OnOk, length, Some, Result, Ok, Err, is_err, refl, ap, ◌∙◌, arith, count_by, ne_eqb, sum_by-cons, Plan, AccountMaps, Counts, Full, charge_answer, Node, account_of, after_reference, is_out_of_room, is_used_up, is_volume_full, room_reply, Store, known_uid, plain, is_full, done_or, page_made, is_spent, IsStore, Shows, ShowsTree, Storage}
-use Rattle.script.specs.declared.commands.RefKind.TheVariants as kind
-use Rattle.book.specs.declared.replies.Reply.TheVariants as reply
+use Rattle.storage_ops.proofs.Prelude.{◌≡◌, ◌≢◌, ℕ, suc, ◌+◌, ◌*◌, ◌/◌, ◌%◌, Bool, true, false, cond, List, [], ◌∷◌, All, OnOk, length, Some, Result, Ok, Err, is_err, refl, ap, ◌∙◌, arith, count_by, ne_eqb, sum_by-cons, Plan, AccountMaps, Counts, Full, charge_answer, Node, account_of, after_reference, is_out_of_room, is_used_up, is_volume_full, room_reply, Store, known_uid, plain, is_full, done_or, page_made, is_spent, IsStore, Shows, ShowsTree, Storage, RefKind as kind, Reply as reply}
 
 pub on_ok : {E P : Type 0} (r : Result (Unit {0}) E) → false ≡ is_err r → OnOk r P → P
 on_ok (Ok x) e p = p

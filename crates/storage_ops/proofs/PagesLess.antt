@@ -1,94 +1,12 @@
 -- What is shown once a page is stored no more, and once one is cut.
-use Rattle.storage_ops.proofs.Prelude.{◌≡◌, ℕ, zero, suc, ◌+◌, ◌-◌, ◌*◌, ◌/◌, ◌%◌, ◌<◌, ◌≤◌, Bool, true, false, cond, eqb, not, ◌&&◌, ◌++◌, ◌↔◌, IsTrue, List, [], ◌∷◌, get_or, length, take, Option, Some, None, is_some, All, replicate, set, refl, sym, ap, subst, ◌∙◌, arith, inl, inr, count_by, nat_le, position, position_or_len, cases_Bool, cases_lt, eq-eqb, eqb-true, common_steps, get_or-replicate, get_or_past, length-append, length-replicate, length-take, fails_before_first, same_Some, get_or-map, AreZero, Plan, Who, AccountMaps, Recounts, count_of, has_directory, has_segment, cleared, has_cleared, without_pages, is_stored, is_zero_page, Store, counted_less, get_cut, zero_words_told, is_stored-without, once_without, Core, bound_page, frame_at, is_bound, reads_of, Frame, Bound, Free, Started, VtocEntry, record_at, Home, ActiveSegs, IsActive, table_at, KeepsCounts, entries, one_less, size, taken, cut, dropped, Vols, ChangesStored, ChangesWords, changed_at, changed_page, is_binding, is_filed_at, words_at, words_held, words_of_page, Plain, binding_at, bindings, number_in, plain, words_in, IsTableOf, frame_of, has_record, is_away, is_out, map_at, vtoc_in, Ptw, Here, Leaving, Null, Out, Links, Control, table_of, word_of, worded, IsHomeOf, IsKept, Unstores, is_here, leaves, AreHoused, IsStore, ShowsPages, ShowsTree, Shows, Storage, home_of, is_filed, is_there, named_at, pages_in, picture, all_same, page_is}
-use Rattle.page_control.specs.Tied.{uid_in}
+use Rattle.storage_ops.proofs.Prelude.{◌≡◌, ℕ, zero, suc, ◌+◌, ◌-◌, ◌*◌, ◌/◌, ◌%◌, ◌<◌, ◌≤◌, Bool, true, false, cond, eqb, ◌&&◌, ◌++◌, ◌↔◌, IsTrue, List, [], ◌∷◌, get_or, length, take, Option, Some, None, All, replicate, set, refl, sym, ap, subst, ◌∙◌, arith, inl, inr, nat_le, position, cases_Bool, cases_lt, eq-eqb, eqb-true, common_steps, get_or-replicate, get_or_past, length-append, length-replicate, length-take, fails_before_first, same_Some, get_or-map, AreZero, Plan, Who, AccountMaps, Recounts, count_of, has_directory, has_segment, cleared, has_cleared, Store, get_cut, zero_words_told, Core, bound_page, frame_at, is_bound, reads_of, Frame, Bound, Free, VtocEntry, record_at, Home, ActiveSegs, IsActive, entries, size, cut, dropped, changed_at, changed_page, is_binding, is_filed_at, words_at, words_held, words_of_page, Plain, binding_at, bindings, number_in, plain, words_in, IsTableOf, frame_of, has_record, is_away, is_out, map_at, vtoc_in, Ptw, Leaving, Null, Out, Links, Control, table_of, word_of, worded, IsHomeOf, IsKept, Unstores, is_here, leaves, IsStore, ShowsPages, Shows, Storage, home_of, is_filed, is_there, picture, page_is, used, Tied_uid_in as uid_in, bound_from_page}
 use Rattle.storage_ops.proofs.Entries.{one_named}
-use Rattle.storage_ops.proofs.Dropped.{HasDropped, dropped_vtocs, recount_homes, recount_there, same_entries, same_sizes}
 use Rattle.storage_ops.proofs.Homes.{bound_of, filed_map}
 use Rattle.storage_ops.proofs.Lengths.{filed_there}
-use Rattle.storage_ops.proofs.Paged.{active_home, active_there, active_tie, filed_absent, picture_absent, picture_there, word_filed}
+use Rattle.storage_ops.proofs.Paged.{active_home, active_there, active_tie, picture_absent, picture_there, word_filed}
 use Rattle.storage_ops.proofs.Unstored.{bound_dropped, bound_none, none_bound, word_within, worded_here, unstores_still, worded_other, worded_table}
 use Rattle.storage_ops.proofs.PageFacts.{segment_of}
-use Rattle.page_control.proofs.Facts.{bound_from_page}
 use Rattle.page_control.proofs.Calls.{stored_away}
-
--- ---- a page is stored no more
-
-module _ {old now : Plain} {a b : AccountMaps} {u q : ℕ} (d : HasDropped old now a b u q)
-    (housed : AreHoused a old.vtocs) where
-  no_other : {v : ℕ} → is_there a.nodes v ≡ true → home_of a v ≡ home_of a u → v ≡ u
-  no_other {v} t homes = cc (housed.homes v t, housed.homes u d.there)
-
-  filed_else : (v r : ℕ) → (v ≡ u → r ≡ q → ⊥) → is_filed b now.vtocs v r ≡ is_filed a old.vtocs v r
-  filed_else v r apart = elim (cases_Bool (is_there a.nodes v)) [
-    | inl t ↦ filed_there b now.vtocs v r (recount_there d.accounts v ∙ t)
-        ∙ ap (λ (h : Home). is_filed_at now.vtocs h r) (recount_homes d.accounts v)
-        ∙ d.stored.others (home_of a v) r (λ homes at. apart (no_other t homes) at)
-        ∙ sym (filed_there a old.vtocs v r t)
-    | inr t ↦ filed_absent b now.vtocs v r (recount_there d.accounts v ∙ t) ∙ sym (filed_absent a old.vtocs v r t)
-  ]
-
-  filed_gone : is_filed b now.vtocs u q ≡ false
-  filed_gone = cc (filed_there b now.vtocs u q (recount_there d.accounts u ∙ d.there), recount_homes d.accounts u)
-
-  words_else : (v r : ℕ) → (v ≡ u → r ≡ q → ⊥) → picture b (words_at now) v r ≡ picture a (words_at old) v r
-  words_else v r apart = elim (cases_Bool (is_there a.nodes v)) [
-    | inl t ↦ picture_there b (words_at now) v r (recount_there d.accounts v ∙ t)
-        ∙ ap (λ (h : Home). words_at now v h r) (recount_homes d.accounts v)
-        ∙ d.words.others v (home_of a v) r (record { used = housed.homes v t; own = λ is. cc }) apart
-        ∙ sym (picture_there a (words_at old) v r t)
-    | inr t ↦ picture_absent b (words_at now) v r (recount_there d.accounts v ∙ t)
-        ∙ sym (picture_absent a (words_at old) v r t)
-  ]
-
-  words_gone : picture b (words_at now) u q ≡ replicate 1024 0
-  words_gone = cc (
-    picture_there b (words_at now) u q (recount_there d.accounts u ∙ d.there),
-    recount_homes d.accounts u,
-  )
-
-  pub pages_dropped : {s : Store} → ShowsPages s a old.vtocs (words_at old)
-      → ShowsPages (without_pages s u (λ r. eqb r q)) b now.vtocs (words_at now)
-  pages_dropped {s} h = record {
-    stored = λ v r. is_stored-without s.stored u (λ x. eqb x q) v r ∙ stored v r (eqb v u) (eqb r q) refl refl;
-    once = once_without s.stored u (λ r. eqb r q) h.once;
-    words = λ v o. words v o (eqb v u) (eqb (o / 1024) q) refl refl;
-  }
-    where
-      stored : (v r : ℕ) (x y : Bool) → eqb v u ≡ x → eqb r q ≡ y
-          → (not (x && y) && is_stored s.stored v r) ≡ is_filed b now.vtocs v r
-      stored v r true true e f = rw (eqb-true v u e, eqb-true r q f) (sym filed_gone)
-      stored v r true false e f = h.stored v r ∙ sym (filed_else v r (λ same at. cc (eq-eqb r q at)))
-      stored v r false y e f = h.stored v r ∙ sym (filed_else v r (λ same at. cc (eq-eqb v u same)))
-
-      words : (v o : ℕ) (x y : Bool) → eqb v u ≡ x → eqb (o / 1024) q ≡ y
-          → cond (x && y) 0 (s.words v o) ≡ get_or (picture b (words_at now) v (o / 1024)) (o % 1024) 0
-      words v o true true e f =
-          cc (eqb-true v u e, eqb-true (o / 1024) q f, words_gone, all_same {X = ℕ} 1024 (o % 1024) 0)
-      words v o true false e f = cc (h.words v o, words_else v (o / 1024) (λ same at. cc (eq-eqb (o / 1024) q at)))
-      words v o false y e f = cc (h.words v o, words_else v (o / 1024) (λ same at. cc (eq-eqb v u same)))
-
-pub shown_dropped : {D : Type 0} {drive : D → List (List ℕ)} {p : Plan} {s : Store} {t n : Storage D} {u q : ℕ}
-    → HasDropped (plain drive t.segs.pages) (plain drive n.segs.pages) t.accounts n.accounts u q
-    → AreHoused t.accounts t.segs.pages.volumes.vtocs → n.segs.links.known ≡ t.segs.links.known → n.whos ≡ t.whos
-    → Shows drive p s t → Shows drive p (without_pages s u (λ r. eqb r q)) n
-shown_dropped {drive} {s} {t} {n} {u} {q} d housed known whos h =
-    let old = plain drive t.segs.pages in
-    let now = plain drive n.segs.pages in
-    record {
-      tree = assumption (
-        h.tree.nodes ∙ sym d.accounts.nodes,
-        h.tree.next ∙ sym d.accounts.next,
-        counted_less (count_of t.accounts) (count_of n.accounts) s.stored u q h.tree.counts h.pages.once
-            (h.pages.stored u q ∙ d.filed) d.accounts.counts,
-      );
-      known = cc;
-      pages = pages_dropped d housed h.pages;
-      script = record {
-        records = λ v. h.script.records v ∙ sym (same_sizes v d.counts);
-        entries = λ v. h.script.entries v ∙ sym (same_entries old now v d.counts);
-        whos = cc;
-      };
-    }
 
 -- ---- the words of a page in a frame
 
@@ -249,22 +167,6 @@ may_drop {now} {ast} {links} {a} {whos} {u} {q} k h active away = record {
 
     filed_at : is_filed_at now.vtocs (home_of a u) q ≡ true
     filed_at = sym (filed_there a now.vtocs u q there) ∙ filed
-
-pub drop_done : {old now : Plain} {a b : AccountMaps} {u q : ℕ} {home : Home} (w : Ptw) → home ≡ home_of a u
-    → is_there a.nodes u ≡ true → is_filed a old.vtocs u q ≡ true → now ≡ dropped old home q w
-    → ChangesWords old now u home q (replicate 1024 0) → ChangesStored old now home q false
-    → taken now.records ≡ one_less (taken old.records) home.volume → KeepsCounts old now
-    → Recounts a b u (count_of a u - 1) → HasDropped old now a b u q
-drop_done {old} {q} {home} w is there filed effect words stored less counts re = record {
-  accounts = re;
-  there = there;
-  filed = filed;
-  vtocs = cc (effect, dropped_vtocs old home q w, is);
-  words = rw (← is) words;
-  stored = rw (← is) stored;
-  taken = cc;
-  counts = counts;
-}
 
 pub unstores_one : {D : Type 0} (drive : D → List (List ℕ)) {t n : Storage D} {u q : ℕ} (home : Home)
     → IsActive t.segs.ast.entries u → length t.segs.ast.tables ≡ length t.segs.ast.entries

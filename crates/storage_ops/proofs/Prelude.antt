@@ -6,7 +6,7 @@ pub use Rattle.std.proofs.lemmas.Bool.{cases_Bool, cases_eq, cases_lt, eq-eqb, e
 pub use Rattle.std.proofs.lemmas.Bool.Decides.{eqb_tells, nat_tests}
 pub use Rattle.std.proofs.lemmas.Grind.{common_steps}
 pub use Rattle.std.proofs.lemmas.Int.{to_z-of_z}
-pub use Rattle.std.proofs.lemmas.List.{get_or-replicate, get_or-reverse, get_or-set_other, get_or-set_same, get_or_past, get_or_read, length-append, length-map, length-replicate, length-reverse, length-set, length-take, set-get_or}
+pub use Rattle.std.proofs.lemmas.List.{get_or-replicate, get_or-reverse, get_or-set_other, get_or-set_same, get_or_past, get_or_read, length-append, length-map, length-replicate, length-reverse, length-set, length-take, set-get_or, get_or-map as List_get_or-map}
 pub use Rattle.std.proofs.lemmas.List.Quantifiers.{position-Some}
 pub use Rattle.std.proofs.lemmas.List.Sums.{count_by-le-length, fails_before_first, sum_by-cons, sum_by-set}
 pub use Rattle.std.proofs.lemmas.Option.{same_Some}
@@ -35,16 +35,16 @@ pub use Rattle.script.specs.declared.commands.Reference.{Reference}
 pub use Rattle.script.specs.declared.plan.VolumeLine.{VolumeLine}
 pub use Rattle.book.specs.declared.replies.Reply.{Reply}
 pub use Rattle.tree_model.proofs.SharedLaws.{found_uid, joined_below, node_without, uid_below}
-pub use Rattle.tree_model.proofs.TreeLaws.{IsUp, above_once, depth, superior_found, superior_up}
+pub use Rattle.tree_model.proofs.TreeLaws.{IsUp, above_once, depth, superior_found, superior_up, superior_in as TreeLaws_superior_in}
 pub use Rattle.tree_model.specs.Access.{Row, with_row}
 unfoldable pub use Rattle.tree_model.specs.Access.{access_of}
 pub use Rattle.tree_model.specs.Quotas.{getter_of, giver_of}
 pub use Rattle.tree_model.specs.Tree.{Node, above, account_of, branch_in, has_directory, is_inferior, node_in, pool_for, pool_of, quota_in, step_up, volume_in, with_node, without_node}
 unfoldable pub use Rattle.tree_model.specs.Tree.{entries_on, taken_on}
 pub use Rattle.tree_model.specs.Trees.{AreBelow, IsTree, has_segment}
-pub use Rattle.known_segs.specs.Known.{first_of_two, known_count, number_for, number_of, uid_of, with_number, without_number}
+pub use Rattle.known_segs.specs.Known.{first_of_two, known_count, number_for, number_of, uid_of, with_number, without_number, least_free as Known_least_free}
 pub use Rattle.dir_tree.proofs.QuotaLemmas.{unless_none}
-pub use Rattle.dir_tree.specs.Nodes.{add_fault_of, as_node, as_term, chain_of, has_inferior, maker_rows}
+pub use Rattle.dir_tree.specs.Nodes.{add_fault_of, as_node, as_term, chain_of, has_inferior, maker_rows, unless as Nodes_unless}
 pub use Rattle.dir_tree.specs.declared.node.AddFault.{AddFault}
 pub use Rattle.quota_cells.specs.Scratch.{charge_answer}
 pub use Rattle.quota_cells.specs.declared.Full.{Full}
@@ -91,7 +91,7 @@ pub use Rattle.page_table.specs.declared.Ptw.{Ptw}
 pub use Rattle.page_table.specs.declared.Ptw.TheVariants.{Here, Leaving, Null, Out}
 pub use Rattle.record_map.specs.Bitmap.{in_use}
 unfoldable pub use Rattle.vtoc.specs.FileMap.{no_records}
-pub use Rattle.vtoc.specs.Vtoc.{Entry as VtocEntry, entry_at, least_free_entry, record_at, records_in, with_record}
+pub use Rattle.vtoc.specs.Vtoc.{Entry as VtocEntry, entry_at, least_free_entry, record_at, records_in, with_record, uid_of as Vtoc_uid_of}
 pub use Rattle.core_map.specs.CoreMap.{Core, bound_page, frame_at, is_bound, reads_of, started_page, with_frame}
 pub use Rattle.core_map.specs.declared.Frame.{Frame}
 pub use Rattle.core_map.specs.declared.Frame.TheVariants.{Bound, Free, Started}
@@ -99,7 +99,7 @@ pub use Rattle.volumes.specs.Volumes.{HasParts, KeepsTables, Vols, records_at, u
 pub use Rattle.seg_mover.specs.Moves.{CanBegin, begun}
 pub use Rattle.seg_mover.specs.Records.{flags_taken, with_taken}
 pub use Rattle.seg_mover.specs.declared.Mover.{Mover}
-pub use Rattle.active_segs.specs.Active.{ActiveSegs, HasNoInferior, IsActive, IsAway, IsOneToOne, deactivated, entry_at as entry_in_place, no_segments, superior_in, superior_in as superior_of_entry, table_at, uid_at as uid_in_place, uid_in}
+pub use Rattle.active_segs.specs.Active.{ActiveSegs, HasNoInferior, IsActive, IsAway, IsOneToOne, deactivated, entry_at as entry_in_place, no_segments, superior_in, superior_in as superior_of_entry, table_at, uid_at as uid_in_place, uid_in, IsTree as Active_IsTree}
 pub use Rattle.active_segs.specs.Pool.{IsInPool}
 pub use Rattle.active_segs.specs.Victim.{first_off_chain, hand_past}
 pub use Rattle.active_segs.specs.declared.Entry.{Entry}
@@ -113,7 +113,7 @@ pub use Rattle.page_control.specs.Effects.{after_asked, after_evict, created, cu
 pub use Rattle.page_control.specs.Picture.{ChangesStored, ChangesWords, KeepsWords, changed_page, is_binding, is_kept, words_at, words_held}
 unfoldable pub use Rattle.page_control.specs.Picture.{changed_at, is_filed_at, words_of_page}
 pub use Rattle.page_control.specs.Plain.{Paging, Plain, binding_at, bindings, file_map_of, flags_of, number_in, plain, record_of, words_in}
-pub use Rattle.page_control.specs.Tied.{AreFiled, IsNotStarted, IsTableOf, flags_in, frame_of, has_record, is_away, is_out, map_at, uid_at, uid_at as uid_homed, vtoc_in}
+pub use Rattle.page_control.specs.Tied.{AreFiled, IsNotStarted, IsTableOf, flags_in, frame_of, has_record, is_away, is_out, map_at, uid_at, uid_at as uid_homed, vtoc_in, uid_in as Tied_uid_in}
 pub use Rattle.page_control.specs.Ties.{IsTied}
 pub use Rattle.page_control.specs.declared.Home.{Home}
 pub use Rattle.page_control.specs.declared.Left.{Left}
@@ -124,7 +124,7 @@ pub use Rattle.seg_control.specs.Effects.{faulting, linked, no_links, table_here
 unfoldable pub use Rattle.seg_control.specs.Effects.{all_cut, reconnected}
 pub use Rattle.seg_control.specs.Kept.{AreAtRest, AreExact, AreLinked, IsHomeFor, IsHomeOf, IsInactive, IsKept, IsNotRead, pair_at, times}
 pub use Rattle.seg_control.specs.Moving.{home_at, move_committed, pair_of}
-pub use Rattle.seg_control.specs.Next.{IsNext, MayActivate, link_at, no_link, superior_of, uids_of}
+pub use Rattle.seg_control.specs.Next.{IsNext, MayActivate, link_at, no_link, superior_of, uids_of, words_in as Next_words_in}
 pub use Rattle.seg_control.specs.declared.Link.{Link}
 pub use Rattle.seg_control.specs.declared.Next.{Next}
 pub use Rattle.seg_control.specs.declared.Next.TheVariants.{Activated, Victim, Whole}
@@ -138,3 +138,6 @@ unfoldable pub use Rattle.storage_ops.specs.References.{outside_refusal, room_re
 pub use Rattle.storage_ops.specs.Rooms.{first_roomy, is_roomy, move_target, room_of}
 pub use Rattle.storage_ops.specs.Shown.{AreCounted, AreFresh, AreHoused, AreInTree, AreKnown, AreTaken, HasMoved, HasRowSet, HaveRights, IsCut, IsStore, Shows, ShowsPages, ShowsTree, Storage, answered, empty_frames, home_of, is_refusal, is_there, named_at, pages_in, pages_of, refusal, who_at, with_known, with_vtocs}
 unfoldable pub use Rattle.storage_ops.specs.Shown.{is_filed, picture}
+pub use Rattle.seg_control.proofs.Homes.{home_cases}
+pub use Rattle.page_control.proofs.Facts.{bound_to, bound_from_page}
+pub use Rattle.seg_control.proofs.Frames.{started_from}

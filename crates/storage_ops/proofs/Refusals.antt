@@ -1,8 +1,5 @@
 -- What refuses a reference, by the tables and by the flat store that they show.
-use Rattle.storage_ops.proofs.Prelude.{◌≡◌, ℕ, ◌*◌, ◌<◌, ◌/◌, Bool, true, false, cond, eqb, not, ◌&&◌, List, [], Option, Some, None, Result, Ok, Err, get_or, is_some, map, refl, sym, ap, ◌∙◌, arith, inl, inr, nat_le, cases_Bool, nat_tests, get_or-map, Who, Plan, ProcessPlan, nobody, who_of, RefKind, Reference, Reply, uid_of, access_of, Node, has_directory, node_in, has_segment, AccountMaps, HasParts, is_stored, new_word, permits, is_out_of_room, is_used_up, reply_at, reply_of, reply_to_reference, stores_page, word_reply, Store, plain, IsKept, brings_word, is_of_room, is_outside, only, outside_by, outside_refusal, refusal_in, refused_by, room_by, room_in, room_refusal, target, target_at, has_no_room, is_spent, target_of, unless, want_of_room, AreCounted, IsStore, Shows, Storage, is_filed, pages_in, pages_of, refusal, who_at, and_false}
-use Rattle.script.specs.declared.commands.RefKind.TheVariants as kind
-use Rattle.book.specs.declared.replies.Reply.TheVariants as reply
-use Rattle.vtoc.specs.Vtoc.{Entry}
+use Rattle.storage_ops.proofs.Prelude.{◌≡◌, ℕ, ◌*◌, ◌<◌, ◌/◌, Bool, true, false, cond, eqb, not, ◌&&◌, List, [], Option, Some, None, Result, Ok, Err, get_or, is_some, map, refl, sym, ap, ◌∙◌, arith, inl, inr, nat_le, cases_Bool, nat_tests, get_or-map, Who, Plan, ProcessPlan, nobody, who_of, RefKind, Reference, Reply, uid_of, access_of, Node, has_directory, node_in, has_segment, AccountMaps, HasParts, is_stored, new_word, permits, is_out_of_room, is_used_up, reply_at, reply_of, reply_to_reference, stores_page, word_reply, Store, plain, IsKept, brings_word, is_of_room, is_outside, only, outside_by, outside_refusal, refusal_in, refused_by, room_by, room_in, room_refusal, target, target_at, has_no_room, is_spent, target_of, unless, want_of_room, AreCounted, IsStore, Shows, Storage, is_filed, pages_in, pages_of, refusal, who_at, and_false, RefKind as kind, Reply as reply, VtocEntry as Entry}
 use Rattle.storage_ops.proofs.Held.{shown_held}
 use Rattle.storage_ops.proofs.PageFacts.{segment_of}
 use Rattle.storage_ops.proofs.PageRoom.{full_told}

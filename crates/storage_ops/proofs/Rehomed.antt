@@ -1,8 +1,7 @@
 -- A segment has another home, on another volume, with what was filed at its old one.
-use Rattle.storage_ops.proofs.Prelude.{◌≡◌, ◌≢◌, ℕ, ◌+◌, ◌/◌, Bool, true, cond, eqb, List, Option, Some, None, is_some, map, refl, sym, ap, ◌∙◌, arith, inl, inr, count_by, cases_eq, eq-eqb, ne_eqb, Who, Plan, AccountMaps, Counts, Rehomes, entry_of, Node, entries_on, has_directory, node_in, pool_of, taken_on, volume_in, IsTree, Store, volume_found, ActiveSegs, Home, Plain, plain, map_at, uid_at, entries, named_on, size, taken, used, is_filed_at, words_at, Links, AreCounted, AreHoused, AreTaken, IsStore, Shows, Storage, home_of, is_filed, is_there, named_at, pages_in, pages_of, picture, nat_tests, cases_Bool}
+use Rattle.storage_ops.proofs.Prelude.{◌≡◌, ◌≢◌, ℕ, ◌+◌, ◌/◌, Bool, true, cond, eqb, List, Option, Some, None, is_some, map, refl, sym, ap, ◌∙◌, arith, inl, inr, count_by, cases_eq, eq-eqb, ne_eqb, Who, Plan, AccountMaps, Counts, Rehomes, entry_of, Node, entries_on, has_directory, node_in, pool_of, taken_on, volume_in, IsTree, Store, volume_found, ActiveSegs, Home, Plain, plain, map_at, uid_at, entries, named_on, size, taken, used, is_filed_at, words_at, Links, AreCounted, AreHoused, AreTaken, IsStore, Shows, Storage, home_of, is_filed, is_there, named_at, pages_in, pages_of, picture, nat_tests, cases_Bool, home_cases}
 use Rattle.flat_model.specs.Moves.{moved}
 use Rattle.storage_ops.proofs.Alike.{active_alike, map_node, node_map, rights_alike, there_map}
-use Rattle.seg_control.proofs.Homes.{home_cases}
 use Rattle.storage_ops.proofs.Homes.{filed_map}
 use Rattle.storage_ops.proofs.NodeLaws.{found_there}
 use Rattle.storage_ops.proofs.Still.{tree_still}

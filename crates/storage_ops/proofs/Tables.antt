@@ -1,6 +1,5 @@
 -- Tables of tables: what stands at a volume and a place there, once one is changed.
-use Rattle.storage_ops.proofs.Prelude.{◌≤◌, ◌≡◌, ℕ, ◌<◌, List, [], length, map, Option, Some, None, ap, arith, inl, inr, cases_lt, get_or_past, length-map, entry_at, HasParts, Vols, Home, uid_at, vtoc_in}
-use Rattle.vtoc.specs.Vtoc.{Entry, uid_of}
+use Rattle.storage_ops.proofs.Prelude.{◌≤◌, ◌≡◌, ℕ, ◌<◌, List, [], length, map, Option, Some, None, ap, arith, inl, inr, cases_lt, get_or_past, length-map, entry_at, HasParts, Vols, Home, uid_at, vtoc_in, VtocEntry as Entry, Vtoc_uid_of as uid_of}
 
 -- a home that is used is on a volume that is there
 pub homed_volume : (vtocs : List (List (Option Entry))) (home : Home) {u : ℕ} → uid_at vtocs home ≡ Some u

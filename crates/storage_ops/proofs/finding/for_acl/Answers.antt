@@ -1,6 +1,5 @@
 use Rattle.storage_ops.proofs.Prelude.{true, false, ap, sym, ◌∙◌, quota_in, as_term, acl_refused, acl_told, refusal}
-use Rattle.storage_ops.proofs.FoundLaws.{leads_segment}
-use Rattle.storage_ops.proofs.PathRefusals.{refusal_told, segment_refuses}
+use Rattle.storage_ops.proofs.Laws.{leads_segment, refusal_told, segment_refuses}
 use Rattle.storage_ops.proofs.finding.for_acl.Goals as goal
 
 pub returns-then-takes : goal.returns-then-takes

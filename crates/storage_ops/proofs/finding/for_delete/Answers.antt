@@ -1,6 +1,5 @@
 use Rattle.storage_ops.proofs.Prelude.{◌≡◌, ℕ, true, false, refl, sym, ap, ◌∙◌, eqb, ne_eqb, is_err, quota_in, as_term, has_inferior, delete_refused, delete_told, from_false, refusal}
-use Rattle.storage_ops.proofs.FoundLaws.{leads_branch}
-use Rattle.storage_ops.proofs.PathRefusals.{branch_refuses, refusal_told}
+use Rattle.storage_ops.proofs.Laws.{leads_branch, branch_refuses, refusal_told}
 use Rattle.storage_ops.proofs.finding.for_delete.Goals as goal
 
 pub returns-in-Err-clause-refusal : goal.returns-in-Err-clause-refusal

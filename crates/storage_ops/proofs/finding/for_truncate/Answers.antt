@@ -1,6 +1,5 @@
 use Rattle.storage_ops.proofs.Prelude.{ap, ◌∙◌, quota_in, as_term, truncate_refused, truncate_told, refusal}
-use Rattle.storage_ops.proofs.FoundLaws.{leads_segment}
-use Rattle.storage_ops.proofs.PathRefusals.{refusal_told, segment_refuses}
+use Rattle.storage_ops.proofs.Laws.{leads_segment, refusal_told, segment_refuses}
 use Rattle.storage_ops.proofs.finding.for_truncate.Goals as goal
 
 pub returns-in-Ok : goal.returns-in-Ok

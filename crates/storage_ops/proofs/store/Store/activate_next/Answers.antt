@@ -1,7 +1,5 @@
 use Rattle.storage_ops.proofs.Prelude.{rules, length, plain}
-use Rattle.storage_ops.proofs.Held.{held, shown_held}
-use Rattle.storage_ops.proofs.ChainDown.{may_activate, shown_next, store_next}
-use Rattle.storage_ops.proofs.Tables.{all_drives}
+use Rattle.storage_ops.proofs.Laws.{held, shown_held, may_activate, shown_next, store_next, all_drives}
 use Rattle.storage_ops.proofs.store.Store.activate_next.Goals as goal
 
 pub activate_next-requires-clause-chain : goal.activate_next-requires-clause-chain

@@ -1,6 +1,5 @@
 use Rattle.storage_ops.proofs.Prelude.{length, subst, Command, IsReady, few_pages}
-use Rattle.storage_ops.proofs.Fresh.{dir_volume, new_length, seg_volume}
-use Rattle.storage_ops.proofs.Rest.{rest_accounts, rest_known, rest_made, rest_none}
+use Rattle.storage_ops.proofs.Laws.{dir_volume, new_length, seg_volume, rest_accounts, rest_known, rest_made, rest_none}
 use Rattle.storage_ops.proofs.store.Store.commit_tree.Goals as goal
 
 pub make_dir-requires-clause-volume : goal.make_dir-requires-clause-volume

@@ -1,8 +1,5 @@
 use Rattle.storage_ops.proofs.Prelude.{refl, plain, place_of, linked}
-use Rattle.storage_ops.proofs.Held.{active_held, held, shown_held, store_after}
-use Rattle.storage_ops.proofs.Less.{shown_linked}
-use Rattle.storage_ops.proofs.LinkLaws.{store_linked}
-use Rattle.storage_ops.proofs.Paged.{active_place}
+use Rattle.storage_ops.proofs.Laws.{active_held, held, shown_held, store_after, shown_linked, store_linked, active_place}
 use Rattle.storage_ops.proofs.store.Store.connect.Goals as goal
 
 pub invariant_of-self : goal.invariant_of-self

@@ -1,6 +1,5 @@
 use Rattle.storage_ops.proofs.Prelude.{◌≡◌, Some, known_uid}
-use Rattle.storage_ops.proofs.Held.{shown_held}
-use Rattle.storage_ops.proofs.PageRoom.{ok_then, written_made}
+use Rattle.storage_ops.proofs.Laws.{shown_held, ok_then, written_made}
 use Rattle.storage_ops.proofs.store.Store.create.Goals as goal
 
 pub returns-clause-shown : goal.returns-clause-shown

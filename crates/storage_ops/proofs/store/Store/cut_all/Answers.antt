@@ -1,6 +1,5 @@
 use Rattle.storage_ops.proofs.Prelude.{plain}
-use Rattle.storage_ops.proofs.Held.{held, shown_held, store_after}
-use Rattle.storage_ops.proofs.Less.{shown_all_cut, store_all_cut}
+use Rattle.storage_ops.proofs.Laws.{held, shown_held, store_after, shown_all_cut, store_all_cut}
 use Rattle.storage_ops.proofs.store.Store.cut_all.Goals as goal
 
 pub invariant_of-self : goal.invariant_of-self

@@ -1,7 +1,5 @@
 use Rattle.storage_ops.proofs.Prelude.{rules, ◌+◌, ◌/◌, nat_le, without_pages, even_cut, whole_cut, home_of, pages_in, paged}
-use Rattle.storage_ops.proofs.Rest.{cuts_even, cuts_odd}
-use Rattle.storage_ops.proofs.Unstored.{home_still, taken_past}
-use Rattle.storage_ops.proofs.CutExactly.{cut_evenly, cut_oddly, others_both}
+use Rattle.storage_ops.proofs.Laws.{cuts_even, cuts_odd, home_still, taken_past, cut_evenly, cut_oddly, others_both}
 use Rattle.storage_ops.proofs.store.Store.cut_off.Goals as goal
 
 pub cut_page-requires-clause-past : goal.cut_page-requires-clause-past

@@ -1,6 +1,5 @@
 use Rattle.storage_ops.proofs.Prelude.{plain, leads_at}
-use Rattle.storage_ops.proofs.Held.{store_after}
-use Rattle.storage_ops.proofs.Less.{store_cut}
+use Rattle.storage_ops.proofs.Laws.{store_after, store_cut}
 use Rattle.storage_ops.proofs.store.Store.cut_one.Goals as goal
 
 pub invariant_of-self : goal.invariant_of-self

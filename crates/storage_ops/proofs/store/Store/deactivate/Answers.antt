@@ -1,5 +1,4 @@
-use Rattle.storage_ops.proofs.Held.{store_after}
-use Rattle.storage_ops.proofs.Less.{store_inactive}
+use Rattle.storage_ops.proofs.Laws.{store_after, store_inactive}
 use Rattle.storage_ops.proofs.store.Store.deactivate.Goals as goal
 
 pub invariant_of-self : goal.invariant_of-self

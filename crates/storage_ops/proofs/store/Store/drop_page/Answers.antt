@@ -1,8 +1,5 @@
-use Rattle.storage_ops.proofs.Prelude.{◌≡◌, ◌-◌, refl, ap, ◌∙◌, inl, true, ActiveSegs, plain, is_away, Links, word_of, count_of}
-use Rattle.storage_ops.proofs.Held.{active_held, held, home_held, word_held}
-use Rattle.storage_ops.proofs.PagesLess.{drop_done, may_drop, shown_dropped, unstores_one, MayDrop}
-use Rattle.storage_ops.proofs.Dropped.{store_dropped, HasDropped, recount_other}
-use Rattle.storage_ops.proofs.CutExactly.{dropped_exactly}
+use Rattle.storage_ops.proofs.Prelude.{◌≡◌, ◌-◌, refl, ◌∙◌, inl, true, plain, is_away, word_of, taken}
+use Rattle.storage_ops.proofs.Laws.{active_held, held, home_held, word_held, may_drop, unstores_one, MayDrop, drop_done, HasDropped, recount_other, shown_zeroed, store_dropped, dropped_exactly}
 use Rattle.storage_ops.proofs.store.Store.drop_page.Goals.{After-credit, After-look}
 use Rattle.storage_ops.proofs.store.Store.drop_page.Goals as goal
 
@@ -20,8 +17,7 @@ done : (g : _) (c : After-credit g) → HasDropped (plain g.D.Drive.pages c.self
 done g c =
     let before = may g (goal.at.returns g c).After-look in
     drop_done _ (home_held c.self.view_is c.args.uid c.requires.may.home) before.there before.filed
-    c.drop_page.ensures.effect c.drop_page.ensures.words c.drop_page.ensures.stored c.drop_page.ensures.taken
-    c.drop_page.ensures.counts c.credit.ensures
+    c.drop_page.ensures.effect c.drop_page.ensures.stored c.drop_page.ensures.counts c.credit.ensures
 
 pub drop_page-requires-clause-page : goal.drop_page-requires-clause-page
 drop_page-requires-clause-page g c = (may g (goal.at.drop_page-requires-clause-page g c).After-look).within
@@ -40,8 +36,9 @@ pub invariant_of-self : goal.invariant_of-self
 invariant_of-self g c =
     let old = plain g.D.Drive.pages c.self.inside.segs.pages in
     let now = plain g.D.Drive.pages c.drop_page.new.self.pages in
-    rw c.drop_page.ensures.links (store_dropped (done g c) (may g (goal.at.invariant_of-self g c).After-look).some (cc)
-    (cc) c.self.invariant)
+    rw c.drop_page.ensures.links (store_dropped (done g c) (may g (goal.at.invariant_of-self g c).After-look).some
+    (cc (home_held c.self.view_is c.args.uid c.requires.may.home, c.drop_page.ensures.taken)) (cc) (cc)
+    c.self.invariant)
 
 pub returns : goal.returns
 returns g c =
@@ -52,7 +49,8 @@ returns g c =
           (active_held c.self.view_is c.requires.may.active) c.look.ensures.kept.places (may g kept)
           (away g kept) c.credit.ensures c.drop_page.ensures.word c.drop_page.ensures.effect c.drop_page.ensures.reads
           c.drop_page.ensures.links c.drop_page.ensures.moving refl c.drop_page.ensures.drives;
-      shown = λ p s h. shown_dropped (done g c) c.self.invariant.housed (cc) refl h;
+      shown = λ p s h. shown_zeroed (done g c) c.self.invariant.housed (cc) refl
+          (rw (← home_held c.self.view_is c.args.uid c.requires.may.home) c.drop_page.ensures.words) h;
       exact = dropped_exactly g.D.Drive.pages t (record t { accounts = c.credit.new.self; segs = c.drop_page.new.self })
           c.args.page (home_held c.self.view_is c.args.uid c.requires.may.home) (away g kept) c.drop_page.ensures.effect
           c.drop_page.ensures.word c.credit.ensures;

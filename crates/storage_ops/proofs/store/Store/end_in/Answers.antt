@@ -1,6 +1,5 @@
 use Rattle.storage_ops.proofs.Prelude.{refl, ap, ◌∙◌, ActiveSegs, plain}
-use Rattle.storage_ops.proofs.Held.{held, home_for_held, shown_held}
-use Rattle.storage_ops.proofs.Still.{here_entries, own_home, shown_kept, store_still}
+use Rattle.storage_ops.proofs.Laws.{held, home_for_held, shown_held, here_entries, own_home, shown_kept, store_still}
 use Rattle.storage_ops.proofs.store.Store.end_in.Goals as goal
 
 pub invariant_of-self : goal.invariant_of-self

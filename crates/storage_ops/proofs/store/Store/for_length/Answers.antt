@@ -1,6 +1,5 @@
 use Rattle.storage_ops.proofs.Prelude.{true, false, ap, sym, ◌∙◌, AccountMaps, quota_in, as_term, length_refused, length_told, refusal}
-use Rattle.storage_ops.proofs.FoundLaws.{leads_segment}
-use Rattle.storage_ops.proofs.PathRefusals.{refusal_told, segment_refuses}
+use Rattle.storage_ops.proofs.Laws.{leads_segment, refusal_told, segment_refuses}
 use Rattle.storage_ops.proofs.store.Store.for_length.Goals as goal
 
 pub returns-then-stores_from-clause-refusal : goal.returns-then-stores_from-clause-refusal

@@ -1,6 +1,5 @@
 use Rattle.storage_ops.proofs.Prelude.{arith, home_of, volume_found}
-use Rattle.storage_ops.proofs.Held.{there_held}
-use Rattle.storage_ops.proofs.Tables.{all_drives, homed_volume}
+use Rattle.storage_ops.proofs.Laws.{there_held, all_drives, homed_volume}
 use Rattle.storage_ops.proofs.store.Store.home.Goals as goal
 
 pub returns-clause-volume : goal.returns-clause-volume

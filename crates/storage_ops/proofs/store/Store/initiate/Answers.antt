@@ -1,7 +1,5 @@
 use Rattle.storage_ops.proofs.Prelude.{ℕ, List, Option, ◌∙◌, with_number, quota_in, as_term, plain, kst_at, segment_refuses, uid_below}
-use Rattle.storage_ops.proofs.Held.{held, shown_held, store_after}
-use Rattle.storage_ops.proofs.Known.{initiate_answered, known_store, under_with}
-use Rattle.storage_ops.proofs.NamingLaws.{initiate_refused, initiate_told}
+use Rattle.storage_ops.proofs.Laws.{held, shown_held, store_after, initiate_answered, known_store, under_with, initiate_refused, initiate_told}
 use Rattle.storage_ops.proofs.store.Store.initiate.Goals as goal
 
 pub returns-in-Err-clause-answer : goal.returns-in-Err-clause-answer

@@ -1,6 +1,5 @@
 use Rattle.storage_ops.proofs.Prelude.{is_some, ap, ◌∙◌, Vols, vtoc_at, Storage, is_filed}
-use Rattle.storage_ops.proofs.Held.{home_held, there_held}
-use Rattle.storage_ops.proofs.Lengths.{record_told}
+use Rattle.storage_ops.proofs.Laws.{home_held, there_held, record_told}
 use Rattle.storage_ops.proofs.store.Store.is_stored.Goals as goal
 
 pub returns : goal.returns

@@ -1,6 +1,5 @@
 use Rattle.storage_ops.proofs.Prelude.{true, false, ap, ◌∙◌, quota_in, as_term, refusal, length_refused}
-use Rattle.storage_ops.proofs.Held.{tree_held}
-use Rattle.storage_ops.proofs.Lengths.{length_answered}
+use Rattle.storage_ops.proofs.Laws.{tree_held, length_answered}
 use Rattle.storage_ops.proofs.store.Store.length_refusal.Goals as goal
 
 pub returns-then-stores_from : goal.returns-then-stores_from

@@ -1,9 +1,5 @@
 use Rattle.storage_ops.proofs.Prelude.{◌≡◌, ℕ, replicate, refl, sym, ap, ◌∙◌, true, get_or-replicate, plain, has_record, word_of, table_of, is_there}
-use Rattle.storage_ops.proofs.Held.{active_held, held, length_held, shown_held, word_held}
-use Rattle.storage_ops.proofs.PageFacts.{table_told, word_within}
-use Rattle.storage_ops.proofs.Paged.{active_there, word_filed}
-use Rattle.storage_ops.proofs.PageMade.{zeros_null}
-use Rattle.storage_ops.proofs.PageWords.{word_at}
+use Rattle.storage_ops.proofs.Laws.{active_held, held, length_held, shown_held, word_held, table_told, word_within, active_there, word_filed, zeros_null, word_at}
 use Rattle.storage_ops.proofs.store.Store.look.Goals.{After-get, After-table}
 use Rattle.storage_ops.proofs.store.Store.look.Goals as goal
 

@@ -1,6 +1,5 @@
 use Rattle.storage_ops.proofs.Prelude.{rules, ◌≡◌, ℕ, true, false, List, refl, sym, ap, ◌∙◌, Node, quota_in, as_term, maker_rows, made_in, node_refuses, make_in_segment, make_refused, make_root, make_told}
-use Rattle.storage_ops.proofs.Held.{shown_held, tree_held}
-use Rattle.storage_ops.proofs.Made.{after_make_is}
+use Rattle.storage_ops.proofs.Laws.{shown_held, tree_held, after_make_is}
 use Rattle.storage_ops.proofs.store.Store.make.Goals as goal
 
 pub returns-in_default-clause-answer : goal.returns-in_default-clause-answer

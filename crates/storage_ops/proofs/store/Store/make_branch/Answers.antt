@@ -1,8 +1,5 @@
-use Rattle.storage_ops.proofs.Prelude.{rules, ◌≡◌, ℕ, Some, true, false, List, is_some, refl, sym, ap, ◌∙◌, branch_of, as_node, unless_none, Node, entries_on, Plain, plain, branch_made}
-use Rattle.book.specs.declared.replies.Reply.TheVariants as reply
-use Rattle.storage_ops.proofs.Held.{held, shown_held}
-use Rattle.storage_ops.proofs.Homes.{HasNewHome, shown_new, store_new}
-use Rattle.storage_ops.proofs.Made.{all_used, length_inside, made_told, some_free}
+use Rattle.storage_ops.proofs.Prelude.{rules, ◌≡◌, ℕ, Some, true, false, List, is_some, refl, sym, ap, ◌∙◌, branch_of, as_node, unless_none, Node, entries_on, Plain, plain, branch_made, Reply as reply}
+use Rattle.storage_ops.proofs.Laws.{held, shown_held, HasNewHome, shown_new, store_new, all_used, length_inside, made_told, some_free}
 use Rattle.storage_ops.proofs.store.Store.make_branch.Goals.{After-attach}
 use Rattle.storage_ops.proofs.store.Store.make_branch.Goals as goal
 
@@ -29,8 +26,8 @@ abbrev node : (g : _) (c : After-attach g) → Node
 node g c = branch_of c.self.inside.accounts.next c.args.superior
     (as_node (record c.args.new { entry = c.in-Some.entry }))
 
-made : (g : _) (c : After-attach g) → HasNewHome c.self.inside.accounts c.attach.new.self (node g c) c.in-Some.entry
-    (plain g.D.Drive.pages c.self.inside.segs.pages) (plain g.D.Drive.pages c.new_home.new.self.pages)
+made : (g : _) (c : After-attach g) → HasNewHome c.self.inside.accounts c.attach.new.self (node g c)
+    c.in-Some.entry (plain g.D.Drive.pages c.self.inside.segs.pages) (plain g.D.Drive.pages c.new_home.new.self.pages)
 made g c = record {
   gains = c.attach.ensures.effect;
   fresh = c.next_uid-uid.ensures.fresh;

@@ -1,6 +1,5 @@
 use Rattle.storage_ops.proofs.Prelude.{◌≡◌, ◌<◌, ℕ, true, length, sym, subst, count_of, CanBegin, pair_of, is_roomy, Storage, home_of}
-use Rattle.storage_ops.proofs.Held.{active_held, held}
-use Rattle.storage_ops.proofs.MoveFacts.{may_begin}
+use Rattle.storage_ops.proofs.Laws.{active_held, held, may_begin}
 use Rattle.storage_ops.proofs.store.Store.move_begin.Goals as goal
 
 pub move_begin-requires-clause-can : goal.move_begin-requires-clause-can

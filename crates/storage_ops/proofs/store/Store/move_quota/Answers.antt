@@ -1,6 +1,5 @@
 use Rattle.storage_ops.proofs.Prelude.{w32, to_z-of_z, plain}
-use Rattle.storage_ops.proofs.Held.{held, shown_held}
-use Rattle.storage_ops.proofs.Changed.{move_shown, move_store}
+use Rattle.storage_ops.proofs.Laws.{held, shown_held, move_shown, move_store}
 use Rattle.storage_ops.proofs.store.Store.move_quota.Goals as goal
 
 pub invariant_of-self : goal.invariant_of-self

@@ -1,6 +1,5 @@
 use Rattle.storage_ops.proofs.Prelude.{◌≡◌, Bool, cond, List, None, sym, ap, ◌∙◌, Plan, Node, volume_in, is_volume_full, room_for, Flat, Home, Shows}
-use Rattle.storage_ops.proofs.NodeLaws.{segment_there}
-use Rattle.storage_ops.proofs.PageRoom.{full_told}
+use Rattle.storage_ops.proofs.Laws.{segment_there, full_told}
 use Rattle.storage_ops.proofs.store.Store.move_target.Goals.{After-is_full}
 use Rattle.storage_ops.proofs.store.Store.move_target.Goals as goal
 

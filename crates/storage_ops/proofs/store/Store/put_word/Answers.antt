@@ -1,8 +1,5 @@
-use Rattle.storage_ops.proofs.Prelude.{refl, ◌∙◌, frame_at, number_in, plain, words_in, home_of}
-use Rattle.page_control.specs.Tied.{uid_in}
-use Rattle.storage_ops.proofs.Held.{bound_held, held, shown_held}
-use Rattle.storage_ops.proofs.Paged.{active_there}
-use Rattle.storage_ops.proofs.PageWords.{bound_active, bound_filed, bound_words, shown_put, written_there}
+use Rattle.storage_ops.proofs.Prelude.{refl, ◌∙◌, frame_at, number_in, plain, words_in, home_of, Tied_uid_in as uid_in}
+use Rattle.storage_ops.proofs.Laws.{bound_held, held, shown_held, active_there, bound_active, bound_filed, bound_words, shown_put, written_there}
 use Rattle.storage_ops.proofs.store.Store.put_word.Goals as goal
 
 pub returns-clause-shown : goal.returns-clause-shown

@@ -1,8 +1,5 @@
-use Rattle.storage_ops.proofs.Prelude.{plain, reconnected, some_number}
-use Rattle.active_segs.specs.Active.{uid_at}
-use Rattle.storage_ops.proofs.Held.{held, shown_held, store_after}
-use Rattle.storage_ops.proofs.Less.{shown_linked}
-use Rattle.storage_ops.proofs.LinkLaws.{known_reconnected, store_reconnected}
+use Rattle.storage_ops.proofs.Prelude.{plain, reconnected, some_number, uid_in_place as uid_at}
+use Rattle.storage_ops.proofs.Laws.{held, shown_held, store_after, shown_linked, known_reconnected, store_reconnected}
 use Rattle.storage_ops.proofs.store.Store.reconnect_all.Goals as goal
 
 pub invariant_of-self : goal.invariant_of-self

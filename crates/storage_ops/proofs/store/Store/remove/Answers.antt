@@ -1,8 +1,5 @@
 use Rattle.storage_ops.proofs.Prelude.{rules, refl, ap, ◌∙◌, Plain, plain, Storage, Home, erased}
-use Rattle.storage_ops.proofs.Held.{held, home_held, shown_held, there_held}
-use Rattle.storage_ops.proofs.NodeLaws.{found_there}
-use Rattle.storage_ops.proofs.Removed.{removed_done, shown_removed, store_removed}
-use Rattle.storage_ops.proofs.Rest.{rest_erased}
+use Rattle.storage_ops.proofs.Laws.{held, home_held, shown_held, there_held, found_there, removed_done, shown_removed, store_removed, rest_erased}
 use Rattle.storage_ops.proofs.store.Store.remove.Goals as goal
 
 pub invariant_of-self : goal.invariant_of-self

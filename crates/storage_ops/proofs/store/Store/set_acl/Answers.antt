@@ -1,5 +1,4 @@
-use Rattle.storage_ops.proofs.Held.{held, shown_held}
-use Rattle.storage_ops.proofs.Changed.{acl_shown, acl_store}
+use Rattle.storage_ops.proofs.Laws.{held, shown_held, acl_shown, acl_store}
 use Rattle.storage_ops.proofs.store.Store.set_acl.Goals as goal
 
 pub invariant_of-self : goal.invariant_of-self

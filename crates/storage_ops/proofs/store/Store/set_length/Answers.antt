@@ -1,6 +1,5 @@
 use Rattle.storage_ops.proofs.Prelude.{rules, ◌≡◌, true, false, refl, sym, ap, ◌∙◌, Node, quota_in, as_term, plain, Storage, is_filed, segment_refuses, length_refused}
-use Rattle.storage_ops.proofs.Held.{held, shown_held, tree_held}
-use Rattle.storage_ops.proofs.Lengths.{length_answered, length_shown, length_store}
+use Rattle.storage_ops.proofs.Laws.{held, shown_held, tree_held, length_answered, length_shown, length_store}
 use Rattle.storage_ops.proofs.store.Store.set_length.Goals as goal
 
 pub returns-in-Err : goal.returns-in-Err

@@ -1,6 +1,5 @@
 use Rattle.storage_ops.proofs.Prelude.{ap, ◌∙◌, Vols, vtoc_at}
-use Rattle.storage_ops.proofs.Held.{held, home_held, shown_held, there_held}
-use Rattle.storage_ops.proofs.Lengths.{from_told, within_told}
+use Rattle.storage_ops.proofs.Laws.{held, home_held, shown_held, there_held, from_told, within_told}
 use Rattle.storage_ops.proofs.store.Store.stores_from.Goals as goal
 
 pub returns-clause-answer : goal.returns-clause-answer

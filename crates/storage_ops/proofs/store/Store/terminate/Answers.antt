@@ -1,8 +1,5 @@
-use Rattle.storage_ops.proofs.Prelude.{◌≡◌, Bool, true, false, not, ℕ, List, Option, cond, is_some, refl, sym, ap, ◌∙◌, uid_of, terminate_reply, Flat}
-use Rattle.book.specs.declared.replies.Reply.TheVariants as reply
-use Rattle.storage_ops.proofs.Held.{held, shown_held, known_held}
-use Rattle.storage_ops.proofs.Known.{terminate_shown}
-use Rattle.storage_ops.proofs.NamingLaws.{terminate_told}
+use Rattle.storage_ops.proofs.Prelude.{◌≡◌, Bool, true, false, not, ℕ, List, Option, cond, is_some, refl, sym, ap, ◌∙◌, uid_of, terminate_reply, Flat, Reply as reply}
+use Rattle.storage_ops.proofs.Laws.{held, shown_held, known_held, terminate_shown, terminate_told}
 use Rattle.storage_ops.proofs.store.Store.terminate.Goals.{After-is_none}
 use Rattle.storage_ops.proofs.store.Store.terminate.Goals as goal
 

@@ -1,7 +1,5 @@
 use Rattle.storage_ops.proofs.Prelude.{◌≡◌, Ok, List, sym, ap, ◌∙◌, Node, quota_in, as_term, segment_at, truncate_done, truncate_refused, truncate_told, Storage, segment_refuses}
-use Rattle.storage_ops.proofs.Held.{held}
-use Rattle.storage_ops.proofs.Rest.{rest_none, rest_unstored}
-use Rattle.storage_ops.proofs.CutExactly.{same_uid}
+use Rattle.storage_ops.proofs.Laws.{held, rest_none, rest_unstored, same_uid}
 use Rattle.storage_ops.proofs.store.Store.truncate.Goals as goal
 
 pub returns-in-Err : goal.returns-in-Err

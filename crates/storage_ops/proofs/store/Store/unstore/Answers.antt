@@ -1,7 +1,5 @@
 use Rattle.storage_ops.proofs.Prelude.{sym, ap, ◌∙◌, refl, none_missing, ActiveSegs, plain, has_record, is_away, word_of, is_here, Storage, home_of, page_cut, paged}
-use Rattle.storage_ops.proofs.Held.{active_held, held, word_held}
-use Rattle.storage_ops.proofs.PagesLess.{null_of, unstores_null}
-use Rattle.storage_ops.proofs.Paged.{active_tie, blank_shown, word_filed}
+use Rattle.storage_ops.proofs.Laws.{active_held, held, word_held, null_of, unstores_null, active_tie, blank_shown, word_filed}
 use Rattle.storage_ops.proofs.store.Store.unstore.Goals as goal
 
 pub drop_page-requires-clause-away : goal.drop_page-requires-clause-away
