@@ -1,5 +1,5 @@
 -- Nodes are changed, but for where they lie, what they are and where they are kept.
-use Rattle.storage_ops.proofs.Prelude.{◌≡◌, ℕ, Bool, true, false, cond, eqb, List, [], ◌∷◌, map, Option, Some, None, is_some, refl, sym, ap, ◌∙◌, count_by, Mode, Who, AccountMaps, Changes, count_of, access_of, Node, entries_on, has_directory, node_in, pool_of, taken_on, volume_in, entries_mapped, Present, sdw_at, VtocEntry, Entry, ActiveSegs, uid_in_place, Home, uid_at, Links, sdws_at, AreHoused, AreCounted, AreTaken, AreInTree, HaveRights, home_of, is_filed, is_there, pages_in, picture, who_at, directory_map, volume_map, Keeps}
+use Rattle.storage_ops.proofs.Prelude.{◌≡◌, ℕ, Bool, true, false, cond, eqb, List, [], ◌∷◌, map, Option, Some, None, is_some, refl, sym, ap, ◌∙◌, count_by, Mode, Who, AccountMaps, Changes, count_of, Node, entries_on, has_directory, node_in, pool_of, taken_on, volume_in, entries_mapped, Present, sdw_at, VtocEntry, Entry, ActiveSegs, uid_in_place, Home, Links, sdws_at, AreHoused, AreCounted, AreTaken, AreInTree, HaveRights, home_of, is_filed, is_there, pages_in, picture, directory_map, volume_map, Keeps}
 
 -- two trees have the same nodes, of the same kinds, at the same homes, with the same counts
 pub record AreAlike (a b : AccountMaps) : Type 0 where

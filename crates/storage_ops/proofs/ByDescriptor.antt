@@ -1,5 +1,5 @@
 -- What the descriptor of a number refuses is what the access control list of its segment, and its length, refuse.
-use Rattle.storage_ops.proofs.Prelude.{◌≡◌, ℕ, true, List, Option, Some, None, is_some, refl, sym, ap, ◌∙◌, Mode, Reference, Reply, access_of, Node, node_in, Present, sdw_at, Plain, leads, sdws_at, AreLinked, outside_by, refusal_by, refusal_in, target, unless, IsStore, Storage, who_at}
+use Rattle.storage_ops.proofs.Prelude.{◌≡◌, ℕ, Option, Some, None, refl, ap, Mode, Reference, Reply, access_of, Node, Present, sdw_at, Plain, leads, sdws_at, AreLinked, outside_by, refusal_by, refusal_in, target, unless, IsStore, Storage, who_at}
 use Rattle.storage_ops.proofs.NodeLaws.{found_there}
 use Rattle.storage_ops.proofs.Refusals.{target_found}
 

@@ -1,5 +1,5 @@
 -- The chain of a node, and the next segment of it that becomes active.
-use Rattle.storage_ops.proofs.Prelude.{◌≡◌, ◌≢◌, ℕ, zero, suc, ◌-◌, ◌<◌, ◌≤◌, true, eqb, List, [], ◌∷◌, length, Option, Some, None, get_or, set, is_some, refl, sym, ap, subst, ◌∙◌, arith, inl, inr, cases_Bool, cases_eq, get_or-reverse, get_or-set_other, length-map, length-reverse, AccountMaps, chain_of, Mode, Who, Plan, Store, Node, above, has_directory, node_in, pool_of, step_up, IsTree, IsUp, above_once, depth, superior_up, superior_found, Present, sdw_at, Entry, ActiveSegs, superior_of_entry, uid_in_place, uid_in, IsInPool, first_off_chain, hand_past, Plain, plain, is_filed_at, map_at, uid_homed, Link, Next, Activated, Victim, Whole, Control, Links, leads, sdws_at, AreLinked, IsNext, MayActivate, link_at, no_link, superior_of, uids_of, HasOneToGo, IsChainDown, link_of, pool_in, AreInTree, IsStore, Shows, Storage, home_of, is_there, pages_in, pages_of, List_get_or-map as get_or-map, TreeLaws_superior_in as superior_in, entry_in_place as entry_at, Next_words_in as words_in}
+use Rattle.storage_ops.proofs.Prelude.{◌≡◌, ◌≢◌, ℕ, zero, suc, ◌-◌, ◌<◌, ◌≤◌, true, eqb, List, [], ◌∷◌, length, Option, Some, None, get_or, set, refl, sym, ap, subst, ◌∙◌, arith, inl, inr, cases_Bool, cases_eq, get_or-reverse, get_or-set_other, length-map, length-reverse, AccountMaps, chain_of, Mode, Who, Plan, Store, Node, above, has_directory, node_in, pool_of, step_up, IsTree, IsUp, above_once, depth, superior_up, superior_found, Present, sdw_at, Entry, ActiveSegs, superior_of_entry, uid_in_place, uid_in, IsInPool, first_off_chain, hand_past, Plain, plain, map_at, uid_homed, Link, Next, Activated, Victim, Whole, Control, Links, leads, sdws_at, AreLinked, IsNext, MayActivate, link_at, no_link, superior_of, uids_of, HasOneToGo, IsChainDown, link_of, pool_in, AreInTree, IsStore, Shows, Storage, home_of, is_there, pages_in, pages_of, List_get_or-map as get_or-map, TreeLaws_superior_in as superior_in, entry_in_place as entry_at, Next_words_in as words_in}
 use Rattle.storage_ops.proofs.Homes.{filed_map}
 use Rattle.storage_ops.proofs.Known.{set_told}
 use Rattle.storage_ops.proofs.NodeLaws.{found_there}

@@ -1,5 +1,5 @@
 -- A store whose nodes are changed, but for where they lie and what they are.
-use Rattle.storage_ops.proofs.Prelude.{◌≡◌, ℕ, ℤ, ◌/◌, Bool, true, false, cond, eqb, List, map, Option, Some, None, Ok, refl, sym, ap, subst, ◌∙◌, arith, inl, inr, cases_Bool, nat_tests, is_positive, unsigned_abs, Mode, Who, Named, Plan, Reply, AccountMaps, Changes, Row, with_row, getter_of, giver_of, Node, above, node_in, pool_of, changed, directory_at, segment_at, takes_effect, after_acl, after_move, moved, nodes_moved, row_with, Store, Present, sdw_at, ActiveSegs, uid_in_place, Plain, plain, words_at, Links, leads, leads_at, sdws_at, HasMoved, HasRowSet, IsCut, IsStore, Shows, Storage, answered, pages_in, pages_of, found_uid, Keeps, keeps_moved, keeps_one, keeps_rows, moved_else, quota_moved}
+use Rattle.storage_ops.proofs.Prelude.{◌≡◌, ℕ, ℤ, ◌/◌, true, false, cond, eqb, List, map, Option, Some, None, Ok, refl, sym, ap, subst, ◌∙◌, arith, inl, inr, cases_Bool, nat_tests, is_positive, unsigned_abs, Mode, Who, Named, Plan, Reply, AccountMaps, Changes, Row, with_row, getter_of, giver_of, Node, above, node_in, directory_at, segment_at, takes_effect, after_acl, after_move, nodes_moved, row_with, Store, Present, sdw_at, ActiveSegs, uid_in_place, Plain, plain, words_at, Links, leads, leads_at, sdws_at, HasMoved, HasRowSet, IsCut, IsStore, Shows, Storage, answered, pages_in, pages_of, found_uid, Keeps, keeps_moved, keeps_one, keeps_rows, moved_else, quota_moved}
 use Rattle.storage_ops.proofs.Alike.{active_alike, alike_changed, counted_alike, filed_alike, housed_alike, map_node, node_map, picture_alike, rights_alike, taken_alike}
 
 -- ---- a change of all nodes
@@ -61,11 +61,7 @@ keeps_row : (u : ℕ) (row : Row) → Keeps (row_change u row)
 keeps_row u row = keeps_one u (λ n. record n { rows = with_row row n.rows }) (keeps_rows (with_row row))
 
 row_pages : (u : ℕ) (row : Row) (n : Node) → (row_change u row n).pages ≡ n.pages
-row_pages u row n = here (eqb n.uid u)
-  where
-    here : (z : Bool) → (cond z (record n { rows = with_row row n.rows }) n).pages ≡ n.pages
-    here true = refl
-    here false = refl
+row_pages u row n = grind arith
 
 pub acl_store : {now : Plain} {ast : ActiveSegs} {links : Links} {a b : AccountMaps} {whos : List Who} {path : List
     (List ℕ)} {row : Row} (r : Reply)

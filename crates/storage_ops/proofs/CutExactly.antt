@@ -1,5 +1,5 @@
 -- What pages that are cut off leave, exactly.
-use Rattle.storage_ops.proofs.Prelude.{◌≡◌, ◌≢◌, ◌<◌, ◌≤◌, ◌+◌, ◌-◌, ◌/◌, ◌%◌, ℕ, suc, zero, Bool, true, false, eqb, List, [], ◌∷◌, ◌++◌, Option, length, get_or, refl, sym, ap, ◌∙◌, arith, inl, inr, ◌↔◌, IsTrue, Result, Ok, Err, list_all, range_with_len, ne_eqb, eqb_tells, AreZero, Reply, Node, AccountMaps, Recounts, count_of, Ptw, Here, Leaving, Null, Out, Entry, IsActive, deactivated, Home, cut, dropped, erased, Plain, plain, words_in, is_away, place_of, word_of, worded, IsInactive, CountsOthers, Paged, cut_by, is_cleared, page_cleared, page_cut, paged, pages_cut, Erases, cut_at, pages_from, put_out, Storage, home_of, pages_in, and_parts, zero_word, eq-eqb}
+use Rattle.storage_ops.proofs.Prelude.{◌≡◌, ◌≢◌, ◌<◌, ◌≤◌, ◌+◌, ◌-◌, ◌/◌, ◌%◌, ℕ, suc, zero, Bool, true, false, eqb, List, [], ◌∷◌, ◌++◌, Option, length, get_or, refl, sym, ap, ◌∙◌, arith, inl, inr, ◌↔◌, IsTrue, Result, Ok, list_all, range_with_len, ne_eqb, eqb_tells, AreZero, Reply, Node, AccountMaps, Recounts, count_of, Ptw, Leaving, Null, Out, Entry, IsActive, deactivated, Home, cut, dropped, erased, Plain, plain, words_in, is_away, place_of, word_of, worded, IsInactive, CountsOthers, Paged, cut_by, is_cleared, page_cleared, page_cut, paged, pages_cut, Erases, cut_at, pages_from, put_out, Storage, home_of, pages_in, and_parts, zero_word}
 use Rattle.storage_ops.proofs.Dropped.{recount_here}
 
 -- ---- one page
@@ -130,15 +130,4 @@ pub erased_exactly : {D : Type 0} {drive : D → List (List ℕ)} {t : Storage D
     → home_of m.accounts uid ≡ home_of t.accounts uid
     → plain drive n.segs.pages ≡ erased (plain drive m.segs.pages) (home_of m.accounts uid)
     → n.segs.ast ≡ m.segs.ast → Erases drive t n uid
-erased_exactly {drive} {t} m {uid} out still home gone ast =
-    record {
-      active = λ on. (
-        cc (out on),
-        cc (out on),
-      );
-      inactive = λ off. (
-        (gone ∙ ap (λ (h : Home). erased (plain drive m.segs.pages) h) home)
-            ∙ ap (λ (x : Paged). erased x.pages (home_of t.accounts uid)) (still off),
-        ast ∙ ap (λ (x : Paged). x.ast) (still off),
-      );
-    }
+erased_exactly {drive} {t} m {uid} out still home gone ast = grind arith

@@ -1,5 +1,5 @@
 -- A page is stored no more, and its account is credited.
-use Rattle.storage_ops.proofs.Prelude.{◌≡◌, ◌≢◌, ℕ, zero, suc, ◌+◌, ◌-◌, ◌≤◌, Bool, true, false, cond, eqb, List, [], ◌∷◌, get_or, length, map, is_some, refl, sym, ◌∙◌, arith, count_by, ne_eqb, sum_by-cons, get_or-map, AccountMaps, Counts, Recounts, count_of, Node, taken_on, volume_in, Ptw, Null, Home, KeepsCounts, entries, size, used, dropped, unstored, ChangesStored, Plain, home_of, is_filed, is_there, eq-eqb}
+use Rattle.storage_ops.proofs.Prelude.{◌≡◌, ◌≢◌, ℕ, zero, suc, ◌+◌, ◌-◌, Bool, true, false, cond, eqb, List, [], ◌∷◌, get_or, length, map, is_some, refl, sym, ◌∙◌, arith, count_by, ne_eqb, sum_by-cons, get_or-map, AccountMaps, Counts, Recounts, count_of, Node, taken_on, volume_in, Ptw, Null, Home, KeepsCounts, entries, size, used, dropped, unstored, ChangesStored, Plain, home_of, is_filed, is_there, eq-eqb}
 
 -- ---- counts
 
@@ -49,14 +49,7 @@ pub drop_done : {old now : Plain} {a b : AccountMaps} {u q : ℕ} {home : Home} 
     → is_there a.nodes u ≡ true → is_filed a old.vtocs u q ≡ true → now ≡ dropped old home q w
     → ChangesStored old now home q false → KeepsCounts old now → Recounts a b u (count_of a u - 1)
     → HasDropped old now a b u q
-drop_done {old} {q} {home} w is there filed effect stored counts re = record {
-  accounts = re;
-  there = there;
-  filed = filed;
-  vtocs = cc (effect, dropped_vtocs old home q w, is);
-  stored = rw (← is) stored;
-  counts = counts;
-}
+drop_done {old} {q} {home} w is there filed effect stored counts re = grind (arith, dropped_vtocs)
 
 kept_lengths : {X : Type 0} (f : List X → ℕ) (old new : List (List X)) (v : ℕ) → map f new ≡ map f old
     → f (get_or new v []) ≡ f (get_or old v [])

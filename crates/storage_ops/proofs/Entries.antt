@@ -1,5 +1,5 @@
 -- A VTOC entry at a home is changed.
-use Rattle.storage_ops.proofs.Prelude.{◌≡◌, ◌≢◌, ℕ, zero, suc, ◌+◌, Bool, true, cond, List, [], ◌∷◌, set, get_or, Option, Some, None, is_some, refl, sym, ap, ◌∙◌, arith, inl, inr, count_by, cases_eq, get_or-set_other, get_or-set_same, sum_by-cons, entry_at, records_in, with_record, Home, map_at, uid_at, vtoc_in, VtocEntry as Entry, Vtoc_uid_of as uid_of}
+use Rattle.storage_ops.proofs.Prelude.{◌≡◌, ◌≢◌, ℕ, zero, suc, ◌+◌, Bool, true, cond, List, [], ◌∷◌, set, get_or, Option, Some, None, is_some, refl, ap, arith, inl, inr, count_by, cases_eq, get_or-set_other, get_or-set_same, sum_by-cons, entry_at, records_in, with_record, Home, map_at, uid_at, vtoc_in, VtocEntry as Entry, Vtoc_uid_of as uid_of}
 use Rattle.storage_ops.proofs.Tables.{homed_entry, homed_volume}
 use Rattle.page_control.proofs.Places.{same_uid}
 

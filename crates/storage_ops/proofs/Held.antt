@@ -1,6 +1,6 @@
 -- What the fields of a store hold in a call of its own is what is told of the store: facts of the one are facts of the
 -- other.
-use Rattle.storage_ops.proofs.Prelude.{◌≡◌, ◌<◌, ℕ, true, List, Option, sym, ap, subst, ◌∙◌, Who, AccountMaps, Plan, Store, IsActive, Leaving, frame_at, is_bound, Home, number_in, plain, Control, table_of, word_of, IsHomeFor, IsStore, Shows, ShowsTree, Storage, home_of, is_there, pages_in}
+use Rattle.storage_ops.proofs.Prelude.{◌≡◌, ◌<◌, ℕ, true, List, Option, sym, subst, Who, AccountMaps, Plan, Store, IsActive, Leaving, frame_at, is_bound, Home, number_in, plain, Control, table_of, word_of, IsHomeFor, IsStore, Shows, ShowsTree, Storage, home_of, is_there, pages_in}
 
 -- what the fields hold, where they hold what is told
 abbrev pub held : {A : Type 0} {fields told : A} → fields ≡ told → A

@@ -1,5 +1,5 @@
 -- A node is added, with a home of its own.
-use Rattle.storage_ops.proofs.Prelude.{◌≡◌, ◌≢◌, ℕ, ◌+◌, ◌≤◌, ◌/◌, Bool, true, false, cond, eqb, List, [], ◌∷◌, Option, Some, None, get_or, is_some, is_none, replicate, refl, sym, ap, ◌∙◌, arith, inl, inr, length, count_by, position, cases_eq, cases_lt, ne_eqb, get_or-replicate, get_or_past, sum_by-cons, position-Some, Who, Plan, AccountMaps, Gains, count_of, Node, entries_on, has_directory, node_in, taken_on, is_stored, Store, taken_new, VtocEntry, entry_at, least_free_entry, record_at, records_in, no_records, ActiveSegs, uid_in_place, Home, Plain, bindings, binding_at, plain, map_at, uid_at, vtoc_in, one_more, size, taken, used, is_binding, is_filed_at, words_at, words_of_page, words_held, Links, IsKept, AreCounted, AreHoused, IsStore, Shows, Storage, home_of, is_filed, is_there, named_at, pages_in, pages_of, picture, eqb_turned, and_false, and_both, eq-eqb, entries, Vtoc_uid_of as uid_of, home_cases}
+use Rattle.storage_ops.proofs.Prelude.{◌≡◌, ◌≢◌, ℕ, ◌+◌, ◌≤◌, ◌/◌, Bool, true, false, cond, eqb, List, [], ◌∷◌, Option, Some, None, get_or, is_some, is_none, replicate, refl, sym, ap, ◌∙◌, arith, inl, inr, length, count_by, position, cases_eq, cases_lt, ne_eqb, get_or-replicate, get_or_past, sum_by-cons, position-Some, Who, Plan, AccountMaps, Gains, Node, entries_on, has_directory, node_in, is_stored, Store, taken_new, VtocEntry, entry_at, least_free_entry, record_at, records_in, no_records, ActiveSegs, uid_in_place, Home, Plain, bindings, binding_at, plain, map_at, uid_at, vtoc_in, one_more, used, is_binding, is_filed_at, words_at, words_of_page, words_held, Links, IsKept, AreCounted, AreHoused, IsStore, Shows, Storage, home_of, is_filed, is_there, named_at, pages_in, pages_of, picture, eqb_turned, and_false, and_both, eq-eqb, Vtoc_uid_of as uid_of, home_cases}
 
 -- ---- words of pages that aren't stored
 

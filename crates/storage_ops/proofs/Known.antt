@@ -1,5 +1,5 @@
 -- What the numbers of a process stand for is changed.
-use Rattle.storage_ops.proofs.Prelude.{◌≡◌, ℕ, zero, suc, ◌<◌, List, [], ◌∷◌, Option, Some, None, Ok, set, get_or, refl, sym, ap, subst, ◌∙◌, length-set, set-get_or, Who, Plan, Reply, number_for, uid_of, with_number, without_number, AccountMaps, Node, segment_at, after_initiate, after_terminate, initiated, known_or_full, Store, ActiveSegs, Plain, Links, kst_at, AreKnown, IsStore, Shows, Storage, answered, with_known, length, cases_eq, get_or-set_other, inl, inr}
+use Rattle.storage_ops.proofs.Prelude.{◌≡◌, ℕ, zero, suc, ◌<◌, List, [], ◌∷◌, Option, Some, None, Ok, set, get_or, refl, sym, ap, ◌∙◌, length-set, set-get_or, Who, Plan, Reply, number_for, uid_of, with_number, without_number, AccountMaps, Node, segment_at, after_initiate, after_terminate, initiated, known_or_full, Store, ActiveSegs, Plain, Links, kst_at, AreKnown, IsStore, Shows, Storage, answered, with_known, length, cases_eq, get_or-set_other, inl, inr}
 
 -- what holds of all elements holds of them once one is changed to such
 pub set_told : {A : Type 0} (P : A → Type 0) (xs : List A) (i j : ℕ) {x : A} (d : A) → P x → P (get_or xs j d)

@@ -1,5 +1,5 @@
 -- A store of which fewer descriptors are connected, or fewer segments active.
-use Rattle.storage_ops.proofs.Prelude.{◌≡◌, ℕ, Bool, true, false, cond, eqb, List, [], map, Option, Some, None, set, refl, sym, ap, ◌∙◌, inl, inr, cases_eq, get_or-set_other, get_or-map, Mode, Who, Plan, AccountMaps, Store, Sdw, Fault, Present, sdw_at, Entry, ActiveSegs, deactivated, superior_in, uid_in_place, uid_in, Plain, Links, sdws_at, all_cut, faulting, unlinked, IsStore, Shows, Storage}
+use Rattle.storage_ops.proofs.Prelude.{◌≡◌, ℕ, Bool, true, false, cond, eqb, List, [], map, Option, Some, None, set, refl, sym, ◌∙◌, inl, inr, cases_eq, get_or-set_other, get_or-map, Mode, Who, Plan, AccountMaps, Store, Sdw, Fault, Present, sdw_at, Entry, ActiveSegs, deactivated, superior_in, uid_in_place, uid_in, Plain, Links, sdws_at, all_cut, faulting, unlinked, IsStore, Shows, Storage}
 use Rattle.storage_ops.proofs.Known.{set_told}
 
 -- each descriptor that is connected was so before

@@ -1,5 +1,5 @@
 -- What the making of a directory or a segment in a directory is answered, and what it leaves.
-use Rattle.storage_ops.proofs.Prelude.{◌≡◌, ℕ, ◌<◌, Bool, true, false, cond, List, [], ◌∷◌, ◌++◌, is_none, Option, Some, None, Result, Ok, All, IsSome, set, get_or, is_some, ◌&&◌, length, sym, ap, ◌∙◌, arith, nat_le, nat_tests, length-set, position-Some, Plan, AddFault, add_fault_of, Node, above, branch_in, entries_on, node_at, after_make, made_in, make_in, Row, parts_are, Store, entries_of, least_free_entry, entries, used, vtoc_in, Reply as reply, AddFault as add_fault, Nodes_unless as unless, VtocEntry as Entry}
+use Rattle.storage_ops.proofs.Prelude.{◌≡◌, ℕ, ◌<◌, Bool, true, false, cond, List, [], ◌∷◌, ◌++◌, is_none, Option, Some, None, Result, Ok, All, IsSome, set, get_or, is_some, ◌&&◌, length, sym, ◌∙◌, arith, nat_le, nat_tests, length-set, position-Some, Plan, AddFault, add_fault_of, Node, above, branch_in, entries_on, node_at, after_make, made_in, make_in, Row, parts_are, Store, entries_of, least_free_entry, entries, used, vtoc_in, Reply as reply, AddFault as add_fault, Nodes_unless as unless, VtocEntry as Entry}
 use Rattle.storage_ops.proofs.Known.{size_set}
 use Rattle.storage_ops.proofs.NamingLaws.{count_full, count_less}
 

@@ -1,5 +1,5 @@
 -- What the calls of a move ask and leave, by what is true of a store.
-use Rattle.storage_ops.proofs.Prelude.{◌≡◌, ℕ, ◌+◌, ◌-◌, ◌<◌, ◌≤◌, Bool, true, false, List, [], ◌∷◌, Option, Some, None, length, map, refl, sym, ◌∙◌, arith, nat_lt, eq-eqb, nat_tests, length-set, least_free, HasParts, Vols, records_at, used_at, vtoc_at, IsActive, count_of, plain, entries, size, Mover, CanBegin, begun, flags_taken, with_taken, Control, IsKept, move_committed, pair_of, is_roomy, IsStore, Storage, home_of, is_there, named_at, room_parts}
+use Rattle.storage_ops.proofs.Prelude.{◌≡◌, ℕ, ◌-◌, ◌<◌, Bool, true, List, [], ◌∷◌, Option, Some, None, length, map, refl, sym, ◌∙◌, arith, nat_lt, eq-eqb, nat_tests, length-set, least_free, HasParts, Vols, records_at, used_at, vtoc_at, IsActive, count_of, plain, entries, size, Mover, CanBegin, begun, flags_taken, with_taken, Control, IsKept, move_committed, pair_of, is_roomy, IsStore, Storage, home_of, is_there, room_parts}
 use Rattle.seg_mover.specs.Homes.{map_at}
 use Rattle.storage_ops.proofs.Known.{size_set}
 use Rattle.storage_ops.proofs.Paged.{active_there}

@@ -1,5 +1,5 @@
 -- What a process knows by numbers, and whether there is a number for one segment more.
-use Rattle.storage_ops.proofs.Prelude.{◌≡◌, ◌↔◌, ℕ, zero, suc, ◌+◌, ◌<◌, ◌≤◌, Bool, true, false, cond, List, [], ◌∷◌, length, Option, Some, None, Ok, Err, get_or, is_some, is_none, IsTrue, refl, sym, ap, ◌∙◌, arith, count_by, sum_by-cons, position-Some, first_of_two, known_count, number_for, number_of, uid_of, Reply, Node, segment_at, initiate_of, initiate_reply, known_or_full, terminate_reply, Store, numbers_of, free_none, kst_at, refusal, Reply as reply, Known_least_free as least_free}
+use Rattle.storage_ops.proofs.Prelude.{◌≡◌, ◌↔◌, ℕ, zero, suc, ◌+◌, ◌<◌, ◌≤◌, Bool, true, false, cond, List, [], ◌∷◌, length, Option, Some, None, Ok, Err, get_or, is_some, is_none, IsTrue, refl, ◌∙◌, arith, count_by, sum_by-cons, position-Some, known_count, number_for, number_of, uid_of, Reply, Node, segment_at, initiate_reply, known_or_full, terminate_reply, Store, free_none, kst_at, refusal, Reply as reply, Known_least_free as least_free}
 
 -- ---- the least free number
 

@@ -1,5 +1,5 @@
 -- A page has left its frame: it is on its record, or it was all zeros and is stored no more.
-use Rattle.storage_ops.proofs.Prelude.{◌≡◌, ◌≢◌, ℕ, ◌+◌, ◌-◌, ◌<◌, ◌≤◌, ◌/◌, true, ◌&&◌, List, Result, Ok, Err, IfOk, get_or, ap, ◌∙◌, inl, inr, length, cases_lt, get_or_past, Who, Plan, AccountMaps, Recounts, count_of, MayRelease, Store, words_zero, AreZero, ActiveSegs, IsActive, Home, Left, Released, Kept, Plain, plain, KeepsCounts, taken, taken_after, after_evict, ChangesStored, KeepsWords, is_kept, words_at, has_record, Links, word_of, table_left, IsKept, IsSettled, page_left, IsStore, Shows, Storage, home_of, Leaving, dropped, false}
+use Rattle.storage_ops.proofs.Prelude.{◌≡◌, ℕ, ◌-◌, ◌/◌, true, List, Result, Ok, Err, IfOk, get_or, ap, ◌∙◌, inl, inr, length, cases_lt, get_or_past, Who, Plan, AccountMaps, Recounts, count_of, MayRelease, Store, words_zero, AreZero, ActiveSegs, IsActive, Home, Left, Released, Kept, Plain, plain, KeepsCounts, taken, taken_after, after_evict, ChangesStored, KeepsWords, is_kept, words_at, has_record, Links, word_of, table_left, IsKept, IsSettled, page_left, IsStore, Shows, Storage, home_of, Leaving, dropped, false}
 use Rattle.storage_ops.proofs.Dropped.{HasDropped, drop_done}
 use Rattle.storage_ops.proofs.PageMoves.{shown_dropped, store_dropped}
 use Rattle.storage_ops.proofs.PageFacts.{filed_word, page_counted}

@@ -1,5 +1,5 @@
 -- A page of a segment is made, with one word in it, and is stored from then on.
-use Rattle.storage_ops.proofs.Prelude.{◌≡◌, ℕ, ◌+◌, ◌<◌, ◌/◌, Bool, true, false, cond, eqb, eqb-true, ◌&&◌, ◌||◌, List, Some, refl, replicate, set, sym, ap, ◌∙◌, arith, inl, inr, cases_eq, eq-eqb, ne_eqb, length-replicate, Who, Plan, AccountMaps, Counts, Recounts, count_of, is_stored, with_stored, Store, count_with, is_stored-with, once_with, ActiveSegs, IsActive, Here, Null, Home, Plain, plain, KeepsCounts, one_more, taken, created, next_record, ChangesStored, ChangesWords, is_filed_at, words_at, has_record, uid_at, Links, word_of, worded, IsKept, page_made, AreHoused, IsStore, Shows, Storage, home_of, is_filed, is_there, named_at, pages_in, picture, eqb_turned, ◌-◌, ◌%◌, get_or, without_pages, all_same}
+use Rattle.storage_ops.proofs.Prelude.{◌≡◌, ℕ, ◌+◌, ◌<◌, ◌/◌, Bool, true, false, cond, eqb, eqb-true, ◌&&◌, ◌||◌, List, Some, refl, replicate, set, sym, ap, ◌∙◌, arith, inl, inr, cases_eq, eq-eqb, ne_eqb, length-replicate, Who, Plan, AccountMaps, Counts, Recounts, count_of, is_stored, with_stored, Store, count_with, is_stored-with, once_with, ActiveSegs, IsActive, Here, Null, Home, Plain, plain, KeepsCounts, one_more, taken, created, next_record, ChangesStored, ChangesWords, is_filed_at, words_at, has_record, uid_at, Links, word_of, worded, IsKept, page_made, AreHoused, IsStore, Shows, Storage, home_of, is_filed, is_there, named_at, pages_in, picture, eqb_turned, ◌%◌, get_or, without_pages, all_same}
 use Rattle.storage_ops.proofs.Dropped.{recount_here, recount_other, HasDropped}
 use Rattle.storage_ops.proofs.Entries.{put_other, put_uid}
 use Rattle.storage_ops.proofs.PageFacts.{filed_word}

@@ -87,11 +87,7 @@ taken_one ns v more = more.each (λ n. eqb (volume_in ns n) v)
 
 more_taken : (count : ℕ → ℕ) (volume v : ℕ) {n : ℕ} → n ≡ weight (eqb v volume) + count v → one_more count volume v ≡ n
 unfolding one_more
-more_taken count volume v {n} = by (eqb v volume)
-  where
-    by : (z : Bool) → n ≡ weight z + count v → cond z (count v + 1) (count v) ≡ n
-    by true e = omega arith
-    by false e = omega arith
+more_taken count volume v {n} = grind arith
 
 less_taken : (count : ℕ → ℕ) (volume v : ℕ) {n : ℕ} → count v ≡ weight (eqb v volume) + n → one_less count volume v ≡ n
 unfolding one_less

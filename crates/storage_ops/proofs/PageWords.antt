@@ -1,5 +1,5 @@
 -- One word of a page in a frame is written.
-use Rattle.storage_ops.proofs.Prelude.{◌≡◌, ◌≢◌, ℕ, ◌+◌, ◌*◌, ◌<◌, ◌/◌, ◌%◌, Bool, true, false, cond, eqb, ◌&&◌, List, length, get_or, set, replicate, Some, refl, sym, ap, ◌∙◌, arith, inl, inr, cases_eq, ne_eqb, eq-eqb, get_or-set_other, get_or-set_same, same_Some, get_or-map, Plan, AccountMaps, is_stored, with_word, written, Store, with_old, Free, bound_page, frame_at, is_bound, Who, ptw_at, ActiveSegs, IsActive, table_at, Home, Plain, binding_at, bindings, number_in, plain, words_in, changed_at, changed_page, words_at, IsTableOf, frame_of, Links, Control, word_of, IsKept, IsStore, Shows, Storage, home_of, is_filed, is_there, picture, and_false, Tied_uid_in as uid_in, bound_to}
+use Rattle.storage_ops.proofs.Prelude.{◌≡◌, ◌≢◌, ℕ, ◌+◌, ◌*◌, ◌<◌, ◌/◌, ◌%◌, Bool, true, false, cond, eqb, ◌&&◌, List, length, get_or, set, Some, refl, sym, ap, ◌∙◌, arith, inl, inr, cases_eq, ne_eqb, eq-eqb, get_or-set_other, get_or-set_same, same_Some, get_or-map, Plan, AccountMaps, is_stored, with_word, written, Store, with_old, Free, bound_page, frame_at, is_bound, Who, ActiveSegs, IsActive, table_at, Home, Plain, binding_at, bindings, number_in, plain, words_in, changed_at, changed_page, words_at, IsTableOf, Links, Control, word_of, IsKept, IsStore, Shows, Storage, home_of, is_filed, is_there, picture, and_false, Tied_uid_in as uid_in, bound_to}
 use Rattle.storage_ops.proofs.Paged.{active_tie, picture_there, word_filed, framed_recorded}
 use Rattle.storage_ops.proofs.PagesLess.{words_bound}
 

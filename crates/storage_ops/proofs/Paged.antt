@@ -1,5 +1,5 @@
 -- An active segment: its home, its page table, and which of its pages are stored.
-use Rattle.storage_ops.proofs.Prelude.{◌≡◌, ◌≢◌, ℕ, zero, suc, ◌/◌, ◌%◌, ◌<◌, ◌≤◌, Bool, true, false, cond, ◌&&◌, ◌↔◌, List, [], eqb, ◌∷◌, Option, Some, None, replicate, refl, sym, ap, ◌∙◌, arith, inl, inr, position_or_len, cases_Bool, eqb-true, common_steps, same_Some, Who, Plan, AccountMaps, Store, IsBlank, VtocEntry, Entry, ActiveSegs, IsActive, uid_in_place, uid_in, Ptw, Here, Leaving, Null, Out, Home, Plain, binding_at, bindings, plain, frame_of, has_record, IsTied, is_filed_at, words_at, Links, is_for, place_of, table_of, word_of, IsHomeOf, IsKept, IsStore, Shows, Storage, home_of, is_filed, is_there, pages_in, picture, all_same, passed_there, eq-eqb}
+use Rattle.storage_ops.proofs.Prelude.{◌≡◌, ◌≢◌, ℕ, zero, suc, ◌/◌, ◌%◌, ◌≤◌, Bool, true, false, cond, ◌↔◌, List, [], eqb, ◌∷◌, Option, Some, None, replicate, refl, sym, ap, ◌∙◌, arith, inl, inr, position_or_len, cases_Bool, eqb-true, common_steps, same_Some, Who, Plan, AccountMaps, Store, IsBlank, VtocEntry, Entry, ActiveSegs, IsActive, uid_in_place, uid_in, Ptw, Here, Leaving, Home, Plain, binding_at, bindings, plain, frame_of, has_record, IsTied, words_at, Links, is_for, place_of, table_of, word_of, IsHomeOf, IsKept, IsStore, Shows, Storage, home_of, is_filed, is_there, pages_in, picture, all_same, passed_there, eq-eqb}
 use Rattle.storage_ops.proofs.Homes.{filed_map, words_none}
 use Rattle.storage_ops.proofs.Lengths.{filed_there}
 

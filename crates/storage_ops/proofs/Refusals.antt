@@ -1,5 +1,5 @@
 -- What refuses a reference, by the tables and by the flat store that they show.
-use Rattle.storage_ops.proofs.Prelude.{◌≡◌, ℕ, ◌*◌, ◌<◌, ◌/◌, Bool, true, false, cond, eqb, not, ◌&&◌, List, [], Option, Some, None, Result, Ok, Err, get_or, is_some, map, refl, sym, ap, ◌∙◌, arith, inl, inr, nat_le, cases_Bool, nat_tests, get_or-map, Who, Plan, ProcessPlan, nobody, who_of, RefKind, Reference, Reply, uid_of, access_of, Node, has_directory, node_in, has_segment, AccountMaps, HasParts, is_stored, new_word, permits, is_out_of_room, is_used_up, reply_at, reply_of, reply_to_reference, stores_page, word_reply, Store, plain, IsKept, brings_word, is_of_room, is_outside, only, outside_by, outside_refusal, refusal_in, refused_by, room_by, room_in, room_refusal, target, target_at, has_no_room, is_spent, target_of, unless, want_of_room, AreCounted, IsStore, Shows, Storage, is_filed, pages_in, pages_of, refusal, who_at, and_false, RefKind as kind, Reply as reply, VtocEntry as Entry}
+use Rattle.storage_ops.proofs.Prelude.{◌≡◌, ℕ, ◌*◌, ◌<◌, ◌/◌, Bool, true, false, cond, eqb, not, ◌&&◌, List, [], Option, Some, None, Result, Ok, Err, get_or, is_some, map, refl, sym, ap, ◌∙◌, arith, inl, inr, nat_le, cases_Bool, nat_tests, get_or-map, Who, Plan, ProcessPlan, nobody, who_of, RefKind, Reference, Reply, uid_of, access_of, Node, has_directory, node_in, has_segment, AccountMaps, HasParts, is_stored, new_word, permits, is_out_of_room, is_used_up, reply_to_reference, stores_page, word_reply, Store, plain, IsKept, brings_word, is_of_room, is_outside, only, outside_by, outside_refusal, refusal_in, refused_by, room_by, room_in, room_refusal, target, has_no_room, is_spent, unless, want_of_room, AreCounted, IsStore, Shows, Storage, is_filed, pages_of, refusal, who_at, and_false, RefKind as kind, Reply as reply, VtocEntry as Entry}
 use Rattle.storage_ops.proofs.Held.{shown_held}
 use Rattle.storage_ops.proofs.PageFacts.{segment_of}
 use Rattle.storage_ops.proofs.PageRoom.{full_told}
@@ -71,43 +71,11 @@ module _ {D : Type 0} {drive : D → List (List ℕ)} {p : Plan} {s : Store} {t 
 
   reply_told : reply_to_reference p s k r ≡ reply_for p s r (target t k r)
   unfolding reply_to_reference target
-  reply_told = rw h.known (by_uid (uid_of (get_or t.segs.links.known k []) r.number))
-    where
-      by_test : (n : Node) (may past : Bool)
-          → cond (not may) reply.NoAccess (cond past reply.Length (reply_for p s r (Ok n)))
-          ≡ reply_for p s r (unless (cond (not may) (Some reply.NoAccess) (cond past (Some reply.Length) None)) n)
-      by_test n true true = refl
-      by_test n true false = refl
-      by_test n false past = refl
-
-      by_node : (o : Option Node) → reply_at p s k r.offset r.kind o ≡ reply_for p s r (target_at (who_at t.whos k) r o)
-      by_node None = refl
-      by_node (Some n) = rw who_told
-          (by_test n (permits (access_of (who_at t.whos k) n.rows) r.kind) (nat_le (1024 * n.pages) r.offset))
-
-      by_uid : (o : Option ℕ)
-          → reply_of p s k r.offset r.kind o ≡ reply_for p s r (target_of t.accounts.nodes (who_at t.whos k) r o)
-      by_uid None = refl
-      by_uid (Some uid) = cc (h.tree.nodes, by_node (node_in t.accounts.nodes uid))
+  reply_told = grind (arith, who_told)
 
 outside_target : {D : Type 0} (t : Storage D) (k : ℕ) (r : Reference) → is_outside_of (target t k r) ≡ true
 unfolding target
-outside_target t k r = by_uid (uid_of (get_or t.segs.links.known k []) r.number)
-  where
-    by_test : (n : Node) (may past : Bool)
-        → is_outside_of (unless (cond (not may) (Some reply.NoAccess) (cond past (Some reply.Length) None)) n) ≡ true
-    by_test n true true = refl
-    by_test n true false = refl
-    by_test n false past = refl
-
-    by_node : (o : Option Node) → is_outside_of (target_at (who_at t.whos k) r o) ≡ true
-    by_node None = refl
-    by_node (Some n) = by_test n (permits (access_of (who_at t.whos k) n.rows) r.kind)
-        (nat_le (1024 * n.pages) r.offset)
-
-    by_uid : (o : Option ℕ) → is_outside_of (target_of t.accounts.nodes (who_at t.whos k) r o) ≡ true
-    by_uid None = refl
-    by_uid (Some uid) = by_node (node_in t.accounts.nodes uid)
+outside_target t k r = grind arith
 
 -- ---- by the tables
 

@@ -1,5 +1,5 @@
 -- A segment has another home, on another volume, with what was filed at its old one.
-use Rattle.storage_ops.proofs.Prelude.{◌≡◌, ◌≢◌, ℕ, ◌+◌, ◌/◌, Bool, true, cond, eqb, List, Option, Some, None, is_some, map, refl, sym, ap, ◌∙◌, arith, inl, inr, count_by, cases_eq, eq-eqb, ne_eqb, Who, Plan, AccountMaps, Counts, Rehomes, entry_of, Node, entries_on, has_directory, node_in, pool_of, taken_on, volume_in, IsTree, Store, volume_found, ActiveSegs, Home, Plain, plain, map_at, uid_at, entries, named_on, size, taken, used, is_filed_at, words_at, Links, AreCounted, AreHoused, AreTaken, IsStore, Shows, Storage, home_of, is_filed, is_there, named_at, pages_in, pages_of, picture, nat_tests, cases_Bool, home_cases}
+use Rattle.storage_ops.proofs.Prelude.{◌≡◌, ◌≢◌, ℕ, ◌+◌, ◌/◌, true, List, Option, Some, None, is_some, map, refl, sym, ap, ◌∙◌, arith, inl, inr, count_by, cases_eq, eq-eqb, ne_eqb, Who, Plan, AccountMaps, Counts, Rehomes, entry_of, Node, entries_on, has_directory, node_in, pool_of, taken_on, volume_in, IsTree, Store, volume_found, ActiveSegs, Home, Plain, plain, map_at, uid_at, entries, named_on, size, taken, used, is_filed_at, words_at, Links, AreCounted, AreHoused, AreTaken, IsStore, Shows, Storage, home_of, is_filed, is_there, named_at, pages_in, pages_of, picture, nat_tests, cases_Bool, home_cases}
 use Rattle.flat_model.specs.Moves.{moved}
 use Rattle.storage_ops.proofs.Alike.{active_alike, map_node, node_map, rights_alike, there_map}
 use Rattle.storage_ops.proofs.Homes.{filed_map}
@@ -125,14 +125,7 @@ module _ {old now : Plain} {a b : AccountMaps} {u : ℕ} {home : Home} (d : HasR
   ]
 
   pub rehomed_counted : AreCounted a old.vtocs → AreCounted b now.vtocs
-  rehomed_counted h = record {
-    counts = λ v t. (let was = sym (there_is v) ∙ t in named_is v was ∙ h.counts v was ∙ sym (d.rehomes.counts v));
-    inside = λ v q t on. (let was = sym (there_is v) ∙ t in
-        rw (pages_are v) (h.inside v q was (sym (filed_at v q was) ∙ on)));
-    absent = λ v off. d.rehomes.counts v ∙ h.absent v (sym (there_is v) ∙ off);
-    most = λ v. rw (pages_are v) (h.most v);
-    flat = λ v is. pages_are v ∙ h.flat v (sym (kind_is v) ∙ is);
-  }
+  rehomed_counted h = grind (arith, there_is, named_is, pages_are, filed_at, kind_is)
 
   -- ---- records and entries in use
 

@@ -1,5 +1,5 @@
 -- A node is taken out, with its home and its pages.
-use Rattle.storage_ops.proofs.Prelude.{◌≡◌, ◌≢◌, ℕ, ◌+◌, ◌-◌, ◌/◌, ◌%◌, Bool, true, false, cond, eqb, not, ◌&&◌, List, [], ◌∷◌, get_or, length, set, Option, Some, None, is_some, refl, sym, ap, All, subst, ◌∙◌, arith, inl, inr, count_by, nat_le, list_any, cases_Bool, cases_eq, eq-eqb, eqb-true, ne_eqb, nat_tests, get_or-set_other, length-set, sum_by-cons, get_or-map, Who, Plan, AccountMaps, Loses, Recounts, count_of, Node, entries_on, is_inferior, node_in, taken_on, volume_in, without_node, IsTree, without_branch, without_pages, Words, is_stored, without_stored, Store, stored_fused, volume_found, is_stored-without, once_without, without_first, without_none, directory_left, node_gone, taken_left, volume_left, entries_less, Core, frame_at, started_page, Free, Null, leads_to, trailers_of, Entry, ActiveSegs, HasNoInferior, IsAway, IsOneToOne, entry_in_place, superior_in, table_at, uid_in_place, uid_in, Home, entries, named_on, one_less, size, taken, used, words_at, erased, freed, Plain, file_map_of, flags_of, plain, IsNotStarted, map_at, uid_at, Links, leads_at, place_of, word_of, AreExact, IsInactive, IsNotRead, times, AreCounted, AreHoused, AreInTree, AreTaken, IsCut, IsStore, Shows, Storage, home_of, is_filed, is_there, named_at, pages_in, pages_of, picture, node_without, all_same, get_or_any, counts_none, from_first, none_put, or_true, and-true, started_from}
+use Rattle.storage_ops.proofs.Prelude.{◌≡◌, ◌≢◌, ℕ, ◌+◌, ◌/◌, ◌%◌, Bool, true, false, cond, eqb, not, ◌&&◌, List, [], ◌∷◌, get_or, length, set, Option, Some, None, refl, sym, ap, All, subst, ◌∙◌, arith, inl, inr, count_by, nat_le, list_any, cases_Bool, cases_eq, eq-eqb, eqb-true, ne_eqb, nat_tests, get_or-set_other, length-set, sum_by-cons, get_or-map, Who, Plan, AccountMaps, Loses, Recounts, count_of, Node, is_inferior, node_in, taken_on, without_node, IsTree, without_branch, without_pages, Words, is_stored, without_stored, Store, stored_fused, volume_found, is_stored-without, once_without, without_first, without_none, directory_left, node_gone, taken_left, volume_left, entries_less, Core, frame_at, started_page, Free, Null, leads_to, trailers_of, Entry, ActiveSegs, HasNoInferior, IsAway, IsOneToOne, entry_in_place, superior_in, table_at, uid_in_place, uid_in, Home, entries, named_on, one_less, size, taken, used, words_at, erased, freed, Plain, file_map_of, flags_of, plain, IsNotStarted, map_at, uid_at, Links, leads_at, place_of, word_of, AreExact, IsInactive, IsNotRead, times, AreCounted, AreHoused, AreInTree, AreTaken, IsCut, IsStore, Shows, Storage, home_of, is_filed, is_there, pages_in, pages_of, picture, node_without, all_same, get_or_any, counts_none, from_first, none_put, or_true, and-true, started_from}
 use Rattle.storage_ops.proofs.Dropped.{counts_more, recount_here, recount_homes, recount_other, taken_more, with_more}
 use Rattle.storage_ops.proofs.Homes.{filed_map, none_counted}
 use Rattle.storage_ops.proofs.Known.{size_set}

@@ -1,5 +1,5 @@
 -- What tree commands leave as it is.
-use Rattle.storage_ops.proofs.Prelude.{get_or-set_other, nat_tests, cases_eq, ne_eqb, ◌≢◌, ◌+◌, ◌*◌, ◌/◌, ◌%◌, ◌≤◌, nat_le, ◌||◌, [], arith, inl, inr, ◌≡◌, ℕ, Bool, true, false, cond, eqb, ◌&&◌, List, Option, Some, None, refl, sym, ap, ◌∙◌, AccountMaps, VtocEntry, reads_of, Entry, IsOneToOne, deactivated, uid_in_place, Ptw, Home, erased, Plain, binding_at, bindings, plain, Links, IsInactive, CutsPages, KeepsRest, TakesOut, Unstores, unbound, Storage, with_known, with_vtocs, from_first}
+use Rattle.storage_ops.proofs.Prelude.{get_or-set_other, nat_tests, cases_eq, ne_eqb, ◌≢◌, ◌+◌, ◌*◌, ◌/◌, ◌%◌, ◌≤◌, nat_le, ◌||◌, [], arith, inl, inr, ◌≡◌, ℕ, Bool, true, false, cond, eqb, ◌&&◌, List, Option, Some, None, refl, sym, ap, ◌∙◌, AccountMaps, VtocEntry, Entry, IsOneToOne, deactivated, uid_in_place, Ptw, Home, erased, binding_at, bindings, plain, Links, IsInactive, CutsPages, KeepsRest, TakesOut, Unstores, unbound, Storage, with_known, with_vtocs, from_first}
 use Rattle.storage_ops.proofs.Less.{was_active}
 use Rattle.storage_ops.proofs.Removed.{inactive_now}
 use Rattle.storage_ops.proofs.Unstored.{unstores_both}
@@ -87,18 +87,7 @@ pub rest_erased : {D : Type 0} (drive : D → List (List ℕ)) {t n : Storage D}
     → plain drive n.segs.pages ≡ erased (plain drive t.segs.pages) home → n.segs.ast ≡ t.segs.ast
     → n.segs.links ≡ t.segs.links → n.segs.moving ≡ t.segs.moving → n.whos ≡ t.whos
     → n.segs.pages.volumes.drives ≡ t.segs.pages.volumes.drives → KeepsRest t n
-rest_erased drive home effect ast links moving whos drives = record {
-  descriptors = cc;
-  trailers = cc;
-  moving = moving;
-  whos = whos;
-  drives = drives;
-  reads = ap (λ (s : Plain). reads_of s.core) effect;
-  sizes = rw ast;
-  hands = rw ast;
-  active = λ place u e. rw ast at e;
-  bound = λ f u q e. ap (λ (s : Plain). binding_at (bindings s.core) f) (sym effect) ∙ e;
-}
+rest_erased drive home effect ast links moving whos drives = grind arith
 
 -- ---- the pages that a cut takes
 

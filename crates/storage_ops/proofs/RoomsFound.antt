@@ -1,5 +1,5 @@
 -- The volume that has room in the tables is the one that has it in the flat store that is shown.
-use Rattle.storage_ops.proofs.Prelude.{◌≡◌, ◌⊎◌, ◌<◌, ◌≤◌, ℕ, zero, suc, Bool, true, false, cond, List, [], Some, None, refl, sym, ap, ◌∙◌, arith, inl, inr, length, map, count_by, cases_Bool, cases_eq, get_or_past, length-map, count_by-le-length, Plan, entries_on, taken_on, volume_in, count_of, has_room, room_for, Store, records_of, first_is, first_none, room_is, room_none, is_full, plain, HasParts, Vols, first_roomy, is_roomy, move_target, room_of, IsStore, Shows, Storage}
+use Rattle.storage_ops.proofs.Prelude.{◌≡◌, ◌⊎◌, ◌<◌, ◌≤◌, ℕ, zero, suc, Bool, true, false, List, [], Some, None, refl, sym, ap, ◌∙◌, arith, inl, inr, length, map, count_by, cases_Bool, cases_eq, get_or_past, length-map, count_by-le-length, Plan, entries_on, taken_on, volume_in, count_of, has_room, room_for, Store, records_of, first_is, first_none, room_is, room_none, is_full, plain, HasParts, Vols, first_roomy, is_roomy, move_target, room_of, IsStore, Shows, Storage}
 
 -- no volume has more records in use than it has
 pub few_used : (flags : List Bool) → count_by (λ flag. flag) flags ≤ length flags

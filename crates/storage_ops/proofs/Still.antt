@@ -1,5 +1,5 @@
 -- A store of which frames, marks or words of page tables alone have changed.
-use Rattle.storage_ops.proofs.Prelude.{◌≡◌, ℕ, ◌/◌, Bool, true, false, cond, List, Result, Ok, Err, replicate, refl, sym, ap, ◌∙◌, inl, inr, Who, Plan, Node, AccountMaps, Store, ActiveSegs, Home, Plain, plain, KeepsWords, words_at, Links, home_of, is_there, table_here, IsHomeFor, Ptw, KeepsTables, AreHoused, AreInTree, IsStore, Shows, Storage, picture}
+use Rattle.storage_ops.proofs.Prelude.{◌≡◌, ℕ, ◌/◌, Bool, true, false, cond, List, Result, Ok, Err, replicate, refl, inl, inr, Who, Plan, Node, AccountMaps, Store, ActiveSegs, Home, Plain, plain, KeepsWords, words_at, Links, home_of, is_there, table_here, IsHomeFor, Ptw, KeepsTables, AreHoused, AreInTree, IsStore, Shows, Storage, picture}
 
 -- the places and the pools of what is active are as before
 pub tree_still : {nodes : List Node} {ast next : ActiveSegs} → next.entries ≡ ast.entries → next.sizes ≡ ast.sizes

@@ -1,5 +1,5 @@
 -- What stays where pages of an active segment are stored no more.
-use Rattle.storage_ops.proofs.Prelude.{◌≡◌, ◌≢◌, ℕ, ◌+◌, ◌/◌, ◌<◌, ◌≤◌, Bool, true, false, cond, eqb, ◌&&◌, ◌||◌, List, [], get_or, length, nat_le, nat_lt, set, Option, Some, None, refl, sym, ap, subst, ◌∙◌, arith, inl, inr, cases_eq, cases_lt, eq-eqb, eqb-true, ne_eqb, or_parts, nat_tests, get_or-set_other, get_or-set_same, get_or-map, Core, bound_page, frame_at, reads_of, started_page, with_frame, Frame, Free, Ptw, Here, Leaving, Null, Out, ptw_at, Entry, ActiveSegs, IsActive, table_at, uid_in_place, uid_in, dropped, Home, Plain, binding_at, bindings, IsNotStarted, IsTableOf, frame_of, has_record, is_out, place_of, table_of, word_of, worded, between, Storage, home_of, IsTakenPast, Unstores, is_here, unbound, shown_within, within_from, off_and_on, and_false, and-true, ◌∷◌, suc, zero, started_from}
+use Rattle.storage_ops.proofs.Prelude.{◌≡◌, ◌≢◌, ℕ, ◌+◌, ◌/◌, ◌<◌, ◌≤◌, Bool, true, false, cond, eqb, ◌&&◌, ◌||◌, List, [], get_or, length, nat_le, nat_lt, set, Option, Some, None, refl, sym, ap, subst, ◌∙◌, arith, inl, inr, cases_eq, cases_lt, eq-eqb, eqb-true, ne_eqb, or_parts, nat_tests, get_or-set_other, get_or-set_same, get_or-map, Core, bound_page, frame_at, reads_of, started_page, with_frame, Frame, Free, Ptw, Here, Leaving, Null, Out, ptw_at, ActiveSegs, IsActive, table_at, uid_in_place, uid_in, dropped, Home, Plain, binding_at, bindings, IsNotStarted, IsTableOf, frame_of, has_record, is_out, place_of, table_of, word_of, worded, between, Storage, home_of, IsTakenPast, Unstores, is_here, unbound, shown_within, within_from, off_and_on, and_false, and-true, ◌∷◌, suc, zero, started_from}
 use Rattle.storage_ops.proofs.Known.{set_told}
 use Rattle.storage_ops.proofs.Paged.{active_place}
 

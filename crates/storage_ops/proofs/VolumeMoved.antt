@@ -1,5 +1,5 @@
 -- A node gets another volume: what is read of the nodes, and counted on each volume.
-use Rattle.storage_ops.proofs.Prelude.{◌≡◌, ◌≢◌, ℕ, ◌+◌, ◌<◌, Bool, true, false, cond, eqb, List, [], ◌∷◌, map, Some, refl, sym, ap, subst, ◌∙◌, arith, inl, inr, count_by, cases_Bool, cases_eq, eq-eqb, eqb-true, ne_eqb, sum_by-cons, Node, entries_on, has_directory, node_in, taken_on, volume_in, AreBelow, IsTree, field_kept, field_mapped, is_there, joined_below}
+use Rattle.storage_ops.proofs.Prelude.{◌≡◌, ◌≢◌, ℕ, ◌+◌, Bool, true, false, cond, eqb, List, [], ◌∷◌, map, Some, refl, ap, subst, arith, inl, inr, count_by, cases_Bool, cases_eq, eq-eqb, eqb-true, ne_eqb, sum_by-cons, Node, entries_on, has_directory, node_in, taken_on, volume_in, AreBelow, IsTree, field_kept, field_mapped, is_there, joined_below}
 
 -- a node, on another volume where it has this uid
 abbrev pub on_volume : ℕ → ℕ → Node → Node

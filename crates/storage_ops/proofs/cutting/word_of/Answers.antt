@@ -1,4 +1,4 @@
-use Rattle.storage_ops.proofs.Prelude.{ℕ, List, sym, ap, ◌∙◌, arith, get_or_past, Ptw, Null, ptw_at, table_at}
+use Rattle.storage_ops.proofs.Prelude.{arith, get_or_past, Null}
 use Rattle.storage_ops.proofs.Paged.{place_found}
 use Rattle.storage_ops.proofs.cutting.word_of.Goals as goal
 

@@ -1,4 +1,4 @@
-use Rattle.storage_ops.proofs.Prelude.{true, false, ap, sym, ◌∙◌, quota_in, as_term, acl_refused, acl_told, refusal}
+use Rattle.storage_ops.proofs.Prelude.{true, false, ap, ◌∙◌, quota_in, as_term, acl_refused, acl_told, refusal}
 use Rattle.storage_ops.proofs.Laws.{leads_segment, refusal_told, segment_refuses}
 use Rattle.storage_ops.proofs.finding.for_acl.Goals as goal
 

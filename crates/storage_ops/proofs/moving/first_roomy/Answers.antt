@@ -1,4 +1,4 @@
-use Rattle.storage_ops.proofs.Prelude.{◌≡◌, ◌<◌, ℕ, false, true, length, rules, is_roomy}
+use Rattle.storage_ops.proofs.Prelude.{◌≡◌, true, rules, is_roomy}
 use Rattle.storage_ops.proofs.RoomsFound.{first_here, first_nowhere}
 use Rattle.storage_ops.proofs.moving.first_roomy.Goals as goal
 

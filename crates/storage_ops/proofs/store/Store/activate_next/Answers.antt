@@ -1,4 +1,4 @@
-use Rattle.storage_ops.proofs.Prelude.{rules, length, plain}
+use Rattle.storage_ops.proofs.Prelude.{rules, plain}
 use Rattle.storage_ops.proofs.Laws.{held, shown_held, may_activate, shown_next, store_next, all_drives}
 use Rattle.storage_ops.proofs.store.Store.activate_next.Goals as goal
 

@@ -1,5 +1,5 @@
-use Rattle.storage_ops.proofs.Prelude.{rules, ◌≡◌, ◌&&◌, Bool, false, refl, sym, true, Some, take, replicate, ◌++◌, ◌-◌, ap, ◌∙◌, cleared, is_stored, is_zero_page, Flat, cleared_absent, words_at, changed_page, plain, words_in, binding_at, bindings, has_record, is_out, word_of, is_here, leaves, Shows, is_there, picture, Leaving, Null, Plan, paged, count_of}
-use Rattle.storage_ops.proofs.Laws.{active_held, held, shown_held, word_held, cut_told, frame_bound, frame_is_bound, frame_told, leaving_bound, picture_bound, leaving_is, not_leaving, shown_cut, unstores_cut, active_there, blank_shown, word_filed, unstores_none, cleared_exactly, cleared_told, null_cleared}
+use Rattle.storage_ops.proofs.Prelude.{rules, ◌≡◌, ◌&&◌, Bool, false, refl, sym, true, Some, take, replicate, ◌++◌, ◌-◌, ap, ◌∙◌, cleared, is_stored, is_zero_page, Flat, cleared_absent, words_at, changed_page, plain, words_in, binding_at, bindings, has_record, word_of, leaves, Shows, is_there, picture, Leaving, Null, Plan, paged, count_of}
+use Rattle.storage_ops.proofs.Laws.{active_held, held, word_held, cut_told, frame_bound, frame_is_bound, frame_told, leaving_bound, picture_bound, leaving_is, not_leaving, shown_cut, unstores_cut, active_there, blank_shown, word_filed, unstores_none, cleared_exactly, cleared_told, null_cleared}
 use Rattle.storage_ops.proofs.store.Store.clear_page.Goals.{After-cut_from, In-None, In-Some}
 use Rattle.storage_ops.proofs.store.Store.clear_page.Goals as goal
 

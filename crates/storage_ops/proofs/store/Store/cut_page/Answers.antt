@@ -1,4 +1,4 @@
-use Rattle.storage_ops.proofs.Prelude.{rules, ◌≡◌, ℕ, ◌/◌, ◌%◌, true, false, eqb, refl, sym, ap, ◌∙◌, arith, cleared, has_cleared, plain, is_away, Storage, home_of, is_there, word_of, paged}
+use Rattle.storage_ops.proofs.Prelude.{rules, ◌≡◌, ℕ, ◌/◌, ◌%◌, false, refl, sym, ap, ◌∙◌, arith, cleared, has_cleared, is_away, Storage, home_of, is_there, word_of, paged}
 use Rattle.storage_ops.proofs.Laws.{active_there, idle_still, unstores_both, active_still, home_still, cut_dropped, cut_kept, others_both}
 use Rattle.storage_ops.proofs.store.Store.cut_page.Goals as goal
 

@@ -1,4 +1,4 @@
-use Rattle.storage_ops.proofs.Prelude.{rules, ◌≡◌, ◌<◌, ℕ, is_some, List, true, false, eqb, refl, sym, ap, ◌∙◌, arith, is_err, ne_eqb, Node, quota_in, as_term, has_inferior, branch_at, delete_done, delete_refused, delete_told, from_false, Storage, is_there, branch_refuses}
+use Rattle.storage_ops.proofs.Prelude.{rules, ◌≡◌, ◌<◌, ℕ, is_some, List, true, false, eqb, refl, sym, ap, ◌∙◌, arith, is_err, ne_eqb, Node, quota_in, as_term, has_inferior, delete_done, delete_refused, delete_told, from_false, is_there, branch_refuses}
 use Rattle.storage_ops.proofs.Laws.{tree_held, out_still, rest_both, rest_none, erased_exactly, same_uid}
 use Rattle.storage_ops.proofs.store.Store.delete.Goals.{After-may_remove}
 use Rattle.storage_ops.proofs.store.Store.delete.Goals as goal

@@ -1,4 +1,4 @@
-use Rattle.storage_ops.proofs.Prelude.{nat_tests, ◌≡◌, ◌≤◌, ◌<◌, ◌+◌, ◌-◌, ℕ, refl, false, eqb, sym, ap, ◌∙◌, arith, without_pages, all_between, between, more_between, none_between, plain, word_of, is_here, Storage, home_of, is_there, pages_in, range_with_len, paged, pages_cut}
+use Rattle.storage_ops.proofs.Prelude.{nat_tests, ◌≡◌, ◌≤◌, ◌-◌, refl, sym, ap, ◌∙◌, arith, without_pages, all_between, between, more_between, none_between, word_of, is_here, Storage, home_of, is_there, pages_in, paged, pages_cut}
 use Rattle.storage_ops.proofs.Laws.{active_held, held, shown_held, filed_there, active_there, blank_shown, past_unfiled, unfiled_unframed, word_filed, idle_still, active_still, home_still, unrecorded, unstores_both, unstores_none, unstores_past, unstores_same, cut_next, none_from, others_both}
 use Rattle.storage_ops.proofs.store.Store.drop_from.Goals as goal
 

@@ -1,4 +1,4 @@
-use Rattle.storage_ops.proofs.Prelude.{◌≡◌, ◌-◌, refl, ◌∙◌, inl, true, plain, is_away, word_of, taken}
+use Rattle.storage_ops.proofs.Prelude.{◌≡◌, refl, inl, true, plain, is_away, word_of}
 use Rattle.storage_ops.proofs.Laws.{active_held, held, home_held, word_held, may_drop, unstores_one, MayDrop, drop_done, HasDropped, recount_other, shown_zeroed, store_dropped, dropped_exactly}
 use Rattle.storage_ops.proofs.store.Store.drop_page.Goals.{After-credit, After-look}
 use Rattle.storage_ops.proofs.store.Store.drop_page.Goals as goal

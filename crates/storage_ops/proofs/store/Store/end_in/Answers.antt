@@ -1,4 +1,4 @@
-use Rattle.storage_ops.proofs.Prelude.{refl, ap, ◌∙◌, ActiveSegs, plain}
+use Rattle.storage_ops.proofs.Prelude.{refl}
 use Rattle.storage_ops.proofs.Laws.{held, home_for_held, shown_held, here_entries, own_home, shown_kept, store_still}
 use Rattle.storage_ops.proofs.store.Store.end_in.Goals as goal
 

@@ -1,4 +1,4 @@
-use Rattle.storage_ops.proofs.Prelude.{◌≡◌, refl, sym, ap, subst, ◌≤◌, true, frame_at, Leaving, number_in, plain, record_of, words_in, has_record, word_of, MayRelease, Storage, has_segment, count_of}
+use Rattle.storage_ops.proofs.Prelude.{◌≡◌, refl, ap, ◌≤◌, true, frame_at, number_in, plain, record_of, has_record, has_segment, count_of}
 use Rattle.storage_ops.proofs.Laws.{active_held, held, home_for_held, leaving_held, shown_held, page_counted, page_segment, may_release, shown_left, store_left, leaving_words, own_home}
 use Rattle.storage_ops.proofs.store.Store.evict.Goals.{After-look}
 use Rattle.storage_ops.proofs.store.Store.evict.Goals as goal

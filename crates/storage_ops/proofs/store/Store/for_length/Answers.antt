@@ -1,4 +1,4 @@
-use Rattle.storage_ops.proofs.Prelude.{true, false, ap, sym, ◌∙◌, AccountMaps, quota_in, as_term, length_refused, length_told, refusal}
+use Rattle.storage_ops.proofs.Prelude.{true, false, ap, ◌∙◌, quota_in, as_term, length_refused, length_told, refusal}
 use Rattle.storage_ops.proofs.Laws.{leads_segment, refusal_told, segment_refuses}
 use Rattle.storage_ops.proofs.store.Store.for_length.Goals as goal
 

@@ -1,4 +1,4 @@
-use Rattle.storage_ops.proofs.Prelude.{ℕ, List, Option, ◌∙◌, with_number, quota_in, as_term, plain, kst_at, segment_refuses, uid_below}
+use Rattle.storage_ops.proofs.Prelude.{ℕ, with_number, quota_in, as_term, kst_at, segment_refuses, uid_below}
 use Rattle.storage_ops.proofs.Laws.{held, shown_held, store_after, initiate_answered, known_store, under_with, initiate_refused, initiate_told}
 use Rattle.storage_ops.proofs.store.Store.initiate.Goals as goal
 

@@ -1,4 +1,4 @@
-use Rattle.storage_ops.proofs.Prelude.{true, false, sym, ap, ◌∙◌, ◌≡◌, Bool, cond, Some, None, quota_in, as_term, refusal, Shows, Plan, Flat, initiate_reply, Reply as reply}
+use Rattle.storage_ops.proofs.Prelude.{true, false, sym, ◌≡◌, Bool, cond, Some, None, refusal, Shows, Plan, Flat, initiate_reply, Reply as reply}
 use Rattle.storage_ops.proofs.Laws.{tree_held, known_held, initiate_free, initiate_refused}
 use Rattle.storage_ops.proofs.store.Store.initiate_refusal.Goals.{After-has_number_for}
 use Rattle.storage_ops.proofs.store.Store.initiate_refusal.Goals as goal

@@ -1,4 +1,4 @@
-use Rattle.storage_ops.proofs.Prelude.{true, false, ap, ◌∙◌, quota_in, as_term, refusal, length_refused}
+use Rattle.storage_ops.proofs.Prelude.{true, false, ap, quota_in, as_term, refusal, length_refused}
 use Rattle.storage_ops.proofs.Laws.{tree_held, length_answered}
 use Rattle.storage_ops.proofs.store.Store.length_refusal.Goals as goal
 

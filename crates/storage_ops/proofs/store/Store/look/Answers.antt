@@ -1,5 +1,5 @@
-use Rattle.storage_ops.proofs.Prelude.{◌≡◌, ℕ, replicate, refl, sym, ap, ◌∙◌, true, get_or-replicate, plain, has_record, word_of, table_of, is_there}
-use Rattle.storage_ops.proofs.Laws.{active_held, held, length_held, shown_held, word_held, table_told, word_within, active_there, word_filed, zeros_null, word_at}
+use Rattle.storage_ops.proofs.Prelude.{◌≡◌, ℕ, refl, sym, ◌∙◌, get_or-replicate, word_of, table_of}
+use Rattle.storage_ops.proofs.Laws.{active_held, length_held, table_told, word_within, active_there, word_filed, zeros_null, word_at}
 use Rattle.storage_ops.proofs.store.Store.look.Goals.{After-get, After-table}
 use Rattle.storage_ops.proofs.store.Store.look.Goals as goal
 

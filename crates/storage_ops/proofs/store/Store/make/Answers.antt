@@ -1,4 +1,4 @@
-use Rattle.storage_ops.proofs.Prelude.{rules, ◌≡◌, ℕ, true, false, List, refl, sym, ap, ◌∙◌, Node, quota_in, as_term, maker_rows, made_in, node_refuses, make_in_segment, make_refused, make_root, make_told}
+use Rattle.storage_ops.proofs.Prelude.{rules, ℕ, List, refl, sym, ap, ◌∙◌, Node, quota_in, as_term, maker_rows, made_in, node_refuses, make_in_segment, make_refused, make_root, make_told}
 use Rattle.storage_ops.proofs.Laws.{shown_held, tree_held, after_make_is}
 use Rattle.storage_ops.proofs.store.Store.make.Goals as goal
 

@@ -1,5 +1,5 @@
-use Rattle.storage_ops.proofs.Prelude.{rules, ◌≡◌, ℕ, Some, true, false, List, is_some, refl, sym, ap, ◌∙◌, branch_of, as_node, unless_none, Node, entries_on, Plain, plain, branch_made, Reply as reply}
-use Rattle.storage_ops.proofs.Laws.{held, shown_held, HasNewHome, shown_new, store_new, all_used, length_inside, made_told, some_free}
+use Rattle.storage_ops.proofs.Prelude.{rules, true, false, is_some, refl, sym, ap, ◌∙◌, branch_of, as_node, unless_none, Node, Plain, plain, branch_made}
+use Rattle.storage_ops.proofs.Laws.{shown_held, HasNewHome, shown_new, store_new, all_used, length_inside, made_told, some_free}
 use Rattle.storage_ops.proofs.store.Store.make_branch.Goals.{After-attach}
 use Rattle.storage_ops.proofs.store.Store.make_branch.Goals as goal
 

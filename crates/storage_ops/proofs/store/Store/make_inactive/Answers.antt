@@ -1,4 +1,4 @@
-use Rattle.storage_ops.proofs.Prelude.{rules, ◌≡◌, ℕ, Some, None, List, Option, sym, ap, ◌∙◌, arith, nat_le, has_inferior, without_pages, trailers_of, Entry, ActiveSegs, uid_in_place, Links, IsInactive, Storage, home_of, pages_in, place_of, from_first}
+use Rattle.storage_ops.proofs.Prelude.{rules, ◌≡◌, ℕ, Some, None, List, Option, sym, ap, ◌∙◌, arith, nat_le, without_pages, trailers_of, Entry, ActiveSegs, uid_in_place, Links, IsInactive, Storage, home_of, pages_in, from_first}
 use Rattle.storage_ops.proofs.Laws.{held, branch_same, leaf_place, place_away, place_cut, place_idle, out_active, out_inactive, rest_both, rest_inactive, rest_none, rest_unstored, home_still, idle_still, put_out_exactly, place_found}
 use Rattle.storage_ops.proofs.store.Store.make_inactive.Goals.{After-drop_from, In-Some}
 use Rattle.storage_ops.proofs.store.Store.make_inactive.Goals as goal

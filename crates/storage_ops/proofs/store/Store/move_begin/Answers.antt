@@ -1,4 +1,4 @@
-use Rattle.storage_ops.proofs.Prelude.{◌≡◌, ◌<◌, ℕ, true, length, sym, subst, count_of, CanBegin, pair_of, is_roomy, Storage, home_of}
+use Rattle.storage_ops.proofs.Prelude.{◌≡◌, ℕ, true, subst, count_of, pair_of, is_roomy, home_of}
 use Rattle.storage_ops.proofs.Laws.{active_held, held, may_begin}
 use Rattle.storage_ops.proofs.store.Store.move_begin.Goals as goal
 

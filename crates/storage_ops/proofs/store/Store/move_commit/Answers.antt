@@ -1,4 +1,4 @@
-use Rattle.storage_ops.proofs.Prelude.{◌≡◌, Some, refl, ap, ◌∙◌, has_segment, plain, Control, home_at, Storage, home_of}
+use Rattle.storage_ops.proofs.Prelude.{◌≡◌, refl, ap, ◌∙◌, has_segment, plain, Control, home_at, Storage, home_of}
 use Rattle.storage_ops.proofs.Laws.{held, shown_held, committed_entries, committed_sizes, segment_there, HasRehomed, shown_rehomed, store_rehomed}
 use Rattle.storage_ops.proofs.store.Store.move_commit.Goals.{After-set_home}
 use Rattle.storage_ops.proofs.store.Store.move_commit.Goals as goal

@@ -1,4 +1,4 @@
-use Rattle.storage_ops.proofs.Prelude.{w32, to_z-of_z, plain}
+use Rattle.storage_ops.proofs.Prelude.{w32, to_z-of_z}
 use Rattle.storage_ops.proofs.Laws.{held, shown_held, move_shown, move_store}
 use Rattle.storage_ops.proofs.store.Store.move_quota.Goals as goal
 

@@ -1,4 +1,4 @@
-use Rattle.storage_ops.proofs.Prelude.{ap, ◌∙◌, w32, to_z-of_z, refusal}
+use Rattle.storage_ops.proofs.Prelude.{w32, to_z-of_z}
 use Rattle.storage_ops.proofs.Held.{tree_held}
 use Rattle.storage_ops.proofs.store.Store.move_refusal.Goals as goal
 

@@ -1,4 +1,4 @@
-use Rattle.storage_ops.proofs.Prelude.{◌≡◌, ℕ, None, Some, true, false, length, is_some, replicate, refl, sym, ap, ◌∙◌, arith, length-replicate, length-map, Plan, ProcessPlan, root_alone, uid_in_place, root_of, after_asked, Plain, plain, Control, AreFresh, Storage}
+use Rattle.storage_ops.proofs.Prelude.{◌≡◌, ℕ, None, Some, true, false, length, is_some, replicate, refl, sym, ap, ◌∙◌, arith, length-replicate, length-map, Plan, ProcessPlan, uid_in_place, root_of, after_asked, Plain, plain, Control, AreFresh, Storage}
 use Rattle.storage_ops.proofs.Laws.{blank, boot_is, entries_some, entry_first, none_active, none_known, nothing, records_most, root_gains, shown_nothing, store_nothing, HasNewHome, shown_new, store_new, length_inside}
 use Rattle.storage_ops.proofs.store.Store.new.Goals.{In-Some, In_ok-segs}
 use Rattle.storage_ops.proofs.store.Store.new.Goals as goal

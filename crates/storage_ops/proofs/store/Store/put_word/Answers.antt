@@ -1,4 +1,4 @@
-use Rattle.storage_ops.proofs.Prelude.{refl, ◌∙◌, frame_at, number_in, plain, words_in, home_of, Tied_uid_in as uid_in}
+use Rattle.storage_ops.proofs.Prelude.{◌∙◌, frame_at, number_in, plain, home_of, Tied_uid_in as uid_in}
 use Rattle.storage_ops.proofs.Laws.{bound_held, held, shown_held, active_there, bound_active, bound_filed, bound_words, shown_put, written_there}
 use Rattle.storage_ops.proofs.store.Store.put_word.Goals as goal
 

@@ -1,4 +1,4 @@
-use Rattle.storage_ops.proofs.Prelude.{◌≡◌, rules, ◌∙◌, count_of, volume_in, first_roomy}
+use Rattle.storage_ops.proofs.Prelude.{rules, ◌∙◌}
 use Rattle.storage_ops.proofs.RoomsFound.{room_shown}
 use Rattle.storage_ops.proofs.store.Store.room_for.Goals as goal
 

@@ -1,4 +1,4 @@
-use Rattle.storage_ops.proofs.Prelude.{rules, ◌≡◌, true, false, refl, sym, ap, ◌∙◌, Node, quota_in, as_term, plain, Storage, is_filed, segment_refuses, length_refused}
+use Rattle.storage_ops.proofs.Prelude.{rules, true, false, refl, sym, ap, ◌∙◌, Node, quota_in, as_term, Storage, is_filed, segment_refuses, length_refused}
 use Rattle.storage_ops.proofs.Laws.{held, shown_held, tree_held, length_answered, length_shown, length_store}
 use Rattle.storage_ops.proofs.store.Store.set_length.Goals as goal
 

@@ -1,4 +1,4 @@
-use Rattle.storage_ops.proofs.Prelude.{rules, ◌≡◌, ℕ, Bool, true, false, cond, ◌&&◌, List, Err, refl, sym, ap, ◌∙◌, Some, is_none, eq-eqb, Node, volume_in, node_in, is_out_of_room, is_used_up, is_volume_full, room_for, Home, plain, is_full, size, taken, move_target, Shows, Storage, volume_found, Plan, Flat, has_segment, found_uid, Reply as reply}
+use Rattle.storage_ops.proofs.Prelude.{rules, ◌≡◌, true, false, List, refl, sym, ap, ◌∙◌, Some, eq-eqb, Node, volume_in, node_in, is_out_of_room, is_used_up, is_volume_full, Home, is_full, size, taken, move_target, Shows, Storage, volume_found, Plan, Flat, has_segment, found_uid}
 use Rattle.storage_ops.proofs.Laws.{active_held, held, home_held, length_held, shown_held, word_held, node_segment, word_within, shown_made, store_made, none_roomy, room_shown, all_taken, full_told, no_quota, no_record, on_ok, room, used_told}
 use Rattle.storage_ops.proofs.store.Store.store_page.Goals.{After-is_full, After-look}
 use Rattle.storage_ops.proofs.store.Store.store_page.Goals as goal

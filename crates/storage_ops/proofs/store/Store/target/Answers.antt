@@ -1,4 +1,4 @@
-use Rattle.storage_ops.proofs.Prelude.{rules, ◌≡◌, ◌<◌, ℕ, List, Option, length, sym, ap, ◌∙◌, get_or_read, Who, nobody, Reply, uid_of, node_in, quota_in, as_term, refusal_in, target, unless, Storage, who_at, found_uid}
+use Rattle.storage_ops.proofs.Prelude.{rules, ◌≡◌, Option, length, ap, ◌∙◌, get_or_read, nobody, Reply, quota_in, as_term, target, unless, Storage, who_at, found_uid}
 use Rattle.storage_ops.proofs.Laws.{held, target_found, target_gone, target_unknown, Refusals_within_told as within_told}
 use Rattle.storage_ops.proofs.store.Store.target.Goals.{After-refusal_in}
 use Rattle.storage_ops.proofs.store.Store.target.Goals as goal

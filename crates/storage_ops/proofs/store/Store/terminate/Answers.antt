@@ -1,4 +1,4 @@
-use Rattle.storage_ops.proofs.Prelude.{◌≡◌, Bool, true, false, not, ℕ, List, Option, cond, is_some, refl, sym, ap, ◌∙◌, uid_of, terminate_reply, Flat, Reply as reply}
+use Rattle.storage_ops.proofs.Prelude.{◌≡◌, Bool, not, cond, is_some, refl, sym, ap, ◌∙◌, terminate_reply, Flat, Reply as reply}
 use Rattle.storage_ops.proofs.Laws.{held, shown_held, known_held, terminate_shown, terminate_told}
 use Rattle.storage_ops.proofs.store.Store.terminate.Goals.{After-is_none}
 use Rattle.storage_ops.proofs.store.Store.terminate.Goals as goal

@@ -1,4 +1,4 @@
-use Rattle.storage_ops.proofs.Prelude.{Some, None, refl, sym, ap, ◌∙◌, Storage, refusal}
+use Rattle.storage_ops.proofs.Prelude.{Some, None, refl, ap, refusal}
 use Rattle.storage_ops.proofs.NamingLaws.{terminate_told}
 use Rattle.storage_ops.proofs.store.Store.terminate_refusal.Goals as goal
 

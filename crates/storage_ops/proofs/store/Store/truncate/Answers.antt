@@ -1,4 +1,4 @@
-use Rattle.storage_ops.proofs.Prelude.{◌≡◌, Ok, List, sym, ap, ◌∙◌, Node, quota_in, as_term, segment_at, truncate_done, truncate_refused, truncate_told, Storage, segment_refuses}
+use Rattle.storage_ops.proofs.Prelude.{◌≡◌, Ok, sym, ◌∙◌, Node, quota_in, as_term, segment_at, truncate_done, truncate_refused, truncate_told, segment_refuses}
 use Rattle.storage_ops.proofs.Laws.{held, rest_none, rest_unstored, same_uid}
 use Rattle.storage_ops.proofs.store.Store.truncate.Goals as goal
 

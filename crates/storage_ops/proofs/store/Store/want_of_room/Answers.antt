@@ -1,4 +1,4 @@
-use Rattle.storage_ops.proofs.Prelude.{◌≡◌, true, false, sym, ap, subst, ◌∙◌, ℕ, List, Bool, cond, Some, None, Counts, charge_answer, quota_in, as_term, is_spent, want_of_room, Storage, is_err, Reply as reply}
+use Rattle.storage_ops.proofs.Prelude.{◌≡◌, true, false, sym, ap, subst, ◌∙◌, ℕ, List, Bool, cond, Some, None, Counts, charge_answer, quota_in, as_term, want_of_room, Storage, is_err, Reply as reply}
 use Rattle.storage_ops.proofs.Laws.{spent_told, want_told}
 use Rattle.storage_ops.proofs.store.Store.want_of_room.Goals.{After-is_out_of_room}
 use Rattle.storage_ops.proofs.store.Store.want_of_room.Goals as goal
