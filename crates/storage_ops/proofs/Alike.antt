@@ -1,5 +1,5 @@
 -- Nodes are changed, but for where they lie, what they are and where they are kept.
-use Rattle.storage_ops.proofs.Prelude.{◌≡◌, ℕ, Bool, true, false, cond, eqb, List, [], ◌∷◌, map, Option, Some, None, is_some, refl, sym, ap, ◌∙◌, count_by, Mode, Who, AccountMaps, Changes, count_of, Node, entries_on, has_directory, node_in, pool_of, taken_on, volume_in, entries_mapped, Present, sdw_at, VtocEntry, Entry, ActiveSegs, uid_in_place, Home, Links, sdws_at, AreHoused, AreCounted, AreTaken, AreInTree, HaveRights, home_of, is_filed, is_there, pages_in, picture, directory_map, volume_map, Keeps}
+use Rattle.storage_ops.proofs.Prelude.{◌≡◌, ℕ, Bool, true, false, cond, eqb, List, [], ◌∷◌, map, Option, Some, None, is_some, refl, sym, ap, ◌∙◌, count_by, Mode, Who, AccountMaps, Changes, count_of, Node, entries_on, has_directory, node_in, pool_of, taken_on, volume_in, entries_mapped, Present, sdw_at, VtocEntry, Entry, ActiveSegs, uid_in_place, Home, Links, sdws_at, AreHoused, AreCounted, AreTaken, AreInTree, HaveRights, home_of, is_filed, is_there, pages_in, picture, directory_map, volume_map, Keeps, arith}
 
 -- two trees have the same nodes, of the same kinds, at the same homes, with the same counts
 pub record AreAlike (a b : AccountMaps) : Type 0 where
@@ -36,33 +36,17 @@ module _ {f : Node → Node} (keeps : Keeps f) where
   uids_map (n ∷ ns) = cc (keeps.uid n, uids_map ns)
 
   pub alike_changed : {a b : AccountMaps} → Changes a b (map f a.nodes) → AreAlike a b
-  alike_changed {a} c = record {
-    there = λ u. cc (there_map f keeps.uid a.nodes u);
-    homes = λ u. cc (c.nodes, volume_map f keeps a.nodes u, c.entries, uids_map a.nodes);
-    kinds = λ u. cc (directory_map f keeps a.nodes u);
-    counts = c.counts;
-    entries = λ v. cc (entries_mapped f keeps.volume a.nodes v);
-  }
+  alike_changed {a} c = grind (arith, there_map, volume_map, uids_map, directory_map, entries_mapped)
 
 -- ---- what is true of such trees
 
 module _ (a b : AccountMaps) (alike : AreAlike a b) where
   pub housed_alike : {vtocs : List (List (Option VtocEntry))} → AreHoused a vtocs → AreHoused b vtocs
-  housed_alike {vtocs} h = record {
-    homes = λ u t. cc (alike.homes u, h.homes u (sym (alike.there u) ∙ t));
-    there = λ home u e. alike.there u ∙ h.there home u e;
-    only = λ home u e. h.only home u e ∙ sym (alike.homes u);
-  }
+  housed_alike {vtocs} h = grind arith
 
   pub counted_alike : {vtocs : List (List (Option VtocEntry))} → AreCounted a vtocs
       → ((u : ℕ) → pages_in b.nodes u ≡ pages_in a.nodes u) → AreCounted b vtocs
-  counted_alike h pages = record {
-    counts = λ u t. cc (alike.homes u, h.counts u (sym (alike.there u) ∙ t), alike.counts u);
-    inside = λ u q t on. rw (pages u) (h.inside u q (sym (alike.there u) ∙ t) (rw (alike.homes u) at on));
-    absent = λ u off. alike.counts u ∙ h.absent u (sym (alike.there u) ∙ off);
-    most = λ u. rw (pages u) (h.most u);
-    flat = λ u d. pages u ∙ h.flat u (sym (alike.kinds u) ∙ d);
-  }
+  counted_alike h pages = grind arith
 
   volumes : (u : ℕ) → volume_in b.nodes u ≡ volume_in a.nodes u
   volumes u = ap (λ (home : Home). home.volume) (alike.homes u)
@@ -73,11 +57,7 @@ module _ (a b : AccountMaps) (alike : AreAlike a b) where
 
   pub taken_alike : {flags : List (List Bool)} {vtocs : List (List (Option VtocEntry))} → AreTaken a flags vtocs
       → AreTaken b flags vtocs
-  taken_alike h = record {
-    records = λ stored v counts. h.records stored v (λ u. sym (alike.counts u) ∙ counts u) ∙ sym (taken_same stored v);
-    entries = λ v. h.entries v ∙ sym (alike.entries v);
-    short = h.short;
-  }
+  taken_alike h = grind (arith, taken_same)
 
   pub filed_alike : (vtocs : List (List (Option VtocEntry))) (u q : ℕ) → is_filed b vtocs u q ≡ is_filed a vtocs u q
   unfolding is_filed

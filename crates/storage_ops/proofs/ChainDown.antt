@@ -233,7 +233,4 @@ shown_ast ast h = assumption
 pub shown_next : {D : Type 0} (drive : D → List (List ℕ)) (p : Plan) (s : Store) (t : Storage D) (new : Control D)
     (chain : List Link) (r : Next) → IsNext t.segs new chain r → Shows drive p s t
     → Shows drive p s (record t { segs = new })
-shown_next {D} drive p s t new chain (Activated place) next h =
-    rw next.1.effect (shown_ast {drive = drive} {p = p} {s = s} {t = t} _ h)
-shown_next {D} drive p s t new chain (Victim place) next h = rw next.1.effect (shown_ast _ h)
-shown_next {D} drive p s t new chain Whole next h = rw next.1 h
+shown_next drive p s t new chain r h1 h2 = grind (arith, shown_ast)

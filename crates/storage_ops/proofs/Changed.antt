@@ -1,16 +1,12 @@
 -- A store whose nodes are changed, but for where they lie and what they are.
-use Rattle.storage_ops.proofs.Prelude.{◌≡◌, ℕ, ℤ, ◌/◌, true, false, cond, eqb, List, map, Option, Some, None, Ok, refl, sym, ap, subst, ◌∙◌, arith, inl, inr, cases_Bool, nat_tests, is_positive, unsigned_abs, Mode, Who, Named, Plan, Reply, AccountMaps, Changes, Row, with_row, getter_of, giver_of, Node, above, node_in, directory_at, segment_at, takes_effect, after_acl, after_move, nodes_moved, row_with, Store, Present, sdw_at, ActiveSegs, uid_in_place, Plain, plain, words_at, Links, leads, leads_at, sdws_at, HasMoved, HasRowSet, IsCut, IsStore, Shows, Storage, answered, pages_in, pages_of, found_uid, Keeps, keeps_moved, keeps_one, keeps_rows, moved_else, quota_moved}
-use Rattle.storage_ops.proofs.Alike.{active_alike, alike_changed, counted_alike, filed_alike, housed_alike, map_node, node_map, picture_alike, rights_alike, taken_alike}
+use Rattle.storage_ops.proofs.Prelude.{◌≡◌, ℕ, ℤ, ◌/◌, true, false, cond, eqb, List, map, Some, Ok, refl, sym, ap, subst, ◌∙◌, arith, inl, inr, cases_Bool, nat_tests, is_positive, unsigned_abs, Mode, Who, Named, Plan, Reply, AccountMaps, Changes, Row, with_row, getter_of, giver_of, Node, above, node_in, directory_at, segment_at, takes_effect, after_acl, after_move, nodes_moved, row_with, Store, Present, sdw_at, ActiveSegs, uid_in_place, Plain, plain, words_at, Links, leads, leads_at, sdws_at, HasMoved, HasRowSet, IsCut, IsStore, Shows, Storage, answered, pages_in, found_uid, Keeps, keeps_moved, keeps_one, keeps_rows, moved_else, quota_moved}
+use Rattle.storage_ops.proofs.Alike.{active_alike, alike_changed, counted_alike, filed_alike, housed_alike, node_map, picture_alike, rights_alike, taken_alike}
 
 -- ---- a change of all nodes
 
 module _ {f : Node → Node} (keeps : Keeps f) {a b : AccountMaps} (changes : Changes a b (map f a.nodes)) where
   pages_map : ((n : Node) → (f n).pages ≡ n.pages) → (u : ℕ) → pages_in b.nodes u ≡ pages_in a.nodes u
-  pages_map same u = rw (changes.nodes, node_map f keeps.uid a.nodes u) (here (node_in a.nodes u))
-    where
-      here : (o : Option Node) → pages_of (map_node f o) ≡ pages_of o
-      here None = refl
-      here (Some n) = same n
+  pages_map same u = grind (arith, node_map)
 
   -- where lengths stay, and the rows of what is connected
   pub store_changed : {now : Plain} {ast : ActiveSegs} {links : Links} {whos : List Who}

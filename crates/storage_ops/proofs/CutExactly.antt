@@ -1,5 +1,5 @@
 -- What pages that are cut off leave, exactly.
-use Rattle.storage_ops.proofs.Prelude.{◌≡◌, ◌≢◌, ◌<◌, ◌≤◌, ◌+◌, ◌-◌, ◌/◌, ◌%◌, ℕ, suc, zero, Bool, true, false, eqb, List, [], ◌∷◌, ◌++◌, Option, length, get_or, refl, sym, ap, ◌∙◌, arith, inl, inr, ◌↔◌, IsTrue, Result, Ok, list_all, range_with_len, ne_eqb, eqb_tells, AreZero, Reply, Node, AccountMaps, Recounts, count_of, Ptw, Leaving, Null, Out, Entry, IsActive, deactivated, Home, cut, dropped, erased, Plain, plain, words_in, is_away, place_of, word_of, worded, IsInactive, CountsOthers, Paged, cut_by, is_cleared, page_cleared, page_cut, paged, pages_cut, Erases, cut_at, pages_from, put_out, Storage, home_of, pages_in, and_parts, zero_word}
+use Rattle.storage_ops.proofs.Prelude.{◌≡◌, ◌≢◌, ◌<◌, ◌≤◌, ◌+◌, ◌-◌, ◌/◌, ◌%◌, ℕ, suc, zero, Bool, true, false, eqb, List, [], ◌∷◌, ◌++◌, length, get_or, refl, sym, ap, ◌∙◌, arith, inl, inr, ◌↔◌, IsTrue, Result, Ok, list_all, range_with_len, ne_eqb, eqb_tells, AreZero, Reply, Node, AccountMaps, Recounts, count_of, Ptw, Leaving, Null, Out, IsActive, deactivated, Home, cut, dropped, erased, Plain, plain, words_in, is_away, place_of, word_of, worded, IsInactive, CountsOthers, Paged, cut_by, is_cleared, page_cleared, page_cut, paged, pages_cut, Erases, cut_at, pages_from, put_out, Storage, home_of, pages_in, and_parts, zero_word}
 use Rattle.storage_ops.proofs.Dropped.{recount_here}
 
 -- ---- one page
@@ -17,10 +17,7 @@ pub dropped_exactly : {D : Type 0} (drive : D → List (List ℕ)) (t n : Storag
     → plain drive n.segs.pages ≡ dropped (plain drive t.segs.pages) home p (word_of t.segs.ast uid p)
     → n.segs.ast ≡ worded t.segs.ast uid p Null → Recounts t.accounts n.accounts uid (count_of t.accounts uid - 1)
     → paged drive n uid ≡ page_cut (paged drive t uid) (home_of t.accounts uid) uid p (word_of t.segs.ast uid p)
-dropped_exactly drive t n {uid} p is away effect word re =
-    let stored = recount_here re in
-    (λ i. assumption ((rw is at effect) i, word i, stored i))
-    ∙ cut_away (paged drive t uid) (home_of t.accounts uid) uid p (word_of t.segs.ast uid p) away
+dropped_exactly drive t n {uid} p is away effect word re = grind (arith, recount_here, cut_away)
 
 -- ---- several pages
 
@@ -118,10 +115,7 @@ pub put_out_exactly : {D : Type 0} (drive : D → List (List ℕ)) (t m n : Stor
     → m.segs.ast.entries ≡ t.segs.ast.entries → place_of t.segs.ast.entries uid ≡ place
     → n ≡ record m { segs = record m.segs { ast = deactivated m.segs.ast place } }
     → paged drive n uid ≡ put_out (paged drive t uid) home uid size
-put_out_exactly drive t m n uid place home size cut places at effect = ap (λ (x : Storage _). paged drive x uid) effect
-    ∙ ap (λ (k : ℕ). record (paged drive m uid) { ast = deactivated m.segs.ast k })
-    (sym (ap (λ (e : List (Option Entry)). place_of e uid) places ∙ at))
-    ∙ ap (λ (x : Paged). record x { ast = deactivated x.ast (place_of x.ast.entries uid) }) cut
+put_out_exactly drive t m n uid place home size cut places at effect = grind arith
 
 pub erased_exactly : {D : Type 0} {drive : D → List (List ℕ)} {t : Storage D} (m : Storage D) {n : Storage D} {uid : ℕ}
     → (IsActive t.segs.ast.entries uid → paged drive m uid

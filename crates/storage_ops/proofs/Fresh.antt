@@ -1,5 +1,5 @@
 -- Volumes of which nothing is in use, and a store of nothing at all.
-use Rattle.storage_ops.proofs.Prelude.{◌≡◌, ◌≢◌, ℕ, zero, suc, ◌+◌, ◌<◌, ◌≤◌, ◌%◌, Bool, true, false, cond, eqb, ◌&&◌, List, [], ◌∷◌, length, map, Option, Some, None, get_or, is_some, replicate, refl, sym, ap, ◌∙◌, arith, inl, inr, is_none, count_by, nat_le, nat_lt, slice_get, list_all, cases_lt, nat_tests, get_or-replicate, get_or_past, length-replicate, position-Some, sum_by-cons, Who, Plan, is_command, is_from, is_path, is_volume, VolumeLine, is_name, AccountMaps, Gains, root_alone, entries_on, taken_on, Store, at_first, boot, entries_in, sizes_in, root_of, VtocEntry, entry_at, least_free_entry, record_at, records_in, no_records, in_use, ActiveSegs, uid_in_place, uid_in, Home, Plain, AreFiled, flags_in, uid_at, vtoc_in, size, Links, kst_at, AreAtRest, AreFresh, IsStore, Shows, Storage, is_filed, picture, and_parts, all_same, eq-eqb, Entry, Command as command, Vtoc_uid_of as uid_of, uid_of as known_uid}
+use Rattle.storage_ops.proofs.Prelude.{◌≡◌, ◌≢◌, ℕ, zero, suc, ◌+◌, ◌<◌, ◌≤◌, ◌%◌, Bool, true, false, cond, eqb, List, [], ◌∷◌, length, map, Option, Some, None, get_or, is_some, replicate, refl, sym, ap, ◌∙◌, arith, inl, inr, is_none, count_by, nat_lt, slice_get, list_all, cases_lt, nat_tests, get_or-replicate, get_or_past, length-replicate, position-Some, sum_by-cons, Who, Plan, is_command, is_path, is_volume, VolumeLine, AccountMaps, Gains, root_alone, entries_on, taken_on, Store, at_first, boot, entries_in, sizes_in, root_of, VtocEntry, entry_at, least_free_entry, record_at, records_in, no_records, in_use, ActiveSegs, uid_in_place, uid_in, Home, Plain, AreFiled, flags_in, uid_at, vtoc_in, size, Links, kst_at, AreAtRest, AreFresh, IsStore, Shows, Storage, is_filed, picture, and_parts, all_same, eq-eqb, Entry, Command as command, Vtoc_uid_of as uid_of, uid_of as known_uid}
 
 -- ---- volumes of which nothing is used
 
@@ -34,14 +34,7 @@ module _ (now : Plain) (free : (v e : ℕ) → entry_at (vtoc_in now.vtocs v) e 
 
 volume_sizes : (v : VolumeLine) → is_volume v ≡ true → (v.records ≤ 16384) × (1 ≤ v.entries)
 unfolding is_volume
-volume_sizes v h =
-    let sized = and_parts (is_from 1 16384 v.records) (is_from 1 4097 v.entries)
-    (and_parts (is_name v.name) (is_from 1 16384 v.records && is_from 1 4097 v.entries) h).1 in
-    let entries = and_parts (nat_le 1 v.entries) (nat_le v.entries 4097) sized.1 in
-    (le v.records 16384 (and_parts (nat_le 1 v.records) (nat_le v.records 16384) sized.0).1, le 1 v.entries entries.0)
-  where
-    le : (a b : ℕ) → nat_le a b ≡ true → a ≤ b
-    le a b h = grind (arith, nat_tests)
+volume_sizes v h = grind (arith, and_parts)
 
 pub records_most : (vs : List VolumeLine) (v : ℕ) → list_all is_volume vs ≡ true → sizes_in (slice_get vs v) < 65536
 records_most [] v h = omega arith
@@ -193,20 +186,11 @@ dir_volume volumes path volume h = (grind (arith, (and_parts (is_path path) (nat
 pub seg_volume : (volumes : ℕ) (path : List (List ℕ)) (pages volume : ℕ)
     → is_command volumes (command.MkSeg path pages volume) ≡ true → volume < volumes
 unfolding is_command
-seg_volume volumes path pages volume h = (grind (
-  arith,
-  (and_parts (is_from 1 256 pages) (nat_lt volume volumes)
-      (and_parts (is_path path) (is_from 1 256 pages && nat_lt volume volumes) h).1).1,
-  nat_tests,
-))
+seg_volume volumes path pages volume h = grind (arith, and_parts)
 
 pub new_length : (volumes : ℕ) (path : List (List ℕ)) (pages : ℕ)
     → is_command volumes (command.Length path pages) ≡ true → pages ≤ 256
 unfolding is_command
-new_length volumes path pages h = (grind (
-  arith,
-  (and_parts (nat_le 1 pages) (nat_le pages 256) (and_parts (is_path path) (is_from 1 256 pages) h).1).1,
-  nat_tests,
-))
+new_length volumes path pages h = grind (arith, and_parts)
 
 pub ruleset volume_there = (dir_volume, seg_volume)

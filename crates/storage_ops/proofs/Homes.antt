@@ -201,10 +201,7 @@ module _ {a b : AccountMaps} {n : Node} {entry : ℕ} {old now : Plain} (made : 
   pub picture_new : (image : ℕ → Home → ℕ → List ℕ) → ((q : ℕ) → image n.uid new_home q ≡ replicate 1024 0)
       → (u q : ℕ) → picture b image u q ≡ picture a image u q
   unfolding picture
-  picture_new image zeros u q = elim (cases_eq u n.uid) [
-    | inl is ↦ rw (is, there_own, home_own, zeros q, ap is_some made.fresh) refl
-    | inr ne ↦ cc (there_new u ne, home_new u ne)
-  ]
+  picture_new image zeros u q = grind (arith, there_own, home_own, there_new, home_new)
 
   -- ---- the whole
 

@@ -1,5 +1,5 @@
 -- What the numbers of a process stand for is changed.
-use Rattle.storage_ops.proofs.Prelude.{◌≡◌, ℕ, zero, suc, ◌<◌, List, [], ◌∷◌, Option, Some, None, Ok, set, get_or, refl, sym, ap, ◌∙◌, length-set, set-get_or, Who, Plan, Reply, number_for, uid_of, with_number, without_number, AccountMaps, Node, segment_at, after_initiate, after_terminate, initiated, known_or_full, Store, ActiveSegs, Plain, Links, kst_at, AreKnown, IsStore, Shows, Storage, answered, with_known, length, cases_eq, get_or-set_other, inl, inr}
+use Rattle.storage_ops.proofs.Prelude.{◌≡◌, ℕ, zero, suc, ◌<◌, List, [], ◌∷◌, Option, Some, None, Ok, set, get_or, refl, ap, length-set, set-get_or, Who, Plan, Reply, number_for, uid_of, with_number, without_number, AccountMaps, Node, segment_at, after_initiate, after_terminate, known_or_full, Store, ActiveSegs, Plain, Links, kst_at, AreKnown, IsStore, Shows, Storage, answered, with_known, length, cases_eq, get_or-set_other, inl, inr, arith}
 
 -- what holds of all elements holds of them once one is changed to such
 pub set_told : {A : Type 0} (P : A → Type 0) (xs : List A) (i j : ℕ) {x : A} (d : A) → P x → P (get_or xs j d)
@@ -60,21 +60,13 @@ pub initiate_shown : {D : Type 0} {drive : D → List (List ℕ)} {p : Plan} {s 
     → r ≡ number_for (kst_at t.segs.links.known process) n.uid → Shows drive p (after_initiate s process path)
     (with_known t (set t.segs.links.known process (with_number (kst_at t.segs.links.known process) n.uid r)))
 unfolding after_initiate
-initiate_shown {drive} {p} {s} {t} process path {n} {r} h found is =
-    let new : List (List (Option ℕ)) → Option ℕ → List (List (Option ℕ)) = λ known x. set known process (with_number
-    (kst_at known process) n.uid x) in
-    rw (← (ap (λ (known : List (List (Option ℕ))). record s { known = new known r }) (sym h.known)
-    ∙ ap (λ (x : Option ℕ). record s { known = new s.known x }) (cc) ∙ sym (ap (initiated s process)
-    (ap (λ (ns : List Node). segment_at ns path) h.tree.nodes ∙ found)))) (known_shown (new t.segs.links.known r) h)
+initiate_shown {drive} {p} {s} {t} process path {n} {r} h found is = grind (arith, known_shown)
 
 pub terminate_shown : {D : Type 0} {drive : D → List (List ℕ)} {p : Plan} {s : Store} {t : Storage D}
     (process number : ℕ) → Shows drive p s t → Shows drive p (after_terminate s process number)
     (with_known t (set t.segs.links.known process (without_number (kst_at t.segs.links.known process) number)))
 unfolding after_terminate
-terminate_shown {drive} {p} {s} {t} process number h =
-    let new : List (List (Option ℕ)) → List (List (Option ℕ)) = λ known. set known process (without_number
-    (kst_at known process) number) in
-    rw h.known (known_shown (new t.segs.links.known) h)
+terminate_shown {drive} {p} {s} {t} process number h = grind (arith, known_shown)
 
 -- where there is no number, nothing is changed
 pub none_known : (known : List (List (Option ℕ))) (k uid : ℕ)

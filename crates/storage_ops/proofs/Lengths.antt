@@ -1,6 +1,6 @@
 -- Stored pages from one on, and the length of a segment.
-use Rattle.storage_ops.proofs.Prelude.{◌≡◌, ◌≢◌, ℕ, ◌<◌, ◌≤◌, Bool, true, false, cond, eqb, List, Option, Some, None, Ok, is_some, refl, sym, ap, ◌∙◌, arith, inl, inr, nat_le, cases_Bool, cases_eq, cases_lt, ne_eqb, nat_tests, Who, Plan, AccountMaps, Changes, Node, node_in, pool_of, with_node, has_segment, segment_at, is_stored, is_stored_from, after_length, length_reply, Store, none_from, stored_from, record_at, ActiveSegs, uid_in_place, Home, Plain, is_filed_at, vtoc_in, Links, IsInactive, AreCounted, IsStore, Shows, Storage, home_of, is_filed, is_there, pages_in, pages_of, no_directory, length_told, found_uid, Keeps, keeps_length, keeps_one, eq-eqb, Reply as reply, VtocEntry as Entry}
-use Rattle.storage_ops.proofs.Alike.{active_alike, alike_changed, housed_alike, map_node, node_map, rights_alike, taken_alike}
+use Rattle.storage_ops.proofs.Prelude.{◌≡◌, ◌≢◌, ℕ, ◌<◌, ◌≤◌, Bool, true, false, cond, eqb, List, Option, Some, Ok, is_some, refl, sym, ap, ◌∙◌, arith, inl, inr, nat_le, cases_Bool, cases_eq, cases_lt, ne_eqb, nat_tests, Who, Plan, AccountMaps, Changes, Node, node_in, pool_of, with_node, has_segment, segment_at, is_stored, is_stored_from, after_length, length_reply, Store, none_from, stored_from, record_at, ActiveSegs, uid_in_place, Home, Plain, is_filed_at, vtoc_in, Links, IsInactive, AreCounted, IsStore, Shows, Storage, home_of, is_filed, is_there, pages_in, no_directory, length_told, found_uid, Keeps, keeps_length, keeps_one, eq-eqb, Reply as reply, VtocEntry as Entry}
+use Rattle.storage_ops.proofs.Alike.{active_alike, alike_changed, housed_alike, node_map, rights_alike, taken_alike}
 use Rattle.storage_ops.proofs.Changed.{shown_changed}
 use Rattle.storage_ops.proofs.Held.{tree_held}
 
@@ -69,20 +69,10 @@ other_same u pages {n} ne = rw (ne_eqb n.uid u ne)
 module _ {a b : AccountMaps} (u pages : ℕ) (segment : has_segment a.nodes u ≡ true)
     (changes : Changes a b (with_node a.nodes u (λ n. record n { pages = pages }))) where
   pages_other : (v : ℕ) → v ≢ u → pages_in b.nodes v ≡ pages_in a.nodes v
-  pages_other v ne = rw (changes.nodes, node_map (length_change u pages) (keeps_change u pages).uid a.nodes v)
-      (by (node_in a.nodes v) refl)
-    where
-      by : (o : Option Node) → node_in a.nodes v ≡ o → pages_of (map_node (length_change u pages) o) ≡ pages_of o
-      by None e = refl
-      by (Some n) e = ap (λ (x : Node). x.pages) (other_same u pages (λ is. ne (sym (found_uid a.nodes v n e) ∙ is)))
+  pages_other v ne = grind (arith, node_map, keeps_change, other_same, found_uid)
 
   pages_here : {n : Node} → node_in a.nodes u ≡ Some n → pages_in b.nodes u ≡ pages
-  pages_here {n} e = rw (
-    changes.nodes,
-    node_map (length_change u pages) (keeps_change u pages).uid a.nodes u,
-    e,
-    eq-eqb n.uid u (found_uid a.nodes u n e),
-  ) refl
+  pages_here {n} e = grind (arith, node_map, keeps_change, eq-eqb, found_uid)
 
   -- the segment isn't active, and stores no page from the new length on
   pub length_store : {now : Plain} {ast : ActiveSegs} {links : Links} {whos : List Who} {n : Node}

@@ -1,5 +1,5 @@
 -- A store of which fewer descriptors are connected, or fewer segments active.
-use Rattle.storage_ops.proofs.Prelude.{◌≡◌, ℕ, Bool, true, false, cond, eqb, List, [], map, Option, Some, None, set, refl, sym, ◌∙◌, inl, inr, cases_eq, get_or-set_other, get_or-map, Mode, Who, Plan, AccountMaps, Store, Sdw, Fault, Present, sdw_at, Entry, ActiveSegs, deactivated, superior_in, uid_in_place, uid_in, Plain, Links, sdws_at, all_cut, faulting, unlinked, IsStore, Shows, Storage}
+use Rattle.storage_ops.proofs.Prelude.{◌≡◌, ℕ, List, [], map, Option, Some, None, set, refl, sym, ◌∙◌, inl, inr, cases_eq, get_or-set_other, get_or-map, Mode, Who, Plan, AccountMaps, Store, Sdw, Fault, Present, sdw_at, Entry, ActiveSegs, deactivated, superior_in, uid_in_place, uid_in, Plain, Links, sdws_at, all_cut, faulting, unlinked, IsStore, Shows, Storage, arith}
 use Rattle.storage_ops.proofs.Known.{set_told}
 
 -- each descriptor that is connected was so before
@@ -11,19 +11,7 @@ AreFewer old new = (process number place pages : ℕ) (mode : Mode)
 store_less : {now : Plain} {ast : ActiveSegs} {links new : Links} {a : AccountMaps} {whos : List Who}
     → new.known ≡ links.known → AreFewer links new → IsStore now ast links a whos → IsStore now ast new a whos
 unfolding AreFewer
-store_less known fewer h = record {
-  housed = h.housed;
-  counted = h.counted;
-  taken = h.taken;
-  active = h.active;
-  rights = record {
-    modes = λ process number place pages u mode n d e found. h.rights.modes process number place pages u mode n
-        (fewer process number place pages mode d) e found;
-    lengths = λ process number place pages u mode n d e found. h.rights.lengths process number place pages u mode n
-        (fewer process number place pages mode d) e found;
-  };
-  known = rw known h.known;
-}
+store_less known fewer h = grind arith
 
 -- what is shown has no descriptor
 pub shown_linked : {D : Type 0} {drive : D → List (List ℕ)} {p : Plan} {s : Store} {t : Storage D} (new : Links)
@@ -62,12 +50,7 @@ store_cut now ast links a whos process number o h = store_less (one_known links 
 
 still_there : (place : ℕ) (w : Sdw) (x pages : ℕ) (mode : Mode) → faulting place w ≡ Present x mode pages
     → w ≡ Present x mode pages
-still_there place Fault x pages mode e = cc
-still_there place (Present y m n) x pages mode e = here (eqb y place) e
-  where
-    here : (z : Bool) → cond z Fault (Present y m n) ≡ Present x mode pages → Present y m n ≡ Present x mode pages
-    here true e = cc
-    here false e = e
+still_there place w x pages mode h1 = grind arith
 
 all_fewer : (links : Links) (place : ℕ) → AreFewer links (all_cut links place)
 unfolding AreFewer all_cut

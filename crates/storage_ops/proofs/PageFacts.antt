@@ -1,5 +1,5 @@
 -- What is known of a page of an active segment: its home, its page table, and whether the file map names it.
-use Rattle.storage_ops.proofs.Prelude.{◌≡◌, ℕ, zero, suc, ◌+◌, ◌^◌, ◌<◌, ◌≤◌, Bool, true, false, cond, eqb, not, List, [], ◌∷◌, length, Option, Some, None, get_or, is_some, refl, sym, ap, ◌∙◌, arith, inl, inr, count_by, nat_le, cases_Bool, cases_lt, nat_tests, get_or_past, sum_by-cons, Who, AccountMaps, count_of, Node, has_directory, node_in, pool_for, pool_of, has_segment, Ptw, Entry, ActiveSegs, IsActive, table_at, uid_in_place, Plain, is_filed_at, has_record, map_at, Links, place_of, table_of, word_of, IsKept, field_found, IsStore, home_of, is_there, pages_in, pages_of, Active_IsTree as IsTree}
+use Rattle.storage_ops.proofs.Prelude.{◌≡◌, ℕ, zero, suc, ◌+◌, ◌^◌, ◌<◌, ◌≤◌, Bool, true, false, cond, eqb, not, List, [], ◌∷◌, length, Option, Some, None, get_or, is_some, refl, sym, ap, ◌∙◌, arith, inl, inr, count_by, cases_Bool, cases_lt, get_or_past, sum_by-cons, Who, AccountMaps, count_of, Node, has_directory, node_in, pool_for, pool_of, has_segment, Ptw, Entry, ActiveSegs, IsActive, table_at, uid_in_place, Plain, is_filed_at, has_record, map_at, Links, place_of, table_of, word_of, IsKept, field_found, IsStore, home_of, is_there, pages_in, pages_of, Active_IsTree as IsTree}
 use Rattle.storage_ops.proofs.Homes.{filed_map}
 use Rattle.storage_ops.proofs.Lengths.{filed_there}
 use Rattle.storage_ops.proofs.NodeLaws.{found_there}
@@ -48,22 +48,7 @@ directory_found ns u n e = sym (field_found (λ ms. has_directory ms u) (λ x. x
 
 -- the page tables of the pool for so many pages have as many words
 pool_room : (pages : ℕ) → pages ≤ 256 → (pages ≤ 4 ^ (pool_for pages + 1)) × (pool_for pages < 4)
-pool_room pages most = first (nat_le pages 4) refl
-  where
-    third : (z : Bool) → nat_le pages 64 ≡ z → (pages ≤ 4 ^ (cond z 2 3 + 1)) × (cond z 2 3 < 4)
-    third true e = (let le : pages ≤ 64 = grind (arith, nat_tests) in (omega arith, omega arith))
-    third false e = (omega arith, omega arith)
-
-    second : (z : Bool) → nat_le pages 16 ≡ z
-        → (pages ≤ 4 ^ (cond z 1 (cond (nat_le pages 64) 2 3) + 1)) × (cond z 1 (cond (nat_le pages 64) 2 3) < 4)
-    second true e = (let le : pages ≤ 16 = grind (arith, nat_tests) in (omega arith, omega arith))
-    second false e = third (nat_le pages 64) refl
-
-    first : (z : Bool) → nat_le pages 4 ≡ z
-        → (pages ≤ 4 ^ (cond z 0 (cond (nat_le pages 16) 1 (cond (nat_le pages 64) 2 3)) + 1))
-        × (cond z 0 (cond (nat_le pages 16) 1 (cond (nat_le pages 64) 2 3)) < 4)
-    first true e = (let le : pages ≤ 4 = grind (arith, nat_tests) in (omega arith, omega arith))
-    first false e = second (nat_le pages 16) refl
+pool_room pages most = grind arith
 
 pub room_of : (n : Node) → n.pages ≤ 256 → (n.directory ≡ true → n.pages ≡ 0)
     → (n.pages ≤ 4 ^ (pool_of n + 1)) × (pool_of n < 4)
@@ -107,10 +92,7 @@ module _ {now : Plain} {ast : ActiveSegs} {links : Links} {a : AccountMaps} {who
   -- a page below the length is of a segment, and has a word in its page table
   module _ (p : ℕ) (lt : p < pages_in a.nodes uid) where
     pub node_segment : has_segment a.nodes uid ≡ true
-    node_segment = segment_of a.nodes uid there (elim (cases_Bool (has_directory a.nodes uid)) [
-      | inr off ↦ off
-      | inl is ↦ (let none = h.counted.flat uid is in absurd (omega arith))
-    ])
+    node_segment = grind (arith, segment_of, there)
 
     pub word_within : p < length (table_of ast uid)
     word_within =

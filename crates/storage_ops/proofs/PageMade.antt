@@ -71,12 +71,7 @@ other_words : {old now : Plain} {a : AccountMaps} {uid p : ℕ} {new : List ℕ}
     → ChangesWords old now uid (home_of a uid) p new → (u : ℕ) {q : ℕ} → (u ≡ uid → q ≡ p → ⊥)
     → picture a (words_at now) u q ≡ picture a (words_at old) u q
 unfolding picture
-other_words {old} {now} {a} housed change u {q} apart = by (is_there a.nodes u) refl
-  where
-    by : (z : Bool) → is_there a.nodes u ≡ z → cond z (words_at now u (home_of a u) q) (replicate 1024 0)
-        ≡ cond z (words_at old u (home_of a u) q) (replicate 1024 0)
-    by true t = change.others u (home_of a u) q (record { used = housed.homes u t; own = λ is. cc }) apart
-    by false t = refl
+other_words {old} {now} {a} housed change u {q} apart = grind arith
 
 changed_words : {old now : Plain} {a : AccountMaps} {uid p : ℕ} {words new : List ℕ} → AreHoused a old.vtocs
     → is_there a.nodes uid ≡ true → words_at old uid (home_of a uid) p ≡ words

@@ -91,11 +91,7 @@ more_taken count volume v {n} = grind arith
 
 less_taken : (count : ℕ → ℕ) (volume v : ℕ) {n : ℕ} → count v ≡ weight (eqb v volume) + n → one_less count volume v ≡ n
 unfolding one_less
-less_taken count volume v {n} = by (eqb v volume)
-  where
-    by : (z : Bool) → count v ≡ weight z + n → cond z (count v - 1) (count v) ≡ n
-    by true e = omega arith
-    by false e = omega arith
+less_taken count volume v {n} = grind arith
 
 module _ {a b : AccountMaps} {uid : ℕ} (old now : List (List Bool)) where
   -- a page more

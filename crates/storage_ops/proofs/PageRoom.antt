@@ -1,5 +1,5 @@
 -- Whether there is room for a page more of a segment: quota of its account, and a record of its volume.
-use Rattle.storage_ops.proofs.Prelude.{◌≡◌, ◌≢◌, ℕ, suc, ◌+◌, ◌*◌, ◌/◌, ◌%◌, Bool, true, false, cond, List, [], ◌∷◌, All, OnOk, length, Some, Result, Ok, Err, is_err, refl, ap, ◌∙◌, arith, count_by, ne_eqb, sum_by-cons, Plan, AccountMaps, Counts, Full, charge_answer, Node, account_of, after_reference, is_out_of_room, is_used_up, is_volume_full, room_reply, Store, known_uid, plain, is_full, done_or, page_made, is_spent, IsStore, Shows, ShowsTree, Storage, RefKind as kind, Reply as reply}
+use Rattle.storage_ops.proofs.Prelude.{◌≡◌, ◌≢◌, ℕ, suc, ◌/◌, ◌%◌, Bool, true, false, cond, List, [], ◌∷◌, All, OnOk, length, Some, Result, Ok, Err, is_err, refl, arith, count_by, ne_eqb, sum_by-cons, Plan, AccountMaps, Counts, Full, charge_answer, Node, after_reference, is_out_of_room, is_used_up, is_volume_full, room_reply, Store, known_uid, plain, is_full, done_or, page_made, is_spent, IsStore, Shows, ShowsTree, Storage, RefKind as kind, Reply as reply}
 
 pub on_ok : {E P : Type 0} (r : Result (Unit {0}) E) → false ≡ is_err r → OnOk r P → P
 on_ok (Ok x) e p = p
@@ -21,12 +21,7 @@ all_taken (flag ∷ flags) all =
 -- the account of a segment has used up its quota exactly where it can't be charged
 pub spent_told : (nodes : List Node) (stored : List (ℕ × ℕ)) (uid : ℕ) {r : Result (Unit {0}) Full}
     → r ≡ charge_answer nodes stored uid → is_err r ≡ is_spent nodes stored uid
-spent_told nodes stored uid answer = ap is_err answer ∙ by (is_spent nodes stored uid)
-  where
-    by : (z : Bool)
-        → is_err (cond {A = Result (Unit {0}) Full} z (Err (record { account = account_of nodes uid })) (Ok tt)) ≡ z
-    by true = refl
-    by false = refl
+spent_told nodes stored uid answer = grind arith
 
 pub used_told : {s : Store} {a : AccountMaps} (uid : ℕ) {r : Result (Unit {0}) Full} → ShowsTree s a
     → ((stored : List (ℕ × ℕ)) → Counts a stored → r ≡ charge_answer a.nodes stored uid) → is_err r ≡ is_used_up s uid
@@ -63,6 +58,4 @@ pub written_made : (s : Store) (process number offset w : ℕ) {uid : ℕ} → k
     → page_made s uid (offset / 1024) (offset % 1024) w
     ≡ after_reference s process (record { number = number; offset = offset; kind = kind.Write w })
 unfolding after_reference
-written_made s process number offset w known full =
-    let same : 1024 * (offset / 1024) + offset % 1024 ≡ offset = omega arith in
-    rw (known, same, ne_eqb w 0 full)
+written_made s process number offset w known full = grind (arith, ne_eqb)

@@ -1,5 +1,5 @@
 -- One word of a page in a frame is written.
-use Rattle.storage_ops.proofs.Prelude.{◌≡◌, ◌≢◌, ℕ, ◌+◌, ◌*◌, ◌<◌, ◌/◌, ◌%◌, Bool, true, false, cond, eqb, ◌&&◌, List, length, get_or, set, Some, refl, sym, ap, ◌∙◌, arith, inl, inr, cases_eq, ne_eqb, eq-eqb, get_or-set_other, get_or-set_same, same_Some, get_or-map, Plan, AccountMaps, is_stored, with_word, written, Store, with_old, Free, bound_page, frame_at, is_bound, Who, ActiveSegs, IsActive, table_at, Home, Plain, binding_at, bindings, number_in, plain, words_in, changed_at, changed_page, words_at, IsTableOf, Links, Control, word_of, IsKept, IsStore, Shows, Storage, home_of, is_filed, is_there, picture, and_false, Tied_uid_in as uid_in, bound_to}
+use Rattle.storage_ops.proofs.Prelude.{◌≡◌, ◌≢◌, ℕ, ◌+◌, ◌*◌, ◌<◌, ◌/◌, ◌%◌, true, cond, eqb, ◌&&◌, List, length, get_or, set, Some, refl, sym, ap, ◌∙◌, arith, inl, inr, cases_eq, ne_eqb, eq-eqb, get_or-set_other, get_or-set_same, same_Some, get_or-map, Plan, AccountMaps, is_stored, with_word, written, Store, with_old, Free, bound_page, frame_at, is_bound, Who, ActiveSegs, IsActive, table_at, Home, Plain, binding_at, bindings, number_in, plain, words_in, changed_at, changed_page, words_at, IsTableOf, Links, Control, word_of, IsKept, IsStore, Shows, Storage, home_of, is_filed, is_there, picture, and_false, Tied_uid_in as uid_in, bound_to}
 use Rattle.storage_ops.proofs.Paged.{active_tie, picture_there, word_filed, framed_recorded}
 use Rattle.storage_ops.proofs.PagesLess.{words_bound}
 
@@ -128,14 +128,7 @@ word_written s uid page at w = record s { words = with_word s.words uid (1024 * 
 -- where the page is stored, no more than the word changes
 pub written_there : (s : Store) (uid p at w : ℕ) → at < 1024 → is_stored s.stored uid p ≡ true
     → word_written s uid p at w ≡ written s uid (1024 * p + at) w
-written_there s uid p at w within on =
-    let page : (1024 * p + at) / 1024 ≡ p = omega arith in
-    ap (λ (xs : List (ℕ × ℕ)). record s { words = with_word s.words uid (1024 * p + at) w; stored = xs })
-    (cc (page, with_old s.stored uid p on, either (eqb w 0)))
-  where
-    either : (z : Bool) → cond z s.stored s.stored ≡ s.stored
-    either true = refl
-    either false = refl
+written_there s uid p at w within on = grind (arith, with_old)
 
 -- a store that shows a flat store shows it with the word
 pub shown_put : {D : Type 0} {drive : D → List (List ℕ)} {plan : Plan} {s : Store} {t : Storage D} {segs : Control D}

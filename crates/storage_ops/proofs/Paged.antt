@@ -1,5 +1,5 @@
 -- An active segment: its home, its page table, and which of its pages are stored.
-use Rattle.storage_ops.proofs.Prelude.{◌≡◌, ◌≢◌, ℕ, zero, suc, ◌/◌, ◌%◌, ◌≤◌, Bool, true, false, cond, ◌↔◌, List, [], eqb, ◌∷◌, Option, Some, None, replicate, refl, sym, ap, ◌∙◌, arith, inl, inr, position_or_len, cases_Bool, eqb-true, common_steps, same_Some, Who, Plan, AccountMaps, Store, IsBlank, VtocEntry, Entry, ActiveSegs, IsActive, uid_in_place, uid_in, Ptw, Here, Leaving, Home, Plain, binding_at, bindings, plain, frame_of, has_record, IsTied, words_at, Links, is_for, place_of, table_of, word_of, IsHomeOf, IsKept, IsStore, Shows, Storage, home_of, is_filed, is_there, pages_in, picture, all_same, passed_there, eq-eqb}
+use Rattle.storage_ops.proofs.Prelude.{◌≡◌, ◌≢◌, ℕ, zero, suc, ◌/◌, ◌%◌, ◌≤◌, true, false, ◌↔◌, List, [], eqb, ◌∷◌, Option, Some, None, replicate, refl, sym, ap, ◌∙◌, arith, inl, inr, position_or_len, cases_Bool, eqb-true, common_steps, same_Some, Who, Plan, AccountMaps, Store, IsBlank, VtocEntry, Entry, ActiveSegs, IsActive, uid_in_place, uid_in, Ptw, Here, Leaving, Home, Plain, binding_at, bindings, plain, frame_of, has_record, IsTied, words_at, Links, is_for, place_of, table_of, word_of, IsHomeOf, IsKept, IsStore, Shows, Storage, home_of, is_filed, is_there, pages_in, picture, all_same, passed_there, eq-eqb}
 use Rattle.storage_ops.proofs.Homes.{filed_map, words_none}
 use Rattle.storage_ops.proofs.Lengths.{filed_there}
 
@@ -69,13 +69,7 @@ pub picture_none : {now : Plain} {ast : ActiveSegs} {links : Links} {a : Account
     → IsKept now ast links → IsStore now ast links a whos → (u q : ℕ) → is_filed a now.vtocs u q ≡ false
     → picture a (words_at now) u q ≡ replicate 1024 0
 unfolding picture
-picture_none {now} {ast} {links} {a} {whos} k h u q off = by (is_there a.nodes u) refl
-  where
-    by : (z : Bool) → is_there a.nodes u ≡ z
-        → cond z (words_at now u (home_of a u) q) (replicate 1024 0) ≡ replicate 1024 0
-    by true t = words_none now u q (home_of a u) (unfiled_unframed k h u q off)
-        (sym (filed_there a now.vtocs u q t) ∙ off)
-    by false t = refl
+picture_none {now} {ast} {links} {a} {whos} k h u q off = grind (arith, words_none, unfiled_unframed, filed_there)
 
 -- the words of what isn't stored are 0 in each flat store that is shown
 pub blank_shown : {D : Type 0} {drive : D → List (List ℕ)} {p : Plan} {s : Store} {t : Storage D}
@@ -108,13 +102,7 @@ filed_absent a vtocs u q t = cc
 pub past_unfiled : {now : Plain} {ast : ActiveSegs} {links : Links} {a : AccountMaps} {whos : List Who}
     → IsKept now ast links → IsStore now ast links a whos → {u : ℕ} → IsActive ast.entries u → (page : ℕ)
     → pages_in a.nodes u ≤ page → (q : ℕ) → page ≤ q → is_filed a now.vtocs u q ≡ false
-past_unfiled {now} {ast} {links} {a} {whos} k h {u} active page past q le =
-    elim (cases_Bool (is_filed a now.vtocs u q)) [
-      | inr off ↦ off
-      | inl on ↦
-          (let there = active_there k h active in
-          let lt = h.counted.inside u q there (sym (filed_there a now.vtocs u q there) ∙ on) in absurd (omega arith))
-    ]
+past_unfiled {now} {ast} {links} {a} {whos} k h {u} active page past q le = grind (arith, active_there, filed_there)
 
 -- the place that is found for an active segment is its place
 pub place_found : (entries : List (Option Entry)) (u place : ℕ) (r : Option ℕ) → IsActive entries u

@@ -1,5 +1,5 @@
 -- What is shown once a page is stored no more, and once one is cut.
-use Rattle.storage_ops.proofs.Prelude.{◌≡◌, ℕ, zero, suc, ◌+◌, ◌-◌, ◌*◌, ◌/◌, ◌%◌, ◌<◌, ◌≤◌, Bool, true, false, cond, eqb, ◌&&◌, ◌++◌, ◌↔◌, IsTrue, List, [], ◌∷◌, get_or, length, take, Option, Some, None, All, replicate, set, refl, sym, ap, subst, ◌∙◌, arith, inl, inr, nat_le, position, cases_Bool, cases_lt, eq-eqb, eqb-true, common_steps, get_or-replicate, get_or_past, length-append, length-replicate, length-take, fails_before_first, same_Some, get_or-map, AreZero, Plan, Who, AccountMaps, Recounts, count_of, has_directory, has_segment, cleared, has_cleared, Store, get_cut, zero_words_told, Core, bound_page, frame_at, is_bound, reads_of, Frame, Bound, Free, VtocEntry, record_at, Home, ActiveSegs, IsActive, cut, dropped, changed_at, changed_page, is_binding, is_filed_at, words_at, words_held, words_of_page, Plain, binding_at, bindings, number_in, plain, words_in, IsTableOf, frame_of, has_record, is_away, is_out, map_at, vtoc_in, Ptw, Leaving, Null, Out, Links, Control, table_of, word_of, worded, IsHomeOf, IsKept, Unstores, is_here, leaves, IsStore, ShowsPages, Shows, Storage, home_of, is_filed, is_there, picture, page_is, used, Tied_uid_in as uid_in, bound_from_page}
+use Rattle.storage_ops.proofs.Prelude.{◌≡◌, ℕ, zero, suc, ◌+◌, ◌-◌, ◌*◌, ◌/◌, ◌%◌, ◌<◌, ◌≤◌, Bool, true, false, cond, eqb, ◌&&◌, ◌++◌, ◌↔◌, IsTrue, List, [], ◌∷◌, get_or, length, take, Option, Some, None, All, replicate, set, refl, sym, ap, subst, ◌∙◌, arith, inl, inr, nat_le, position, cases_Bool, cases_lt, eq-eqb, eqb-true, common_steps, get_or-replicate, get_or_past, length-append, length-replicate, length-take, fails_before_first, same_Some, get_or-map, AreZero, Plan, Who, AccountMaps, Recounts, count_of, has_directory, has_segment, cleared, has_cleared, Store, get_cut, zero_words_told, Core, bound_page, frame_at, is_bound, reads_of, Frame, Bound, Free, VtocEntry, record_at, Home, ActiveSegs, IsActive, cut, dropped, changed_at, changed_page, is_binding, is_filed_at, words_at, words_held, words_of_page, Plain, binding_at, bindings, number_in, plain, words_in, IsTableOf, frame_of, has_record, is_away, is_out, map_at, vtoc_in, Ptw, Leaving, Null, Links, Control, table_of, word_of, worded, IsHomeOf, IsKept, Unstores, is_here, leaves, IsStore, ShowsPages, Shows, Storage, home_of, is_filed, is_there, picture, page_is, used, Tied_uid_in as uid_in, bound_from_page}
 use Rattle.storage_ops.proofs.Entries.{one_named}
 use Rattle.storage_ops.proofs.Homes.{bound_of, filed_map}
 use Rattle.storage_ops.proofs.Lengths.{filed_there}
@@ -131,9 +131,7 @@ pub record MayDrop (now : Plain) (ast : ActiveSegs) (a : AccountMaps) (u q : ℕ
   pub table : IsTableOf (bindings now.core) u (table_of ast u)
 
 pub away_isnt_here : (w : Ptw) → is_away w ≡ true → is_here w ≡ false
-away_isnt_here (Out r) e = refl
-away_isnt_here (Leaving f) e = refl
-away_isnt_here _ e = cc
+away_isnt_here w h1 = grind arith
 
 pub may_drop : {now : Plain} {ast : ActiveSegs} {links : Links} {a : AccountMaps} {whos : List Who} {u q : ℕ}
     → IsKept now ast links → IsStore now ast links a whos → IsActive ast.entries u

@@ -1,5 +1,5 @@
 -- What refuses a reference, by the tables and by the flat store that they show.
-use Rattle.storage_ops.proofs.Prelude.{◌≡◌, ℕ, ◌*◌, ◌<◌, ◌/◌, Bool, true, false, cond, eqb, not, ◌&&◌, List, [], Option, Some, None, Result, Ok, Err, get_or, is_some, map, refl, sym, ap, ◌∙◌, arith, inl, inr, nat_le, cases_Bool, nat_tests, get_or-map, Who, Plan, ProcessPlan, nobody, who_of, RefKind, Reference, Reply, uid_of, access_of, Node, has_directory, node_in, has_segment, AccountMaps, HasParts, is_stored, new_word, permits, is_out_of_room, is_used_up, reply_to_reference, stores_page, word_reply, Store, plain, IsKept, brings_word, is_of_room, is_outside, only, outside_by, outside_refusal, refusal_in, refused_by, room_by, room_in, room_refusal, target, has_no_room, is_spent, unless, want_of_room, AreCounted, IsStore, Shows, Storage, is_filed, pages_of, refusal, who_at, and_false, RefKind as kind, Reply as reply, VtocEntry as Entry}
+use Rattle.storage_ops.proofs.Prelude.{◌≡◌, ℕ, ◌*◌, ◌<◌, ◌/◌, Bool, true, false, cond, not, ◌&&◌, List, [], Option, Some, None, Result, Ok, Err, get_or, map, refl, sym, ◌∙◌, arith, nat_le, nat_tests, get_or-map, Who, Plan, ProcessPlan, nobody, who_of, RefKind, Reference, Reply, uid_of, access_of, Node, node_in, has_segment, AccountMaps, HasParts, is_stored, permits, is_out_of_room, is_used_up, reply_to_reference, stores_page, word_reply, Store, plain, IsKept, brings_word, is_of_room, is_outside, only, outside_by, outside_refusal, refusal_in, refused_by, room_by, room_in, room_refusal, target, has_no_room, is_spent, unless, want_of_room, AreCounted, IsStore, Shows, Storage, is_filed, refusal, who_at, and_false, RefKind as kind, Reply as reply, VtocEntry as Entry}
 use Rattle.storage_ops.proofs.Held.{shown_held}
 use Rattle.storage_ops.proofs.PageFacts.{segment_of}
 use Rattle.storage_ops.proofs.PageRoom.{full_told}
@@ -11,11 +11,7 @@ use Rattle.storage_ops.proofs.Paged.{blank_shown}
 -- a refusal that comes before the page is looked at is none for want of room
 outside_only : (e : Reply) → is_outside e ≡ true
     → (only is_outside e ≡ Some e) × (only is_of_room e ≡ None) × (refusal e ≡ Some e)
-outside_only reply.Unknown is = (refl, refl, refl)
-outside_only reply.Gone is = (refl, refl, refl)
-outside_only reply.NoAccess is = (refl, refl, refl)
-outside_only reply.Length is = (refl, refl, refl)
-outside_only _ is = cc
+outside_only e h1 = grind arith
 
 -- a word, or that one is written, is no refusal
 word_none : (old : ℕ) (how : RefKind) → (only is_outside (word_reply old how) ≡ None)
@@ -43,13 +39,7 @@ room_told false used full old how = word_none old how
 stores_told : (s : Store) (uid offset : ℕ) (how : RefKind)
     → (is_stored s.stored uid (offset / 1024) ≡ false → s.words uid offset ≡ 0)
     → stores_page s uid offset how ≡ (brings_word how && not (is_stored s.stored uid (offset / 1024)))
-stores_told s uid offset kind.Read blank = refl
-stores_told s uid offset (kind.Write w) blank = refl
-stores_told s uid offset (kind.Add w) blank = elim (cases_Bool (is_stored s.stored uid (offset / 1024))) [
-  | inl on ↦ rw on (and_false (not (eqb (new_word (s.words uid offset) (kind.Add w)) 0))
-      ∙ sym (and_false (not (eqb (new_word 0 (kind.Add w)) 0))))
-  | inr off ↦ rw (blank off) refl
-]
+stores_told s uid offset how h1 = grind (arith, and_false)
 
 -- ---- by what is shown
 
@@ -111,14 +101,7 @@ within_told who r n none = by_right (permits (access_of who n.rows) r.kind) (nat
 -- a segment has pages, and a directory none
 pub long_segment : (a : AccountMaps) (vtocs : List (List (Option Entry))) → AreCounted a vtocs
     → (u offset : ℕ) (n : Node) → node_in a.nodes u ≡ Some n → offset < 1024 * n.pages → has_segment a.nodes u ≡ true
-long_segment a vtocs h u offset n found lt = segment_of a.nodes u (ap is_some found)
-    (elim (cases_Bool (has_directory a.nodes u)) [
-      | inr off ↦ off
-      | inl is ↦
-          (let none = h.flat u is in
-          let same = ap pages_of found in
-          absurd (omega arith))
-    ])
+long_segment a vtocs h u offset n found lt = grind (arith, segment_of)
 
 -- why a page more can't be stored, by whether the account is used up, and the volume with no other that has room
 pub want_told : {D : Type 0} (t : Storage D) (stored : List (ℕ × ℕ)) (n : Node) {spent out : Bool}

@@ -1,7 +1,7 @@
 -- A segment has another home, on another volume, with what was filed at its old one.
-use Rattle.storage_ops.proofs.Prelude.{◌≡◌, ◌≢◌, ℕ, ◌+◌, ◌/◌, true, List, Option, Some, None, is_some, map, refl, sym, ap, ◌∙◌, arith, inl, inr, count_by, cases_eq, eq-eqb, ne_eqb, Who, Plan, AccountMaps, Counts, Rehomes, entry_of, Node, entries_on, has_directory, node_in, pool_of, taken_on, volume_in, IsTree, Store, volume_found, ActiveSegs, Home, Plain, plain, map_at, uid_at, entries, named_on, size, taken, used, is_filed_at, words_at, Links, AreCounted, AreHoused, AreTaken, IsStore, Shows, Storage, home_of, is_filed, is_there, named_at, pages_in, pages_of, picture, nat_tests, cases_Bool, home_cases}
+use Rattle.storage_ops.proofs.Prelude.{◌≡◌, ◌≢◌, ℕ, ◌+◌, ◌/◌, true, List, Some, None, is_some, map, refl, sym, ap, ◌∙◌, arith, inl, inr, count_by, cases_eq, eq-eqb, ne_eqb, Who, Plan, AccountMaps, Counts, Rehomes, entry_of, Node, entries_on, has_directory, pool_of, taken_on, volume_in, IsTree, Store, volume_found, ActiveSegs, Home, Plain, plain, map_at, uid_at, entries, named_on, size, taken, used, is_filed_at, words_at, Links, AreCounted, AreHoused, AreTaken, IsStore, Shows, Storage, home_of, is_filed, is_there, named_at, pages_in, picture, nat_tests, cases_Bool, home_cases}
 use Rattle.flat_model.specs.Moves.{moved}
-use Rattle.storage_ops.proofs.Alike.{active_alike, map_node, node_map, rights_alike, there_map}
+use Rattle.storage_ops.proofs.Alike.{active_alike, node_map, rights_alike, there_map}
 use Rattle.storage_ops.proofs.Homes.{filed_map}
 use Rattle.storage_ops.proofs.NodeLaws.{found_there}
 use Rattle.storage_ops.proofs.Still.{tree_still}
@@ -41,12 +41,7 @@ module _ {old now : Plain} {a b : AccountMaps} {u : ℕ} {home : Home} (d : HasR
   there_is v = cc (there_map (on_volume u home.volume) (uid_on u home.volume) a.nodes v)
 
   pages_are : (v : ℕ) → pages_in b.nodes v ≡ pages_in a.nodes v
-  pages_are v = ap (λ (ns : List Node). pages_in ns v) nodes_are
-      ∙ ap pages_of (node_map (on_volume u home.volume) (uid_on u home.volume) a.nodes v) ∙ by (node_in a.nodes v)
-    where
-      by : (o : Option Node) → pages_of (map_node (on_volume u home.volume) o) ≡ pages_of o
-      by None = refl
-      by (Some n) = pages_on u home.volume n
+  pages_are v = grind (arith, nodes_are, node_map, uid_on, pages_on)
 
   kind_is : (v : ℕ) → has_directory b.nodes v ≡ has_directory a.nodes v
   kind_is v = cc (directory_on u home.volume a.nodes v)
@@ -132,13 +127,7 @@ module _ {old now : Plain} {a b : AccountMaps} {u : ℕ} {home : Home} (d : HasR
   records_are : AreCounted a old.vtocs → AreTaken a old.records old.vtocs → (stored : List (ℕ × ℕ)) (v : ℕ)
       → Counts b stored → taken now.records v ≡ taken_on b.nodes stored v
   unfolding named_on
-  records_are counted h stored v counts =
-      let named = counted.counts u d.there ∙ sym (d.rehomes.counts u) ∙ counts u in
-      let was = h.records stored v (λ s. sym (d.rehomes.counts s) ∙ counts s) in
-      let less = d.taken_moves v in
-      let more = taken_moved a.nodes u home.volume d.there stored v in
-      let moves = d.named in
-      rw nodes_are (grind (arith, nat_tests))
+  records_are counted h stored v counts = grind (arith, taken_moved, nodes_are)
 
   entries_are : IsTree a.nodes → AreTaken a old.records old.vtocs → (v : ℕ) → used now.vtocs v ≡ entries_on b.nodes v
   entries_are tree h v =
@@ -183,10 +172,7 @@ module _ {old now : Plain} {a b : AccountMaps} {u : ℕ} {home : Home} (d : HasR
   ]
 
   words_are : (v q : ℕ) → is_there a.nodes v ≡ true → words_at now v (home_of b v) q ≡ words_at old v (home_of a v) q
-  words_are v q was = elim (cases_eq v u) [
-    | inl is ↦ rw (is, home_here) (d.words q)
-    | inr ne ↦ cc (home_else v ne, d.others v (home_of a v) q (apart v ne was) (beyond v was))
-  ]
+  words_are v q was = grind (arith, home_here, home_else, apart, beyond)
 
   picture_same : (v q : ℕ) → picture b (words_at now) v q ≡ picture a (words_at old) v q
   unfolding picture

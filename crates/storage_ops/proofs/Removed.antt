@@ -327,12 +327,7 @@ place_cut entries links place u exact cut at = no_trailer (λ process number. ex
 
 pub inactive_now : (entries : List (Option Entry)) (place u : ℕ) → IsOneToOne entries
     → uid_in_place entries place ≡ Some u → IsInactive (set entries place None) u
-inactive_now entries place u once at = record {
-  nowhere = λ q e. elim (cases_eq q place) [
-    | inl same ↦ cc (none_put entries place)
-    | inr apart ↦ apart (once q place u (cc (get_or-set_other entries place q None None apart)) at)
-  ];
-}
+inactive_now entries place u once at = grind (arith, none_put, apart, get_or-set_other)
 
 -- what is taken out is the same, whether its pages went before or not
 pub branch_same : (s : Store) (u : ℕ)

@@ -1,5 +1,5 @@
 -- What tree commands leave as it is.
-use Rattle.storage_ops.proofs.Prelude.{get_or-set_other, nat_tests, cases_eq, ne_eqb, ◌≢◌, ◌+◌, ◌*◌, ◌/◌, ◌%◌, ◌≤◌, nat_le, ◌||◌, [], arith, inl, inr, ◌≡◌, ℕ, Bool, true, false, cond, eqb, ◌&&◌, List, Option, Some, None, refl, sym, ap, ◌∙◌, AccountMaps, VtocEntry, Entry, IsOneToOne, deactivated, uid_in_place, Ptw, Home, erased, binding_at, bindings, plain, Links, IsInactive, CutsPages, KeepsRest, TakesOut, Unstores, unbound, Storage, with_known, with_vtocs, from_first}
+use Rattle.storage_ops.proofs.Prelude.{get_or-set_other, nat_tests, cases_eq, ne_eqb, ◌≢◌, ◌+◌, ◌*◌, ◌/◌, ◌%◌, ◌≤◌, nat_le, ◌||◌, [], arith, inl, inr, ◌≡◌, ℕ, Bool, true, false, eqb, ◌&&◌, List, Option, Some, None, refl, sym, ap, ◌∙◌, AccountMaps, VtocEntry, Entry, IsOneToOne, deactivated, uid_in_place, Ptw, Home, erased, binding_at, bindings, plain, Links, IsInactive, CutsPages, KeepsRest, TakesOut, Unstores, unbound, Storage, with_known, with_vtocs, from_first}
 use Rattle.storage_ops.proofs.Less.{was_active}
 use Rattle.storage_ops.proofs.Removed.{inactive_now}
 use Rattle.storage_ops.proofs.Unstored.{unstores_both}
@@ -20,13 +20,7 @@ rest_both x y = record {
 
 was_bound : (uid : ℕ) (test : ℕ → Bool) (o : Option (ℕ × ℕ)) (u q : ℕ) → unbound uid test o ≡ Some (u, q)
     → o ≡ Some (u, q)
-was_bound uid test None u q e = cc
-was_bound uid test (Some x) u q e = by (eqb x.0 uid && test x.1) e
-  where
-    by : (z : Bool) → cond {A = Option (ℕ × ℕ)} z None (Some x) ≡ Some (u, q)
-        → ◌≡◌ {A = Option (ℕ × ℕ)} (Some x) (Some (u, q))
-    by true e = cc
-    by false e = e
+was_bound uid test o u q h1 = grind arith
 
 pub rest_unstored : {D : Type 0} (old new : Storage D) (u : ℕ) (test : ℕ → Bool) → Unstores old new u test
     → KeepsRest old new

@@ -1,5 +1,5 @@
 -- A store of which frames, marks or words of page tables alone have changed.
-use Rattle.storage_ops.proofs.Prelude.{◌≡◌, ℕ, ◌/◌, Bool, true, false, cond, List, Result, Ok, Err, replicate, refl, inl, inr, Who, Plan, Node, AccountMaps, Store, ActiveSegs, Home, Plain, plain, KeepsWords, words_at, Links, home_of, is_there, table_here, IsHomeFor, Ptw, KeepsTables, AreHoused, AreInTree, IsStore, Shows, Storage, picture}
+use Rattle.storage_ops.proofs.Prelude.{◌≡◌, ℕ, ◌/◌, List, Result, Ok, Err, refl, Who, Plan, Node, AccountMaps, Store, ActiveSegs, Home, Plain, plain, KeepsWords, words_at, Links, home_of, table_here, IsHomeFor, Ptw, KeepsTables, AreHoused, AreInTree, IsStore, Shows, Storage, picture, arith}
 
 -- the places and the pools of what is active are as before
 pub tree_still : {nodes : List Node} {ast next : ActiveSegs} → next.entries ≡ ast.entries → next.sizes ≡ ast.sizes
@@ -14,36 +14,20 @@ tree_still entries_same sizes h = record {
 pub store_still : {old now : Plain} {ast next : ActiveSegs} {links : Links} {a : AccountMaps} {whos : List Who}
     → now.vtocs ≡ old.vtocs → now.records ≡ old.records → next.entries ≡ ast.entries → next.sizes ≡ ast.sizes
     → IsStore old ast links a whos → IsStore now next links a whos
-store_still {ast} {next} {a} vtocs records entries_same sizes h = record {
-  housed = rw vtocs h.housed;
-  counted = rw vtocs h.counted;
-  taken = rw (records, vtocs) h.taken;
-  active = tree_still entries_same sizes h.active;
-  rights = rw entries_same h.rights;
-  known = h.known;
-}
+store_still {ast} {next} {a} vtocs records entries_same sizes h = grind (arith, tree_still)
 
 -- ---- a call that concerns one segment at its home, and keeps all words
 
 -- a home that a call takes for a segment is the node's
 pub own_home : {now : Plain} {a : AccountMaps} {uid : ℕ} {home : Home} {table : List Ptw} → AreHoused a now.vtocs
     → IsHomeFor now uid home table → home ≡ home_of a uid
-own_home {uid} {home} h is = elim is [
-  | inl only ↦ h.only home uid only.used
-  | inr tie ↦ h.only home uid tie.used
-]
+own_home {uid} {home} h is = grind arith
 
 pub picture_kept : {old now : Plain} {a : AccountMaps} {uid : ℕ} {home : Home} → AreHoused a old.vtocs
     → home ≡ home_of a uid → KeepsWords old now uid home
     → (u q : ℕ) → picture a (words_at now) u q ≡ picture a (words_at old) u q
 unfolding picture
-picture_kept {old} {now} {a} h own kept u q = by (is_there a.nodes u) refl
-  where
-    by : (z : Bool) → is_there a.nodes u ≡ z
-        → cond z (words_at now u (home_of a u) q) (replicate 1024 0) ≡ cond z (words_at old u (home_of a u) q)
-        (replicate 1024 0)
-    by true t = kept.words u (home_of a u) q (record { used = h.homes u t; own = λ is. cc })
-    by false t = refl
+picture_kept {old} {now} {a} h own kept u q = grind arith
 
 pub here_entries : {T E : Type 0} (ast : ActiveSegs) (uid p f : ℕ) (r : Result T E)
     → ((table_here ast uid p f r).entries ≡ ast.entries) × ((table_here ast uid p f r).sizes ≡ ast.sizes)

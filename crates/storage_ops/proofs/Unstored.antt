@@ -47,13 +47,7 @@ freed_at core f g = get_or-map bound_page (set core.frames f Free) g Free ∙ el
 
 -- a binding that isn't that of a page stays
 pub binding_stays : (u q : ℕ) (o : Option (ℕ × ℕ)) → o ≢ Some (u, q) → unbound u (λ r. eqb r q) o ≡ o
-binding_stays u q None apart = refl
-binding_stays u q (Some x) apart = by (eqb x.0 u) (eqb x.1 q) refl refl
-  where
-    by : (y z : Bool) → eqb x.0 u ≡ y → eqb x.1 q ≡ z → cond {A = Option (ℕ × ℕ)} (y && z) None (Some x) ≡ Some x
-    by true true e f = absurd (apart (λ i. Some (eqb-true x.0 u e i, eqb-true x.1 q f i)))
-    by true false e f = refl
-    by false z e f = refl
+binding_stays u q o h1 = grind (arith, eqb-true)
 
 module _ (core : Core) (u q : ℕ) (table : List Ptw) (t : IsTableOf (bindings core) u table) where
   -- no frame is bound to a page whose word names none
@@ -86,16 +80,7 @@ bound_dropped old now u q home table (Here f) t is off effect g = cc
 
 fused_bound : (u : ℕ) (t r : ℕ → Bool) (o : Option (ℕ × ℕ))
     → unbound u r (unbound u t o) ≡ unbound u (λ q. t q || r q) o
-fused_bound u t r None = refl
-fused_bound u t r (Some x) = by (eqb x.0 u) (t x.1) (r x.1) refl refl refl
-  where
-    by : (a b c : Bool) → eqb x.0 u ≡ a → t x.1 ≡ b → r x.1 ≡ c
-        → unbound u r (cond {A = Option (ℕ × ℕ)} (a && b) None (Some x))
-        ≡ cond {A = Option (ℕ × ℕ)} (a && (b || c)) None (Some x)
-    by true true c e f g = refl
-    by true false true e f g = rw (e, g) refl
-    by true false false e f g = rw (e, g) refl
-    by false b c e f g = rw e refl
+fused_bound u t r o = grind arith
 
 pub none_bound : (u : ℕ) (o : Option (ℕ × ℕ)) → o ≡ unbound u (λ q. false) o
 none_bound u None = refl
