@@ -1,5 +1,4 @@
-use Rattle.bitmap.proofs.Prelude.{◌≡◌, ◌≢◌, ℕ, suc, zero, ◌/◌, ◌%◌, ◌<◌, Bool, true, false, List, length, refl, sym, ◌∙◌, arith, get_or, set, add-one, inl, inr, slice_index, bit_at, w64, cases_eq, get_or-set_same, get_or-set_other, length-set, ext_get_or, length_push, get_or_append_left, get_or_push, bit_at_ones, bit_at_set_same, bit_at_set_other, bit_at_clear_same, bit_at_clear_other}
-use Rattle.bitmap.specs.Bits.{bit_on, with_bit, without_bit, flags_of}
+pub use Rattle.bitmap.proofs.Prelude.{Bool, HasTwoLevels, List, add-one, ap, arith, bit_at, bit_at_clear_other, bit_at_clear_same, bit_at_ones, bit_at_set_other, bit_at_set_same, bit_on, cases_eq, cond, count_by, ext_get_or, false, flags_of, get_or, get_or-replicate, get_or-set_other, get_or-set_same, get_or_append_left, get_or_push, inl, inr, length, length-replicate, length-set, length_push, refl, replicate, set, slice_index, suc, sum_by-cons, sym, true, w64, with_bit, without_bit, zero, ℕ, ◌%◌, ◌+◌, ◌/◌, ◌<◌, ◌^◌, ◌∙◌, ◌≡◌, ◌≢◌}
 
 -- a word other than that of r is as before
 pub word_with_other : (ws : List ℕ) (r w : ℕ) → w ≢ r / 64 → slice_index (with_bit ws r) w ≡ slice_index ws w
@@ -21,22 +20,17 @@ length_without_bit ws r = length-set ws _ _
 -- bit r is on after it is turned on, and off after it is turned off
 pub on_with_bit : (ws : List ℕ) (r : ℕ) → r / 64 < length ws → bit_on (with_bit ws r) r ≡ true
 unfolding bit_on with_bit
-on_with_bit ws r lt = rw (
-  get_or-set_same ws (r / 64) _ 0 lt,
-  bit_at_set_same w64 (slice_index ws (r / 64)) (r % 64) (omega arith),
-) refl
+on_with_bit ws r lt = rw
+    (get_or-set_same ws (r / 64) _ 0 lt, bit_at_set_same w64 (slice_index ws (r / 64)) (r % 64) (omega arith)) refl
 
 pub off_without_bit : (ws : List ℕ) (r : ℕ) → r / 64 < length ws → bit_on (without_bit ws r) r ≡ false
 unfolding bit_on without_bit
-off_without_bit ws r lt = rw (
-  get_or-set_same ws (r / 64) _ 0 lt,
-  bit_at_clear_same w64 (slice_index ws (r / 64)) (r % 64) (omega arith),
-) refl
+off_without_bit ws r lt = rw
+    (get_or-set_same ws (r / 64) _ 0 lt, bit_at_clear_same w64 (slice_index ws (r / 64)) (r % 64) (omega arith)) refl
 
 -- every other bit is as before, where it is so in the word that changes
-on_other : (ws : List ℕ) (word r k : ℕ) → r / 64 < length ws → k ≢ r
-    → (k % 64 ≢ r % 64 → bit_at word (k % 64) ≡ bit_at (slice_index ws (r / 64)) (k % 64))
-    → bit_on (set ws (r / 64) word) k ≡ bit_on ws k
+on_other : (ws : List ℕ) (word r k : ℕ) → r / 64 < length ws → k ≢ r → (k % 64 ≢ r % 64
+    → bit_at word (k % 64) ≡ bit_at (slice_index ws (r / 64)) (k % 64)) → bit_on (set ws (r / 64) word) k ≡ bit_on ws k
 unfolding bit_on
 on_other ws word r k lt ne same = elim (cases_eq (k / 64) (r / 64)) [
   | inl e ↦ rw (e, get_or-set_same ws (r / 64) word 0 lt, same (omega arith)) refl

@@ -1,7 +1,5 @@
-use Rattle.bitmap.proofs.Prelude.{◌≡◌, ◌≢◌, ℕ, suc, zero, ◌+◌, ◌-◌, ◌*◌, ◌/◌, ◌%◌, ◌^◌, ◌<◌, ◌≤◌, false, cond, List, length, refl, sym, ap, ◌∙◌, arith, set, replicate, inl, inr, slice_index, count_by, cases_eq, length-replicate, get_or-replicate, ext_get_or, length-set, get_or-set_same, get_or-set_other, sum_by-cons, bit_at-zero, bit_at_mask_inside, bit_at_mask_below, ones_shl, flags_of, IsClear, HasTwoLevels}
-use Rattle.bitmap.specs.Bits.{bit_on}
-use Rattle.bitmap.proofs.BitLemmas.{off_word_has_room, length_flags, flag_at}
-use Rattle.bitmap.proofs.Levels.{off_test}
+pub use Rattle.bitmap.proofs.Prelude.{Global, HasTwoLevels, IsClear, List, Vec, ap, arith, bit_at-zero, bit_at_mask_below, bit_at_mask_inside, bit_on, cases_eq, cond, count_by, ext_get_or, false, flags_of, get_or-replicate, get_or-set_other, get_or-set_same, inl, inr, length, length-replicate, length-set, ones_shl, refl, replicate, set, slice_index, suc, sum_by-cons, sym, zero, ℕ, ◌%◌, ◌*◌, ◌+◌, ◌-◌, ◌/◌, ◌<◌, ◌^◌, ◌∙◌, ◌≡◌, ◌≢◌, ◌≤◌}
+use Rattle.bitmap.proofs.Levels.{flag_at, length_flags, off_test, off_word_has_room}
 
 -- words of zeros have every bit off
 off_in_zeros : (n r : ℕ) → r / 64 < n → bit_on (replicate {A = ℕ} n 0) r ≡ false

@@ -1,6 +1,5 @@
 -- A map of which all numbers are in use.
-use Rattle.bitmap.proofs.Prelude.{◌≡◌, ℕ, suc, zero, ◌+◌, ◌/◌, ◌^◌, ◌<◌, true, cond, List, length, refl, sym, ap, ◌∙◌, arith, replicate, count_by, length-replicate, get_or-replicate, ext_get_or, sum_by-cons, bit_on, flags_of, HasTwoLevels}
-use Rattle.bitmap.proofs.BitLemmas.{on_in_full_word, length_flags, flag_at}
+pub use Rattle.bitmap.proofs.BitLemmas.{HasTwoLevels, List, ap, arith, bit_on, cond, count_by, ext_get_or, flag_at, flags_of, get_or-replicate, length, length-replicate, length_flags, on_in_full_word, refl, replicate, suc, sum_by-cons, sym, true, zero, ℕ, ◌+◌, ◌/◌, ◌<◌, ◌^◌, ◌∙◌, ◌≡◌}
 
 -- words with every bit on
 abbrev ones : ℕ → List ℕ

@@ -1,6 +1,5 @@
-use Rattle.bitmap.proofs.Prelude.{◌≡◌, ◌≢◌, ℕ, ◌+◌, ◌-◌, ◌*◌, ◌/◌, ◌%◌, ◌^◌, ◌<◌, ◌≤◌, Bool, true, false, not, cond, eqb, List, length, Some, None, refl, sym, ap, ◌∙◌, arith, get_or, set, inl, inr, slice_index, count_by, All, bit_at, w64, trailing_ones, eqb_tells, cases_eq, lt-ltb, le-ltb, length-set, get_or_read, All-get_or, All-from_get_or, prefix_len_is, count_by-le-length, bit_at-trailing_ones, in_use, least_free, IsLeastFree, with_bit, without_bit, full_after, flags_of, IsFirstOff, HasTwoLevels, below_or_past, count_with, count_without}
-use Rattle.bitmap.specs.Bits.{bit_on}
-use Rattle.bitmap.proofs.BitLemmas.{word_with_other, word_without_other, length_with_bit, length_without_bit, on_with_bit, off_without_bit, on_with_other, on_without_other, on_in_full_word, off_word_has_room, length_flags, flag_at, flags_with_bit, flags_without_bit}
+pub use Rattle.bitmap.proofs.Prelude.{All, All-from_get_or, All-get_or, Bool, HasTwoLevels, IsFirstOff, IsLeastFree, List, None, Some, ap, arith, below_or_past, bit_at, bit_at-trailing_ones, bit_on, cases_eq, cond, count_by, count_by-le-length, count_with, count_without, eqb, eqb_tells, false, flag_within, flags_of, full_after, get_or, get_or_read, in_use, inl, inr, le-ltb, least_free, length, length-set, lt-ltb, not, prefix_len_is, refl, set, slice_index, sym, trailing_ones, true, w64, with_bit, without_bit, ℕ, ◌%◌, ◌*◌, ◌+◌, ◌-◌, ◌/◌, ◌<◌, ◌^◌, ◌∙◌, ◌≡◌, ◌≢◌, ◌≤◌}
+pub use Rattle.bitmap.proofs.BitLemmas.{flag_at, flags_with_bit, flags_without_bit, length_flags, length_with_bit, length_without_bit, off_without_bit, off_word_has_room, on_in_full_word, on_with_bit, on_with_other, on_without_other, word_with_other, word_without_other}
 
 -- a test for equality that fails, and one that holds
 pub off_test : (a b : ℕ) → a ≢ b → eqb a b ≡ false
@@ -26,9 +25,8 @@ full_other false full w k within ne = refl
 
 -- the two levels after bit r changes, and the bit of its word above
 levels_after : {ws full now above : List ℕ} {size used count : ℕ} (r : ℕ) → HasTwoLevels ws full size used → r < size
-    → length now ≡ length ws → length above ≡ length full → ((k : ℕ) → k ≢ r → bit_on now k ≡ bit_on ws k)
-    → ((w : ℕ) → w ≢ r / 64 → bit_on above w ≡ bit_on full w)
-    → ((w : ℕ) → w ≢ r / 64 → slice_index now w ≡ slice_index ws w)
+    → length now ≡ length ws → length above ≡ length full → ((k : ℕ) → k ≢ r → bit_on now k ≡ bit_on ws k) → ((w : ℕ)
+    → w ≢ r / 64 → bit_on above w ≡ bit_on full w) → ((w : ℕ) → w ≢ r / 64 → slice_index now w ≡ slice_index ws w)
     → bit_on above (r / 64) ≡ eqb (slice_index now (r / 64)) 18446744073709551615
     → count ≡ count_by (λ flag. flag) (flags_of now size) → HasTwoLevels now above size count
 levels_after {ws} r h lt words_as_many full_as_many others full_others words here counted =
@@ -61,8 +59,7 @@ levels_after_take ws full size used r h lt off =
     levels_after r h lt (length_with_bit ws r) (length_full now_full full (r / 64)) (λ k ne. on_with_other ws
     r k within ne) (λ w ne. full_other now_full full (r / 64) w upper ne) (word_with_other ws r) (full_same now_full
     full (r / 64) (h.full_is (r / 64) within ∙ off_test _ _ (off_word_has_room ws r off)) upper) (cc (
-      flags_with_bit ws
-          size r lt within,
+      flags_with_bit ws size r lt within,
       count_with (flags_of ws size) r flags_within (flag_at ws size r false lt ∙ off),
     ))
 
@@ -189,17 +186,15 @@ room_for_one {ws} {size} {used} {flags} r h view lt free =
     omega (arith, length_flags ws size, ap length view, count_with flags r lt free, most, length-set flags r true, same)
 
 -- the answer of a search by the two levels, in the terms in which its steps give it
-pub found_by_levels : (ws full fs : List ℕ) (size used w x t : ℕ) (flags : List Bool) → HasTwoLevels ws full size used
-    → flags_of ws size ≡ flags
-    → IsFirstOff fs w → fs ≡ full → w < length ws → x ≡ get_or ws w x → x < 2 ^ 64 → t ≡ trailing_ones w64 x
-    → IsLeastFree flags (64 * w + t)
+pub found_by_levels : (ws full fs : List ℕ) (size used w x t : ℕ) (flags : List Bool)
+    → HasTwoLevels ws full size used → flags_of ws size ≡ flags → IsFirstOff fs w → fs ≡ full
+    → w < length ws → x ≡ get_or ws w x → x < 2 ^ 64 → t ≡ trailing_ones w64 x → IsLeastFree flags (64 * w + t)
 found_by_levels ws full fs size used w x t flags h view first same inside read fits ones =
     let word = get_or_read ws w x inside read 0 in
     rw (ones, word, ← view) (least_by_levels ws full size used w h (rw (← same) first) (rw (← word) fits))
 
-pub none_found : {ws full fs : List ℕ} {size used : ℕ} {flags : List Bool} → HasTwoLevels ws full size used
-    → flags_of ws size ≡ flags
-    → fs ≡ full → ((w : ℕ) → w < 64 * length fs → bit_on fs w ≡ true) → All (λ flag. flag ≡ true) flags
+pub none_found : {ws full fs : List ℕ} {size used : ℕ} {flags : List Bool} → HasTwoLevels ws full size used → flags_of
+    ws size ≡ flags → fs ≡ full → ((w : ℕ) → w < 64 * length fs → bit_on fs w ≡ true) → All (λ flag. flag ≡ true) flags
 none_found {ws} {full} {size} {used} h view same on = rw (← view) (none_by_levels h (rw (← same) on))
 
 -- a word with a bit off in the upper level is there

@@ -1,5 +1,4 @@
-use Rattle.std.proofs.Common.{◌∙◌, ◌*◌, ◌%◌, ◌^◌, ◌/◌, ℕ, List, ap, arith, set, Vec, Global}
-use Rattle.bitmap.proofs.Fresh.{clear_whole, clear_part}
+use Rattle.bitmap.proofs.Fresh.{Global, List, Vec, ap, arith, clear_part, clear_whole, set, ℕ, ◌%◌, ◌*◌, ◌/◌, ◌^◌, ◌∙◌}
 use Rattle.bitmap.proofs.clear_words.Goals.{then-count-ne0, else-count-ne0}
 use Rattle.bitmap.proofs.clear_words.Goals as goal
 

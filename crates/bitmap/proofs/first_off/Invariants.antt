@@ -1,4 +1,4 @@
-use Rattle.std.proofs.Common.{◌≡◌, ◌<◌, ℕ, slice_index}
+use Rattle.bitmap.proofs.Prelude.{slice_index, ℕ, ◌<◌, ◌≡◌}
 use Rattle.bitmap.proofs.first_off.Given as goal
 
 abbrev pub invariant-loop-i : goal.invariant-loop-i

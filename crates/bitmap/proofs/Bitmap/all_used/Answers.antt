@@ -1,5 +1,4 @@
-use Rattle.std.proofs.Common.{arith}
-use Rattle.bitmap.proofs.Full.{flags_full, levels_full}
+use Rattle.bitmap.proofs.Full.{arith, flags_full, levels_full}
 use Rattle.bitmap.proofs.Bitmap.all_used.Goals as goal
 
 pub invariant_of-result : goal.invariant_of-result

@@ -1,14 +1,11 @@
-use Rattle.bitmap.proofs.Prelude.{◌+◌, ◌*◌, length, ap, sym, arith, IsLeastFree}
-use Rattle.bitmap.proofs.Levels.{found_by_levels, none_found, first_inside, least_is, none_is}
-use Rattle.bitmap.proofs.BitLemmas.{length_flags}
+use Rattle.bitmap.proofs.Levels.{IsLeastFree, ap, arith, first_inside, found_by_levels, least_is, length, length_flags, none_found, none_is, sym, ◌*◌, ◌+◌}
 use Rattle.bitmap.proofs.Bitmap.first_free.Goals as goal
 
 found : (c : goal.After-trailing_ones-bit) → IsLeastFree c.args.self.now
     (64 * c.in_ok-word.word + c.trailing_ones-bit.result)
-found c = found_by_levels _ _ _ _ _ c.in_ok-word.word c.index.result.now _ _ c.self.invariant c.self.view_is
-    c.in_ok-word.ensures.some c.deref.ensures.value
-    (first_inside c.self.invariant c.in_ok-word.ensures.some c.deref.ensures.value) c.index.ensures
-    (omega arith) c.trailing_ones-bit.ensures
+found c = found_by_levels _ _ _ _ _ c.in_ok-word.word c.index.result.now
+    _ _ c.self.invariant c.self.view_is c.in_ok-word.ensures.some c.deref.ensures.value (first_inside c.self.invariant
+    c.in_ok-word.ensures.some c.deref.ensures.value) c.index.ensures (omega arith) c.trailing_ones-bit.ensures
 
 pub overflow_cast-result : goal.overflow_cast-result
 overflow_cast-result c = omega (

@@ -1,6 +1,4 @@
-use Rattle.bitmap.proofs.Prelude.{arith, count_without, flag_within}
-use Rattle.bitmap.proofs.BitLemmas.{flags_without_bit}
-use Rattle.bitmap.proofs.Levels.{placed, levels_after_give}
+use Rattle.bitmap.proofs.Levels.{arith, count_without, flag_within, flags_without_bit, levels_after_give, placed}
 use Rattle.bitmap.proofs.Bitmap.give_back.Goals as goal
 
 pub clear_bit-requires : goal.clear_bit-requires

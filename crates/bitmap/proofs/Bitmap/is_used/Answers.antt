@@ -1,5 +1,4 @@
-use Rattle.bitmap.proofs.Prelude.{◌/◌, arith, shr_and_one, get_or_read}
-use Rattle.bitmap.specs.Bits.{bit_on}
+use Rattle.bitmap.proofs.Prelude.{arith, bit_on, get_or_read, shr_and_one, ◌/◌}
 use Rattle.bitmap.proofs.Levels.{placed}
 use Rattle.bitmap.proofs.Bitmap.is_used.Goals as goal
 

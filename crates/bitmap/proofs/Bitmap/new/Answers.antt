@@ -1,5 +1,4 @@
-use Rattle.std.proofs.Common.{arith}
-use Rattle.bitmap.proofs.Fresh.{flags_clear, levels_clear}
+use Rattle.bitmap.proofs.Fresh.{arith, flags_clear, levels_clear}
 use Rattle.bitmap.proofs.Bitmap.new.Goals as goal
 
 pub invariant_of-result : goal.invariant_of-result

@@ -1,6 +1,5 @@
 use Rattle.bitmap.proofs.Prelude.{arith, count_with}
-use Rattle.bitmap.proofs.BitLemmas.{flags_with_bit}
-use Rattle.bitmap.proofs.Levels.{placed, room_for_one, levels_after_take}
+use Rattle.bitmap.proofs.Levels.{flags_with_bit, levels_after_take, placed, room_for_one}
 use Rattle.bitmap.proofs.Bitmap.take.Goals as goal
 
 pub turn_on-requires-clause-lower : goal.turn_on-requires-clause-lower
