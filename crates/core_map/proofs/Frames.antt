@@ -1,5 +1,4 @@
-use Rattle.core_map.proofs.Prelude.{◌≡◌, ℕ, zero, suc, ◌+◌, ◌<◌, ◌≤◌, ◌^◌, Bool, true, false, not, cond, List, [], ◌∷◌, length, Option, None, Some, refl, sym, ap, ◌∙◌, arith, get_or, set, replicate, map, inl, inr, All, IfSome, IfNone, prefix_len, list_any, map-set, get_or-map, get_or_past, length-map, length-set, length-replicate, get_or_read, set_past, All-get_or, All-from_get_or, in_use, least_free, IsLeastFree, Frame, Core, is_free, is_taken, is_bound, started_page, after_reference, with_modified, least_free_frame, IsLeastFreeFrame, frame_in, IsTied, below_or_past, map_kept}
-use Rattle.core_map.specs.declared.Frame.TheVariants.{Free, Bound}
+pub use Rattle.core_map.proofs.Prelude.{All, All-from_get_or, All-get_or, Bool, Bound, Core, Frame, Free, IfNone, IfSome, IsLeastFree, IsLeastFreeFrame, IsTied, List, None, Option, Some, [], after_reference, ap, arith, below_or_past, cond, false, frame_in, get_or, get_or-map, get_or_past, get_or_read, in_use, inl, inr, is_bound, is_free, is_taken, least_free, least_free_frame, length, length-map, length-replicate, length-set, list_any, map, map-set, map_kept, not, prefix_len, refl, replicate, set, set_past, started_page, suc, sym, true, with_modified, zero, ℕ, ◌+◌, ◌<◌, ◌^◌, ◌∙◌, ◌∷◌, ◌≡◌, ◌≤◌}
 
 -- What a change of marks leaves as it is: whether the frame is taken, and which page is being read in.
 pub record IsSeenAs (x y : Frame) : Type 0 where
@@ -97,9 +96,8 @@ least_frame taken frames hand f core h view least = rw (← view) (record {
   before = λ k lt. not_free_from_taken (frame_in frames k) (sym (bit_is k h) ∙ least.before k lt);
 })
 
-pub none_free : {taken : List Bool} {frames : List Frame} {hand : ℕ} {core : Core} → IsTied taken frames hand
-    → record { frames = frames; hand = hand } ≡ core
-    → All (λ flag. flag ≡ true) taken → All (λ x. is_free x ≡ false) core.frames
+pub none_free : {taken : List Bool} {frames : List Frame} {hand : ℕ} {core : Core} → IsTied taken frames hand → record
+    { frames = frames; hand = hand } ≡ core → All (λ flag. flag ≡ true) taken → All (λ x. is_free x ≡ false) core.frames
 none_free {taken} {frames} {hand} h view all = rw (← view) (All-from_get_or (λ x. is_free x ≡ false)
     frames Free (λ k lt. not_free_from_taken (frame_in frames k) (sym (bit_is k h) ∙ All-get_or (λ flag. flag ≡ true)
     taken k false (omega (arith, ap length h.bits, length-map frames is_taken)) all)))
@@ -119,15 +117,13 @@ tied_new taken frames n fits bits is = record {
 
 -- the same of what the bits answer
 pub least_if : (answer : Option ℕ) (taken : List Bool) (frames : List Frame) (hand : ℕ) (core : Core)
-    → IsTied taken frames hand
-    → record { frames = frames; hand = hand } ≡ core → IfSome answer (λ f. IsLeastFree taken f)
-    → IfSome answer (λ f. IsLeastFreeFrame core f)
+    → IsTied taken frames hand → record { frames = frames; hand = hand } ≡ core
+    → IfSome answer (λ f. IsLeastFree taken f) → IfSome answer (λ f. IsLeastFreeFrame core f)
 least_if None taken frames hand core h view least = tt
 least_if (Some f) taken frames hand core h view least = least_frame taken frames hand f core h view least
 
 pub none_if : (answer : Option ℕ) (taken : List Bool) (frames : List Frame) (hand : ℕ) (core : Core)
-    → IsTied taken frames hand
-    → record { frames = frames; hand = hand } ≡ core → IfNone answer (All (λ flag. flag ≡ true) taken)
-    → IfNone answer (All (λ x. is_free x ≡ false) core.frames)
+    → IsTied taken frames hand → record { frames = frames; hand = hand } ≡ core
+    → IfNone answer (All (λ flag. flag ≡ true) taken) → IfNone answer (All (λ x. is_free x ≡ false) core.frames)
 none_if None taken frames hand core h view all = none_free h view all
 none_if (Some f) taken frames hand core h view all = tt

@@ -1,7 +1,5 @@
 -- The clock as a function: what it finds and leaves, by what the code does with ranges of frames.
-use Rattle.core_map.proofs.Prelude.{◌≡◌, ◌≢◌, ℕ, zero, suc, ◌+◌, ◌-◌, ◌<◌, ◌≤◌, Bool, true, false, List, ◌∷◌, ◌++◌, length, Some, refl, sym, ap, ◌∙◌, arith, set, inl, inr, append_assoc, range_with_len, find, cases_eq, length-set, get_or-set_same, get_or-set_other, ext_get_or, Frame, frame_in, is_idle, unmarked, IsFirst, HasNone, IsUnmarked, PassesTo, PassesAll, below_or_past}
-use Rattle.core_map.specs.declared.Frame.TheVariants.{Free}
-use Rattle.core_map.specs.Clock.{passed_over}
+use Rattle.core_map.proofs.Prelude.{Bool, Frame, Free, HasNone, IsFirst, IsUnmarked, List, PassesAll, PassesTo, Some, ap, append_assoc, arith, below_or_past, cases_eq, ext_get_or, false, find, frame_in, get_or-set_other, get_or-set_same, inl, inr, is_idle, length, length-set, passed_over, range_with_len, refl, set, suc, sym, true, unmarked, zero, ℕ, ◌++◌, ◌+◌, ◌-◌, ◌<◌, ◌∙◌, ◌∷◌, ◌≡◌, ◌≢◌, ◌≤◌}
 
 -- a range is split at a number in it
 split_range : (a b low n at : ℕ) → n ≡ a + suc b → at ≡ low + a → range_with_len low n ≡ range_with_len low a ++ at
@@ -14,9 +12,8 @@ split_range (suc a) b low n at long is =
     let more : n ≡ suc (a + suc b) = omega arith in
     rw more (ap (λ (fs : List ℕ). low ∷ fs) (split_range a b (low + 1) (a + suc b) at refl (omega arith)))
 
-pub split_at : (low high f : ℕ) (rest : List ℕ) → low ≤ f → f < high
-    → range_with_len low (high - low) ++ rest ≡ range_with_len low (f - low) ++ f
-    ∷ (range_with_len (f + 1) (high - f - 1) ++ rest)
+pub split_at : (low high f : ℕ) (rest : List ℕ) → low ≤ f → f < high → range_with_len low (high - low) ++ rest
+    ≡ range_with_len low (f - low) ++ f ∷ (range_with_len (f + 1) (high - f - 1) ++ rest)
 split_at low high f rest above below = cc (
   split_range (f - low) (high - f - 1) low (high - low) f (omega arith) (omega arith),
   append_assoc (range_with_len low (f - low)) (f ∷ range_with_len (f + 1) (high - f - 1)) rest,
@@ -101,9 +98,8 @@ pub passed_to : (old new : List Frame) (low high f : ℕ) (rest : List ℕ) → 
     → PassesTo old new low high f → passed_over old (range_with_len low (high - low) ++ rest) ≡ new
 passed_to old new low high f rest fits h = cc (
   split_at low high f rest h.first.above h.first.below,
-  passed_range
-      (f - low) low f old new (f ∷ (range_with_len (f + 1) (high - f - 1) ++ rest)) (omega (arith, h.first.above))
-      (omega (arith, fits, h.first.below)) h.marks h.first.before,
+  passed_range (f - low) low f old new (f ∷ (range_with_len (f + 1) (high - f - 1) ++ rest))
+      (omega (arith, h.first.above)) (omega (arith, fits, h.first.below)) h.marks h.first.before,
   stops_here f
       (range_with_len (f + 1) (high - f - 1) ++ rest) (ap is_idle (h.marks.after f (omega arith)) ∙ h.first.here),
 )

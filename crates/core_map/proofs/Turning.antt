@@ -1,9 +1,7 @@
 -- What a turn of the clock comes to, by how it ends.
-use Rattle.core_map.proofs.Prelude.{◌≡◌, ℕ, ◌+◌, ◌-◌, ◌<◌, ◌≤◌, Bool, true, List, [], ◌∷◌, ◌++◌, length, Option, None, Some, refl, sym, ap, ◌∙◌, arith, map, inl, inr, cond, ◌==◌, range_with_len, find, list_any, append-nil, ext_get_or, get_or-map, length-map, Frame, Core, is_bound, frame_in, is_idle, unmarked, round_frames, or_else, clock_choice, after_choice, IsFirst, HasNone, IsUnmarked, PassesAll, IsFirstBound, GoesAround, IsTurned, below_or_past}
-use Rattle.core_map.specs.declared.Frame.TheVariants.{Free}
-use Rattle.core_map.specs.Clock.{passed_over}
+pub use Rattle.core_map.proofs.Prelude.{Bool, Core, Frame, Free, GoesAround, HasNone, IsFirst, IsFirstBound, IsTurned, IsUnmarked, List, None, Option, PassesAll, Some, [], after_choice, ap, append-nil, arith, below_or_past, clock_choice, cond, ext_get_or, find, frame_in, get_or-map, inl, inr, is_bound, is_idle, is_taken, length, length-map, list_any, map, or_else, passed_over, range_with_len, refl, round_frames, started_page, sym, true, unmarked, ℕ, ◌++◌, ◌+◌, ◌-◌, ◌<◌, ◌==◌, ◌∙◌, ◌∷◌, ◌≡◌, ◌≤◌}
 use Rattle.core_map.proofs.Frames.{IsSeenAs, none_bound}
-use Rattle.core_map.proofs.Passing.{found_none, found_first, passed_all, passed_to}
+use Rattle.core_map.proofs.Passing.{found_first, found_none, passed_all, passed_to}
 
 -- whether a frame is taken, and which page is read into it, is so after its mark is turned off
 pub seen_unmarked : (x : Frame) → IsSeenAs (unmarked x) x
@@ -14,9 +12,8 @@ abbrev core_of : List Frame → ℕ → Core
 core_of frames hand = record { frames = frames; hand = hand }
 
 -- what marks don't change is as before
-same_at : {X : Type 0} (t : Frame → X) → ((x : Frame) → t (unmarked x) ≡ t x)
-    → {old new : List Frame} {low high : ℕ} (k : ℕ)
-    → IsUnmarked old new low high → t (frame_in new k) ≡ t (frame_in old k)
+same_at : {X : Type 0} (t : Frame → X) → ((x : Frame) → t (unmarked x) ≡ t x) → {old new : List Frame} {low high : ℕ}
+    (k : ℕ) → IsUnmarked old new low high → t (frame_in new k) ≡ t (frame_in old k)
 same_at t same {old} {low} {high} k marks = elim (below_or_past k low) [
   | inl under ↦ ap t (marks.before k under)
   | inr over ↦ elim (below_or_past k high) [
@@ -126,9 +123,8 @@ turned_frames old new hand f fits (inr (inl h)) =
     passed_all old h.middle hand (length old) (range_with_len 0 hand) fits (omega arith) h.ahead
     ∙ ap (passed_over h.middle) (last_range hand) ∙ passed_to h.middle new 0 hand f [] (omega arith) h.behind
 turned_frames old new hand f fits (inr (inr h)) =
-    passed_all old h.middle hand (length old) (range_with_len 0 hand) fits (omega arith) h.ahead
-    ∙ ap (passed_over h.middle) (last_range hand)
-    ∙ passed_all h.middle new 0 hand [] (omega arith) (omega arith) h.behind ∙ nothing_more
+    passed_all old h.middle hand (length old) (range_with_len 0 hand) fits (omega arith) h.ahead ∙ ap (passed_over
+    h.middle) (last_range hand) ∙ passed_all h.middle new 0 hand [] (omega arith) (omega arith) h.behind ∙ nothing_more
 
 -- some frame is bound, and is so after a whole turn
 any_of_map : (frames : List Frame) → list_any is_bound frames ≡ list_any (λ flag. flag) (map is_bound frames)

@@ -1,5 +1,4 @@
-use Rattle.core_map.proofs.Prelude.{map-set, started_page}
-use Rattle.core_map.proofs.Frames.{tied_with}
+use Rattle.core_map.proofs.Frames.{map-set, started_page, tied_with}
 use Rattle.core_map.proofs.CoreMap.bind.Goals as goal
 
 pub invariant_of-self : goal.invariant_of-self

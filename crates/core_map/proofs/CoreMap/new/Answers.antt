@@ -1,5 +1,4 @@
-use Rattle.std.proofs.Common.{arith}
-use Rattle.core_map.proofs.Frames.{tied_new}
+use Rattle.core_map.proofs.Frames.{arith, tied_new}
 use Rattle.core_map.proofs.CoreMap.new.Goals as goal
 
 pub invariant_of-result : goal.invariant_of-result

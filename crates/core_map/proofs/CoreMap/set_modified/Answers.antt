@@ -1,5 +1,4 @@
-use Rattle.core_map.proofs.Prelude.{◌∙◌, ap, is_taken, started_page}
-use Rattle.core_map.proofs.Frames.{tied_same, kept_by, seen_modified}
+use Rattle.core_map.proofs.Frames.{ap, is_taken, kept_by, seen_modified, started_page, tied_same, ◌∙◌}
 use Rattle.core_map.proofs.CoreMap.set_modified.Goals as goal
 
 pub invariant_of-self : goal.invariant_of-self

@@ -1,4 +1,4 @@
-use Rattle.core_map.proofs.Frames.{least_same, least_if, none_if}
+use Rattle.core_map.proofs.Frames.{least_if, least_same, none_if}
 use Rattle.core_map.proofs.CoreMap.take_free.Goals as goal
 
 pub returns-clause-least : goal.returns-clause-least

@@ -1,4 +1,4 @@
-use Rattle.core_map.proofs.Prelude.{is_bound, HasNone}
+use Rattle.core_map.proofs.Prelude.{HasNone, is_bound}
 use Rattle.core_map.proofs.clock.first_bound.Given as goal
 
 abbrev pub invariant-loop-i : goal.invariant-loop-i

@@ -1,5 +1,4 @@
-use Rattle.std.proofs.Common.{refl}
-use Rattle.core_map.proofs.Turning.{some_is_bound}
+use Rattle.core_map.proofs.Turning.{refl, some_is_bound}
 use Rattle.core_map.proofs.clock.first_from.Goals as goal
 
 pub unreachable-requires : goal.unreachable-requires

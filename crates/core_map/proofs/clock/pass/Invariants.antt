@@ -1,4 +1,4 @@
-use Rattle.core_map.specs.Turns.{PassesAll}
+use Rattle.core_map.proofs.Prelude.{PassesAll}
 use Rattle.core_map.proofs.clock.pass.Given as goal
 
 abbrev pub invariant-loop-i : goal.invariant-loop-i
