@@ -1,4 +1,4 @@
-use Rattle.vtoc.proofs.Prelude.{◌≡◌, ◌≢◌, ℕ, zero, suc, ◌<◌, List, ◌∷◌, length, Option, None, Some, refl, sym, ◌∙◌, get_or, set, replicate, inl, inr, [], Bool, true, false, ◌&&◌, ◌==◌, ◌↔◌, IsTrue, map, list_all, eqb_tells, map-set, get_or-map, no_records, record_of, records_of}
+pub use Rattle.vtoc.proofs.Prelude.{Bool, IsTrue, List, None, Option, Some, [], ap, arith, eqb_tells, false, get_or, get_or-map, inl, inr, length, list_all, map, map-set, no_records, record_of, records_of, refl, replicate, set, suc, sym, true, zero, ℕ, ◌&&◌, ◌<◌, ◌==◌, ◌↔◌, ◌∙◌, ◌∷◌, ◌≡◌, ◌≢◌}
 
 -- a place by its code
 pub read_code : (codes : List ℕ) (p : ℕ) {code : ℕ} → p < length codes → get_or codes p 0 ≡ code

@@ -1,5 +1,5 @@
 -- A list of slots of which the first are held, and the rest are free.
-use Rattle.vtoc.proofs.Prelude.{◌≡◌, ℕ, suc, ◌+◌, ◌-◌, ◌≤◌, ◌<◌, true, List, [], ◌∷◌, ◌++◌, length, refl, sym, ap, ◌∙◌, arith, get_or, set, replicate, Option, None, Some, is_some, inl, inr, append_assoc, get_or-append_right, get_or-replicate, get_or_append_left, get_or_past, get_or_read, length-append, length-replicate, length-set, length_push, set-append_left, set-append_right, no_records, Slot, free_slot, slot_at, slots_of, AreRoomy, below_or_past}
+pub use Rattle.vtoc.proofs.Prelude.{AreRoomy, List, None, Option, Slot, Some, [], ap, append_assoc, arith, below_or_past, common_steps, free_slot, get_or, get_or-append_right, get_or-replicate, get_or_append_left, get_or_past, get_or_read, inl, inr, is_some, length, length-append, length-replicate, length-set, length_push, no_records, refl, replicate, set, set-append_left, set-append_right, slot_at, slots_of, suc, sym, true, ℕ, ◌++◌, ◌+◌, ◌-◌, ◌<◌, ◌∙◌, ◌∷◌, ◌≡◌, ◌≤◌}
 
 abbrev rest : ℕ → List Slot
 rest count = replicate count free_slot
@@ -15,8 +15,7 @@ unfolding slots_of
 length_slots {held} {size} h =
     omega (
       arith,
-      length-append held
-          (rest (size - length held)),
+      length-append held (rest (size - length held)),
       length-replicate {A = Slot} (size - length held) free_slot,
       h.within,
     )

@@ -1,4 +1,4 @@
-use Rattle.vtoc.proofs.Prelude.{◌≡◌, ℕ, zero, suc, ◌+◌, ◌<◌, ◌≤◌, ◌^◌, Bool, true, false, not, cond, List, [], ◌∷◌, length, Option, None, Some, refl, sym, ap, ◌∙◌, arith, get_or, set, replicate, map, inl, inr, IsSome, is_some, is_none, count_by, All, IsTrue, ◌↔◌, prefix_len, cases_eq, map-set, get_or-map, get_or_past, length-map, length-set, length-replicate, get_or-set_same, get_or-set_other, set-get_or, get_or-replicate, ext_get_or, All-get_or, All-from_get_or, sum_by-cons, sum_by-set, in_use, least_free, IsLeastFree, no_records, Entry, entry_at, uid_of, records_in, record_at, fresh_entry, with_record, least_free_entry, IsLeastFreeEntry, NamesNoRecord, Slot, seen_as, entry_of, table_of, free_slot, slot_at, IsMarked, below_or_past, none_there, blank}
+pub use Rattle.vtoc.proofs.Prelude.{All, All-from_get_or, All-get_or, Bool, Entry, IsLeastFree, IsLeastFreeEntry, IsMarked, IsSome, IsTrue, List, NamesNoRecord, None, Option, Slot, Some, [], ap, arith, below_or_past, blank, cases_eq, cond, count_by, entry_at, entry_of, ext_get_or, false, free_slot, fresh_entry, get_or, get_or-map, get_or-replicate, get_or-set_other, get_or-set_same, get_or_past, in_use, inl, inr, is_none, is_some, least_free, least_free_entry, length, length-map, length-replicate, length-set, map, map-set, no_records, none_there, not, prefix_len, record_at, records_in, refl, replicate, seen_as, set, set-get_or, slot_at, suc, sum_by-cons, sum_by-set, sym, table_of, true, uid_of, with_record, zero, ℕ, ◌+◌, ◌<◌, ◌^◌, ◌↔◌, ◌∙◌, ◌∷◌, ◌≡◌, ◌≤◌}
 
 pub length_table : (slots : List Slot) → length (table_of slots) ≡ length slots
 unfolding table_of
@@ -123,10 +123,9 @@ marked_with {slots} e slot h lt empty long = record {
 }
 
 -- the bits are as before where the slot keeps its uid
-pub marked_same : {flags : List Bool} {slots : List Slot} (e : ℕ) (slot : Slot) → IsMarked flags slots
-    → e < length slots
-    → (slot.uid ≡ None → slot.map ≡ no_records) → length slot.map ≡ 256 → is_some slot.uid ≡ in_use flags e
-    → IsMarked flags (set slots e slot)
+pub marked_same : {flags : List Bool} {slots : List Slot} (e : ℕ) (slot : Slot)
+    → IsMarked flags slots → e < length slots → (slot.uid ≡ None → slot.map ≡ no_records)
+    → length slot.map ≡ 256 → is_some slot.uid ≡ in_use flags e → IsMarked flags (set slots e slot)
 marked_same {flags} {slots} e slot h lt empty long same =
     let bits : set flags e (is_some slot.uid) ≡ flags = ap (λ (b : Bool). set flags e b) same
     ∙ set-get_or flags e false in
@@ -273,12 +272,12 @@ module _ {flags : List Bool} {slots : List Slot} {table : List (Option Entry)} (
       marked_same e _ h (used_slot h view e used) (used_uid (slot_at slots e).uid (set (slot_at slots e).map p r)
       (bit ∙ used_bit h view e used)) (cc (length-set (slot_at slots e).map p r, h.places e)) bit
 
-  pub put_table : (e p : ℕ) (r : Option ℕ)
-      → table_of (set slots e (record { uid = (slot_at slots e).uid; map = set (slot_at slots e).map p r }))
-      ≡ set table e (with_record (entry_at table e) p r)
-  put_table e p r = table_with slots e _
-      ∙ ap (λ (t : List (Option Entry)). set t e (seen_as (slot_at slots e).uid (set (slot_at slots e).map p r))) view
-      ∙ ap (λ (entry : Option Entry). set table e entry)
+  pub put_table : (e p : ℕ) (r : Option ℕ) → table_of (set slots e (record {
+    uid = (slot_at slots e).uid;
+    map = set (slot_at slots e).map p r;
+  })) ≡ set table e (with_record (entry_at table e) p r)
+  put_table e p r = table_with slots e _ ∙ ap (λ (t : List (Option Entry)). set t e (seen_as
+      (slot_at slots e).uid (set (slot_at slots e).map p r))) view ∙ ap (λ (entry : Option Entry). set table e entry)
       (cc (with_record_seen (slot_at slots e).uid (slot_at slots e).map p r, (kept h view e).entry))
 
   pub put_placed : (e p : ℕ) {r : Option ℕ} → IsSome (entry_at table e) → p < 256

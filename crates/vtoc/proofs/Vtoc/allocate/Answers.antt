@@ -1,5 +1,5 @@
-use Rattle.vtoc.proofs.Prelude.{◌∙◌, ap, sym, table_of}
-use Rattle.vtoc.proofs.Table.{least_same, least_entry, all_used, allocate_marked, allocate_table, allocate_empty, bit_is, count_taken, least_slot}
+use Rattle.vtoc.proofs.Prelude.{ap, sym, table_of, ◌∙◌}
+use Rattle.vtoc.proofs.Table.{all_used, allocate_empty, allocate_marked, allocate_table, bit_is, count_taken, least_entry, least_same, least_slot}
 use Rattle.vtoc.proofs.Vtoc.allocate.Goals as goal
 
 pub give-requires-clause-within : goal.give-requires-clause-within
@@ -13,16 +13,6 @@ invariant_of-self c =
     rw c.give.ensures (allocate_marked c.self.invariant c.self.view_is c.args.uid c.in_ok-e.ensures.some
     c.take.ensures.flags)
 
-pub returns-clause-taken : goal.returns-clause-taken
-returns-clause-taken c =
-    ap table_of c.give.ensures ∙ allocate_table c.self.invariant c.self.view_is c.args.uid c.in_ok-e.ensures.some
-
-pub returns-clause-some : goal.returns-clause-some
-returns-clause-some c = least_entry c.self.invariant c.self.view_is c.in_ok-e.ensures.some
-
-pub returns-clause-least : goal.returns-clause-least
-returns-clause-least c = c.in_ok-e.ensures.least ∙ least_same c.self.invariant c.self.view_is
-
 pub returns-in_err-e-clause-least : goal.returns-in_err-e-clause-least
 returns-in_err-e-clause-least c = c.from_residual.ensures ∙ c.in_err-e.ensures.least
     ∙ least_same c.self.invariant c.self.view_is
@@ -31,12 +21,17 @@ pub returns-in_err-e-clause-none : goal.returns-in_err-e-clause-none
 returns-in_err-e-clause-none c = rw c.from_residual.ensures
     (all_used c.self.invariant c.self.view_is c.in_err-e.ensures.none)
 
-pub returns-clause-empty : goal.returns-clause-empty
-returns-clause-empty c =
-    rw (ap table_of c.give.ensures ∙ allocate_table c.self.invariant c.self.view_is c.args.uid c.in_ok-e.ensures.some)
-    (allocate_empty c.self.invariant c.self.view_is c.args.uid c.in_ok-e.ensures.some)
-
-pub returns-clause-count : goal.returns-clause-count
-returns-clause-count c =
-    rw (ap table_of c.give.ensures ∙ allocate_table c.self.invariant c.self.view_is c.args.uid c.in_ok-e.ensures.some)
-    (count_taken c.args.uid (least_entry c.self.invariant c.self.view_is c.in_ok-e.ensures.some))
+pub returns : goal.returns
+returns c =
+    let some = least_entry c.self.invariant c.self.view_is c.in_ok-e.ensures.some in
+    let taken = ap table_of c.give.ensures
+    ∙ allocate_table c.self.invariant c.self.view_is c.args.uid c.in_ok-e.ensures.some in
+    record {
+      least = c.in_ok-e.ensures.least ∙ least_same c.self.invariant c.self.view_is;
+      some = some;
+      none = tt;
+      taken = taken;
+      empty = rw taken (allocate_empty c.self.invariant c.self.view_is c.args.uid c.in_ok-e.ensures.some);
+      count = rw taken (count_taken c.args.uid some);
+      same = tt;
+    }

@@ -1,4 +1,4 @@
-use Rattle.vtoc.proofs.Prelude.{◌∙◌, ℕ, List, Option, None, ap, sym, get_or, Slot}
+use Rattle.vtoc.proofs.Prelude.{List, None, Option, Slot, ap, get_or, sym, ℕ, ◌∙◌}
 use Rattle.vtoc.proofs.Table.{has_uid, kept}
 use Rattle.vtoc.proofs.Vtoc.file_map.Goals as goal
 
@@ -7,5 +7,4 @@ used-requires c = has_uid c.self.invariant c.self.view_is c.args.e c.requires.us
 
 pub returns : goal.returns
 returns c = c.get.ensures ∙ ap (λ (s : Slot). get_or s.map c.args.p None) c.used.ensures
-    ∙ sym (ap (λ (m : List (Option ℕ)). get_or m c.args.p None)
-    (kept c.self.invariant c.self.view_is c.args.e).records)
+    ∙ sym (ap (λ (m : List (Option ℕ)). get_or m c.args.p None) (kept c.self.invariant c.self.view_is c.args.e).records)

@@ -1,4 +1,4 @@
-use Rattle.vtoc.proofs.Prelude.{◌∙◌, ap, table_of}
+use Rattle.vtoc.proofs.Prelude.{ap, table_of, ◌∙◌}
 use Rattle.vtoc.proofs.Table.{count_freed, free_marked, free_table, has_uid, used_bit}
 use Rattle.vtoc.proofs.Vtoc.free.Goals as goal
 

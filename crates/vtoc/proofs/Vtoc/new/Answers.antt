@@ -1,5 +1,4 @@
-use Rattle.vtoc.proofs.Prelude.{arith}
-use Rattle.vtoc.proofs.Table.{table_new, marked_new}
+use Rattle.vtoc.proofs.Table.{arith, marked_new, table_new}
 use Rattle.vtoc.proofs.Vtoc.new.Goals as goal
 
 pub invariant_of-result : goal.invariant_of-result

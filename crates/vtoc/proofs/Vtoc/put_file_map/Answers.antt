@@ -1,4 +1,4 @@
-use Rattle.vtoc.proofs.Prelude.{◌∙◌, ap, table_of}
+use Rattle.vtoc.proofs.Prelude.{ap, table_of, ◌∙◌}
 use Rattle.vtoc.proofs.Table.{has_uid, put_marked, put_placed, put_table}
 use Rattle.vtoc.proofs.Vtoc.put_file_map.Goals as goal
 

@@ -1,4 +1,4 @@
-use Rattle.vtoc.proofs.Prelude.{◌∙◌, ap, sym, arith, length}
+use Rattle.vtoc.proofs.Prelude.{ap, arith, length, sym, ◌∙◌}
 use Rattle.vtoc.proofs.Table.{kept, length_table}
 use Rattle.vtoc.proofs.Vtoc.uid_at.Goals as goal
 

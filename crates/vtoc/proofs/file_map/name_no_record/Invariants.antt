@@ -1,4 +1,4 @@
-use Rattle.vtoc.proofs.Prelude.{◌≡◌, ◌==◌, take, list_all}
+use Rattle.vtoc.proofs.Prelude.{list_all, take, ◌==◌, ◌≡◌}
 use Rattle.vtoc.proofs.file_map.name_no_record.Given as goal
 
 abbrev pub invariant-loop-p : goal.invariant-loop-p

@@ -1,5 +1,4 @@
-use Rattle.vtoc.proofs.Prelude.{◌∙◌, ◌<◌, refl, sym, arith, length}
-use Rattle.vtoc.proofs.Codes.{read_none, read_some}
+use Rattle.vtoc.proofs.Codes.{arith, length, read_none, read_some, refl, sym, ◌<◌, ◌∙◌}
 use Rattle.vtoc.proofs.file_map.FileMap.get.Goals as goal
 
 pub returns-then-code : goal.returns-then-code

@@ -1,5 +1,4 @@
-use Rattle.vtoc.proofs.Prelude.{◌∙◌, ℕ, List, Option, ap, set}
-use Rattle.vtoc.proofs.Codes.{write_code}
+use Rattle.vtoc.proofs.Codes.{List, Option, ap, set, write_code, ℕ, ◌∙◌}
 use Rattle.vtoc.proofs.file_map.FileMap.put.Goals as goal
 
 pub returns : goal.returns

@@ -1,5 +1,4 @@
-use Rattle.vtoc.proofs.Prelude.{None, ap, arith, Slot}
-use Rattle.vtoc.proofs.Held.{used_held, held_read, set_held, roomy_set, slot_with}
+use Rattle.vtoc.proofs.Held.{None, Slot, ap, arith, held_read, roomy_set, set_held, slot_with, used_held}
 use Rattle.vtoc.proofs.slots.Slots.clear.Goals as goal
 
 pub index_mut-requires : goal.index_mut-requires

@@ -1,5 +1,4 @@
-use Rattle.vtoc.proofs.Prelude.{◌<◌, Some, ap, refl, length, arith, common_steps, Slot}
-use Rattle.vtoc.proofs.Held.{at_end, held_read, push_held, roomy_push, set_held, size_slots, slot_with}
+use Rattle.vtoc.proofs.Held.{Slot, Some, ap, arith, at_end, common_steps, held_read, length, push_held, refl, roomy_push, set_held, size_slots, slot_with, ◌<◌}
 use Rattle.vtoc.proofs.slots.Slots.give.Goals as goal
 
 pub push_reserved-requires : goal.push_reserved-requires
@@ -17,9 +16,8 @@ invariant_of-self-else-e-len c =
 pub returns-then-e-len : goal.returns-then-e-len
 returns-then-e-len c =
     let held : c.args.e < length c.self.inside.held.items = grind (arith, common_steps) in
-    set_held _ _ c.args.e c.self.view_is held
-    (ap (λ (s : Slot). slot_with (Some c.args.uid) s.map) (held_read _ _ c.args.e c.self.view_is held
-    c.index_mut.ensures.value))
+    set_held _ _ c.args.e c.self.view_is held (ap (λ (s : Slot). slot_with (Some c.args.uid) s.map)
+    (held_read _ _ c.args.e c.self.view_is held c.index_mut.ensures.value))
 
 pub returns-else-e-len : goal.returns-else-e-len
 returns-else-e-len c =

@@ -1,5 +1,4 @@
-use Rattle.vtoc.proofs.Prelude.{◌≡◌, ◌<◌, ap, length, get_or, arith, common_steps, Slot}
-use Rattle.vtoc.proofs.Held.{held_read, past_read}
+use Rattle.vtoc.proofs.Held.{Slot, ap, arith, common_steps, get_or, held_read, length, past_read, ◌<◌, ◌≡◌}
 use Rattle.vtoc.proofs.slots.Slots.uid.Goals as goal
 
 pub returns-in-Some : goal.returns-in-Some

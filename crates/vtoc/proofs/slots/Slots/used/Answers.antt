@@ -1,5 +1,4 @@
-use Rattle.vtoc.proofs.Prelude.{arith}
-use Rattle.vtoc.proofs.Held.{used_held, held_read}
+use Rattle.vtoc.proofs.Held.{arith, held_read, used_held}
 use Rattle.vtoc.proofs.slots.Slots.used.Goals as goal
 
 pub index-requires : goal.index-requires
