@@ -1,9 +1,5 @@
 -- What a list of pages in core holds, of which the first are held and the rest are zeros.
-use Rattle.std.proofs.Common.{◌≡◌, ℕ, suc, ◌+◌, ◌-◌, ◌≤◌, ◌<◌, List, [], ◌∷◌, ◌++◌, length, refl, sym, ap, ◌∙◌, arith, get_or, set, replicate}
-use Rattle.std.proofs.lemmas.List.{append_assoc, drop-replicate, get_or-append_right, get_or-replicate, get_or_append_left, length-append, length-replicate, set-append_left, set-append_right, set_split, length-set, length_push, replicate_more, take-replicate}
-use Rattle.std.proofs.lemmas.List.Elements.{All-append, All-push, All-replicate, All-set}
-use Rattle.volumes.specs.CorePages.{pages_of, AreHeld}
-use Rattle.volumes.specs.FullPages.{HaveFullPages}
+pub use Rattle.volumes.proofs.Prelude.{All-append, All-push, All-replicate, All-set, AreHeld, HaveFullPages, List, [], ap, append_assoc, arith, common_steps, drop-replicate, get_or, get_or-append_right, get_or-replicate, get_or_append_left, length, length-append, length-replicate, length-set, length_push, pages_of, refl, replicate, replicate_more, set, set-append_left, set-append_right, set_split, suc, sym, take-replicate, ℕ, ◌++◌, ◌+◌, ◌-◌, ◌<◌, ◌∙◌, ◌∷◌, ◌≡◌, ◌≤◌}
 
 abbrev Pages : Type 0
 Pages = List (List ℕ)
@@ -95,17 +91,15 @@ written_held {held} r words h full =
       full = All-set (λ page. length page ≡ 1024) held r words full h.full;
     }
 
-pub written_past : {held : Pages} {size room : ℕ} (r : ℕ) (words : List ℕ) → AreHeld held size room
-    → length words ≡ 1024
-    → length held ≤ r → r < size → AreHeld ((held ++ rest (r - length held)) ++ words ∷ []) size room
+pub written_past : {held : Pages} {size room : ℕ} (r : ℕ) (words : List ℕ) → AreHeld held size room → length words
+    ≡ 1024 → length held ≤ r → r < size → AreHeld ((held ++ rest (r - length held)) ++ words ∷ []) size room
 written_past {held} r words h full past lt =
     record {
       within = omega (arith, length_push (held ++ rest (r - length held)) words, length_reached held past);
       roomy = h.roomy;
       short = h.short;
-      full = All-push (λ page. length page ≡ 1024) (held ++ rest (r - length held)) words
-          (All-append (λ page. length page ≡ 1024) held (rest (r - length held)) h.full
-          (rest_full (r - length held))) full;
+      full = All-push (λ page. length page ≡ 1024) (held ++ rest (r - length held)) words (All-append
+          (λ page. length page ≡ 1024) held (rest (r - length held)) h.full (rest_full (r - length held))) full;
     }
 
 pub new_full : {held : Pages} (size : ℕ) → held ≡ [] → HaveFullPages (pages_of held size)
@@ -139,9 +133,8 @@ write_held_page held size r {from} view lt is =
 
 -- a page past those held is written
 pub write_past_page : (held : Pages) {now next pages : Pages} (size r : ℕ) {words from : List ℕ}
-    → pages_of held size ≡ pages
-    → length held ≤ r → r < size → now ≡ held ++ rest (r - length held) → next ≡ now ++ words ∷ [] → words ≡ from
-    → pages_of next size ≡ set pages r from
+    → pages_of held size ≡ pages → length held ≤ r → r < size → now ≡ held ++ rest (r - length held)
+    → next ≡ now ++ words ∷ [] → words ≡ from → pages_of next size ≡ set pages r from
 write_past_page held size r {from} view past lt reach is same =
     rw (is, reach, same) (write_past held size r from past lt) ∙ ap (λ (ps : Pages). set ps r from) view
 

@@ -1,5 +1,4 @@
-use Rattle.std.proofs.lemmas.List.{map-set, get_or-map}
-use Rattle.std.proofs.Math.Seq.{map-set_same}
+pub use Rattle.volumes.proofs.Prelude.{ap, get_or-map, map-set, map-set_same}
 
 -- what a call of one drive does to the list of what all drives hold
 pub ruleset one_drive = (map-set, map-set_same, get_or-map)

@@ -1,12 +1,4 @@
-use Rattle.std.proofs.Common.{◌≡◌, ◌≢◌, ℕ, zero, suc, ◌+◌, ◌<◌, ◌≤◌, ◌^◌, Bool, true, false, ◌||◌, ◌&&◌, cond, eqb, List, [], ◌∷◌, length, refl, sym, ap, ◌∙◌, arith, inl, inr, ◌⊎◌}
-use Rattle.std.specs.Bool.{beq}
-use Rattle.std.specs.List.{list_any}
-use Rattle.std.proofs.lemmas.Bool.{lt-ltb, le-ltb, or_parts}
-use Rattle.std.proofs.lemmas.Bool.Decides.{eqb_tells}
-use Rattle.site_io.specs.Faults.{Rose, counted}
-use Rattle.volumes.specs.declared.drive.FailLine.{FailLine}
-use Rattle.volumes.specs.FailLine.{IsOneMore, names, names_next, named_calls}
-use Rattle.laws.proofs.Numbers.{below_or_past}
+use Rattle.volumes.proofs.Prelude.{Bool, FailLine, IsOneMore, List, Rose, [], ap, arith, below_or_past, beq, cond, counted, eqb, eqb_tells, false, inl, inr, le-ltb, length, list_any, lt-ltb, named_calls, names, names_next, or_parts, refl, suc, sym, true, zero, ℕ, ◌&&◌, ◌+◌, ◌<◌, ◌^◌, ◌||◌, ◌∙◌, ◌∷◌, ◌≡◌, ◌≢◌, ◌≤◌, ◌⊎◌}
 
 -- one call more, counted to 2 ^ 64 - 1
 pub named_more : (lines : List FailLine) (write : Bool) (n : ℕ) → n < 2 ^ 64
@@ -65,9 +57,8 @@ named_one line write zero single = record { most = omega arith; early = λ lt. r
 named_one line write (suc n) single = go (eqb_tells line.number (suc n)) (beq line.write write) refl
     (named_one line write n single)
   where
-    go : ((eqb line.number (suc n) ≡ true) × (line.number ≡ suc n))
-        ⊎ ((eqb line.number (suc n) ≡ false) × (line.number ≢ suc n)) → (k : Bool) → beq line.write write ≡ k
-        → NamesOne line write n → NamesOne line write (suc n)
+    go : ((eqb line.number (suc n) ≡ true) × (line.number ≡ suc n)) ⊎ ((eqb line.number (suc n) ≡ false) × (line.number
+        ≢ suc n)) → (k : Bool) → beq line.write write ≡ k → NamesOne line write n → NamesOne line write (suc n)
     go (inl h) true kind ih = let add = names_at line write (suc n) {k = true} {z = true} single kind h.0 in
         let zero_before = ih.early (omega (arith, h.1)) in
         record { most = omega (arith, add, zero_before); early = λ lt. absurd (omega (arith, h.1)) }
@@ -148,9 +139,8 @@ read_rose lines fs reads writes now fits is same named =
     rose_next lines false reads now (named_calls lines true writes) fits is
     (ap (λ (ls : List FailLine). names_next ls false reads) (sym same) ∙ sym named)
 
-pub read_grows : (lines : List FailLine) (reads writes now : ℕ) → reads < 2 ^ 64 → now ≡ counted reads
-    → named_calls lines false reads + named_calls lines true writes ≤ named_calls lines false now + named_calls lines
-    true writes
+pub read_grows : (lines : List FailLine) (reads writes now : ℕ) → reads < 2 ^ 64 → now ≡ counted reads → named_calls
+    lines false reads + named_calls lines true writes ≤ named_calls lines false now + named_calls lines true writes
 read_grows lines reads writes now fits is = let more = grows_next lines false reads now fits is in omega (arith, more)
 
 pub write_rose : (lines fs : List FailLine) (reads writes now : ℕ) → writes < 2 ^ 64 → now ≡ counted writes → fs
@@ -161,9 +151,8 @@ write_rose lines fs reads writes now fits is same named =
     (ap (λ (ls : List FailLine). names_next ls true writes) (sym same) ∙ sym named) in
     omega (arith, rose)
 
-pub write_grows : (lines : List FailLine) (reads writes now : ℕ) → writes < 2 ^ 64 → now ≡ counted writes
-    → named_calls lines false reads + named_calls lines true writes ≤ named_calls lines false reads + named_calls lines
-    true now
+pub write_grows : (lines : List FailLine) (reads writes now : ℕ) → writes < 2 ^ 64 → now ≡ counted writes → named_calls
+    lines false reads + named_calls lines true writes ≤ named_calls lines false reads + named_calls lines true now
 write_grows lines reads writes now fits is = let more = grows_next lines true writes now fits is in omega (arith, more)
 
 pub read_once : (lines fs : List FailLine) (reads writes now : ℕ) → reads < 2 ^ 64 → now ≡ counted reads → fs ≡ lines
@@ -173,27 +162,24 @@ read_once lines fs reads writes now fits is same named = λ low. (let one = once
     (ap (λ (ls : List FailLine). names_next ls false reads) (sym same) ∙ sym named) in
     omega (arith, one))
 
-pub read_same : (lines fs : List FailLine) (reads writes now : ℕ) → reads < 2 ^ 64 → now ≡ counted reads → fs ≡ lines
-    → false ≡ names_next fs false reads
-    → named_calls lines false now + named_calls lines true writes ≡ named_calls lines false reads + named_calls lines
-    true writes
+pub read_same : (lines fs : List FailLine) (reads writes now : ℕ) → reads < 2 ^ 64 → now ≡ counted reads
+    → fs ≡ lines → false ≡ names_next fs false reads → named_calls lines false now + named_calls lines true writes
+    ≡ named_calls lines false reads + named_calls lines true writes
 read_same lines fs reads writes now fits is same unnamed =
     let stays = same_next lines false reads now fits is
     (ap (λ (ls : List FailLine). names_next ls false reads) (sym same) ∙ sym unnamed) in
     omega (arith, stays)
 
-pub write_once : (lines fs : List FailLine) (reads writes now : ℕ) → writes < 2 ^ 64 → now ≡ counted writes → fs
-    ≡ lines → true ≡ names_next fs true writes
-    → IsOneMore (named_calls lines false reads + named_calls lines true writes)
+pub write_once : (lines fs : List FailLine) (reads writes now : ℕ) → writes < 2 ^ 64 → now ≡ counted writes → fs ≡ lines
+    → true ≡ names_next fs true writes → IsOneMore (named_calls lines false reads + named_calls lines true writes)
     (named_calls lines false reads + named_calls lines true now)
 write_once lines fs reads writes now fits is same named = λ low. (let one = once_next lines true writes now fits is
     (ap (λ (ls : List FailLine). names_next ls true writes) (sym same) ∙ sym named) in
     omega (arith, one))
 
-pub write_same : (lines fs : List FailLine) (reads writes now : ℕ) → writes < 2 ^ 64 → now ≡ counted writes → fs
-    ≡ lines → false ≡ names_next fs true writes
-    → named_calls lines false reads + named_calls lines true now ≡ named_calls lines false reads + named_calls lines
-    true writes
+pub write_same : (lines fs : List FailLine) (reads writes now : ℕ) → writes < 2 ^ 64 → now ≡ counted writes
+    → fs ≡ lines → false ≡ names_next fs true writes → named_calls lines false reads + named_calls lines true now
+    ≡ named_calls lines false reads + named_calls lines true writes
 write_same lines fs reads writes now fits is same unnamed =
     let stays = same_next lines true writes now fits is
     (ap (λ (ls : List FailLine). names_next ls true writes) (sym same) ∙ sym unnamed) in

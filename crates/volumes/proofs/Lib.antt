@@ -1,3 +1,4 @@
+mod Prelude
 pub mod Faults
 pub mod Drives
 pub mod Parts

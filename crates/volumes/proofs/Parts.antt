@@ -1,15 +1,4 @@
-use Rattle.std.proofs.Common.{◌≡◌, ◌≢◌, ℕ, zero, suc, ◌≤◌, ◌<◌, ◌^◌, Bool, true, false, List, [], ◌∷◌, ◌++◌, length, Option, None, Some, Result, Ok, Err, refl, sym, ap, ◌∙◌, arith, get_or, set, replicate, map, slice_get, IfSome, IfNone, OnOk, OnErr, sum_by}
-use Rattle.site_io.specs.Faults.{Rose}
-use Rattle.std.proofs.lemmas.List.Sums.{sum_by-set, get_or-le-sum_by}
-use Rattle.std.proofs.lemmas.List.{get_or-set_same, map-set, get_or-map, map-append, length-map, length-set, length-replicate, set-get_or}
-use Rattle.std.proofs.lemmas.List.Elements.{All-set, All-push, All-get_or}
-use Rattle.site_io.specs.declared.stream.Failed.{Failed}
-use Rattle.vtoc.specs.Vtoc.{Entry}
-use Rattle.volumes.specs.declared.Part.{Part}
-use Rattle.volumes.specs.declared.drive.FailLine.{FailLine}
-use Rattle.volumes.specs.FailLine.{HasFewFaults, IsOneMore}
-use Rattle.volumes.specs.FullPages.{HaveFullPages}
-use Rattle.volumes.specs.Volumes.{Vols, HasParts, HaveFewFaults, HaveFull, KeepsOthers}
+pub use Rattle.volumes.proofs.Prelude.{All-get_or, All-push, All-set, Bool, Entry, Err, FailLine, Failed, HasFewFaults, HasParts, HaveFewFaults, HaveFull, HaveFullPages, IfNone, IfSome, IsOneMore, KeepsOthers, List, None, Ok, OnErr, OnOk, Option, Part, Result, Rose, Some, Vols, [], ap, arith, common_steps, false, get_or, get_or-le-sum_by, get_or-map, get_or-set_same, length, length-map, length-replicate, length-set, map, map-append, map-set, refl, replicate, set, set-get_or, slice_get, suc, sum_by, sum_by-set, sym, true, zero, ℕ, ◌++◌, ◌<◌, ◌^◌, ◌∙◌, ◌∷◌, ◌≡◌, ◌≢◌, ◌≤◌}
 
 -- a write of what is there already
 set_same : {X : Type 0} {xs : List X} (v : ℕ) {x : X} → x ≡ get_or xs v x → set xs v x ≡ xs
@@ -23,19 +12,13 @@ lengths_with xs v {x} y read long =
     ∙ ap (map length) (set_same v read)
 
 pub parts_with_records : {disks : List (List (List ℕ))} {records : List (List Bool)}
-    {vtocs : List (List (Option Entry))} (v : ℕ) {x : List Bool} (y : List Bool)
-    → HasParts disks records vtocs → x ≡ get_or records v x → length y ≡ length x
-    → HasParts disks (set records v y) vtocs
-parts_with_records {records} v {x} y h read long = record {
-  few = h.few;
-  sizes = lengths_with records v y read long ∙ h.sizes;
-  tables = h.tables;
-}
+    {vtocs : List (List (Option Entry))} (v : ℕ) {x : List Bool} (y : List Bool) → HasParts disks records vtocs
+    → x ≡ get_or records v x → length y ≡ length x → HasParts disks (set records v y) vtocs
+parts_with_records {records} v {x} y h read long = assumption (lengths_with records v y read long ∙ h.sizes)
 
 pub parts_with_drive : {D : Type 0} (pages : D → List (List ℕ)) (drives : List D) {records : List (List Bool)}
-    {vtocs : List (List (Option Entry))} (v : ℕ) {x : D} (y : D)
-    → HasParts (map pages drives) records vtocs → x ≡ get_or drives v x → length (pages y) ≡ length (pages x)
-    → HasParts (map pages (set drives v y)) records vtocs
+    {vtocs : List (List (Option Entry))} (v : ℕ) {x : D} (y : D) → HasParts (map pages drives) records vtocs
+    → x ≡ get_or drives v x → length (pages y) ≡ length (pages x) → HasParts (map pages (set drives v y)) records vtocs
 parts_with_drive pages drives v {x} y h read long =
     let count = length-map (set drives v y) pages ∙ length-set drives v y ∙ sym (length-map drives pages) in
     record {
@@ -70,9 +53,8 @@ keeps_others drives v y = record { same = λ w ne. get_other drives v w y ne }
 
 -- a volume has as many flags as its drive has pages
 pub size_of_records : {D : Type 0} (pages : D → List (List ℕ)) (drives : List D) {records : List (List Bool)}
-    {vtocs : List (List (Option Entry))} (v : ℕ) {x : D}
-    → HasParts (map pages drives) records vtocs → v < length drives → x ≡ get_or drives v x → length (pages x)
-    ≡ length (get_or records v [])
+    {vtocs : List (List (Option Entry))} (v : ℕ) {x : D} → HasParts (map pages drives) records vtocs
+    → v < length drives → x ≡ get_or drives v x → length (pages x) ≡ length (get_or records v [])
 size_of_records pages drives {records} v {x} h lt read =
     let many : length records ≡ length drives = sym (length-map records length) ∙ ap length h.sizes
     ∙ length-map (map pages drives) length ∙ length-map drives pages in
@@ -88,10 +70,9 @@ sizes_made : {D : Type 0} (pages : D → List (List ℕ)) (parts : List (Part D)
 sizes_made pages [] = refl
 sizes_made pages (part ∷ parts) = rw (length-replicate (length (pages part.drive)) false, sizes_made pages parts) refl
 
-pub parts_made : {D : Type 0} (pages : D → List (List ℕ)) (parts : List (Part D)) {drives : List D}
-    {records : List (List Bool)} {vtocs : List (List (Option Entry))}
-    → length parts < 2 ^ 32 → drives ≡ map (λ (part : Part D). part.drive) parts
-    → records ≡ map (λ (part : Part D). replicate (length (pages part.drive)) false) parts
+pub parts_made : {D : Type 0} (pages : D → List (List ℕ)) (parts : List (Part D)) {drives : List D} {records : List
+    (List Bool)} {vtocs : List (List (Option Entry))} → length parts < 2 ^ 32 → drives ≡ map (λ (part : Part D).
+    part.drive) parts → records ≡ map (λ (part : Part D). replicate (length (pages part.drive)) false) parts
     → vtocs ≡ map (λ (part : Part D). replicate part.entries None) parts → HasParts (map pages drives) records vtocs
 parts_made pages parts {drives} few ds rs vs =
     let count = length-map drives pages ∙ ap length ds ∙ length-map parts (λ (part : Part _). part.drive) in
@@ -131,15 +112,13 @@ failed_count R t (Err e) drives v {x} y lt read says =
     rw ((get_or-map t drives v x 0 lt ∙ sym (ap t read)), now) says
 
 pub its_rose : {D : Type 0} (t : D → ℕ) (result : Result (Unit {0}) Failed) (drives : List D) (v : ℕ) (x y : D)
-    → v < length drives → x ≡ get_or drives v x
-    → OnErr result (Rose (t x) (t y)) → OnErr result (Rose (get_or (map t drives) v 0)
-    (get_or (map t (set drives v y)) v 0))
+    → v < length drives → x ≡ get_or drives v x → OnErr result (Rose (t x) (t y))
+    → OnErr result (Rose (get_or (map t drives) v 0) (get_or (map t (set drives v y)) v 0))
 its_rose t result drives v x y lt read rose = failed_count Rose t result drives v y lt read rose
 
 pub its_once : {D : Type 0} (t : D → ℕ) (result : Result (Unit {0}) Failed) (drives : List D) (v : ℕ) (x y : D)
-    → v < length drives → x ≡ get_or drives v x
-    → OnErr result (IsOneMore (t x) (t y)) → OnErr result (IsOneMore (get_or (map t drives) v 0)
-    (get_or (map t (set drives v y)) v 0))
+    → v < length drives → x ≡ get_or drives v x → OnErr result (IsOneMore (t x) (t y))
+    → OnErr result (IsOneMore (get_or (map t drives) v 0) (get_or (map t (set drives v y)) v 0))
 its_once t result drives v x y lt read once = failed_count IsOneMore t result drives v y lt read once
 
 -- a call that was done leaves the counts of all
@@ -179,10 +158,9 @@ full_of_drive pages drives v {x} y all lt read same =
     let old : HaveFullPages (pages (get_or drives v x)) = All-get_or (λ d. HaveFullPages (pages d)) drives v x lt all in
     rw (same, read) old
 
-pub full_read : {D : Type 0} (pages : D → List (List ℕ)) (result : Result (Unit {0}) Failed) (drives : List D) (v : ℕ)
-    (x : D) (r : ℕ) (words : List ℕ) → HaveFull pages drives
-    → v < length drives → x ≡ get_or drives v x → r < length (pages x) → OnOk result (words ≡ get_or (pages x) r [])
-    → OnOk result (length words ≡ 1024)
+pub full_read : {D : Type 0} (pages : D → List (List ℕ)) (result : Result (Unit {0}) Failed) (drives : List D)
+    (v : ℕ) (x : D) (r : ℕ) (words : List ℕ) → HaveFull pages drives → v < length drives → x ≡ get_or drives v x
+    → r < length (pages x) → OnOk result (words ≡ get_or (pages x) r []) → OnOk result (length words ≡ 1024)
 full_read pages (Err e) drives v x r words all lt read within is = tt
 full_read pages (Ok u) drives v x r words all lt read within is =
     ap length is ∙ All-get_or (λ ws. length ws ≡ 1024) (pages x) r [] within

@@ -1,4 +1,4 @@
-use Rattle.std.proofs.Common.{◌≡◌, replicate, vec_capacity}
+use Rattle.volumes.proofs.Prelude.{replicate, vec_capacity, ◌≡◌}
 use Rattle.volumes.proofs.core_drive.zero_pages.Given as goal
 
 abbrev pub invariant-loop : goal.invariant-loop

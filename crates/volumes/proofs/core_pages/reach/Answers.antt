@@ -1,5 +1,4 @@
-use Rattle.std.proofs.Common.{◌≤◌, ◌∙◌, length, arith}
-use Rattle.volumes.proofs.CorePages.{reach_more}
+use Rattle.volumes.proofs.CorePages.{arith, length, reach_more, ◌∙◌, ◌≤◌}
 use Rattle.volumes.proofs.core_pages.reach.Goals as goal
 
 pub loop-preserved : goal.loop-preserved

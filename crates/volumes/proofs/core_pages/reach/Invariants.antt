@@ -1,4 +1,4 @@
-use Rattle.std.proofs.Common.{◌≡◌, ◌≤◌, ◌-◌, ◌++◌, length, replicate, vec_capacity}
+use Rattle.volumes.proofs.Prelude.{length, replicate, vec_capacity, ◌++◌, ◌-◌, ◌≡◌, ◌≤◌}
 use Rattle.volumes.proofs.core_pages.reach.Given as goal
 
 abbrev pub invariant-loop : goal.invariant-loop

@@ -1,4 +1,4 @@
-use Rattle.volumes.proofs.CorePages.{new_pages, new_full}
+use Rattle.volumes.proofs.CorePages.{new_full, new_pages}
 use Rattle.volumes.proofs.core_pages.CorePages.new.Goals as goal
 
 pub returns-clause-zeros : goal.returns-clause-zeros

@@ -1,6 +1,4 @@
-use Rattle.std.proofs.Common.{◌∙◌, sym, arith}
-use Rattle.std.proofs.lemmas.Grind.{common_steps}
-use Rattle.volumes.proofs.CorePages.{below_size, read_held, read_past}
+use Rattle.volumes.proofs.CorePages.{arith, below_size, common_steps, read_held, read_past, sym, ◌∙◌}
 use Rattle.volumes.proofs.core_pages.CorePages.read.Goals as goal
 
 pub returns-in-Some : goal.returns-in-Some

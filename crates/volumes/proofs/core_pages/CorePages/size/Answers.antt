@@ -1,5 +1,4 @@
-use Rattle.std.proofs.Common.{sym}
-use Rattle.volumes.proofs.CorePages.{length_pages, full_pages}
+use Rattle.volumes.proofs.CorePages.{full_pages, length_pages, sym}
 use Rattle.volumes.proofs.core_pages.CorePages.size.Goals as goal
 
 pub returns-clause-size : goal.returns-clause-size

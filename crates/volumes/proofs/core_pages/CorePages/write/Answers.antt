@@ -1,6 +1,4 @@
-use Rattle.std.proofs.Common.{◌∙◌, arith}
-use Rattle.std.proofs.lemmas.Grind.{common_steps}
-use Rattle.volumes.proofs.CorePages.{below_size, full_pages, held_past_page, write_held_page, write_past_page, written_held}
+use Rattle.volumes.proofs.CorePages.{arith, below_size, common_steps, full_pages, held_past_page, write_held_page, write_past_page, written_held, ◌∙◌}
 use Rattle.volumes.proofs.core_pages.CorePages.write.Goals as goal
 
 pub reach-requires-clause-room : goal.reach-requires-clause-room
@@ -11,8 +9,7 @@ pub push_reserved-requires : goal.push_reserved-requires
 push_reserved-requires c =
     omega (
       arith,
-      below_size c.args.r
-          c.self.invariant c.self.view_is c.requires,
+      below_size c.args.r c.self.invariant c.self.view_is c.requires,
       c.self.invariant.roomy,
       c.reach.ensures.size,
       c.reach.ensures.capacity,

@@ -1,5 +1,4 @@
-use Rattle.std.proofs.Common.{◌∙◌, ap, length, false}
-use Rattle.std.proofs.lemmas.List.{length-set}
+use Rattle.volumes.proofs.Prelude.{ap, false, length, length-set, ◌∙◌}
 use Rattle.volumes.proofs.Parts.{parts_with_records}
 use Rattle.volumes.proofs.volumes.Volumes.deposit.Goals as goal
 

@@ -1,7 +1,5 @@
-use Rattle.std.proofs.Common.{◌∙◌, arith, refl, ap, length, replicate, false, None}
-use Rattle.std.proofs.lemmas.Grind.{common_steps}
-use Rattle.volumes.specs.declared.Part.{Part}
-use Rattle.volumes.proofs.Parts.{parts_made, made_more, few_more, full_more}
+use Rattle.volumes.proofs.Prelude.{None, Part, ap, arith, common_steps, false, length, refl, replicate, ◌∙◌}
+use Rattle.volumes.proofs.Parts.{few_more, full_more, made_more, parts_made}
 use Rattle.volumes.proofs.volumes.Volumes.new.Goals as goal
 
 pub invariant_of-result : goal.invariant_of-result

@@ -1,7 +1,5 @@
-use Rattle.std.proofs.Common.{arith, ap, length}
-use Rattle.std.proofs.lemmas.Grind.{common_steps}
-use Rattle.volumes.proofs.Drives.{one_drive}
-use Rattle.volumes.proofs.Parts.{parts_with_drive, same_with, few_with, sum_rose, sum_grows, its_rose, drives_within, full_read, full_of_drive, full_with, its_once, keeps_others, told_with}
+use Rattle.volumes.proofs.Drives.{ap, one_drive}
+use Rattle.volumes.proofs.Parts.{arith, common_steps, drives_within, few_with, full_of_drive, full_read, full_with, its_once, its_rose, keeps_others, length, parts_with_drive, same_with, sum_grows, sum_rose, told_with}
 use Rattle.volumes.proofs.volumes.Volumes.read_page.Goals as goal
 
 pub invariant_of-self : goal.invariant_of-self

@@ -1,5 +1,4 @@
-use Rattle.std.proofs.Common.{◌∙◌, ◌<◌, ap, arith, length}
-use Rattle.volumes.specs.Volumes.{Vols}
+use Rattle.volumes.proofs.Prelude.{Vols, ap, arith, length, ◌<◌, ◌∙◌}
 use Rattle.volumes.proofs.Parts.{size_of_records}
 use Rattle.volumes.proofs.volumes.Volumes.size.Goals as goal
 

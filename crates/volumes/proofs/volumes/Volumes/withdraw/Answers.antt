@@ -1,6 +1,4 @@
-use Rattle.std.proofs.Common.{arith}
-use Rattle.std.proofs.lemmas.Grind.{common_steps}
-use Rattle.volumes.proofs.Parts.{parts_with_records, length_after_withdraw}
+use Rattle.volumes.proofs.Parts.{arith, common_steps, length_after_withdraw, parts_with_records}
 use Rattle.volumes.proofs.volumes.Volumes.withdraw.Goals as goal
 
 pub invariant_of-self : goal.invariant_of-self
