@@ -1,12 +1,5 @@
 -- The index tells what the list does, before and after each change.
-use Rattle.std.proofs.Common.{◌≡◌, ◌≢◌, ◌<◌, ◌+◌, ℕ, max, List, [], ◌∷◌, ◌⊎◌, None, Some, length, get_or, set, sym, ◌∙◌, ap, inl, inr, arith, length-append}
-use Rattle.std.proofs.lemmas.Bool.{cases_eq}
-use Rattle.std.proofs.lemmas.List.{get_or-set_same, get_or-set_other, length-set, get_or_past}
-use Rattle.bulk_store.specs.declared.index.Held.{Held}
-use Rattle.bulk_store.specs.Held.{place_of, with_newest}
-use Rattle.bulk_store.specs.Index.{Holdings, IsIndexed, NoneTwice, with_record, without_oldest}
-use Rattle.bulk_store.proofs.Places.{place_of-first, place_of-rest, place_of-newest, place_of-others, none_twice-newest}
-use Rattle.laws.proofs.Numbers.{below_or_past}
+pub use Rattle.bulk_store.proofs.Places.{Held, Holdings, IsIndexed, List, None, NoneTwice, Some, [], ap, arith, below_or_past, cases_eq, get_or, get_or-set_other, get_or-set_same, get_or_past, inl, inr, length, length-append, length-set, max, none_twice-newest, place_of, place_of-first, place_of-newest, place_of-others, place_of-rest, set, sym, with_newest, with_record, without_oldest, ℕ, ◌+◌, ◌<◌, ◌∙◌, ◌∷◌, ◌≡◌, ◌≢◌, ◌⊎◌}
 
 -- the place of a record after record r came in is the new one, and the record is r, or it is as before
 place_cases : (held : List Held) (r p s : ℕ) {q : ℕ} → place_of held r ≡ None

@@ -1,11 +1,5 @@
 -- The pages of a store, record by record.
-use Rattle.std.proofs.Common.{◌≡◌, ◌≢◌, ◌<◌, ℕ, List, [], ◌⊎◌, Option, None, Some, length, get_or, set, refl, sym, ◌∙◌, inl, inr, arith, zero-add}
-use Rattle.std.proofs.lemmas.Bool.{cases_eq}
-use Rattle.std.proofs.lemmas.List.{get_or-set_same, get_or-set_other, length-set, ext_get_or}
-use Rattle.std.proofs.lemmas.List.FromFn.{get_or-map-range_with_len, length-map-range_with_len}
-use Rattle.bulk_store.specs.declared.index.Held.{Held}
-use Rattle.bulk_store.specs.Held.{place_of}
-use Rattle.bulk_store.specs.Pages.{page_of, pages_of}
+pub use Rattle.bulk_store.proofs.Prelude.{AfterFailed, All-from_get_or, All-get_or, Bool, BulkAfter, Contents, Err, HaveFullPages, Held, Holdings, IsIndexed, IsLeastFreePlace, IsStore, List, None, Ok, OnErr, OnOk, Option, Result, Some, Store, [], ap, arith, below_or_past, cases_eq, ext_get_or, false, gave_up_oldest, get_or, get_or-map-range_with_len, get_or-set_other, get_or-set_same, get_or_past, inl, inr, is_some, length, length-map-range_with_len, length-set, lt-ltb, lt_from, nat_lt, oldest_of, page_of, pages_of, place_of, refl, second_false, set, store_pages, subst, sym, took_in, true, with_newest, wrote, zero-add, ℕ, ◌<◌, ◌∙◌, ◌∷◌, ◌≡◌, ◌≢◌, ◌≤◌, ◌⊎◌}
 
 -- a record is held or not
 pub held_or_not : (o : Option ℕ) → (o ≡ None) ⊎ ((p : ℕ) × (o ≡ Some p))
@@ -32,9 +26,8 @@ get_or-pages_of fast disk held r lt = get_or-map-range_with_len (page_of fast di
 
 -- two stores of as many pages, with the same page at each record, have the same pages
 pub pages_same : (fast disk : List (List ℕ)) (held : List Held) (fast' disk' : List (List ℕ)) (held' : List Held)
-    → length disk' ≡ length disk
-    → ((s : ℕ) → s < length disk → page_of fast' disk' held' s ≡ page_of fast disk held s) → pages_of fast' disk' held'
-    ≡ pages_of fast disk held
+    → length disk' ≡ length disk → ((s : ℕ) → s < length disk → page_of fast' disk' held' s ≡ page_of fast disk held s)
+    → pages_of fast' disk' held' ≡ pages_of fast disk held
 pages_same fast disk held fast' disk' held' long same =
     let a = length-pages_of fast disk held in
     let b = length-pages_of fast' disk' held' in

@@ -1,9 +1,5 @@
 -- The place of a record in a list that changes at an end.
-use Rattle.std.proofs.Common.{◌≡◌, ◌≢◌, ℕ, List, [], ◌∷◌, None, Some, refl, sym, ◌∙◌, inl, inr}
-use Rattle.std.proofs.lemmas.Bool.Decides.{eqb_tells}
-use Rattle.bulk_store.specs.declared.index.Held.{Held}
-use Rattle.bulk_store.specs.Held.{place_of, with_newest}
-use Rattle.bulk_store.specs.Index.{NoneTwice}
+pub use Rattle.bulk_store.proofs.Prelude.{Held, Holdings, IsIndexed, List, None, NoneTwice, Some, [], ap, arith, below_or_past, cases_eq, eqb_tells, get_or, get_or-set_other, get_or-set_same, get_or_past, inl, inr, length, length-append, length-set, max, place_of, refl, set, sym, with_newest, with_record, without_oldest, ℕ, ◌+◌, ◌<◌, ◌∙◌, ◌∷◌, ◌≡◌, ◌≢◌, ◌⊎◌}
 
 -- the first of a list has its own place
 pub place_of-first : (h : Held) (held : List Held) → place_of (h ∷ held) h.number ≡ Some h.place

@@ -1,18 +1,6 @@
 -- A store stays one, and its pages change as they should, by each step of a write.
-use Rattle.std.proofs.Common.{◌≡◌, ◌<◌, ◌≤◌, ℕ, List, ◌∷◌, [], false, nat_lt, None, Some, length, get_or, set, refl, sym, ◌∙◌, ap, inl, inr, arith}
-use Rattle.std.proofs.lemmas.Bool.{cases_eq, lt-ltb}
-use Rattle.std.proofs.lemmas.List.{get_or-set_same, get_or-set_other, length-set, get_or_past}
-use Rattle.std.proofs.lemmas.List.Elements.{All-get_or, All-from_get_or}
-use Rattle.volumes.specs.FullPages.{HaveFullPages}
-use Rattle.bulk_store.specs.declared.index.Held.{Held}
-use Rattle.bulk_store.specs.Held.{place_of, with_newest, oldest_of}
-use Rattle.bulk_store.specs.Index.{Holdings, IsIndexed}
-use Rattle.bulk_store.specs.Pages.{pages_of}
-use Rattle.bulk_store.specs.Contents.{Contents, IsStore, gave_up_oldest, took_in}
-use Rattle.bulk_store.proofs.Places.{place_of-first, place_of-rest, place_of-newest, place_of-others}
-use Rattle.bulk_store.proofs.Indexed.{rest_places, with_record-indexed, without_oldest-indexed, free_place-within}
-use Rattle.bulk_store.proofs.Pages.{held_or_not, page_of-held, page_of-other, pages_same, pages_with, length-pages_of, get_or-pages_of}
-use Rattle.laws.proofs.Numbers.{below_or_past}
+pub use Rattle.bulk_store.proofs.Pages.{AfterFailed, All-from_get_or, All-get_or, Bool, BulkAfter, Contents, Err, HaveFullPages, Held, Holdings, IsIndexed, IsLeastFreePlace, IsStore, List, None, Ok, OnErr, OnOk, Result, Some, Store, [], ap, arith, below_or_past, cases_eq, ext_get_or, false, gave_up_oldest, get_or, get_or-pages_of, get_or-set_other, get_or-set_same, get_or_past, held_or_not, inl, inr, is_some, length, length-pages_of, length-set, lt-ltb, lt_from, nat_lt, oldest_of, page_of, page_of-held, page_of-other, pages_of, pages_same, pages_with, place_of, refl, second_false, set, store_pages, subst, sym, took_in, true, with_newest, wrote, ℕ, ◌<◌, ◌∙◌, ◌∷◌, ◌≡◌, ◌≤◌, ◌⊎◌}
+use Rattle.bulk_store.proofs.Indexed.{free_place-within, place_of-first, place_of-newest, place_of-others, place_of-rest, rest_places, with_record-indexed, without_oldest-indexed}
 
 -- a held record is one of the disk's, and its place one of the fast store's
 pub held_within : {s : Contents} (r : ℕ) {p : ℕ} → IsStore s → place_of s.table.held r ≡ Some p → (p < length s.fast)
@@ -49,29 +37,24 @@ pages_held {s} r {p} words k is =
     (λ u other. elim (held_or_not (place_of s.table.held u)) [
       | inl none ↦ page_of-other (set s.fast p words) s.disk s.table.held u none
           ∙ sym (page_of-other s.fast s.disk s.table.held u none)
-      | inr at ↦ page_of-held (set s.fast p words) s.disk s.table.held u at.1
-          ∙ get_or-set_other s.fast p at.0 words [] (λ e. other (k.index.apart u r p (cc) is))
-          ∙ sym (page_of-held s.fast s.disk s.table.held u at.1)
+      | inr at ↦ page_of-held (set s.fast p words) s.disk s.table.held u at.1 ∙ get_or-set_other s.fast p at.0 words []
+          (λ e. other (k.index.apart u r p (cc) is)) ∙ sym (page_of-held s.fast s.disk s.table.held u at.1)
     ])
 
 -- a record that isn't held comes in
 pub pages_took_in : {s : Contents} (r : ℕ) (words : List ℕ) → IsStore s → place_of s.table.held r ≡ None
-    → length s.table.held < s.table.room
-    → r < length s.disk → pages_of (set s.fast s.table.free words) s.disk (with_newest s.table.held r s.table.free)
-    ≡ set (pages_of s.fast s.disk s.table.held) r words
+    → length s.table.held < s.table.room → r < length s.disk → pages_of (set s.fast s.table.free words) s.disk
+    (with_newest s.table.held r s.table.free) ≡ set (pages_of s.fast s.disk s.table.held) r words
 pages_took_in {s} r words k none room within =
     let now = with_newest s.table.held r s.table.free in
     let fast = set s.fast s.table.free words in
     let free : s.table.free < length s.fast = omega (arith, free_place-within k.index room) in
-    pages_with s.fast s.disk s.table.held fast s.disk now r words refl within
-    (page_of-held fast s.disk now r (place_of-newest s.table.held r none)
-    ∙ get_or-set_same s.fast s.table.free words [] free)
-    (λ u other. (let before = place_of-others s.table.held r s.table.free u other in elim
-    (held_or_not (place_of s.table.held u)) [
+    pages_with s.fast s.disk s.table.held fast s.disk now r words refl within (page_of-held fast s.disk now r
+    (place_of-newest s.table.held r none) ∙ get_or-set_same s.fast s.table.free words [] free) (λ u other.
+    (let before = place_of-others s.table.held r s.table.free u other in elim (held_or_not (place_of s.table.held u)) [
       | inl out ↦ page_of-other fast s.disk now u (cc) ∙ sym (page_of-other s.fast s.disk s.table.held u out)
-      | inr at ↦ page_of-held fast s.disk now u (cc)
-          ∙ get_or-set_other s.fast s.table.free at.0 words [] (λ e. k.index.free u (cc))
-          ∙ sym (page_of-held s.fast s.disk s.table.held u at.1)
+      | inr at ↦ page_of-held fast s.disk now u (cc) ∙ get_or-set_other s.fast s.table.free at.0 words []
+          (λ e. k.index.free u (cc)) ∙ sym (page_of-held s.fast s.disk s.table.held u at.1)
     ]))
 
 pub took_in-store : {s : Contents} (r : ℕ) (words : List ℕ) → IsStore s → place_of s.table.held r ≡ None
@@ -83,9 +66,8 @@ took_in-store {s} r words k none room within = assumption (
 )
 
 -- the oldest gives way
-pub pages_rest : (fast disk : List (List ℕ)) (h : Held) (held : List Held) → place_of held h.number ≡ None
-    → h.number < length disk
-    → pages_of fast (set disk h.number (get_or fast h.place [])) held ≡ pages_of fast disk (h ∷ held)
+pub pages_rest : (fast disk : List (List ℕ)) (h : Held) (held : List Held) → place_of held h.number ≡ None → h.number
+    < length disk → pages_of fast (set disk h.number (get_or fast h.place [])) held ≡ pages_of fast disk (h ∷ held)
 pages_rest fast disk h held none within =
     let page = get_or fast h.place [] in
     let now = set disk h.number page in

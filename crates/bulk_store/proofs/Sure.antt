@@ -1,10 +1,5 @@
 -- A drive in core without lines never fails.
-use Rattle.std.proofs.Common.{◌≡◌, ℕ, false, true, [], refl, ◌⊎◌, Option, None, Some, Result, Ok, Err, IsOk, IfSome, IfNone, OnOk, OnErr, inl, inr, arith}
-use Rattle.site_io.specs.Faults.{Rose}
-use Rattle.volumes.specs.FailLine.{IsOneMore}
-use Rattle.volumes.specs.CoreDrive.{DriveState, faults_of}
-use Rattle.bulk_store.specs.Contents.{CountsBoth}
-use Rattle.volumes.proofs.Faults.{named_none}
+use Rattle.bulk_store.proofs.Prelude.{CountsBoth, DriveState, Err, IfNone, IfSome, IsOk, IsOneMore, None, Ok, OnErr, OnOk, Option, Result, Rose, Some, [], arith, false, faults_of, inl, inr, named_none, refl, true, ℕ, ◌≡◌, ◌⊎◌}
 
 no_faults : (d : DriveState) → d.fails ≡ [] → faults_of d ≡ 0
 no_faults d none = rw none (omega (arith, named_none false d.reads, named_none true d.writes))

@@ -1,16 +1,5 @@
 -- What a whole write leaves, from what its steps leave.
-use Rattle.std.proofs.Common.{◌≡◌, ◌<◌, ℕ, List, [], ◌⊎◌, Bool, true, false, nat_lt, is_some, None, Some, Result, Ok, Err, OnOk, OnErr, length, get_or, set, refl, sym, ◌∙◌, ap, subst, inl, inr, arith}
-use Rattle.std.proofs.lemmas.List.{length-set, ext_get_or}
-use Rattle.bulk_store.specs.declared.index.Held.{Held}
-use Rattle.bulk_store.specs.Held.{place_of, IsLeastFreePlace, BulkAfter}
-use Rattle.bulk_store.specs.Pages.{page_of, pages_of}
-use Rattle.bulk_store.specs.Index.{Holdings, IsIndexed}
-use Rattle.bulk_store.specs.Contents.{Contents, IsStore, gave_up_oldest, took_in, wrote, AfterFailed}
-use Rattle.bulk_store.specs.Store.{Store, store_pages}
-use Rattle.bulk_store.proofs.Pages.{held_or_not, page_of-other, length-pages_of, get_or-pages_of}
-use Rattle.bulk_store.proofs.Stores.{IsOldest, oldest, pages_held, pages_took_in, took_in-store, gave_up-store, full}
-use Rattle.laws.proofs.Numbers.{lt_from}
-use Rattle.laws.proofs.Bools.{second_false}
+pub use Rattle.bulk_store.proofs.Stores.{AfterFailed, Bool, BulkAfter, Contents, Err, Held, Holdings, IsIndexed, IsLeastFreePlace, IsOldest, IsStore, List, None, Ok, OnErr, OnOk, Result, Some, Store, [], ap, arith, ext_get_or, false, full, gave_up-store, gave_up_oldest, get_or, get_or-pages_of, held_or_not, inl, inr, is_some, length, length-pages_of, length-set, lt_from, nat_lt, oldest, page_of, page_of-other, pages_full, pages_held, pages_of, pages_took_in, place_of, refl, second_false, set, store_pages, subst, sym, took_in, took_in-store, true, wrote, ℕ, ◌<◌, ◌∙◌, ◌≡◌, ◌⊎◌}
 
 -- the three ways of a write
 wrote-held : (s : Contents) (r : ℕ) {p : ℕ} (words : List ℕ) → place_of s.table.held r ≡ Some p → wrote s r words
@@ -36,10 +25,7 @@ pub record IsDone (s : Contents) (r : ℕ) (words : List ℕ) (t : Contents) : T
   pub list : BulkAfter (length s.fast) s.table.held r t.table.held
 
 least_free : {t : Holdings} → IsIndexed t → IsLeastFreePlace t.held t.free
-least_free k = record {
-  free = k.free;
-  least = λ q lt. k.taken q (omega arith) (λ e. omega arith);
-}
+least_free k = record { free = k.free; least = λ q lt. k.taken q (omega arith) (λ e. omega arith) }
 
 done-held : {s : Contents} {r p : ℕ} {words : List ℕ} → IsStore s → place_of s.table.held r ≡ Some p
     → IsDone s r words (record s { fast = set s.fast p words })
@@ -111,10 +97,9 @@ on_err (Ok v) f h = tt
 on_err (Err e) f h = f h
 
 -- a record of the store is one of the disk's
-pub within_disk : {F D : Type 0} (fast_pages : F → List (List ℕ)) (disk_pages : D → List (List ℕ))
-    (fast : F) (disk : D) (held : List Held) {now : Store F D} (r : ℕ)
-    → record { fast = fast; disk = disk; held = held } ≡ now → r < length (store_pages fast_pages disk_pages now)
-    → r < length (disk_pages disk)
+pub within_disk : {F D : Type 0} (fast_pages : F → List (List ℕ)) (disk_pages : D → List (List ℕ)) (fast : F)
+    (disk : D) (held : List Held) {now : Store F D} (r : ℕ) → record { fast = fast; disk = disk; held = held } ≡ now
+    → r < length (store_pages fast_pages disk_pages now) → r < length (disk_pages disk)
 within_disk fast_pages disk_pages fast disk held {now} r view lt =
     let same : length (store_pages fast_pages disk_pages now) ≡ length (disk_pages disk)
     = ap (λ (x : Store _ _). length (store_pages fast_pages disk_pages x)) (sym view)

@@ -1,4 +1,4 @@
-use Rattle.bulk_store.proofs.Sure.{disk_once, disk_told, never_rises, sure_read, read_cause}
+use Rattle.bulk_store.proofs.Sure.{disk_once, disk_told, never_rises, read_cause, sure_read}
 use Rattle.bulk_store.proofs.core_bulk.CoreBulkDrive.read_page.Goals as goal
 
 pub returns-clause-sure : goal.returns-clause-sure

@@ -1,4 +1,4 @@
-use Rattle.bulk_store.proofs.Sure.{disk_once, disk_told, never_rises, sure_call, other_cause}
+use Rattle.bulk_store.proofs.Sure.{disk_once, disk_told, never_rises, other_cause, sure_call}
 use Rattle.bulk_store.proofs.core_bulk.CoreBulkDrive.write_page.Goals as goal
 
 pub returns-clause-sure : goal.returns-clause-sure

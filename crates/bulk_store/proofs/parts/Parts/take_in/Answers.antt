@@ -1,5 +1,4 @@
-use Rattle.std.proofs.Common.{arith}
-use Rattle.bulk_store.proofs.Indexed.{free_place-within}
+use Rattle.bulk_store.proofs.Indexed.{arith, free_place-within}
 use Rattle.bulk_store.proofs.parts.Parts.take_in.Goals as goal
 
 pub add-requires-clause-place : goal.add-requires-clause-place

@@ -1,5 +1,4 @@
-use Rattle.std.proofs.Common.{sym, ◌∙◌}
-use Rattle.bulk_store.proofs.Stores.{full, gave_up-store}
+use Rattle.bulk_store.proofs.Stores.{full, gave_up-store, sym, ◌∙◌}
 use Rattle.bulk_store.proofs.parts.Parts.write_new.Goals as goal
 
 pub take_in-requires-2-clause-store : goal.take_in-requires-2-clause-store

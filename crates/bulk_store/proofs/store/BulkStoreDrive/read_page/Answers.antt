@@ -1,4 +1,4 @@
-use Rattle.bulk_store.proofs.Writes.{within_disk, read_done}
+use Rattle.bulk_store.proofs.Writes.{read_done, within_disk}
 use Rattle.bulk_store.proofs.store.BulkStoreDrive.read_page.Goals as goal
 
 pub read-requires-clause-within : goal.read-requires-clause-within

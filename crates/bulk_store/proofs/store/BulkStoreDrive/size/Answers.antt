@@ -1,6 +1,4 @@
-use Rattle.std.proofs.Common.{sym, ◌∙◌}
-use Rattle.bulk_store.proofs.Pages.{length-pages_of}
-use Rattle.bulk_store.proofs.Stores.{pages_full}
+use Rattle.bulk_store.proofs.Stores.{length-pages_of, pages_full, sym, ◌∙◌}
 use Rattle.bulk_store.proofs.store.BulkStoreDrive.size.Goals as goal
 
 pub returns-clause-size : goal.returns-clause-size

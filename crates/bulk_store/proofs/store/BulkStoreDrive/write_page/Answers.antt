@@ -1,5 +1,4 @@
-use Rattle.bulk_store.proofs.Writes.{within_disk, on_ok, on_err, stays_store, done, has_failed}
-use Rattle.bulk_store.proofs.Stores.{pages_full}
+use Rattle.bulk_store.proofs.Writes.{done, has_failed, on_err, on_ok, pages_full, stays_store, within_disk}
 use Rattle.bulk_store.proofs.store.BulkStoreDrive.write_page.Goals as goal
 
 pub write-requires-clause-within : goal.write-requires-clause-within
