@@ -1,8 +1,6 @@
 -- A move that begins, page by page.
-use Rattle.seg_mover.proofs.Prelude.{◌≡◌, ◌≢◌, ℕ, ◌+◌, ◌<◌, Bool, true, cond, List, [], ◌∷◌, ◌++◌, length, Option, None, Some, IsSome, is_some, refl, sym, ap, ◌∙◌, arith, get_or, set, subst, take, drop, count_by, append_assoc, get_or-set_other, set-set, set-get_or, length-set, at_drop_more, drop_all, take_more, take_more_set, take_all, append-nil, sum_by-cons, least_free, no_records, Entry, records_in, with_record, fresh_entry, HasFullMaps, IsLeastFreeEntry, Vols, records_at, used_at, vtoc_at, with_record_used, entry_of, map_at, place_at, with_taken, flags_taken, map_taken, CanBegin, begun, entry_for, with_place, page_stored, entry_taken, IsPartBegun, some_number, put_here, put_put, list_within, count_with}
-use Rattle.seg_mover.proofs.Records.{least_there, least_is}
-use Rattle.vtoc.proofs.Table.{length_no_records, no_record}
-use Rattle.seg_mover.proofs.Places.{map_placed, records_within, flags_used, vols_same}
+pub use Rattle.seg_mover.proofs.Places.{Bool, CanBegin, Entry, HasFullMaps, IsLeastFreeEntry, IsPartBegun, IsSome, List, None, Option, Some, Vols, [], ap, append-nil, append_assoc, arith, at_drop_more, begun, cond, count_by, count_with, drop, drop_all, entry_for, entry_of, entry_taken, flags_taken, flags_used, fresh_entry, get_or, get_or-set_other, is_some, least_free, length, length-set, length_no_records, list_within, map_at, map_placed, map_taken, no_record, no_records, page_stored, place_at, put_here, put_put, records_at, records_in, records_within, refl, rules, set, set-get_or, set-set, some_number, subst, sum_by-cons, sym, take, take_all, take_more, take_more_set, true, used_at, used_some, vols_same, vtoc_at, with_place, with_record, with_record_used, with_taken, ℕ, ◌++◌, ◌+◌, ◌<◌, ◌∙◌, ◌∷◌, ◌≡◌, ◌≢◌}
+use Rattle.seg_mover.proofs.Records.{least_is, least_there}
 
 -- the home that was taken is there, on another volume than the old one
 pub record CanStore {D : Type 0} (old : Vols D) (from to : ℕ × ℕ) : Type 0 where
@@ -14,10 +12,8 @@ pub record CanStore {D : Type 0} (old : Vols D) (from to : ℕ × ℕ) : Type 0 
 pub can_store : {D : Type 0} {old : Vols D} {uid v : ℕ} {from : ℕ × ℕ} {table : List (Option Entry)} {e : ℕ}
     → CanBegin old uid from v
     → IsLeastFreeEntry (vtoc_at old v) e → HasFullMaps table → table ≡ vtoc_at old from.0 → CanStore old from (v, e)
-can_store {old} {v} {from} {e} can least full same = assumption (
-  list_within old.vtocs v e least.within,
-  (subst HasFullMaps same full).places from.1,
-)
+can_store {old} {v} {from} {e} can
+    least full same = assumption (list_within old.vtocs v e least.within, (subst HasFullMaps same full).places from.1)
 
 pub begun_start : {D : Type 0} {old : Vols D} {uid : ℕ} {from to : ℕ × ℕ} (now : Vols D) → CanBegin old uid from to.0
     → CanStore old from to → now ≡ entry_taken old to uid → IsPartBegun old now uid from to 0
@@ -89,9 +85,8 @@ module _ {D : Type 0} {old now : Vols D} {uid n : ℕ} {from to : ℕ × ℕ} (s
         records = part.records;
         vtocs = part.vtocs;
         flags = cc (at_place (flags_taken flags) m n None within none);
-        places = front_more (take n (map_at now to)) (take (n + 1) (map_at now to)) None
-            (map_taken flags (drop (n + 1) m)) (map_taken flags (drop n m))
-            (cc (take_more (map_at now to) n None there, part.blank n (omega arith)))
+        places = front_more (take n (map_at now to)) (take (n + 1) (map_at now to)) None (map_taken flags (drop (n + 1)
+            m)) (map_taken flags (drop n m)) (cc (take_more (map_at now to) n None there, part.blank n (omega arith)))
             (at_place (map_taken flags) m n None within none) ∙ part.places;
         blank = λ p late. part.blank p (omega arith);
         room = omega (arith, none_more m n within none);
@@ -125,9 +120,8 @@ module _ {D : Type 0} {old now : Vols D} {uid n : ℕ} {from to : ℕ × ℕ} (s
         records = cc (set-set old.records to.0 flags (set flags r true));
         vtocs = cc (
           renamed (entry_of now to) uid n r places (map_at new to) entry map_is,
-          put_put old.vtocs to.0 to.1
-              (Some (record { uid = uid; records = places })) (Some (record { uid = uid; records = map_at new to }))
-              store.vl,
+          put_put old.vtocs to.0 to.1 (Some (record { uid = uid; records = places }))
+              (Some (record { uid = uid; records = map_at new to })) store.vl,
         );
         flags = cc (at_place (flags_taken flags) m n (Some q) within some);
         places = cc (front_more (take n places) (take (n + 1) (map_at new to)) (Some r)
@@ -154,9 +148,8 @@ module _ {D : Type 0} {old now : Vols D} {uid n : ℕ} {from to : ℕ × ℕ} (s
       omega (arith, some_more [] (map_at old from) n q.0 (omega arith) (place_kept (Some q.0) q.1))
 
   -- one page more, as the call of it says
-  pub begun_more : (new : Vols D) → n < 256 → (place_at now from n ≡ None → new ≡ now)
-      → (IsSome (place_at now from n) → new ≡ page_stored now to n (least_free (records_at now to.0)))
-      → IsPartBegun old new uid from to (n + 1)
+  pub begun_more : (new : Vols D) → n < 256 → (place_at now from n ≡ None → new ≡ now) → (IsSome (place_at now from n)
+      → new ≡ page_stored now to n (least_free (records_at now to.0))) → IsPartBegun old new uid from to (n + 1)
   begun_more new lt none some = go (place_at now from n) refl
     where
       go : (place : Option ℕ) → place_at now from n ≡ place → IsPartBegun old new uid from to (n + 1)

@@ -1,5 +1,5 @@
 -- What a move that began leaves.
-use Rattle.seg_mover.proofs.Prelude.{◌≡◌, ℕ, ◌+◌, ◌<◌, Bool, cond, List, [], length, Option, None, Some, is_some, refl, sym, ap, ◌∙◌, arith, get_or, set, count_by, map, get_or-set_same, get_or-set_other, set-set, set-get_or, length-map, sum_by-set, Entry, uid_of, records_in, IsLeastFreeEntry, Vols, HasParts, records_at, used_at, vtoc_at, KeepsTables, entry_of, uid_at, map_at, place_at, AreKept, AddsRecords, flags_taken, map_taken, CanBegin, IsMoving, KeepsOthersThan, begun, entry_for, given_back, put, put_here, put_other, put_put, list_within}
+pub use Rattle.seg_mover.proofs.Prelude.{AddsRecords, AreKept, Bool, CanBegin, Entry, HasParts, IsLeastFreeEntry, IsMoving, KeepsOthersThan, KeepsTables, List, None, Option, Some, Vols, [], ap, arith, begun, cond, count_by, entry_for, entry_of, flags_taken, get_or, get_or-set_other, get_or-set_same, given_back, is_some, length, length-map, list_within, map, map_at, map_taken, place_at, put, put_here, put_other, put_put, records_at, records_in, refl, rules, set, set-get_or, set-set, sum_by-set, sym, uid_at, uid_of, used_at, vtoc_at, ℕ, ◌+◌, ◌<◌, ◌∙◌, ◌≡◌}
 use Rattle.seg_mover.proofs.Records.{HasTaken, has_taken}
 
 -- each volume has a map of its records

@@ -1,5 +1,5 @@
 -- The page that is copied next.
-use Rattle.seg_mover.proofs.Prelude.{◌≡◌, ℕ, zero, suc, ◌+◌, ◌-◌, ◌<◌, ◌≤◌, Bool, true, false, cond, ◌&&◌, List, Option, None, Some, IfSome, IsSome, is_some, refl, sym, ap, ◌∙◌, arith, inl, inr, cases_eq, Vols, Mover, map_at, is_to_copy, first_to_copy, page_to_copy, IsLeastToCopy, some_same}
+pub use Rattle.seg_mover.proofs.Prelude.{AreCopied, Bool, Err, HasCopied, HasParts, IfSome, IsLeastToCopy, IsMoving, IsSome, KeepsTables, List, Mover, None, Ok, OnOk, Option, Result, Some, Vols, [], after_copy, ap, arith, below_or_past, cases_eq, cond, copied, false, first_to_copy, flag_within, get_or, get_or-map, get_or-set_other, inl, inr, is_some, is_to_copy, length, length-map, map, map_at, moved_on, number_or_zero, off_and_on, page_to_copy, pages_at, place_at, put_here, put_other, records_at, refl, rules, some_number, some_same, suc, sym, true, with_page, words_filed, words_of, zero, ℕ, ◌&&◌, ◌+◌, ◌-◌, ◌<◌, ◌∙◌, ◌≡◌, ◌≢◌, ◌≤◌, ◌⊎◌}
 
 -- one page on
 first_suc : (places : List (Option ℕ)) (skip : List Bool) (count p : ℕ) → first_to_copy places skip (suc count) p

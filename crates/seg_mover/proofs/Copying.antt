@@ -1,13 +1,12 @@
 -- What one copy does: a read of one drive, and a write of another.
-use Rattle.seg_mover.proofs.Prelude.{◌≡◌, ◌⊎◌, ℕ, ◌≤◌, List, length, Result, Ok, Err, ap, ◌∙◌, arith, get_or, map, inl, inr, sum_by, OnOk, OnErr, Rose, IsOneMore, faults_at, KeepsOthers, FailedAt, CallsDrives, sum_of_map, seen_same}
+pub use Rattle.seg_mover.proofs.Prelude.{CallsDrives, Err, FailedAt, IsOneMore, KeepsOthers, List, Ok, OnErr, OnOk, Result, Rose, ap, arith, err_from_is_err_and, faults_at, get_or, inl, inr, length, map, seen_same, sum_by, sum_of_map, ℕ, ◌∙◌, ◌≡◌, ◌≤◌, ◌⊎◌}
 
 -- the read failed
 pub read_failed : {D Plan T E : Type 0} (plan : D → Plan) (places faults : D → ℕ) {old new : List D} {v : ℕ} (w : ℕ)
     (result : Result T E) (e : E) → result ≡ Err e → map plan new ≡ map plan old → map places new ≡ map places old
-    → length new ≡ length old → KeepsOthers old new v → sum_by faults old ≤ sum_by faults new
-    → IsOneMore (faults_at faults old v) (faults_at faults new v)
-    → Rose (faults_at faults old v) (faults_at faults new v) → Rose (sum_by faults old) (sum_by faults new)
-    → CallsDrives plan places faults old new v w result
+    → length new ≡ length old → KeepsOthers old new v → sum_by faults old ≤ sum_by faults new → IsOneMore
+    (faults_at faults old v) (faults_at faults new v) → Rose (faults_at faults old v) (faults_at faults new v)
+    → Rose (sum_by faults old) (sum_by faults new) → CallsDrives plan places faults old new v w result
 read_failed plan places faults {old} {new} w result e is plans stores count others grows once its rose = rw is (record {
   plans = plans;
   stores = stores;
@@ -25,9 +24,8 @@ read_failed plan places faults {old} {new} w result e is plans stores count othe
 
 -- the page was read, and the write is done or failed
 failed_then : {D T E : Type 0} (faults : D → ℕ) (old mid new : List D) (v w : ℕ) (result : Result T E)
-    → map faults mid ≡ map faults old → KeepsOthers mid new w
-    → OnErr result (IsOneMore (faults_at faults mid w) (faults_at faults new w))
-    → OnErr result (Rose (faults_at faults mid w) (faults_at faults new w))
+    → map faults mid ≡ map faults old → KeepsOthers mid new w → OnErr result (IsOneMore (faults_at faults mid w)
+    (faults_at faults new w)) → OnErr result (Rose (faults_at faults mid w) (faults_at faults new w))
     → OnErr result ((FailedAt faults old new v) ⊎ (FailedAt faults old new w))
 failed_then faults old mid new v w (Ok x) told others once its = tt
 failed_then faults old mid new v w (Err e) told others once its =
@@ -39,9 +37,8 @@ failed_then faults old mid new v w (Err e) told others once its =
       others = λ u other. seen_same faults mid new u (others.same u other) ∙ at u;
     })
 
-told_then : {D T E : Type 0} (faults : D → ℕ) (old mid new : List D) (result : Result T E)
-    → map faults mid ≡ map faults old → OnOk result (map faults new ≡ map faults mid)
-    → OnOk result (map faults new ≡ map faults old)
+told_then : {D T E : Type 0} (faults : D → ℕ) (old mid new : List D) (result : Result T E) → map faults mid
+    ≡ map faults old → OnOk result (map faults new ≡ map faults mid) → OnOk result (map faults new ≡ map faults old)
 told_then faults old mid new (Ok x) told then = then ∙ told
 told_then faults old mid new (Err e) told then = tt
 
@@ -53,11 +50,10 @@ rose_then faults old mid new (Err e) told rose = rw (sum_of_map faults old mid t
 
 pub read_then : {D Plan T E : Type 0} (plan : D → Plan) (places faults : D → ℕ) (old mid new : List D) (v w : ℕ)
     (result : Result T E) → map plan mid ≡ map plan old → map places mid ≡ map places old → length mid ≡ length old
-    → KeepsOthers old mid v → map faults mid ≡ map faults old → map plan new ≡ map plan mid
-    → map places new ≡ map places mid → length new ≡ length mid → KeepsOthers mid new w
-    → sum_by faults mid ≤ sum_by faults new → OnOk result (map faults new ≡ map faults mid)
-    → OnErr result (IsOneMore (faults_at faults mid w) (faults_at faults new w))
-    → OnErr result (Rose (faults_at faults mid w) (faults_at faults new w))
+    → KeepsOthers old mid v → map faults mid ≡ map faults old → map plan new ≡ map plan mid → map places new
+    ≡ map places mid → length new ≡ length mid → KeepsOthers mid new w → sum_by faults mid ≤ sum_by faults new
+    → OnOk result (map faults new ≡ map faults mid) → OnErr result (IsOneMore (faults_at faults mid w)
+    (faults_at faults new w)) → OnErr result (Rose (faults_at faults mid w) (faults_at faults new w))
     → OnErr result (Rose (sum_by faults mid) (sum_by faults new)) → CallsDrives plan places faults old new v w result
 read_then plan places faults old mid new v w result plans stores count others told plans2 stores2 count2 others2 grows
     told2 once its rose = record {

@@ -1,8 +1,6 @@
 -- What giving a home up leaves.
-use Rattle.seg_mover.proofs.Prelude.{◌≡◌, ℕ, ◌+◌, ◌<◌, [], length, None, Some, IsSome, is_some, ap, ◌∙◌, count_by, get_or-set_same, get_or-set_other, Entry, Vols, records_at, used_at, vtoc_at, entry_of, uid_at, map_at, AreKept, AddsRecords, flags_given, KeepsOthersThan, given_back, put_here, put_other, map_some}
-use Rattle.vtoc.proofs.Table.{count_freed}
-use Rattle.seg_mover.proofs.Records.{gives, count_given}
-use Rattle.seg_mover.proofs.Places.{vtoc_within, entry_within}
+use Rattle.seg_mover.proofs.Places.{AddsRecords, AreKept, Entry, IsSome, KeepsOthersThan, None, Some, Vols, [], ap, count_by, count_freed, entry_of, entry_within, flags_given, get_or-set_other, get_or-set_same, given_back, is_some, length, map_at, map_some, put_here, put_other, records_at, uid_at, used_at, vtoc_at, vtoc_within, ℕ, ◌+◌, ◌<◌, ◌∙◌, ◌≡◌}
+use Rattle.seg_mover.proofs.Records.{count_given, gives}
 
 -- what the volumes were, and what they are now
 pub record Gives {D : Type 0} (old now : Vols D) (home : ℕ × ℕ) : Type 0 where

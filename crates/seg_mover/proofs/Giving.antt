@@ -1,7 +1,6 @@
 -- A home that is given up, page by page.
-use Rattle.seg_mover.proofs.Prelude.{none_put, ◌≡◌, ◌≢◌, ℕ, ◌+◌, ◌<◌, Bool, false, List, [], length, Option, None, Some, IsSome, refl, sym, ap, ◌∙◌, arith, get_or, set, subst, inl, inr, cases_eq, get_or_past, get_or-set_other, set-set, set-get_or, Entry, with_record, HasFullMaps, NamesNoRecord, Vols, records_at, vtoc_at, with_record_used, with_vtoc, entry_of, map_at, place_at, flags_given, given_back, with_place, page_given, IsPartGiven, below_or_past, put_put, flag_within}
+pub use Rattle.seg_mover.proofs.Places.{Bool, Entry, HasFullMaps, IsPartGiven, IsSome, List, NamesNoRecord, None, Option, Some, Vols, [], ap, arith, below_or_past, cases_eq, entry_of, entry_placed, false, flag_within, flags_given, flags_used, get_or, get_or-set_other, get_or_past, given_back, inl, inr, length, map_at, map_placed, none_put, page_given, place_at, put_put, records_at, records_within, refl, rules, set, set-get_or, set-set, still_used, subst, sym, vols_same, vtoc_at, vtoc_within, with_place, with_record, with_record_used, with_vtoc, ℕ, ◌+◌, ◌<◌, ◌∙◌, ◌≡◌, ◌≢◌}
 use Rattle.seg_mover.proofs.Records.{given_less, given_none, kept_less}
-use Rattle.seg_mover.proofs.Places.{vtoc_within, still_used, entry_placed, map_placed, records_within, flags_used, vols_same}
 
 -- one page more
 given_one : {D : Type 0} (now : Vols D) (home : ℕ × ℕ) (n r : ℕ) → place_at now home n ≡ Some r
@@ -18,9 +17,8 @@ given_one now home n r is used rl =
     (cc (set-set now.records home.0 (set flags r false) (flags_given flags places)))
     (put_put now.vtocs home.0 home.1 (with_record (entry_of now home) n None) None (vtoc_within now home used))
 
-more_gone : (old new : List (Option ℕ)) (n : ℕ) → ((p : ℕ) → p < n → get_or old p None ≡ None)
-    → ((p : ℕ) → p ≢ n → get_or new p None ≡ get_or old p None) → get_or new n None ≡ None → (p : ℕ) → p < n + 1
-    → get_or new p None ≡ None
+more_gone : (old new : List (Option ℕ)) (n : ℕ) → ((p : ℕ) → p < n → get_or old p None ≡ None) → ((p : ℕ) → p ≢ n
+    → get_or new p None ≡ get_or old p None) → get_or new n None ≡ None → (p : ℕ) → p < n + 1 → get_or new p None ≡ None
 more_gone old new n gone same here p lt = elim (cases_eq p n) [
   | inl at ↦ ap (λ (q : ℕ). get_or new q None) at ∙ here
   | inr other ↦ same p other ∙ gone p (omega arith)
@@ -45,12 +43,8 @@ given_some_more old now new home n r part is now_is =
 
 by_place : {D : Type 0} (old now new : Vols D) (home : ℕ × ℕ) (n : ℕ) (place : Option ℕ) → IsPartGiven old now home n
     → place_at now home n ≡ place → new ≡ page_given now home n place → IsPartGiven old new home (n + 1)
-by_place old now new home n None part is now_is = rw now_is (record {
-  used = part.used;
-  kept = part.kept;
-  rest = part.rest;
-  gone = more_gone (map_at now home) (map_at now home) n part.gone (λ p other. refl) is;
-})
+by_place old now new home n None part is now_is = rw now_is (assumption (more_gone (map_at now home) (map_at now home) n
+    part.gone (λ p other. refl) is))
 by_place old now new home n (Some r) part is now_is = given_some_more old now new home n r part is now_is
 
 pub given_more : {D : Type 0} {old now : Vols D} {home : ℕ × ℕ} {n : ℕ} (new : Vols D) → IsPartGiven old now home n

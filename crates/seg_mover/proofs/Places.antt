@@ -1,5 +1,5 @@
 -- One place of a list of lists, and one entry of the VTOCs.
-use Rattle.seg_mover.proofs.Prelude.{◌≡◌, ℕ, ◌<◌, Bool, [], length, Option, None, Some, IsSome, is_some, refl, ap, set, get_or-set_same, Entry, records_in, with_record, Vols, records_at, vtoc_at, with_record_used, entry_of, map_at, with_place, put_here, list_within, some_within}
+pub use Rattle.seg_mover.proofs.Prelude.{AddsRecords, AreKept, Bool, CanBegin, Entry, HasFullMaps, IsLeastFreeEntry, IsPartBegun, IsPartGiven, IsSome, KeepsOthersThan, List, NamesNoRecord, None, Option, Some, Vols, [], ap, append-nil, append_assoc, arith, at_drop_more, begun, below_or_past, cases_eq, cond, count_by, count_freed, count_with, drop, drop_all, entry_for, entry_of, entry_taken, false, flag_within, flags_given, flags_taken, fresh_entry, get_or, get_or-set_other, get_or-set_same, get_or_past, given_back, inl, inr, is_some, least_free, length, length-set, length_no_records, list_within, map_at, map_some, map_taken, no_record, no_records, none_put, page_given, page_stored, place_at, put_here, put_other, put_put, records_at, records_in, refl, rules, set, set-get_or, set-set, some_number, some_within, subst, sum_by-cons, sym, take, take_all, take_more, take_more_set, true, uid_at, used_at, vtoc_at, with_place, with_record, with_record_used, with_taken, with_vtoc, ℕ, ◌++◌, ◌+◌, ◌<◌, ◌∙◌, ◌∷◌, ◌≡◌, ◌≢◌}
 
 pub entry_within : {D : Type 0} (vols : Vols D) (home : ℕ × ℕ) → IsSome (entry_of vols home)
     → home.1 < length (vtoc_at vols home.0)

@@ -1,5 +1,5 @@
 -- The records that file maps name: those that are taken, and those that are given back.
-use Rattle.seg_mover.proofs.Prelude.{◌≡◌, ◌≢◌, ◌⊎◌, ℕ, zero, suc, ◌+◌, ◌<◌, ◌≤◌, Bool, true, false, not, cond, List, [], ◌∷◌, length, Option, None, Some, refl, sym, ap, ◌∙◌, arith, get_or, set, inl, inr, is_some, count_by, All, position_or_len, cases_eq, lt-ltb, get_or-set_same, get_or-set_other, get_or_past, set_past, set-set, set-get_or, length-set, All-head, All-tail, sum_by-cons, fails_before_first, position-Some, in_use, least_free, IsLeastFree, with_taken, flags_taken, map_taken, flags_given, AreKept, AddsRecords, below_or_past, none_put, given_twice, not_none, some_same, off_and_on, not_true, by_not, count_with, count_without}
+pub use Rattle.seg_mover.proofs.Prelude.{AddsRecords, All, All-head, All-tail, AreKept, Bool, IsLeastFree, List, None, Option, Some, [], ap, arith, below_or_past, by_not, cases_eq, cond, count_by, count_with, count_without, fails_before_first, false, flags_given, flags_taken, get_or, get_or-set_other, get_or-set_same, get_or_past, given_twice, in_use, inl, inr, is_some, least_free, length, length-set, lt-ltb, map_taken, none_put, not, not_none, not_true, off_and_on, position-Some, position_or_len, records_at, refl, rules, set, set-get_or, set-set, set_past, some_same, suc, sum_by-cons, sym, true, vtoc_at, with_taken, zero, ℕ, ◌+◌, ◌<◌, ◌∙◌, ◌∷◌, ◌≡◌, ◌≢◌, ◌≤◌, ◌⊎◌}
 
 -- each passes the test that is counted
 pub all_counted : {X : Type 0} (p : X → Bool) (xs : List X) → All (λ x. p x ≡ true) xs → count_by p xs ≡ length xs
@@ -11,10 +11,8 @@ all_counted p (x ∷ xs) all =
 
 pub not_full : {X : Type 0} (those xs : List (Option X)) → those ≡ xs → count_by is_some xs < length xs
     → All (λ x. is_some x ≡ true) those → ⊥
-not_full those xs same few all = omega (
-  arith,
-  sym (ap (count_by is_some) same) ∙ all_counted is_some those all ∙ ap length same,
-)
+not_full those
+    xs same few all = omega (arith, sym (ap (count_by is_some) same) ∙ all_counted is_some those all ∙ ap length same)
 
 pub not_all : (flags : List Bool) → count_by (λ flag. flag) flags < length flags → All (λ flag. flag ≡ true) flags → ⊥
 not_all flags few all = omega (arith, all_counted (λ flag. flag) flags all)
@@ -286,10 +284,8 @@ with_some flags places q r is h =
         count_with flags r least.within least.free,
         sum_by-cons (λ (place : Option ℕ). cond {A = ℕ} (is_some place) 1 0) (Some q) places,
       );
-      back = rw (flags_is, map_is) (cc (
-        given_set (flags_taken now places) (map_taken now places) r,
-        off_again flags r least.free,
-      ));
+      back = rw (flags_is, map_is)
+          (cc (given_set (flags_taken now places) (map_taken now places) r, off_again flags r least.free));
     }
   where
     same : (p : ℕ) → is_some (get_or (Some r ∷ map_taken (set flags r true) places) p None)

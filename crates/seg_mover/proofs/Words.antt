@@ -1,12 +1,10 @@
 -- The words of a segment that moves, after one more page was copied or not.
-use Rattle.seg_mover.proofs.Prelude.{◌≡◌, ◌≢◌, ◌⊎◌, ℕ, ◌+◌, ◌<◌, Bool, true, false, List, [], length, Option, None, Some, Result, Ok, Err, IsSome, is_some, refl, sym, ap, ◌∙◌, arith, get_or, map, inl, inr, OnOk, cases_eq, get_or-set_other, length-map, get_or-map, Vols, HasParts, records_at, pages_at, with_page, KeepsTables, Mover, map_at, place_at, words_filed, words_of, IsMoving, number_or_zero, page_to_copy, is_to_copy, copied, after_copy, moved_on, HasCopied, AreCopied, below_or_past, off_and_on, some_number, put_here, put_other, flag_within}
+pub use Rattle.seg_mover.proofs.Choosing.{AreCopied, Bool, Err, HasCopied, HasParts, IsMoving, IsSome, KeepsTables, List, Mover, None, Ok, OnOk, Option, Result, Some, Vols, [], after_copy, ap, arith, below_or_past, cases_eq, copied, false, flag_within, get_or, get_or-map, get_or-set_other, inl, inr, is_some, is_to_copy, least_if, least_to_copy, length, length-map, map, map_at, moved_on, named_from, none_to_copy, number_or_zero, off_and_on, page_to_copy, pages_at, place_at, put_here, put_other, records_at, refl, rules, some_number, sym, true, with_page, words_filed, words_of, ℕ, ◌+◌, ◌<◌, ◌∙◌, ◌≡◌, ◌≢◌, ◌⊎◌}
 use Rattle.seg_mover.proofs.Begun.{records_there}
-use Rattle.seg_mover.proofs.Choosing.{least_to_copy, none_to_copy, named_from}
 
 -- a volume has as many records as its drive has pages
-sizes_same : {D : Type 0} (pages : D → List (List ℕ)) (vols : Vols D) (v : ℕ)
-    → HasParts (map pages vols.drives) vols.records vols.vtocs → v < length vols.drives
-    → length (records_at vols v) ≡ length (pages_at pages vols v)
+sizes_same : {D : Type 0} (pages : D → List (List ℕ)) (vols : Vols D) (v : ℕ) → HasParts (map pages vols.drives)
+    vols.records vols.vtocs → v < length vols.drives → length (records_at vols v) ≡ length (pages_at pages vols v)
 sizes_same pages vols v parts lt =
     let disk : v < length (map pages vols.drives) = omega (arith, length-map vols.drives pages) in
     cc (
@@ -30,10 +28,9 @@ pub map_kept : {D : Type 0} {old new : Vols D} (home : ℕ × ℕ) → KeepsTabl
 map_kept home tables = rw tables.vtocs
 
 -- the drives hold what they held, or one page more was copied
-after_cases : {E : Type 0} {D : Type 0} (disks now : List (List (List ℕ))) (vols : Vols D) (m : Mover)
-    (page : Option ℕ) (result : Result Bool E)
-    → now ≡ after_copy disks vols m page result → (now ≡ disks) ⊎ ((p : ℕ) × (page ≡ Some p)
-    × (now ≡ copied disks vols m p))
+after_cases : {E : Type 0} {D : Type 0} (disks now : List (List (List ℕ)))
+    (vols : Vols D) (m : Mover) (page : Option ℕ) (result : Result Bool E) → now ≡ after_copy disks vols m page result
+    → (now ≡ disks) ⊎ ((p : ℕ) × (page ≡ Some p) × (now ≡ copied disks vols m p))
 after_cases disks now vols m None result is = inl is
 after_cases disks now vols m (Some p) (Ok x) is = inr (p, refl, is)
 after_cases disks now vols m (Some p) (Err e) is = inl is
@@ -82,10 +79,9 @@ elsewhere pages old new m p r q moving copy is other (Some s) at =
     rw (is, copy.place) (put_other (map pages old.drives) m.to.0 r (words_of pages old m.from p) [] m.to.0 s copy.there
     (λ _ same. other (moving.new_kept.once q p s at (cc))))
 
-kept : {D : Type 0} (pages : D → List (List ℕ)) (old new : Vols D) (home : ℕ × ℕ) (q : ℕ) → KeepsTables old new
-    → words_filed (pages_at pages new home.0) (place_at old home q)
-    ≡ words_filed (pages_at pages old home.0) (place_at old home q)
-    → words_of pages new home q ≡ words_of pages old home q
+kept : {D : Type 0} (pages : D → List (List ℕ)) (old new : Vols D) (home : ℕ × ℕ) (q : ℕ)
+    → KeepsTables old new → words_filed (pages_at pages new home.0) (place_at old home q) ≡ words_filed
+    (pages_at pages old home.0) (place_at old home q) → words_of pages new home q ≡ words_of pages old home q
 kept pages old new home q tables same = cc (place_kept home q tables)
 
 -- the page that is copied next isn't before it
@@ -95,11 +91,9 @@ not_before old m skip q lt is = omega (arith, (least_to_copy old m skip q is).la
 
 module _ {D E : Type 0} {pages : D → List (List ℕ)} {old new : Vols D} {m n : Mover} {skip : List Bool}
     {result : Result Bool E} (h : Copies pages old new m n skip result) where
-  pub words_others : (q : ℕ) → page_to_copy old m skip ≢ Some q
-      → words_of pages new m.to q ≡ words_of pages old m.to q
-  words_others q other = kept pages old new m.to q h.tables
-      (elim (after_cases (map pages old.drives) (map pages new.drives) old m (page_to_copy old m skip) result
-      h.step.pages) [
+  pub words_others : (q : ℕ) → page_to_copy old m skip ≢ Some q → words_of pages new m.to q ≡ words_of pages old m.to q
+  words_others q other = kept pages old new m.to q h.tables (elim
+      (after_cases (map pages old.drives) (map pages new.drives) old m (page_to_copy old m skip) result h.step.pages) [
         | inl same ↦ rw same
         | inr one ↦ (let copy = copy_of pages old m skip one.0 h.moving h.parts one.1 in
             elsewhere pages old new m one.0 copy.0 q h.moving copy.1 one.2 (λ same. other (cc))
@@ -119,16 +113,13 @@ module _ {D E : Type 0} {pages : D → List (List ℕ)} {old new : Vols D} {m n 
       kept pages old new m.from q h.tables (cc (pages_source))
 
   -- a page of before stays as it is
-  stays : AreCopied pages old m skip → (q : ℕ) → q < m.next
-      → page_to_copy old m skip ≢ Some q → is_to_copy (map_at new m.from) skip q ≡ true
-      → words_of pages new m.to q ≡ words_of pages new m.from q
+  stays : AreCopied pages old m skip → (q : ℕ) → q < m.next → page_to_copy old m skip ≢ Some q
+      → is_to_copy (map_at new m.from) skip q ≡ true → words_of pages new m.to q ≡ words_of pages new m.from q
   stays done q lt other wanted =
       words_others q other ∙ done.words q lt (cc (map_kept m.from h.tables)) ∙ sym (words_source q)
 
   same_mover : AreCopied pages old m skip → AreCopied pages new m skip
-  same_mover done = record {
-    words = λ q lt wanted. stays done q lt (not_before old m skip q lt) wanted;
-  }
+  same_mover done = record { words = λ q lt wanted. stays done q lt (not_before old m skip q lt) wanted }
 
 pub words_page : {D E : Type 0} {pages : D → List (List ℕ)} {old new : Vols D} {m n : Mover} {skip : List Bool}
     {result : Result Bool E} → Copies pages old new m n skip result → (p : ℕ) → page_to_copy old m skip ≡ Some p
@@ -159,9 +150,8 @@ one_more {pages} {old} {new} {m} {skip} p h done is = record { words = words }
       ]
     ]
 
-pub are_copied : {D E : Type 0} {pages : D → List (List ℕ)} {old new : Vols D} {m n : Mover} {skip : List Bool}
-    {result : Result Bool E}
-    → Copies pages old new m n skip result → AreCopied pages old m skip → AreCopied pages new n skip
+pub are_copied : {D E : Type 0} {pages : D → List (List ℕ)} {old new : Vols D} {m n : Mover} {skip : List Bool} {result
+    : Result Bool E} → Copies pages old new m n skip result → AreCopied pages old m skip → AreCopied pages new n skip
 are_copied {E} {pages} {old} {new} {m} {n} {skip} {result} h done =
     rw h.step.mover (go (page_to_copy old m skip) result refl h)
   where
@@ -176,10 +166,9 @@ none_from : (page : Option ℕ) → false ≡ is_some page → page ≡ None
 none_from None is = refl
 none_from (Some p) is = cc
 
-pub all_copied : {D E : Type 0} {pages : D → List (List ℕ)} {old new : Vols D} {m n : Mover} {skip : List Bool}
-    {result : Result Bool E} → Copies pages old new m n skip result → result ≡ Ok false → AreCopied pages old m skip
-    → (p : ℕ) → p < 256 → is_to_copy (map_at new n.from) skip p ≡ true → words_of pages new n.to p ≡ words_of pages new
-    n.from p
+pub all_copied : {D E : Type 0} {pages : D → List (List ℕ)} {old new : Vols D} {m n : Mover} {skip : List Bool} {result
+    : Result Bool E} → Copies pages old new m n skip result → result ≡ Ok false → AreCopied pages old m skip → (p : ℕ)
+    → p < 256 → is_to_copy (map_at new n.from) skip p ≡ true → words_of pages new n.to p ≡ words_of pages new n.from p
 all_copied {pages} {old} {new} {m} {n} {skip} {result} h ended done =
     let none : page_to_copy old m skip ≡ None = none_from (page_to_copy old m skip) (rw ended at h.step.answer) in
     let same : n ≡ m = h.step.mover ∙ ap (λ (page : Option ℕ). moved_on m page result) none in

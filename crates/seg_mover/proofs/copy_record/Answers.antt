@@ -1,5 +1,4 @@
-use Rattle.seg_mover.proofs.Prelude.{err_from_is_err_and}
-use Rattle.seg_mover.proofs.Copying.{read_failed, read_then}
+use Rattle.seg_mover.proofs.Copying.{err_from_is_err_and, read_failed, read_then}
 use Rattle.seg_mover.proofs.copy_record.Goals as goal
 
 pub returns-in_err-read_page-clause-drives : goal.returns-in_err-read_page-clause-drives

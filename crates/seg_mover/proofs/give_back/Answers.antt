@@ -1,5 +1,4 @@
-use Rattle.seg_mover.proofs.Prelude.{rules, arith}
-use Rattle.seg_mover.proofs.Giving.{given_more, given_end, all_given, full_same, names_none}
+use Rattle.seg_mover.proofs.Giving.{all_given, arith, full_same, given_end, given_more, names_none, rules}
 use Rattle.seg_mover.proofs.give_back.Goals as goal
 
 pub loop-p-preserved : goal.loop-p-preserved

@@ -1,4 +1,4 @@
-use Rattle.seg_mover.proofs.Prelude.{rules, arith, records_at, flag_within}
+use Rattle.seg_mover.proofs.Prelude.{arith, flag_within, records_at, rules}
 use Rattle.seg_mover.proofs.record_of.Goals as goal
 
 pub prove-unreachable-requires : goal.prove-unreachable-requires

@@ -1,5 +1,4 @@
-use Rattle.seg_mover.proofs.Prelude.{vtoc_at}
-use Rattle.seg_mover.proofs.Records.{not_full}
+use Rattle.seg_mover.proofs.Records.{not_full, vtoc_at}
 use Rattle.seg_mover.proofs.take_entry.Goals as goal
 
 pub unreachable-requires : goal.unreachable-requires

@@ -1,6 +1,4 @@
-use Rattle.seg_mover.proofs.Prelude.{rules, arith}
-use Rattle.seg_mover.proofs.Places.{used_some}
-use Rattle.seg_mover.proofs.Beginning.{can_store, begun_start, begun_more, begun_end, entry_now, has_room}
+use Rattle.seg_mover.proofs.Beginning.{arith, begun_end, begun_more, begun_start, can_store, entry_now, has_room, rules, used_some}
 use Rattle.seg_mover.proofs.take_home.Goals as goal
 
 pub loop-p-init : goal.loop-p-init

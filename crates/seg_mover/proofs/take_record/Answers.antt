@@ -1,5 +1,4 @@
-use Rattle.seg_mover.proofs.Prelude.{rules, records_at}
-use Rattle.seg_mover.proofs.Records.{not_all}
+use Rattle.seg_mover.proofs.Records.{not_all, records_at, rules}
 use Rattle.seg_mover.proofs.take_record.Goals as goal
 
 pub unreachable-requires : goal.unreachable-requires

@@ -1,5 +1,4 @@
-use Rattle.seg_mover.proofs.Prelude.{rules, arith, place_at}
-use Rattle.seg_mover.proofs.Choosing.{least_to_copy, named_from}
+use Rattle.seg_mover.proofs.Choosing.{arith, least_to_copy, named_from, place_at, rules}
 use Rattle.seg_mover.proofs.Mover.copy_step.Goals as goal
 
 pub copy_page-requires-clause-page : goal.copy_page-requires-clause-page

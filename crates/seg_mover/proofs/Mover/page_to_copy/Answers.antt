@@ -1,5 +1,4 @@
-use Rattle.seg_mover.proofs.Prelude.{rules, map_at}
-use Rattle.seg_mover.proofs.Choosing.{first_here, first_skip, first_past}
+use Rattle.seg_mover.proofs.Choosing.{first_here, first_past, first_skip, map_at, rules}
 use Rattle.seg_mover.proofs.Mover.page_to_copy.Goals as goal
 
 pub returns-then-is_to_copy : goal.returns-then-is_to_copy

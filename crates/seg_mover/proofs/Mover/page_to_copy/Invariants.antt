@@ -1,4 +1,4 @@
-use Rattle.seg_mover.proofs.Prelude.{◌≡◌, ◌-◌, map_at, page_to_copy, first_to_copy}
+use Rattle.seg_mover.proofs.Prelude.{first_to_copy, map_at, page_to_copy, ◌-◌, ◌≡◌}
 use Rattle.seg_mover.proofs.Mover.page_to_copy.Given as goal
 
 abbrev pub invariant-loop-p : goal.invariant-loop-p
