@@ -1,9 +1,7 @@
 -- What each call keeps, over plain fields.
-use Rattle.active_segs.proofs.Prelude.{◌≡◌, ◌≢◌, ℕ, ◌+◌, ◌-◌, ◌<◌, ◌≤◌, Bool, true, false, List, length, Option, Some, None, IsSome, IfSome, All, is_some, refl, sym, ap, subst, ◌∙◌, arith, get_or, set, sum, take, drop, [], both_ways, length-set, length-drop, length-take-le, get_or-take, get_or-drop, get_or_read, get_or_default, in_use, IsFirstFree, Ptw, Entry, ActiveSegs, entry_at, superior_in, uid_at, IsActive, HasNoInferior, HasShape, IsLeastFree, IsFull, used_in, IsKept, IsMarked, AreNoted, IsIndexed, map_of, map_set, noted, place_of_superior, IsActiveAt, Pairs, place_of, SetsPlace, HasPools, first_of, size_of, IsInPool, IsPlaced, leaf_below, leaf_of, victim_of, off_chain, hand_of, round_pool, first_off_chain, StandsFor, IsVictim, HasOneOffChain, find_passes}
-use Rattle.active_segs.proofs.InferiorLemmas.{IsSuperiorPlace, superior_placed, superior_of_active, noted_activated, noted_deactivated}
-use Rattle.active_segs.proofs.DescentLemmas.{round_reaches, round_found, off_is_used}
-use Rattle.active_segs.proofs.EntryLemmas.{tree_activated, tree_deactivated, used_within}
-use Rattle.active_segs.proofs.PlaceLemmas.{pool_within, not_all_used, marked_set, indexed_activated, indexed_deactivated}
+pub use Rattle.active_segs.proofs.InferiorLemmas.{IsSuperiorPlace, ap, may_forget, may_note, noted_activated, noted_deactivated, rules, superior_of_active, superior_placed}
+pub use Rattle.active_segs.proofs.PlaceLemmas.{ActiveSegs, All, AreNoted, Bool, Entry, HasNoInferior, HasOneOffChain, HasPools, HasShape, IfSome, IsActive, IsActiveAt, IsFirstFree, IsFull, IsInPool, IsIndexed, IsKept, IsLeastFree, IsMarked, IsPlaced, IsSome, IsVictim, List, None, Option, Pairs, Ptw, SetsPlace, Some, StandsFor, [], arith, both_ways, drop, entry_at, false, find_passes, first_of, first_off_chain, get_or, get_or-drop, get_or-take, get_or_default, get_or_read, hand_of, in_use, index_has_room, index_lacks, indexed_activated, indexed_deactivated, is_some, leaf_below, leaf_of, length, length-drop, length-set, length-take-le, map_of, map_set, marked_set, not_all_used, noted, off_chain, place_of, place_of_superior, pool_within, refl, round_pool, set, size_of, subst, sum, superior_in, sym, take, tree_activated, tree_deactivated, true, uid_at, used_in, used_within, victim_of, ℕ, ◌+◌, ◌-◌, ◌<◌, ◌∙◌, ◌≡◌, ◌≢◌, ◌≤◌}
+pub use Rattle.active_segs.proofs.DescentLemmas.{off_is_used, round_found, round_reaches, victim_is_leaf, victim_off, victim_once, victim_within}
 
 -- ---- search
 
@@ -18,28 +16,22 @@ pub record HasEntry (xs : List (Option Entry)) (place : ℕ) (entry : Entry) : T
   pub within : place < length xs
   pub is : entry_at xs place ≡ Some entry
 
-pub used_entry : {inside old : ActiveSegs} {place : ℕ} {x : Option Entry} {entry : Entry} → inside ≡ old
-    → place < length old.entries → x ≡ get_or inside.entries place x → x ≡ Some entry
-    → HasEntry inside.entries place entry
+pub used_entry : {inside old : ActiveSegs} {place : ℕ} {x : Option Entry} {entry : Entry} → inside ≡ old → place
+    < length old.entries → x ≡ get_or inside.entries place x → x ≡ Some entry → HasEntry inside.entries place entry
 used_entry {inside = inside} {place = place} {x = x} view lt read is =
     let within : place < length inside.entries = rw view lt in
-    record {
-      within = within;
-      is = sym (get_or_default inside.entries place x None within) ∙ sym read ∙ is;
-    }
+    record { within = within; is = sym (get_or_default inside.entries place x None within) ∙ sym read ∙ is }
 
 -- ---- the calls
 
 module _ (sizes hands : List ℕ) (used : List (List Bool)) (xs : List (Option Entry)) (tables : List (List Ptw))
     (maps : List (List Bool)) (index : Pairs) (kept : IsKept sizes hands used xs tables maps index) where
   pub kept_activated : (place uid : ℕ) (superior : Option ℕ) (pool offset : ℕ) (used' maps' : List (List Bool))
-      (index' : Pairs) (above : Option ℕ)
-      → place < length xs → entry_at xs place ≡ None → ((q : ℕ) → uid_at xs q ≢ Some uid)
-      → ((s : ℕ) → superior ≡ Some s → IsActive xs s)
-      → IsPlaced sizes place pool offset → above ≡ place_of_superior index.pairs superior → used'
-      ≡ map_set used pool offset true → maps' ≡ noted maps above place false
-      → SetsPlace index.pairs index'.pairs uid (Some place) → length index'.pairs ≡ length index.pairs + 1
-      → index'.room ≡ index.room
+      (index' : Pairs) (above : Option ℕ) → place < length xs → entry_at xs place ≡ None → ((q : ℕ)
+      → uid_at xs q ≢ Some uid) → ((s : ℕ) → superior ≡ Some s → IsActive xs s) → IsPlaced sizes place pool offset
+      → above ≡ place_of_superior index.pairs superior → used' ≡ map_set used pool offset true
+      → maps' ≡ noted maps above place false → SetsPlace index.pairs index'.pairs uid (Some place)
+      → length index'.pairs ≡ length index.pairs + 1 → index'.room ≡ index.room
       → IsKept sizes hands used' (set xs place (Some (record { uid = uid; superior = superior }))) tables maps' index'
   kept_activated place uid superior pool offset used' counts' index' above lt free inactive active placed is_above
       is_used is_maps sets count room =
@@ -76,9 +68,8 @@ module _ (sizes hands : List ℕ) (used : List (List Bool)) (xs : List (Option E
         entry_count = length-set xs place None ∙ entry_count;
         table_count = length-set tables place table ∙ kept.table_count;
         marked = rw is_used (marked_set false None pools.four entry_count kept.marked placed refl);
-        inferior_maps = subst (AreNoted (set xs place None)) (sym is_maps)
-            (noted_deactivated xs maps kept.inferior_maps kept.tree place lt leaf e.superior above (ap superior_in is)
-            at);
+        inferior_maps = subst (AreNoted (set xs place None)) (sym is_maps) (noted_deactivated
+            xs maps kept.inferior_maps kept.tree place lt leaf e.superior above (ap superior_in is) at);
         indexed = indexed_deactivated xs index index' place lt kept.indexed room e is kept.tree.once sets count;
         tree = tree_deactivated xs place lt leaf kept.tree;
       }
@@ -86,9 +77,8 @@ module _ (sizes hands : List ℕ) (used : List (List Bool)) (xs : List (Option E
 -- ---- the free places of a pool
 
 -- the map of a pool, as it is read
-pub marked_map : {sizes : List ℕ} {used : List (List Bool)} {entries : List (Option Entry)}
-    → IsMarked sizes used entries → (pool : ℕ) (map : List Bool)
-    → pool < 4 → map ≡ get_or used pool map → map ≡ map_of used pool
+pub marked_map : {sizes : List ℕ} {used : List (List Bool)} {entries : List (Option Entry)} → IsMarked
+    sizes used entries → (pool : ℕ) (map : List Bool) → pool < 4 → map ≡ get_or used pool map → map ≡ map_of used pool
 marked_map {sizes} {used} {entries} marked pool map lt read =
     (let maps : length used ≡ 4 = marked.maps in get_or_read used pool map (omega arith) read [])
 
@@ -105,9 +95,8 @@ full_since_marked s used pool lt marked all q in_pool =
     subst (λ (k : ℕ). is_some (entry_at s.entries k) ≡ true) at (sym (marked.flags pool i lt within) ∙ on)
 
 -- the least free flag of a pool's map is its least free place
-pub least_since_marked : (s : ActiveSegs) (used : List (List Bool)) (pool offset : ℕ) → pool < 4
-    → IsMarked s.sizes used s.entries
-    → IsFirstFree (map_of used pool) offset → IsLeastFree s pool (first_of s.sizes pool + offset)
+pub least_since_marked : (s : ActiveSegs) (used : List (List Bool)) (pool offset : ℕ) → pool < 4 → IsMarked
+    s.sizes used s.entries → IsFirstFree (map_of used pool) offset → IsLeastFree s pool (first_of s.sizes pool + offset)
 least_since_marked s used pool offset lt marked first =
     let long = marked.as_long pool lt in
     let lt_offset = first.within in

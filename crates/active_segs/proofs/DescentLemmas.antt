@@ -1,7 +1,6 @@
 -- The way down from a place to the leaf that takes its stead: it ends, it is the only one, and it stays off a chain.
-use Rattle.active_segs.proofs.Prelude.{◌≡◌, ◌≢◌, ℕ, zero, suc, ◌+◌, ◌-◌, ◌<◌, ◌≤◌, Bool, true, false, cond, eqb, not, List, [], ◌∷◌, ◌++◌, length, Option, Some, None, IsSome, is_some, refl, sym, ap, subst, ◌∙◌, arith, inl, inr, Contains, IsDistinct, AllByRecursion, find, list_any, range_with_len, cases_lt, cases_order, eqb-true, eq-eqb, not-true, both_ways, cases_Bool, or_cases, or_left, or_right, or_parts, false≢true, none-some, same_Some, length-le_from_distinct_below, Entry, ActiveSegs, entry_at, uid_in, uid_at, superior_at, HasNoInferior, IsGrounded, leaf_below, off_chain, places_from, round_pool, IsLeastInferior, Descends, StandsFor, IsVictim, HasItsSuperiors, IsOffChain, IsActiveAt, find_passes}
-use Rattle.active_segs.proofs.EntryLemmas.{used_within, used_since_superior}
-use Rattle.active_segs.proofs.LeafLemmas.{one_step_more, stays_at_leaf}
+use Rattle.active_segs.proofs.Prelude.{ActiveSegs, AllByRecursion, Bool, Contains, Descends, Entry, HasItsSuperiors, HasNoInferior, IsActiveAt, IsDistinct, IsGrounded, IsLeastInferior, IsOffChain, IsSome, IsVictim, List, None, Option, Some, StandsFor, [], ap, arith, both_ways, cases_Bool, cases_lt, cases_order, cond, entry_at, eq-eqb, eqb, eqb-true, false, false≢true, find, find_passes, inl, inr, is_some, leaf_below, length, length-le_from_distinct_below, list_any, none-some, not, not-true, off_chain, or_cases, or_left, or_parts, or_right, places_from, range_with_len, refl, round_pool, same_Some, subst, suc, superior_at, sym, true, uid_at, uid_in, zero, ℕ, ◌++◌, ◌+◌, ◌-◌, ◌<◌, ◌∙◌, ◌∷◌, ◌≡◌, ◌≢◌, ◌≤◌}
+use Rattle.active_segs.proofs.LeafLemmas.{one_step_more, stays_at_leaf, used_since_superior, used_within}
 
 -- ---- the leaf
 
@@ -293,11 +292,7 @@ round_found p first hand end x low high found = go (find p (places_from hand end
     go : (o : Option ℕ) → find p (places_from hand end) ≡ o → (first ≤ x) × (x < end) × (p x ≡ true)
     go (Some y) is =
         let same = same_Some y x (sym (find_first p (places_from hand end) (places_from first hand) y is) ∙ found) in
-        let h = found_within p (end - hand) hand y is in (
-          omega (arith, h.0),
-          omega (arith, h.1),
-          ap p (sym same) ∙ h.2,
-        )
+        let h = found_within p (end - hand) hand y is in (omega (arith, h.0), omega (arith, h.1), ap p (sym same) ∙ h.2)
     go None is =
         let e : find p (places_from first hand) ≡ Some x =
         sym (find_second p (places_from hand end) (places_from first hand) is) ∙ found in

@@ -1,5 +1,5 @@
 -- The entries after one of them changes: what is read there, and that they are still a part of a tree.
-use Rattle.active_segs.proofs.Prelude.{◌≡◌, ◌≢◌, ℕ, ◌+◌, ◌<◌, Bool, cond, eqb, List, length, Option, Some, None, refl, sym, ap, subst, ◌∙◌, arith, set, inl, inr, cases_eq, eq-eqb, ne_eqb, get_or-set_same, get_or-set_other, none-some, same_Some, Entry, entry_at, uid_in, superior_in, uid_at, superior_at, IsActive, HasNoInferior, IsOneToOne, SuperiorsAreActive, IsGrounded, IsTree, shown_within}
+use Rattle.active_segs.proofs.Prelude.{Bool, Entry, HasNoInferior, IsActive, IsGrounded, IsOneToOne, IsTree, List, None, Option, Some, SuperiorsAreActive, ap, arith, cases_eq, cond, entry_at, eq-eqb, eqb, get_or-set_other, get_or-set_same, inl, inr, length, ne_eqb, none-some, refl, same_Some, set, shown_within, subst, superior_at, superior_in, sym, uid_at, uid_in, ℕ, ◌+◌, ◌<◌, ◌∙◌, ◌≡◌, ◌≢◌}
 
 pub entry_set : (xs : List (Option Entry)) (p : ℕ) (e : Option Entry) → p < length xs → entry_at (set xs p e) p ≡ e
 entry_set xs p e lt = get_or-set_same xs p e None lt

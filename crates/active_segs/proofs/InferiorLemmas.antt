@@ -1,6 +1,6 @@
 -- The maps of inferiors after a segment has become active or is so no more, and what their least free number is.
-use Rattle.active_segs.proofs.Prelude.{◌≡◌, ◌≢◌, ℕ, ◌<◌, ◌↔◌, Bool, true, false, List, [], length, Option, Some, None, IfSome, All, refl, sym, ap, subst, ◌∙◌, arith, set, inl, inr, get_or, cases_eq, cases_Bool, both_ways, get_or-set_same, get_or-set_other, length-set, get_or_read, none-some, same_Some, in_use, IsFirstFree, Entry, entry_at, uid_in, superior_in, uid_at, superior_at, IsActive, HasNoInferior, SuperiorsAreActive, IsTree, map_of, map_set, noted, place_of_superior, HasFlag, IsInferior, AreNoted, IsIndexed, IsLeastInferior, Pairs}
-use Rattle.active_segs.proofs.EntryLemmas.{entry_set, entry_kept, uid_set, uid_kept, used_within, superior_within}
+pub use Rattle.active_segs.proofs.Prelude.{All, AreNoted, Bool, Entry, HasFlag, HasNoInferior, IfSome, IsActive, IsFirstFree, IsIndexed, IsInferior, IsLeastInferior, IsTree, List, None, Option, Pairs, Some, SuperiorsAreActive, [], ap, arith, both_ways, cases_Bool, cases_eq, entry_at, false, get_or, get_or-set_other, get_or-set_same, get_or_read, in_use, inl, inr, length, length-set, map_of, map_set, none-some, noted, place_of_superior, refl, rules, same_Some, set, subst, superior_at, superior_in, sym, true, uid_at, uid_in, ℕ, ◌<◌, ◌↔◌, ◌∙◌, ◌≡◌, ◌≢◌}
+pub use Rattle.active_segs.proofs.EntryLemmas.{entry_kept, entry_set, superior_within, uid_kept, uid_set, used_within}
 
 -- ---- where the superior's place is
 
@@ -8,9 +8,8 @@ abbrev pub IsSuperiorPlace : List (Option Entry) → Option ℕ → Option ℕ �
 IsSuperiorPlace xs None place = place ≡ None
 IsSuperiorPlace xs (Some s) place = (r : ℕ) × (place ≡ Some r) × (uid_at xs r ≡ Some s)
 
-pub superior_placed : (xs : List (Option Entry)) (index : Pairs) → IsIndexed xs index → (superior : Option ℕ)
-    → ((s : ℕ) → superior ≡ Some s → IsActive xs s)
-    → IsSuperiorPlace xs superior (place_of_superior index.pairs superior)
+pub superior_placed : (xs : List (Option Entry)) (index : Pairs) → IsIndexed xs index → (superior : Option ℕ) → ((s : ℕ)
+    → superior ≡ Some s → IsActive xs s) → IsSuperiorPlace xs superior (place_of_superior index.pairs superior)
 superior_placed xs index indexed None above = refl
 superior_placed xs index indexed (Some s) above = let active : IsActive xs s =
     above s refl in (active.0, (indexed.places active.0 s).1 active.1, active.1)
@@ -141,9 +140,8 @@ module _ (xs : List (Option Entry)) (maps : List (List Bool)) (notes : AreNoted 
   -- as before, and no other flag has changed
   noted_with : (new : Option Entry) (above : Option ℕ) (p : ℕ) (b : Bool) → ((place : ℕ) → place < length xs
       → (in_use (map_of (noted maps above p b) place) p ≡ false) ↔ IsInferior (set xs p new) place p)
-      → ((place q : ℕ) → q ≢ p → IsInferior xs place q → IsInferior (set xs p new) place q)
-      → ((place q : ℕ) → q ≢ p → IsInferior (set xs p new) place q → IsInferior xs place q)
-      → AreNoted (set xs p new) (noted maps above p b)
+      → ((place q : ℕ) → q ≢ p → IsInferior xs place q → IsInferior (set xs p new) place q) → ((place q : ℕ) → q ≢ p
+      → IsInferior (set xs p new) place q → IsInferior xs place q) → AreNoted (set xs p new) (noted maps above p b)
   noted_with new above p b here still was =
       let size = length-set xs p new in
       let many = notes.maps in

@@ -1,6 +1,6 @@
 -- The leaf below a place as a function: the least inferior, and steps down.
-use Rattle.active_segs.proofs.Prelude.{◌≡◌, ◌≢◌, ℕ, zero, suc, ◌<◌, Bool, true, false, List, length, Option, Some, None, refl, ap, ◌∙◌, get_or, inl, inr, position, cases_order, eq-eqb, ne_eqb, both_ways, position-Some, none-some, same_Some, Entry, uid_at, superior_at, HasNoInferior, is_inferior_in, is_inferior_of, least_inferior_of, least_inferior, leaf_below, IsLeastInferior, position_none, position_nowhere}
-use Rattle.active_segs.proofs.EntryLemmas.{superior_within}
+use Rattle.active_segs.proofs.Prelude.{Bool, Entry, HasNoInferior, IsLeastInferior, List, None, Option, Some, ap, both_ways, cases_order, eq-eqb, false, get_or, inl, inr, is_inferior_in, is_inferior_of, leaf_below, least_inferior, least_inferior_of, length, ne_eqb, none-some, position, position-Some, position_none, position_nowhere, refl, same_Some, suc, superior_at, true, uid_at, zero, ℕ, ◌<◌, ◌∙◌, ◌≡◌, ◌≢◌}
+pub use Rattle.active_segs.proofs.EntryLemmas.{superior_within, used_since_superior, used_within}
 
 pub inferior_yes : (u : ℕ) (o : Option ℕ) → o ≡ Some u → is_inferior_in u o ≡ true
 inferior_yes u None e = absurd (none-some u e)
@@ -32,9 +32,8 @@ position_is {X} p xs q d within passes before = at (position p xs) refl
 
 least_inferior_is : (xs : List (Option Entry)) (place q : ℕ) → IsLeastInferior xs place q → least_inferior xs place
     ≡ Some q
-least_inferior_is xs place q least = ap (least_inferior_of xs) least.is
-    ∙ position_is (is_inferior_of least.uid) xs q None (superior_within xs q least.uid least.inferior)
-    (inferior_yes least.uid (superior_at xs q) least.inferior)
+least_inferior_is xs place q least = ap (least_inferior_of xs) least.is ∙ position_is (is_inferior_of least.uid)
+    xs q None (superior_within xs q least.uid least.inferior) (inferior_yes least.uid (superior_at xs q) least.inferior)
     (λ k lt. inferior_no least.uid (superior_at xs k) (least.least k lt))
 
 no_inferior_is : (xs : List (Option Entry)) (place : ℕ) → HasNoInferior xs place → least_inferior xs place ≡ None

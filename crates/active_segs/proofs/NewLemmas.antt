@@ -1,5 +1,5 @@
 -- A new table keeps what every table keeps.
-use Rattle.active_segs.proofs.Prelude.{◌≡◌, ℕ, zero, suc, ◌+◌, ◌-◌, ◌<◌, ◌≤◌, Bool, true, false, cond, List, [], ◌∷◌, ◌++◌, length, Option, None, is_some, refl, sym, ap, ◌∙◌, arith, map, replicate, sum, count_by, both_ways, length-replicate, length-map, get_or-replicate, get_or-map, get_or_append_left, append_assoc, get_or-append_right, sum_by-cons, none-some, in_use, Ptw, Null, Entry, entry_at, uid_in, superior_in, uid_at, superior_at, table_at, null_tables, AreNullTables, IsKept, map_of, Pairs, place_of, first_of, size_of, length_of_four, all_same, zeros_read}
+use Rattle.active_segs.proofs.Prelude.{AreNullTables, Bool, Entry, IsKept, List, None, Null, Option, Pairs, Ptw, [], all_same, ap, append_assoc, arith, both_ways, cond, count_by, entry_at, false, first_of, get_or-append_right, get_or-map, get_or-replicate, get_or_append_left, in_use, is_some, length, length-map, length-replicate, length_of_four, map, map_of, none-some, null_tables, place_of, refl, replicate, size_of, suc, sum, sum_by-cons, superior_at, superior_in, sym, table_at, true, uid_at, uid_in, zero, zeros_read, ℕ, ◌++◌, ◌+◌, ◌-◌, ◌<◌, ◌∙◌, ◌∷◌, ◌≡◌, ◌≤◌}
 use Rattle.active_segs.proofs.PlaceLemmas.{first_more}
 
 none_used : (n : ℕ) → count_by is_some (replicate n (let none : Option Entry = None in none)) ≡ 0
@@ -12,12 +12,11 @@ new_map : (sizes : List ℕ) (pool : ℕ) → pool < length sizes → map_of (ma
     ≡ replicate (size_of sizes pool) false
 new_map sizes pool lt = get_or-map (λ size. replicate size false) sizes pool 0 [] lt
 
-pub kept_new : (sizes : List ℕ) (used : List (List Bool)) (xs : List (Option Entry)) (tables : List (List Ptw))
-    (maps : List (List Bool)) (index : Pairs)
-    → length sizes ≡ 4 → sum sizes ≤ 1024 → used ≡ map (λ size. replicate size false) sizes → xs
-    ≡ replicate (sum sizes) None → tables ≡ null_tables sizes
-    → maps ≡ replicate (sum sizes) (replicate (sum sizes) true) → index.pairs ≡ [] → index.room ≡ sum sizes
-    → IsKept sizes (0 ∷ 0 ∷ 0 ∷ 0 ∷ []) used xs tables maps index
+pub kept_new : (sizes : List ℕ) (used : List (List Bool))
+    (xs : List (Option Entry)) (tables : List (List Ptw)) (maps : List (List Bool)) (index : Pairs) → length sizes ≡ 4
+    → sum sizes ≤ 1024 → used ≡ map (λ size. replicate size false) sizes → xs ≡ replicate (sum sizes) None
+    → tables ≡ null_tables sizes → maps ≡ replicate (sum sizes) (replicate (sum sizes) true)
+    → index.pairs ≡ [] → index.room ≡ sum sizes → IsKept sizes (0 ∷ 0 ∷ 0 ∷ 0 ∷ []) used xs tables maps index
 kept_new sizes used xs tables maps index four few is_used is_xs is_tables is_maps empty room =
     let free : (q : ℕ) → entry_at xs q ≡ None = λ q. ap (λ (l : List (Option Entry)). entry_at l q) is_xs
     ∙ all_same (sum sizes) q None in
@@ -43,9 +42,8 @@ kept_new sizes used xs tables maps index four few is_used is_xs is_tables is_map
       marked = record {
         maps = ap length is_used ∙ length-map sizes (λ size. replicate size false) ∙ four;
         as_long = λ pool lt. ap length (marks pool lt) ∙ length-replicate (size_of sizes pool) false;
-        flags = λ pool offset lt within. ap (λ (m : List Bool). in_use m offset) (marks pool lt)
-            ∙ get_or-replicate (size_of sizes pool) offset false false within
-            ∙ sym (ap is_some (free (first_of sizes pool + offset)));
+        flags = λ pool offset lt within. ap (λ (m : List Bool). in_use m offset) (marks pool lt) ∙ get_or-replicate
+            (size_of sizes pool) offset false false within ∙ sym (ap is_some (free (first_of sizes pool + offset)));
       };
       inferior_maps = record {
         maps = ap length is_maps ∙ length-replicate (sum sizes) (replicate (sum sizes) true) ∙ sym size;
@@ -109,9 +107,8 @@ module _ (sizes : List ℕ) (four : length sizes ≡ 4) where
       let a : first_of sizes 1 ≡ first_of sizes 0 + size_of sizes 0 = first_more sizes 0 (omega arith) in
       let none : first_of sizes 0 ≡ 0 = refl in
       let n : size_of sizes 0 ≡ first_of sizes 1 = omega arith in
-      ap (λ (tables : List (List Ptw)). table_at tables place) regrouped
-      ∙ of_the_rest (size_of sizes 0) (blank 4) last_three place (omega arith)
-      ∙ ap (λ (k : ℕ). table_at last_three (place - k)) n
+      ap (λ (tables : List (List Ptw)). table_at tables place) regrouped ∙ of_the_rest
+      (size_of sizes 0) (blank 4) last_three place (omega arith) ∙ ap (λ (k : ℕ). table_at last_three (place - k)) n
 
   -- past a pool come the tables of the next
   past : (pool words : ℕ) (rest : List (List Ptw)) (place : ℕ) → pool < 4 → first_of sizes (suc pool) ≤ place

@@ -1,5 +1,5 @@
 -- What a search finds among ascending uids, and what an edit at that place does.
-use Rattle.active_segs.proofs.Prelude.{◌≡◌, ◌≢◌, ℕ, zero, suc, ◌+◌, ◌-◌, ◌<◌, eqb, List, [], ◌∷◌, length, get_or, if◌then◌else◌, Some, None, Result, Ok, Err, IfOk, IfErr, refl, sym, ap, subst, arith, insert, remove, IsSearchInRange, IsBinarySearchResult, IsNonDecreasingBy, nat_cmp, ordering_index, ranked, IsNonDecreasingBy-from_default, length-insert, get_or-insert_below, get_or-insert_at, get_or-insert_above, nat_tests, place_of, IsAscending, IsFoundAt, BelongsAt, SetsPlace}
+pub use Rattle.active_segs.proofs.Prelude.{BelongsAt, Err, IfErr, IfOk, IsAscending, IsBinarySearchResult, IsFoundAt, IsNonDecreasingBy, IsNonDecreasingBy-from_default, IsSearchInRange, List, None, Ok, Pairs, Result, SetsPlace, Some, [], answers_always, ap, arith, both_ways, eqb, get_or, get_or-insert_above, get_or-insert_at, get_or-insert_below, get_or_default, if◌then◌else◌, insert, is_some, length, length-insert, nat_cmp, nat_tests, ordering_index, place_of, ranked, refl, remove, rules, subst, suc, sym, zero, ℕ, ◌+◌, ◌-◌, ◌<◌, ◌∙◌, ◌∷◌, ◌≡◌, ◌≢◌}
 use Rattle.active_segs.specs.Pairs.{uid_in}
 
 -- no pair before the k-th has the uid
@@ -15,12 +15,8 @@ found_tail x l uid i found = record { within = omega (arith, found.within); is =
 -- a uid that no pair has is not found
 pub place_absent : (l : List (ℕ × ℕ)) (uid : ℕ) → NotBefore l uid (length l) → place_of l uid ≡ None
 place_absent [] uid not_before = refl
-place_absent (x ∷ l) uid not_before = grind (
-  arith,
-  nat_tests,
-  not_before 0 (omega arith),
-  place_absent l uid (not_before_tail x l uid _ not_before),
-)
+place_absent (x ∷ l) uid not_before = grind
+    (arith, nat_tests, not_before 0 (omega arith), place_absent l uid (not_before_tail x l uid _ not_before))
 
 -- the first pair that has the uid gives the place
 pub place_present : (l : List (ℕ × ℕ)) (uid i : ℕ) → IsFoundAt l uid i → NotBefore l uid i → place_of l uid
@@ -66,17 +62,14 @@ place_removed (x ∷ l) uid (suc i) ascending found q =
 module _ (l : List (ℕ × ℕ)) (ascending : IsAscending l) (uid : ℕ) where
   -- the comparisons with the uid rise along the list, as a binary search asks
   comparisons_rise : IsNonDecreasingBy (λ pair. ordering_index (nat_cmp pair.0 uid)) l
-  comparisons_rise = IsNonDecreasingBy-from_default (λ pair. ordering_index (nat_cmp pair.0 uid)) l (0, 0)
-      (λ i j le within.
-      grind (arith, nat_tests))
+  comparisons_rise = IsNonDecreasingBy-from_default
+      (λ pair. ordering_index (nat_cmp pair.0 uid)) l (0, 0) (λ i j le within. grind (arith, nat_tests))
 
   -- a binary search ends at the uid, or at the gap for it
   pub searched : (r : Result ℕ ℕ) → IsSearchInRange r (length l) → IsBinarySearchResult (λ pair. nat_cmp pair.0 uid) l r
       → record { found : IfOk r (IsFoundAt l uid); absent : IfErr r (BelongsAt l uid) }
-  searched (Ok at) within equal = record {
-    found = record { within = within; is = ranked _ uid _ (sym (equal (0, 0))) };
-    absent = tt;
-  }
+  searched (Ok at) within equal =
+      record { found = record { within = within; is = ranked _ uid _ (sym (equal (0, 0))) }; absent = tt }
   searched (Err at) within parted = record {
     found = tt;
     absent = record {

@@ -1,6 +1,6 @@
 -- The places of the pools, the maps of the used ones, and the index, after the entry of a place changes.
-use Rattle.active_segs.proofs.Prelude.{◌≡◌, ◌≢◌, ℕ, zero, suc, ◌+◌, ◌-◌, ◌<◌, ◌≤◌, Bool, false, cond, List, [], ◌∷◌, length, Option, Some, None, is_some, refl, sym, ap, subst, ◌∙◌, arith, set, take, inl, inr, count_by, sum, cases_eq, cases_order, eq-eqb, ne_eqb, common_steps, get_or-set_same, get_or-set_other, length-set, take_all, sum_by-set, sum_by-cons, count_by-le-length, none-some, same_Some, in_use, Entry, entry_at, uid_in, uid_at, IsOneToOne, map_of, IsMarked, IsIndexed, Pairs, place_of, SetsPlace, first_of, size_of, IsPlaced}
-use Rattle.active_segs.proofs.EntryLemmas.{uid_set, uid_kept, entry_set, entry_kept}
+pub use Rattle.active_segs.proofs.Prelude.{ActiveSegs, All, AreNoted, Bool, Entry, HasNoInferior, HasOneOffChain, HasPools, HasShape, IfSome, IsActive, IsActiveAt, IsFirstFree, IsFull, IsInPool, IsIndexed, IsKept, IsLeastFree, IsMarked, IsOneToOne, IsPlaced, IsSome, IsVictim, List, None, Option, Pairs, Ptw, SetsPlace, Some, StandsFor, [], ap, arith, both_ways, cases_eq, cases_order, common_steps, cond, count_by, count_by-le-length, drop, entry_at, eq-eqb, false, find_passes, first_of, first_off_chain, get_or, get_or-drop, get_or-set_other, get_or-set_same, get_or-take, get_or_default, get_or_read, hand_of, in_use, inl, inr, is_some, leaf_below, leaf_of, length, length-drop, length-set, length-take-le, map_of, map_set, ne_eqb, none-some, noted, off_chain, place_of, place_of_superior, refl, round_pool, same_Some, set, size_of, subst, suc, sum, sum_by-cons, sum_by-set, superior_in, sym, take, take_all, true, uid_at, uid_in, used_in, victim_of, zero, ℕ, ◌+◌, ◌-◌, ◌<◌, ◌∙◌, ◌∷◌, ◌≡◌, ◌≢◌, ◌≤◌}
+pub use Rattle.active_segs.proofs.EntryLemmas.{entry_kept, entry_set, tree_activated, tree_deactivated, uid_kept, uid_set, used_within}
 
 -- ---- the places of the pools
 
@@ -119,9 +119,8 @@ marked_set {sizes} {used} {xs} {place} {pool} {offset} b o four size marked plac
 
 -- ---- the index
 
-used_set : (xs : List (Option Entry)) (p : ℕ) (o : Option Entry) → p < length xs
-    → count_by is_some (set xs p o) + cond {A = ℕ} (is_some (entry_at xs p)) 1 0
-    ≡ count_by is_some xs + cond (is_some o) 1 0
+used_set : (xs : List (Option Entry)) (p : ℕ) (o : Option Entry) → p < length xs → count_by is_some
+    (set xs p o) + cond {A = ℕ} (is_some (entry_at xs p)) 1 0 ≡ count_by is_some xs + cond (is_some o) 1 0
 used_set xs p o lt = sum_by-set (λ (x : Option Entry). cond (is_some x) 1 0) xs p o None lt
 
 -- where a place is free not all are used
@@ -156,9 +155,8 @@ module _ (xs : List (Option Entry)) (old new : Pairs) (p : ℕ) (lt : p < length
       → place_of new.pairs u ≡ place_of old.pairs u
   other_place uid u place sets ne = sets u ∙ ap (λ (b : Bool). cond b place (place_of old.pairs u)) (ne_eqb uid u ne)
 
-  pub indexed_activated : (e : Entry) → entry_at xs p ≡ None → ((q : ℕ) → uid_at xs q ≢ Some e.uid)
-      → SetsPlace old.pairs new.pairs e.uid (Some p)
-      → length new.pairs ≡ length old.pairs + 1 → IsIndexed (set xs p (Some e)) new
+  pub indexed_activated : (e : Entry) → entry_at xs p ≡ None → ((q : ℕ) → uid_at xs q ≢ Some e.uid) → SetsPlace
+      old.pairs new.pairs e.uid (Some p) → length new.pairs ≡ length old.pairs + 1 → IsIndexed (set xs p (Some e)) new
   indexed_activated e free inactive sets count = record {
     places = λ q u. elim (cases_eq e.uid u) [
       | inl same ↦
@@ -188,9 +186,8 @@ module _ (xs : List (Option Entry)) (old new : Pairs) (p : ℕ) (lt : p < length
     room = room ∙ indexed.room ∙ sym (length-set xs p (Some e));
   }
 
-  pub indexed_deactivated : (e : Entry) → entry_at xs p ≡ Some e → IsOneToOne xs
-      → SetsPlace old.pairs new.pairs e.uid None
-      → length new.pairs + 1 ≡ length old.pairs → IsIndexed (set xs p None) new
+  pub indexed_deactivated : (e : Entry) → entry_at xs p ≡ Some e → IsOneToOne xs → SetsPlace
+      old.pairs new.pairs e.uid None → length new.pairs + 1 ≡ length old.pairs → IsIndexed (set xs p None) new
   indexed_deactivated e is once sets count = record {
     places = λ q u. elim (cases_eq e.uid u) [
       | inl same ↦ (

@@ -1,14 +1,12 @@
 -- What the lists of an index say together: a uid is in the one of its remainder.
-use Rattle.active_segs.proofs.Prelude.{◌≡◌, ◌≢◌, ℕ, zero, suc, ◌+◌, ◌<◌, ◌≤◌, ◌%◌, Bool, true, false, cond, eqb, List, [], ◌∷◌, ◌++◌, ◌⊎◌, length, get_or, set, replicate, Option, Some, None, inl, inr, refl, sym, ap, ◌∙◌, arith, eqb_tells, get_or-set_same, get_or-set_other, get_or_read, length-set, length-replicate, get_or-replicate, length-flat_map, sum_by-set, Pairs, IsSplit, SetsPlace, empty_list, list_at, pairs_in, place_of}
-use Rattle.std.proofs.Math.Nat.{mod-lt}
+pub use Rattle.active_segs.proofs.Prelude.{Bool, IsSplit, List, None, Option, Pairs, SetsPlace, Some, [], ap, arith, cond, empty_list, eqb, eqb_tells, false, get_or, get_or-replicate, get_or-set_other, get_or-set_same, get_or_read, inl, inr, length, length-flat_map, length-replicate, length-set, list_at, mod-lt, pairs_in, place_of, refl, replicate, set, subst, suc, sum_by-set, sym, true, zero, ℕ, ◌%◌, ◌++◌, ◌+◌, ◌<◌, ◌∙◌, ◌∷◌, ◌≡◌, ◌≢◌, ◌≤◌, ◌⊎◌}
 
 place_past : (xs ys : List (ℕ × ℕ)) (u : ℕ) → place_of xs u ≡ None → place_of (xs ++ ys) u ≡ place_of ys u
 place_past [] ys u none = refl
 place_past (x ∷ xs) ys u none = by (eqb x.0 u) none (place_past xs ys u)
   where
-    by : (b : Bool) → cond b (Some x.1) (place_of xs u) ≡ None
-        → (place_of xs u ≡ None → place_of (xs ++ ys) u ≡ place_of ys u)
-        → cond b (Some x.1) (place_of (xs ++ ys) u) ≡ place_of ys u
+    by : (b : Bool) → cond b (Some x.1) (place_of xs u) ≡ None → (place_of xs u ≡ None
+        → place_of (xs ++ ys) u ≡ place_of ys u) → cond b (Some x.1) (place_of (xs ++ ys) u) ≡ place_of ys u
     by true e rest = absurd (let no : Some x.1 ≡ None = e in cc)
     by false e rest = rest e
 
@@ -25,9 +23,8 @@ place_nowhere [] u none = refl
 place_nowhere (l ∷ ls) u none = place_past l.pairs (pairs_in ls) u (none 0 (omega arith))
     ∙ place_nowhere ls u (λ k lt. none (suc k) (omega (arith, lt)))
 
-place_in : (lists : List Pairs) (u i : ℕ) → i < length lists
-    → ((k : ℕ) → k < length lists → k ≢ i → place_of (list_at lists k).pairs u ≡ None)
-    → place_of (pairs_in lists) u ≡ place_of (list_at lists i).pairs u
+place_in : (lists : List Pairs) (u i : ℕ) → i < length lists → ((k : ℕ) → k < length lists → k ≢ i
+    → place_of (list_at lists k).pairs u ≡ None) → place_of (pairs_in lists) u ≡ place_of (list_at lists i).pairs u
 place_in [] u i lt none = absurd (omega (arith, lt))
 place_in (l ∷ ls) u zero lt none = place_front l.pairs (pairs_in ls) u
     (place_nowhere ls u (λ k less. none (suc k) (omega (arith, less)) (λ e. omega (arith, e))))

@@ -1,7 +1,5 @@
-use Rattle.active_segs.proofs.Prelude.{◌≡◌, ◌≢◌, ◌<◌, List, Option, ℕ, Some, None, length, sym, subst, Entry, ActiveSegs, entry_at, uid_at, IsActive}
-use Rattle.active_segs.proofs.AstLemmas.{kept_activated}
-use Rattle.active_segs.proofs.InferiorLemmas.{IsSuperiorPlace, superior_placed, may_note}
-use Rattle.active_segs.proofs.PlaceLemmas.{index_has_room, index_lacks}
+use Rattle.active_segs.proofs.Prelude.{ActiveSegs, Entry, IsActive, List, None, Option, Some, entry_at, length, subst, sym, uid_at, ℕ, ◌<◌, ◌≡◌, ◌≢◌}
+use Rattle.active_segs.proofs.AstLemmas.{IsSuperiorPlace, index_has_room, index_lacks, kept_activated, may_note, superior_placed}
 use Rattle.active_segs.proofs.Ast.activate.Goals as goal
 
 pub note-requires : goal.note-requires
@@ -30,17 +28,16 @@ insert-requires-clause-absent c = index_lacks c.args.uid c.self.invariant.indexe
 
 pub invariant_of-self : goal.invariant_of-self
 invariant_of-self c =
-    kept_activated c.self.inside.sizes c.self.inside.hands c.self.inside.used.items c.self.inside.entries.items
-    c.self.inside.tables.items c.self.inside.inferiors.items c.self.inside.index c.self.invariant
-    c.args.place c.args.uid c.args.superior c.pool_of-pool.result.0 c.pool_of-pool.result.1 c.mark.new.used.items
-    c.note.new.inferiors.items c.insert.new.self c.place_of_superior-above.result
+    kept_activated c.self.inside.sizes c.self.inside.hands c.self.inside.used.items
+    c.self.inside.entries.items c.self.inside.tables.items c.self.inside.inferiors.items c.self.inside.index
+    c.self.invariant c.args.place c.args.uid c.args.superior c.pool_of-pool.result.0 c.pool_of-pool.result.1
+    c.mark.new.used.items c.note.new.inferiors.items c.insert.new.self c.place_of_superior-above.result
     (subst (λ (v : ActiveSegs). c.args.place < length v.entries) (sym c.self.view_is) c.requires.place)
-    (subst (λ (v : ActiveSegs). entry_at v.entries c.args.place ≡ None) (sym c.self.view_is) c.requires.free)
-    (subst (λ (v : ActiveSegs). (q : ℕ) → uid_at v.entries q ≢ Some c.args.uid) (sym c.self.view_is)
-    c.requires.inactive)
+    (subst (λ (v : ActiveSegs). entry_at v.entries c.args.place ≡ None) (sym c.self.view_is) c.requires.free) (subst
+    (λ (v : ActiveSegs). (q : ℕ) → uid_at v.entries q ≢ Some c.args.uid) (sym c.self.view_is) c.requires.inactive)
     (λ s h. subst (λ (v : ActiveSegs). IsActive v.entries s) (sym c.self.view_is) (c.requires.superior s h))
-    c.pool_of-pool.ensures c.place_of_superior-above.ensures c.mark.ensures c.note.ensures c.insert.ensures.sets
-    c.insert.ensures.count c.insert.ensures.room
+    c.pool_of-pool.ensures c.place_of_superior-above.ensures
+    c.mark.ensures c.note.ensures c.insert.ensures.sets c.insert.ensures.count c.insert.ensures.room
 
 pub returns-clause-tree : goal.returns-clause-tree
 returns-clause-tree c = (invariant_of-self c).tree

@@ -1,6 +1,5 @@
-use Rattle.active_segs.proofs.Prelude.{List, Option, is_some, sym, ap, subst, Entry, ActiveSegs, uid_in, superior_in, HasNoInferior}
-use Rattle.active_segs.proofs.AstLemmas.{kept_deactivated, used_entry}
-use Rattle.active_segs.proofs.InferiorLemmas.{IsSuperiorPlace, superior_of_active, may_forget}
+use Rattle.active_segs.proofs.Prelude.{ActiveSegs, Entry, HasNoInferior, List, Option, ap, is_some, subst, superior_in, sym, uid_in}
+use Rattle.active_segs.proofs.AstLemmas.{IsSuperiorPlace, kept_deactivated, may_forget, superior_of_active, used_entry}
 use Rattle.active_segs.proofs.Ast.deactivate.Goals as goal
 
 pub forget-requires : goal.forget-requires
@@ -27,13 +26,12 @@ invariant_of-self-2 c =
     let at = used_entry c.self.view_is c.requires.place c.index.ensures c.in-Some.is in
     let leaf : HasNoInferior xs c.args.place = subst (λ (v : ActiveSegs). HasNoInferior v.entries c.args.place)
     (sym c.self.view_is) c.requires.leaf in
-    kept_deactivated c.self.inside.sizes c.self.inside.hands c.self.inside.used.items xs c.self.inside.tables.items
-    c.self.inside.inferiors.items c.self.inside.index
-    c.self.invariant c.args.place c.in-Some.entry c.pool_of-pool.result.0 c.pool_of-pool.result.1
-    c.unmark.new.used.items c.forget.new.inferiors.items
-    c.remove.new.self c.place_of_superior-above.result c.clear.new.self at.within at.is leaf
-    c.pool_of-pool.ensures c.place_of_superior-above.ensures c.unmark.ensures c.forget.ensures
-    c.remove.ensures.sets c.remove.ensures.count c.remove.ensures.room
+    kept_deactivated c.self.inside.sizes
+    c.self.inside.hands c.self.inside.used.items xs c.self.inside.tables.items c.self.inside.inferiors.items
+    c.self.inside.index c.self.invariant c.args.place c.in-Some.entry c.pool_of-pool.result.0 c.pool_of-pool.result.1
+    c.unmark.new.used.items c.forget.new.inferiors.items c.remove.new.self c.place_of_superior-above.result
+    c.clear.new.self at.within at.is leaf c.pool_of-pool.ensures c.place_of_superior-above.ensures
+    c.unmark.ensures c.forget.ensures c.remove.ensures.sets c.remove.ensures.count c.remove.ensures.room
 
 pub returns-clause-tree : goal.returns-clause-tree
 returns-clause-tree c = (invariant_of-self-2 c).tree

@@ -1,6 +1,5 @@
-use Rattle.active_segs.proofs.Prelude.{◌≡◌, Some, length, sym, ap, subst, arith, ActiveSegs, IsActiveAt, IsInPool, first_off_chain, HasOneOffChain}
-use Rattle.active_segs.proofs.PlaceLemmas.{pool_within}
-use Rattle.active_segs.proofs.AstLemmas.{segs_of, place_found, found_in_pool, found_active}
+use Rattle.active_segs.proofs.Prelude.{ActiveSegs, HasOneOffChain, IsActiveAt, IsInPool, Some, ap, arith, first_off_chain, length, subst, sym, ◌≡◌}
+use Rattle.active_segs.proofs.AstLemmas.{found_active, found_in_pool, place_found, pool_within, segs_of}
 use Rattle.active_segs.proofs.Ast.found.Goals as goal
 
 pub find_from_hand-requires-clause-within : goal.find_from_hand-requires-clause-within
@@ -8,8 +7,7 @@ find_from_hand-requires-clause-within c =
     let same : length c.deref.result.now ≡ length c.self.inside.entries.items = ap length c.deref.ensures.value in
     omega (
       arith,
-      pool_within c.self.inside.sizes c.args.pool
-          c.self.invariant.pools.four c.requires.pool,
+      pool_within c.self.inside.sizes c.args.pool c.self.invariant.pools.four c.requires.pool,
       c.self.invariant.entry_count,
       c.first_of-first.ensures.first,
     )

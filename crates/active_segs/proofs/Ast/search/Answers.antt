@@ -1,4 +1,4 @@
-use Rattle.active_segs.proofs.Prelude.{◌<◌, length, subst, ActiveSegs, HasShape, IfSome}
+use Rattle.active_segs.proofs.Prelude.{ActiveSegs, HasShape, IfSome, length, subst, ◌<◌}
 use Rattle.active_segs.proofs.AstLemmas.{searched_within}
 use Rattle.active_segs.proofs.Ast.search.Goals as goal
 

@@ -1,4 +1,4 @@
-use Rattle.active_segs.proofs.Prelude.{◌≡◌, ◌≤◌, replicate, vec_len, vec_capacity, empty_list}
+use Rattle.active_segs.proofs.Prelude.{empty_list, replicate, vec_capacity, vec_len, ◌≡◌, ◌≤◌}
 use Rattle.active_segs.proofs.index.empty_lists.Given as goal
 
 abbrev pub invariant-loop-list : goal.invariant-loop-list

@@ -1,5 +1,4 @@
-use Rattle.active_segs.proofs.Prelude.{rules, answers_always}
-use Rattle.active_segs.proofs.PairLemmas.{searched}
+use Rattle.active_segs.proofs.PairLemmas.{answers_always, rules, searched}
 use Rattle.active_segs.proofs.index.search.Goals as goal
 
 pub returns : goal.returns

@@ -1,4 +1,4 @@
-use Rattle.active_segs.proofs.Prelude.{◌≡◌, ◌≤◌, true, replicate, vec_len, vec_capacity}
+use Rattle.active_segs.proofs.Prelude.{replicate, true, vec_capacity, vec_len, ◌≡◌, ◌≤◌}
 use Rattle.active_segs.proofs.inferiors.no_inferiors.Given as goal
 
 abbrev pub invariant-loop-place : goal.invariant-loop-place

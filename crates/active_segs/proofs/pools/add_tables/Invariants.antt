@@ -1,4 +1,4 @@
-use Rattle.active_segs.proofs.Prelude.{◌≡◌, ◌≤◌, ◌+◌, ◌++◌, replicate, vec_len, vec_capacity, Null}
+use Rattle.active_segs.proofs.Prelude.{Null, replicate, vec_capacity, vec_len, ◌++◌, ◌+◌, ◌≡◌, ◌≤◌}
 use Rattle.active_segs.proofs.pools.add_tables.Given as goal
 
 abbrev pub invariant-loop-table : goal.invariant-loop-table

@@ -1,4 +1,4 @@
-use Rattle.active_segs.proofs.Prelude.{◌≡◌, false, length, map, replicate, take, vec_len, vec_capacity}
+use Rattle.active_segs.proofs.Prelude.{false, length, map, replicate, take, vec_capacity, vec_len, ◌≡◌}
 use Rattle.active_segs.proofs.pools.no_marks.Given as goal
 
 abbrev pub invariant-loop-size : goal.invariant-loop-size

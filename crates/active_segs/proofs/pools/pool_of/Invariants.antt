@@ -1,4 +1,4 @@
-use Rattle.active_segs.proofs.Prelude.{◌≡◌, ◌+◌, take, sum}
+use Rattle.active_segs.proofs.Prelude.{sum, take, ◌+◌, ◌≡◌}
 use Rattle.active_segs.proofs.pools.pool_of.Given as goal
 
 abbrev pub invariant-loop-pool : goal.invariant-loop-pool

@@ -1,4 +1,4 @@
-use Rattle.active_segs.proofs.Prelude.{sym, ap, ◌∙◌, is_some, both_ways, entry_at, off_chain, places_from}
+use Rattle.active_segs.proofs.Prelude.{ap, both_ways, entry_at, is_some, off_chain, places_from, sym, ◌∙◌}
 use Rattle.active_segs.proofs.DescentLemmas.{find_first, find_second}
 use Rattle.active_segs.proofs.victim.find_from_hand.Goals as goal
 

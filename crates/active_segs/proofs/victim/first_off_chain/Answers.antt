@@ -1,4 +1,4 @@
-use Rattle.active_segs.proofs.Prelude.{sym, ◌∙◌, entry_at, off_chain}
+use Rattle.active_segs.proofs.Prelude.{entry_at, off_chain, sym, ◌∙◌}
 use Rattle.active_segs.proofs.DescentLemmas.{finds_later}
 use Rattle.active_segs.proofs.victim.first_off_chain.Goals as goal
 

@@ -1,4 +1,4 @@
-use Rattle.active_segs.proofs.Prelude.{◌≡◌, find, entry_at, off_chain, places_from}
+use Rattle.active_segs.proofs.Prelude.{entry_at, find, off_chain, places_from, ◌≡◌}
 use Rattle.active_segs.proofs.victim.first_off_chain.Given as goal
 
 abbrev pub invariant-loop-place : goal.invariant-loop-place

@@ -1,7 +1,5 @@
-use Rattle.active_segs.proofs.Prelude.{◌≡◌, ◌<◌, length, arith}
-use Rattle.active_segs.proofs.EntryLemmas.{used_within}
-use Rattle.active_segs.proofs.InferiorLemmas.{noted_map, least_since_noted, leaf_read}
-use Rattle.active_segs.proofs.DescentLemmas.{stays, way_begins, way_goes_on, way_ends, way_comes_to}
+use Rattle.active_segs.proofs.InferiorLemmas.{arith, leaf_read, least_since_noted, length, noted_map, used_within, ◌<◌, ◌≡◌}
+use Rattle.active_segs.proofs.DescentLemmas.{stays, way_begins, way_comes_to, way_ends, way_goes_on}
 use Rattle.active_segs.proofs.victim.leaf_below.Goals as goal
 
 pub loop-step-init : goal.loop-step-init
@@ -15,15 +13,13 @@ bounds-inferiors-place c =
 
 pub returns-in-None-clause-is : goal.returns-in-None-clause-is
 returns-in-None-clause-is c = way_comes_to _ _ _ _ c.loop-step.invariant
-    (leaf_read _ _ c.requires.noted c.loop-step.place c.index-inferiors-place.result
-    (used_within _ _ c.loop-step.invariant.uid c.loop-step.invariant.is) c.index-inferiors-place.is
-    c.in-None.ensures.none)
+    (leaf_read _ _ c.requires.noted c.loop-step.place c.index-inferiors-place.result (used_within
+    _ _ c.loop-step.invariant.uid c.loop-step.invariant.is) c.index-inferiors-place.is c.in-None.ensures.none)
 
 pub returns-in-None-clause-stands : goal.returns-in-None-clause-stands
-returns-in-None-clause-stands c = c.loop-step.invariant.back _ (stays _ _
-    (leaf_read _ _ c.requires.noted c.loop-step.place c.index-inferiors-place.result
-    (used_within _ _ c.loop-step.invariant.uid c.loop-step.invariant.is) c.index-inferiors-place.is
-    c.in-None.ensures.none))
+returns-in-None-clause-stands c = c.loop-step.invariant.back _
+    (stays _ _ (leaf_read _ _ c.requires.noted c.loop-step.place c.index-inferiors-place.result (used_within
+    _ _ c.loop-step.invariant.uid c.loop-step.invariant.is) c.index-inferiors-place.is c.in-None.ensures.none))
 
 pub loop-step-preserved : goal.loop-step-preserved
 loop-step-preserved c =

@@ -1,5 +1,4 @@
-use Rattle.active_segs.proofs.Prelude.{ap, ◌∙◌, Pairs, place_of}
-use Rattle.active_segs.proofs.SplitLemmas.{finds_list}
+use Rattle.active_segs.proofs.SplitLemmas.{Pairs, ap, finds_list, place_of, ◌∙◌}
 use Rattle.active_segs.proofs.index.Index.find.Goals as goal
 
 pub returns : goal.returns

@@ -1,5 +1,4 @@
-use Rattle.active_segs.proofs.Prelude.{◌+◌, ◌<◌, Some, ap, length, set, subst, sym, ◌%◌, ◌∙◌, Pairs, SetsPlace, pairs_in, place_of}
-use Rattle.active_segs.proofs.SplitLemmas.{finds_list, list_has_room, list_more, list_sets, list_split}
+use Rattle.active_segs.proofs.SplitLemmas.{Pairs, SetsPlace, Some, ap, finds_list, length, list_has_room, list_more, list_sets, list_split, pairs_in, place_of, set, subst, sym, ◌%◌, ◌+◌, ◌<◌, ◌∙◌}
 use Rattle.active_segs.proofs.index.Index.insert.Goals as goal
 
 pub insert-requires-clause-room : goal.insert-requires-clause-room
@@ -18,9 +17,8 @@ invariant_of-self c = list_split c.self.inside.lists.items c.self.inside.room c.
     c.insert.ensures.room
 
 pub returns-clause-sets : goal.returns-clause-sets
-returns-clause-sets c = subst (λ (v : Pairs). SetsPlace v.pairs
-    (pairs_in (set c.self.inside.lists.items (c.args.uid % 256) c.insert.new.self)) c.args.uid (Some c.args.place))
-    c.self.view_is
+returns-clause-sets c = subst (λ (v : Pairs). SetsPlace v.pairs (pairs_in
+    (set c.self.inside.lists.items (c.args.uid % 256) c.insert.new.self)) c.args.uid (Some c.args.place)) c.self.view_is
     (list_sets c.self.inside.lists.items c.self.inside.room c.args.uid c.self.invariant c.index_mut.result.now
     c.index_mut.ensures.value c.insert.new.self (Some c.args.place) c.insert.ensures.sets c.insert.ensures.room)
 

@@ -1,5 +1,4 @@
-use Rattle.active_segs.proofs.Prelude.{None, ap, length, set, subst, ◌%◌, ◌∙◌, Pairs, SetsPlace, pairs_in, place_of}
-use Rattle.active_segs.proofs.SplitLemmas.{finds_list, list_less, list_sets, list_split}
+use Rattle.active_segs.proofs.SplitLemmas.{None, Pairs, SetsPlace, ap, finds_list, length, list_less, list_sets, list_split, pairs_in, place_of, set, subst, ◌%◌, ◌∙◌}
 use Rattle.active_segs.proofs.index.Index.remove.Goals as goal
 
 pub remove-requires : goal.remove-requires

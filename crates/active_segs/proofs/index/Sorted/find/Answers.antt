@@ -1,5 +1,4 @@
-use Rattle.active_segs.proofs.Prelude.{ℕ, ap, sym, ◌∙◌, Some, get_or_default, Pairs, place_of, IsFoundAt}
-use Rattle.active_segs.proofs.PairLemmas.{place_found, place_in_gap}
+use Rattle.active_segs.proofs.PairLemmas.{IsFoundAt, Pairs, Some, ap, get_or_default, place_found, place_in_gap, place_of, sym, ℕ, ◌∙◌}
 use Rattle.active_segs.proofs.index.Sorted.find.Goals as goal
 
 pub returns-in-Ok : goal.returns-in-Ok

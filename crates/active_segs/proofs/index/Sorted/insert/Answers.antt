@@ -1,5 +1,4 @@
-use Rattle.active_segs.proofs.Prelude.{◌≡◌, ℕ, List, length, ap, sym, subst, ◌∙◌, None, Some, arith, ◌<◌, Pairs, place_of, IsAscending, IsFoundAt, BelongsAt, SetsPlace}
-use Rattle.active_segs.proofs.PairLemmas.{place_found, sets_inserted, ascending_inserted}
+use Rattle.active_segs.proofs.PairLemmas.{BelongsAt, IsAscending, IsFoundAt, List, None, Pairs, SetsPlace, Some, ap, arith, ascending_inserted, length, place_found, place_of, sets_inserted, subst, sym, ℕ, ◌<◌, ◌∙◌, ◌≡◌}
 use Rattle.active_segs.proofs.index.Sorted.insert.Goals as goal
 
 pub unreachable-requires : goal.unreachable-requires

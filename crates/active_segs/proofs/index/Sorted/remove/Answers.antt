@@ -1,5 +1,4 @@
-use Rattle.active_segs.proofs.Prelude.{◌≡◌, ℕ, List, ap, sym, subst, ◌∙◌, None, is_some, both_ways, Pairs, place_of, IsFoundAt, SetsPlace}
-use Rattle.active_segs.proofs.PairLemmas.{place_in_gap, place_removed}
+use Rattle.active_segs.proofs.PairLemmas.{IsFoundAt, List, None, Pairs, SetsPlace, ap, both_ways, is_some, place_in_gap, place_of, place_removed, subst, sym, ℕ, ◌∙◌, ◌≡◌}
 use Rattle.active_segs.proofs.index.Sorted.remove.Goals as goal
 
 pub unreachable-requires : goal.unreachable-requires
