@@ -1,4 +1,4 @@
-use Rattle.page_control.proofs.Prelude.{◌≡◌, ℕ, ◌<◌, arith, Bool, true, false, List, [], ◌∷◌, ◌++◌, length, None, Some, refl, sym, ap, ◌∙◌, get_or, set, replicate, take, map, All, IsSome, get_or-set_same, set-set, map-set, length-map, get_or-map, map-set_same, All-get_or, in_use, IsLeastFree, Frame, Free, Started, Bound, reads_of, Core, frame_at, with_frame, is_bound, bound_page, started_page, after_reference, Ptw, Null, Out, Here, Leaving, ptw_at, Entry, Home, Plain, Paging, plain, bindings, binding_at, flags_of, file_map_of, filed, entry_of, record_of, number_in, number_or_zero, frame_of, has_record, uid_in, uid_at, IsTableOf, IsMapOf, AreFiled, IsTied, within_from, flag_within, some_unwrapped, map_some}
+pub use Rattle.page_control.proofs.Prelude.{All, All-get_or, AreFiled, Bool, Bound, Core, Entry, Frame, Free, Here, Home, IsLeastFree, IsMapOf, IsSome, IsTableOf, IsTied, Leaving, List, None, Null, Option, Out, Paging, Plain, Ptw, Some, Started, [], after_reference, ap, arith, binding_at, bindings, bound_page, cases_eq, common_steps, entry_at, entry_of, false, file_map_of, filed, flag_within, flags_of, frame_at, frame_of, get_or, get_or-map, get_or-set_other, get_or-set_same, get_or_past, has_record, in_use, inl, inr, is_bound, is_some, leb_tells, length, length-map, map, map-set, map-set_same, map_at, map_some, not_none, number_in, number_or_zero, plain, ptw_at, put, put_here, put_other, reads_of, record_of, records_in, refl, replicate, set, set-set, set_past, some_unwrapped, started_page, sym, take, true, uid_at, uid_in, uid_of, vtoc_in, with_frame, with_record, within_from, ℕ, ◌++◌, ◌<◌, ◌∙◌, ◌∷◌, ◌≡◌, ◌≢◌, ◌⊎◌, is_away}
 
 pub home_used : (s : Plain) (uid : ℕ) (home : Home) → uid_at s.vtocs home ≡ Some uid → IsSome (entry_of s home)
 home_used s uid home h = map_some (λ (e : Entry). e.uid) (entry_of s home) uid h
@@ -18,13 +18,14 @@ pub filed_from_word : (s : Plain) (home : Home) (table : List Ptw) (p : ℕ) →
 filed_from_word s home table p h word = some_unwrapped (filed s home p) (h.stored p ∙ word)
 
 -- which is in use
-pub filed_in_use : (s : Plain) (home : Home) (p r : ℕ) → AreFiled s.records s.vtocs → filed s home p ≡ Some r
+pub filed_in_use : (s : Plain) (home : Home) (p : ℕ) {r : ℕ} → AreFiled s.records s.vtocs → filed s home p ≡ Some r
     → in_use (flags_of s home.volume) r ≡ true
-filed_in_use s home p r h is = h.used home.volume home.entry p r is
+filed_in_use s home p {r = r} h is = h.used home.volume home.entry p r is
 
 -- where all records are in use, none is free
-pub none_free : (flags : List Bool) (r : ℕ) → All (λ flag. flag ≡ true) flags → IsLeastFree flags r → ⊥
-none_free flags r all least = cc (All-get_or (λ (flag : Bool). flag ≡ true) flags r false least.within all, least.free)
+pub none_free : {flags : List Bool} {r : ℕ} → All (λ flag. flag ≡ true) flags → IsLeastFree flags r → ⊥
+none_free {flags = flags} {r = r} all least = cc
+    (All-get_or (λ (flag : Bool). flag ≡ true) flags r false least.within all, least.free)
 
 -- a page that is cleared from its start
 pub all_cleared : (words : List ℕ) → take 0 words ++ replicate 1024 0 ≡ replicate 1024 0
@@ -41,17 +42,17 @@ bound_from_page (Bound u q used modified) uid p h = refl
 bound_from_page _ uid p h = cc
 
 -- and so is the frame that a word names
-pub leaving_bound : (core : Core) (uid : ℕ) (table : List Ptw) (p f : ℕ) → IsTableOf (bindings core) uid table
+pub leaving_bound : (core : Core) {uid : ℕ} {table : List Ptw} (p : ℕ) {f : ℕ} → IsTableOf (bindings core) uid table
     → ptw_at table p ≡ Leaving f → is_bound (frame_at core f) ≡ true
-leaving_bound core uid table p f h word =
+leaving_bound core {uid = uid} p {f = f} h word =
     bound_from_page (frame_at core f) uid p (sym (binding_is core f) ∙ h.back f p (ap frame_of word))
 
 -- a bound frame is within the core
 pub bound_inside : (core : Core) (f : ℕ) → is_bound (frame_at core f) ≡ true → f < length core.frames
-bound_inside core f bound = within_from core.frames f Free (λ free. bound_not_free (frame_at core f) free bound)
+bound_inside core f bound = within_from core.frames f Free (λ free. bound_not_free free bound)
   where
-    bound_not_free : (frame : Frame) → frame ≡ Free → is_bound frame ≡ true → ⊥
-    bound_not_free frame free bound = let off : is_bound frame ≡ false = ap is_bound free in cc
+    bound_not_free : {frame : Frame} → frame ≡ Free → is_bound frame ≡ true → ⊥
+    bound_not_free {frame = frame} free bound = let off : is_bound frame ≡ false = ap is_bound free in cc
 
 -- what a change of one frame does to the bindings
 pub bindings_with : (core : Core) (f : ℕ) (frame : Frame) → bindings (with_frame core f frame)
@@ -76,9 +77,9 @@ pub bindings_started : (core : Core) (f uid p : ℕ) → frame_at core f ≡ Fre
     → bindings (with_frame core f (Started uid p)) ≡ bindings core
 bindings_started core f uid p free = seen_same bound_page core f (Started uid p) (cc)
 
-pub bindings_lost : (core : Core) (f uid p : ℕ) → frame_at core f ≡ Started uid p → bindings (with_frame core f Free)
-    ≡ bindings core
-bindings_lost core f uid p started = seen_same bound_page core f Free (cc)
+pub bindings_lost : (core : Core) (f : ℕ) {uid p : ℕ}
+    → frame_at core f ≡ Started uid p → bindings (with_frame core f Free) ≡ bindings core
+bindings_lost core f started = seen_same bound_page core f Free (cc)
 
 -- the page that a bound frame has
 pub bound_to : (frame : Frame) → is_bound frame ≡ true → bound_page frame ≡ Some (uid_in frame, number_in frame)
@@ -86,11 +87,10 @@ bound_to (Bound u q used modified) h = refl
 bound_to _ h = cc
 
 -- a frame that is bound and then written through
-pub bound_and_marked : (core : Core) (f uid p : ℕ) → f < length core.frames
-    → with_frame (with_frame core f (Bound uid p false false)) f
-    (after_reference (frame_at (with_frame core f (Bound uid p false false)) f) true)
-    ≡ with_frame core f (Bound uid p true true)
-bound_and_marked core f uid p lt =
+pub bound_and_marked : (core : Core) {f : ℕ} (uid p : ℕ) → f < length core.frames → with_frame (with_frame core f (Bound
+    uid p false false)) f (after_reference (frame_at (with_frame core f (Bound uid p false false)) f) true) ≡ with_frame
+    core f (Bound uid p true true)
+bound_and_marked core {f = f} uid p lt =
     let read : get_or (set core.frames f (Bound uid p false false)) f Free ≡ Bound uid p false false =
     get_or-set_same core.frames f (Bound uid p false false) Free lt in
     cc (set-set core.frames f (Bound uid p false false) (Bound uid p true true))
@@ -110,26 +110,32 @@ pub record_is : (s : Plain) (home : Home) (p r : ℕ) → filed s home p ≡ Som
 record_is s home p r is = ap number_or_zero is
 
 -- what the tie of a segment gives
-pub tied_entry : (s : Plain) (uid : ℕ) (home : Home) (words : List Ptw) → IsTied s uid home words
+pub tied_entry : {s : Plain} {uid : ℕ} {home : Home} {words : List Ptw} → IsTied s uid home words
     → IsSome (entry_of s home)
-tied_entry s uid home words tie = home_used s uid home tie.used
+tied_entry {s = s} {uid = uid} {home = home} tie = home_used s uid home tie.used
 
-pub tied_volume : {D : Type 0} (pages : D → List (List ℕ)) (s : Paging D) (uid : ℕ) (home : Home) (words : List Ptw)
+pub tied_volume : {D : Type 0} (pages : D → List (List ℕ)) (s : Paging D) {uid : ℕ} {home : Home} {words : List Ptw}
     → IsTied (plain pages s) uid home words → home.volume < length s.volumes.drives
-tied_volume pages s uid home words tie = (omega (arith, length-map s.volumes.drives pages))
+tied_volume pages s tie = (omega (arith, length-map s.volumes.drives pages))
 
 pub tied_filed : {s : Plain} {uid : ℕ} {home : Home} {words : List Ptw} (p : ℕ) → IsTied s uid home words
     → has_record (ptw_at words p) ≡ true → filed s home p ≡ Some (record_of s home p)
 tied_filed {s} {home} {words} p tie has = filed_from_word s home words p tie.map has
+
+-- a page that is away is on a record
+pub stored_away : (word : Ptw) → is_away word ≡ true → has_record word ≡ true
+stored_away Null away = cc
+stored_away (Out r) away = refl
+stored_away _ away = refl
 
 pub plain_volume : {D : Type 0} (pages : D → List (List ℕ)) (s : Paging D) (v : ℕ) → v < length s.volumes.drives
     → v < length (plain pages s).disks
 plain_volume pages s v lt = (omega (arith, length-map s.volumes.drives pages))
 
 -- what the steps of each call go by: a page that leaves its frame, one that is dropped and one that is made
-pub ruleset page_leaves = (tied_entry, leaving_within)
+pub ruleset page_leaves = (tied_entry, tied_volume, tied_filed, leaving_within)
 
-pub ruleset page_dropped = (tied_entry, leaving_bound)
+pub ruleset page_dropped = (tied_entry, tied_volume, tied_filed, stored_away, leaving_bound)
 
 pub ruleset page_made = (home_used, none_free)
 

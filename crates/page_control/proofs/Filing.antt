@@ -1,6 +1,6 @@
 -- The records that file maps name stay in use and named once, whatever a call does to them.
-use Rattle.page_control.proofs.Prelude.{◌≡◌, ◌⊎◌, ℕ, ◌<◌, Bool, true, false, List, [], length, Option, None, Some, ap, ◌∙◌, get_or, inl, inr, cases_eq, in_use, Entry, entry_at, record_at, records_in, with_record, Home, vtoc_in, flags_in, uid_at, map_at, AreFiled, none_put, within_from, not_none, off_and_on, put, put_here, put_other}
-use Rattle.page_control.proofs.Places.{some_put, refile, map_refiled, volume_within, home_within, same_record}
+pub use Rattle.page_control.proofs.Prelude.{AreFiled, Bool, Entry, Home, IsLeastFree, IsNamed, List, None, Option, Some, [], ap, cases_eq, entry_at, false, flag_within, flags_in, get_or, in_use, inl, inr, length, list_within, map_at, none_put, not_none, off_and_on, put, put_here, put_other, record_at, records_in, set, sym, true, uid_at, vtoc_in, with_record, within_from, ℕ, ◌<◌, ◌∙◌, ◌≡◌, ◌⊎◌}
+pub use Rattle.page_control.proofs.Places.{at_or_other, frame_same, home_within, map_refiled, refile, same_record, some_put, volume_within}
 
 -- the records that file maps name are in use, and each is named once
 pub record AreUsed (records : List (List Bool)) (vtocs : List (List (Option Entry))) : Type 0 where
@@ -28,7 +28,7 @@ refiled_cases vtocs uid p place home h v e q =
           | inr n ↦ inr (rw (i, j) (cc (
             put_here vtocs home.volume home.entry (with_record entry p place) None
                 (volume_within vtocs uid home h) (home_within vtocs uid home h),
-            same_record entry p place q n,
+            same_record entry place n,
           )))
         ]
         | inr n ↦ inr (otherwise (λ _ k. n k))
@@ -64,11 +64,10 @@ used_unstored records vtocs uid p r home filed h there =
     }
 
 -- page p at a home gets the free record r
-pub used_stored : (records : List (List Bool)) (vtocs : List (List (Option Entry))) (uid p r : ℕ) (home : Home)
-    → AreUsed records vtocs → uid_at vtocs home ≡ Some uid
-    → in_use (flags_in records home.volume) r ≡ false → home.volume < length records
-    → r < length (flags_in records home.volume)
-    → AreUsed (put records home.volume r true) (refile vtocs home p (Some r))
+pub used_stored : (records : List (List Bool)) (vtocs : List (List (Option Entry))) (uid p r : ℕ) (home : Home) →
+    AreUsed records vtocs → uid_at vtocs home ≡ Some uid → in_use (flags_in records home.volume) r ≡ false → home.volume
+    < length records → r < length (flags_in records home.volume) → AreUsed (put records home.volume r true) (refile
+    vtocs home p (Some r))
 used_stored records vtocs uid p r home filed h free vl rl =
     let now : List (List (Option Entry)) = refile vtocs home p (Some r) in
     let its : (s : ℕ) → record_at (vtoc_in now home.volume) home.entry p ≡ Some s → s ≡ r =
@@ -100,10 +99,10 @@ used_stored records vtocs uid p r home filed h free vl rl =
     }
 
 -- where each record that a file map names was named there before
-pub used_fewer : {records : List (List Bool)} {vtocs : List (List (Option Entry))} (now : List (List (Option Entry)))
+pub used_fewer : {records : List (List Bool)} {vtocs : List (List (Option Entry))} {now : List (List (Option Entry))}
     → AreUsed records vtocs → ((v e q s : ℕ) → record_at (vtoc_in now v) e q ≡ Some s
     → record_at (vtoc_in vtocs v) e q ≡ Some s) → AreUsed records now
-used_fewer now filed was = record {
+used_fewer filed was = record {
   used = λ v e q s is. filed.used v e q s (was v e q s is);
   once = λ v e q g o s is those. filed.once v e q g o s (was v e q s is) (was v g o s those);
 }

@@ -1,14 +1,13 @@
 -- What the words of a page are, where it is in a frame and where it is in none.
-use Rattle.page_control.proofs.Prelude.{◌≡◌, ◌≢◌, ◌⊎◌, ℕ, Bool, true, false, List, [], length, Option, None, Some, refl, get_or, set, eq-eqb, inl, inr, position, eqb_tells, leb_tells, cases_eq, get_or-set_same, get_or-set_other, get_or_past, set_past, position-Some, Entry, Home, Plain, bindings, binding_at, words_in, IsInFrame, map_at, is_binding, words_filed, words_out, words_of_page, words_at, not_none, position_nowhere, off_and_on}
-use Rattle.page_control.proofs.Ties.{bound_within}
-use Rattle.page_control.proofs.Firsts.{position_at_one}
+pub use Rattle.page_control.proofs.Prelude.{Bool, Entry, Home, IsCopied, IsInFrame, IsWrittenAt, List, None, Option, Out, Plain, Ptw, Some, [], ap, arith, binding_at, bindings, cases_eq, disk_of, eq-eqb, eqb_tells, false, filed, get_or, get_or-set_other, get_or-set_same, get_or_past, inl, inr, is_binding, leb_tells, length, map_at, not_none, off_and_on, plain, position, position-Some, position_nowhere, ptw_at, record_at, refl, set, set_past, sym, true, vtoc_in, words_at, words_filed, words_in, words_of_page, words_out, written, ℕ, ◌+◌, ◌<◌, ◌∙◌, ◌≡◌, ◌≢◌, ◌≤◌, ◌⊎◌}
+pub use Rattle.page_control.proofs.Firsts.{position_at_one, position_kept}
+pub use Rattle.page_control.proofs.Ties.{binding_is, bindings_referred, bindings_started, bound_from_page, bound_inside, bound_to, bound_within, frame_same, here_within, leaving_within, map_back, map_taken, number_of, table_back, table_taken}
 
 -- the picture is that of its parts
-pub picture_by : (bound old_bound : List (Option (ℕ × ℕ))) (frames old_frames : List (List ℕ))
-    (disks old_disks : List (List (List ℕ)))
-    (vtocs old_vtocs : List (List (Option Entry))) → bound ≡ old_bound → frames ≡ old_frames → disks ≡ old_disks
-    → vtocs ≡ old_vtocs
-    → words_of_page bound frames disks vtocs ≡ words_of_page old_bound old_frames old_disks old_vtocs
+pub picture_by : (bound old_bound : List (Option (ℕ × ℕ))) (frames old_frames : List (List ℕ)) (disks old_disks : List
+    (List (List ℕ))) (vtocs old_vtocs : List (List (Option Entry))) → bound ≡ old_bound → frames ≡ old_frames → disks ≡
+    old_disks → vtocs ≡ old_vtocs → words_of_page bound frames disks vtocs ≡ words_of_page old_bound old_frames
+    old_disks old_vtocs
 picture_by bound old_bound frames old_frames disks old_disks vtocs old_vtocs b f d v = rw (b, f, d, v) refl
 
 -- a binding as a page
@@ -38,9 +37,9 @@ off_from x uid p true is other = absurd (other (binding_tells x uid p is))
 off_from x uid p false is other = is
 
 -- a page that no frame is bound to, and one that one frame is bound to
-pub found_nowhere : (bound : List (Option (ℕ × ℕ))) (uid p : ℕ) → ((g : ℕ) → binding_at bound g ≡ page uid p → ⊥)
+pub found_nowhere : (bound : List (Option (ℕ × ℕ))) {uid p : ℕ} → ((g : ℕ) → binding_at bound g ≡ page uid p → ⊥)
     → position (is_binding uid p) bound ≡ None
-found_nowhere bound uid p none = position_nowhere (is_binding uid p) bound None
+found_nowhere bound {uid = uid} {p = p} none = position_nowhere (is_binding uid p) bound None
     (λ g. off_from (binding_at bound g) uid p _ refl (none g))
 
 pub found_at : (bound : List (Option (ℕ × ℕ))) (uid p f : ℕ) → binding_at bound f ≡ page uid p
@@ -57,14 +56,14 @@ shown_in s uid p f home here only = cc (found_at (bindings s.core) uid p f here 
 pub shown_out : (s : Plain) (uid p : ℕ) (home : Home) → ((g : ℕ) → binding_at (bindings s.core) g ≡ page uid p → ⊥)
     → words_at s uid home p ≡ words_out s home p
 unfolding words_of_page
-shown_out s uid p home none = cc (found_nowhere (bindings s.core) uid p none)
+shown_out s uid p home none = cc (found_nowhere (bindings s.core) none)
 
 -- one or the other
-pub in_frame_or_out : (s : Plain) (u q : ℕ) (h : Home) (place : Option ℕ) → position (is_binding u q) (bindings s.core)
+pub in_frame_or_out : (s : Plain) {u q : ℕ} (h : Home) {place : Option ℕ} → position (is_binding u q) (bindings s.core)
     ≡ place → (IsInFrame (bindings s.core) u q) ⊎ (words_at s u h q ≡ words_out s h q)
 unfolding words_of_page
-in_frame_or_out s u q h None is = inr (cc)
-in_frame_or_out s u q h (Some g) is = inl (
+in_frame_or_out s h {place = None} is = inr (cc)
+in_frame_or_out s {u = u} {q = q} h {place = (Some g)} is = inl (
   g,
   binding_tells (binding_at (bindings s.core) g) u q (position-Some (is_binding u q) (bindings s.core) g None is).1,
 )
@@ -88,9 +87,9 @@ bound_now bound f x g y is = elim (cases_eq g f) [
 ]
 
 -- a page that is in a frame stays in it where another frame changes
-pub in_frame_kept : (bound : List (Option (ℕ × ℕ))) (f u q : ℕ) (x : Option (ℕ × ℕ))
+pub in_frame_kept : (bound : List (Option (ℕ × ℕ))) (f : ℕ) {u q : ℕ} (x : Option (ℕ × ℕ))
     → (binding_at bound f ≡ Some (u, q) → ⊥) → IsInFrame bound u q → IsInFrame (set bound f x) u q
-in_frame_kept bound f u q x other (g, at) = (g, rw (get_or-set_other bound f g x None (λ e. other (rw e at at))) at)
+in_frame_kept bound f x other (g, at) = (g, rw (get_or-set_other bound f g x None (λ e. other (rw e at at))) at)
 
 -- the words of a page are those of its parts: the frames, the drives and the file map at its home
 pub words_by : (s now : Plain) (u : ℕ) (h : Home) (q : ℕ) → bindings now.core ≡ bindings s.core → now.frames ≡ s.frames

@@ -12,23 +12,24 @@ pub use Rattle.std.proofs.lemmas.List.Quantifiers.{position-Some}
 pub use Rattle.std.proofs.lemmas.List.Sums.{sum_by-set}
 pub use Rattle.std.specs.List.{position, position_or_len}
 pub use Rattle.std.specs.Prelude.{Err, IfNone, IfOk, IfSome, Ok, OnErr, OnOk, Result}
+pub use Rattle.bitmap.specs.Bitmap.{IsLeastFree, in_use}
+pub use Rattle.core_map.specs.Clock.{IsClockChoice, unmarked, way}
+pub use Rattle.core_map.specs.CoreMap.{Core, after_reference, bound_page, frame_at, is_bound, is_modified, reads_of, started_page, with_frame, with_modified}
+pub use Rattle.core_map.specs.declared.Frame.{Frame}
+pub use Rattle.core_map.specs.declared.Frame.TheVariants.{Bound, Free, Started}
 pub use Rattle.laws.proofs.Bools.{off_and_on}
 pub use Rattle.laws.proofs.Lists.{none_put, position_nowhere, within_from}
 pub use Rattle.laws.proofs.Numbers.{below}
 pub use Rattle.laws.proofs.Options.{map_some, none_there, not_none, page_is, some_unwrapped}
 pub use Rattle.laws.proofs.Places.{count_with, count_without, flag_within, list_within, put, put_here, put_other, put_put}
 pub use Rattle.mword.specs.Words.{AreZero}
-pub use Rattle.bitmap.specs.Bitmap.{IsLeastFree, in_use}
 pub use Rattle.page_table.specs.PageTable.{ptw_at}
 pub use Rattle.page_table.specs.declared.Ptw.{Ptw}
 pub use Rattle.page_table.specs.declared.Ptw.TheVariants.{Here, Leaving, Null, Out}
+pub use Rattle.volumes.specs.Volumes.{with_page}
+pub use Rattle.vtoc.proofs.Table.{no_record}
 unfoldable pub use Rattle.vtoc.specs.FileMap.{no_records}
 pub use Rattle.vtoc.specs.Vtoc.{Entry, HasFullMaps, IsLeastFreeEntry, NamesNoRecord, entry_at, fresh_entry, record_at, records_in, uid_of, with_record}
-pub use Rattle.core_map.specs.Clock.{IsClockChoice, PassesOver, unmarked, way}
-pub use Rattle.core_map.specs.CoreMap.{Core, after_reference, bound_page, frame_at, is_bound, is_modified, reads_of, started_page, with_frame, with_modified}
-pub use Rattle.core_map.specs.declared.Frame.{Frame}
-pub use Rattle.core_map.specs.declared.Frame.TheVariants.{Bound, Free, Started}
-pub use Rattle.volumes.specs.Volumes.{with_page}
 pub use Rattle.page_control.specs.Counts.{KeepsCounts, taken, taken_after, used}
 unfoldable pub use Rattle.page_control.specs.Counts.{named_on, one_less, one_more}
 pub use Rattle.page_control.specs.Effects.{after_asked, allocated, brought_in, created, dropped, erased, evicted, framed, freed, next_record, referred, unstored, word_of_left, worded}

@@ -1,10 +1,7 @@
 -- A call that concerns one page of a segment at its home, and what it leaves to all other pages.
-use Rattle.page_control.proofs.Prelude.{◌≡◌, ◌≢◌, ℕ, true, false, List, [], length, Option, None, Some, refl, sym, ap, ◌∙◌, arith, get_or, set, is_some, inl, inr, subst, position, get_or-set_other, position-Some, cases_eq, Frame, Free, with_frame, is_modified, bound_page, AreZero, Ptw, Home, Plain, bindings, binding_at, frame_in, words_in, disk_of, filed, uid_at, map_at, IsTableOf, IsMapOf, AreFiled, IsInFrame, is_binding, words_held, words_of_page, words_at, words_out, is_filed_at, is_stored, KeepsWords, IsTied, KeepsOthers, not_none, off_and_on}
-use Rattle.page_control.proofs.Facts.{bindings_with}
-use Rattle.page_control.proofs.Ties.{number_of}
-use Rattle.page_control.proofs.Firsts.{position_kept}
-use Rattle.page_control.proofs.Pictures.{uid_part, off_from, filed_same, bound_now, in_frame_kept}
-use Rattle.page_control.proofs.Places.{refile, map_refiled, maps_refiled, uids_refiled, one_home, one_uid, same_or_other}
+use Rattle.page_control.proofs.Prelude.{AreFiled, AreZero, Frame, Free, Home, IsInFrame, IsMapOf, IsTableOf, IsTied, KeepsOthers, KeepsWords, List, None, Option, Plain, Ptw, Some, [], ap, arith, binding_at, bindings, bound_page, cases_eq, disk_of, false, filed, frame_in, get_or, get_or-set_other, inl, inr, is_binding, is_filed_at, is_modified, is_some, is_stored, length, map_at, not_none, off_and_on, position, position-Some, refl, set, subst, sym, true, uid_at, with_frame, words_at, words_held, words_in, words_of_page, words_out, ℕ, ◌∙◌, ◌≡◌, ◌≢◌}
+use Rattle.page_control.proofs.Places.{bindings_with, map_refiled, maps_refiled, number_of, one_home, one_uid, refile, same_or_other, uids_refiled}
+pub use Rattle.page_control.proofs.Pictures.{bound_now, filed_same, in_frame_kept, off_from, position_kept, shown_in, shown_out, uid_part}
 
 -- a frame is bound to page p of segment uid, or to none
 abbrev pub IsPage : Option (ℕ × ℕ) → ℕ → ℕ → Type 0
@@ -34,12 +31,11 @@ pub record Touches (s now : Plain) (uid : ℕ) (home : Home) (p f : ℕ) (frame 
   pub filed : AreFiled now.records now.vtocs
 
 -- where a place of the file map changes and no drive does
-pub refiles : (s now : Plain) (uid p f : ℕ) (home : Home) (frame : Frame) (place : Option ℕ) → now.core
-    ≡ with_frame s.core f frame → IsPage (binding_at (bindings s.core) f) uid p → IsPage (bound_page frame) uid p
-    → ((g : ℕ) → g ≢ f → words_in now g ≡ words_in s g)
-    → now.disks ≡ s.disks → now.vtocs ≡ refile s.vtocs home p place → uid_at s.vtocs home ≡ Some uid
-    → AreFiled s.records s.vtocs → AreFiled now.records now.vtocs → Touches s now uid home p f frame
-refiles s now uid p f home frame place core was own words disks vtocs used old filed = record {
+pub refiles : {s now : Plain} {uid p f : ℕ} {home : Home} {frame : Frame} (place : Option ℕ) → now.core ≡ with_frame
+    s.core f frame → IsPage (binding_at (bindings s.core) f) uid p → IsPage (bound_page frame) uid p → ((g : ℕ) → g ≢ f
+    → words_in now g ≡ words_in s g) → now.disks ≡ s.disks → now.vtocs ≡ refile s.vtocs home p place → uid_at s.vtocs
+    home ≡ Some uid → AreFiled s.records s.vtocs → AreFiled now.records now.vtocs → Touches s now uid home p f frame
+refiles {s = s} {uid = uid} {p = p} {home = home} place core was own words disks vtocs used old filed = record {
   core = core;
   was = was;
   own = own;
@@ -47,7 +43,7 @@ refiles s now uid p f home frame place core was own words disks vtocs used old f
   disks = λ w k n. cc;
   count = ap length disks;
   uids = λ h. cc (uids_refiled s.vtocs uid p place home h used);
-  maps = λ h n. cc (maps_refiled s.vtocs uid p place home h used n);
+  maps = λ h n. cc (maps_refiled s.vtocs p place used n);
   rest = λ q n. cc (map_refiled s.vtocs uid p place home used, get_or-set_other (map_at s.vtocs home) p q place None n);
   used = used;
   old = old;
@@ -55,13 +51,11 @@ refiles s now uid p f home frame place core was own words disks vtocs used old f
 }
 
 -- where no file map changes
-pub moves : (s now : Plain) (uid p f : ℕ) (home : Home) (frame : Frame) → now.core ≡ with_frame s.core f frame
-    → IsPage (binding_at (bindings s.core) f) uid p → IsPage (bound_page frame) uid p
-    → ((g : ℕ) → g ≢ f → words_in now g ≡ words_in s g)
-    → ((w k : ℕ) → (w ≡ home.volume → filed s home p ≡ Some k → ⊥) → get_or (get_or now.disks w []) k []
-    ≡ get_or (get_or s.disks w []) k [])
-    → length now.disks ≡ length s.disks → now.records ≡ s.records → now.vtocs ≡ s.vtocs → uid_at s.vtocs home
-    ≡ Some uid → AreFiled s.records s.vtocs → Touches s now uid home p f frame
+pub moves : (s now : Plain) (uid p f : ℕ) (home : Home) (frame : Frame) → now.core ≡ with_frame s.core f frame → IsPage
+    (binding_at (bindings s.core) f) uid p → IsPage (bound_page frame) uid p → ((g : ℕ) → g ≢ f → words_in now g ≡
+    words_in s g) → ((w k : ℕ) → (w ≡ home.volume → filed s home p ≡ Some k → ⊥) → get_or (get_or now.disks w []) k [] ≡
+    get_or (get_or s.disks w []) k []) → length now.disks ≡ length s.disks → now.records ≡ s.records → now.vtocs ≡
+    s.vtocs → uid_at s.vtocs home ≡ Some uid → AreFiled s.records s.vtocs → Touches s now uid home p f frame
 moves s now uid p f home frame core was own words disks count records vtocs used old = record {
   core = core;
   was = was;
@@ -85,10 +79,10 @@ test_off : (x : Option (ℕ × ℕ)) (uid p u q : ℕ) → IsPage x uid p → Is
 test_off x uid p u q own other = off_from x u q _ refl (λ is. other (own u q is).0 (own u q is).1)
 
 -- and the page tables of other segments
-tables_kept : {old : List (Option (ℕ × ℕ))} (f : ℕ) (x : Option (ℕ × ℕ)) (uid p : ℕ) → IsPage (binding_at old f) uid p
+tables_kept : {old : List (Option (ℕ × ℕ))} (f : ℕ) {x : Option (ℕ × ℕ)} {uid p : ℕ} → IsPage (binding_at old f) uid p
     → IsPage x uid p → {segment : ℕ} {table : List Ptw} → segment ≢ uid → IsTableOf old segment table
     → IsTableOf (set old f x) segment table
-tables_kept {old} f x uid p was own {segment} n h = record {
+tables_kept {old} f {x = x} was own {segment} n h = record {
   named = λ g q is. elim (bound_now old f x g (segment, q) is) [
     | inl here ↦ absurd (n (own segment q here.1).0)
     | inr there ↦ h.named g q there.1
@@ -103,47 +97,45 @@ module _ {s now : Plain} {uid : ℕ} {home : Home} {p f : ℕ} {frame : Frame} (
   pub binds : bindings now.core ≡ set (bindings s.core) f (bound_page frame)
   binds = cc (bindings_with s.core f frame)
 
-  place_same : (u q : ℕ) → IsOther uid p u q
+  place_same : {u q : ℕ} → IsOther uid p u q
       → position (is_binding u q) (bindings now.core) ≡ position (is_binding u q) (bindings s.core)
-  place_same u q other = cc (
+  place_same {u = u} {q = q} other = cc (
     binds,
-    position_kept (is_binding u q) (bindings s.core) f (bound_page frame) None
-        (test_off (bound_page frame) uid p u q t.own other ∙ sym (test_off (binding_at (bindings s.core) f) uid p u q
-        t.was other)),
+    position_kept (is_binding u q) (bindings s.core) f None (test_off (bound_page frame) uid p u q t.own other ∙ sym
+        (test_off (binding_at (bindings s.core) f) uid p u q t.was other)),
   )
 
   -- its record, and the words on it
-  filed_other : (h : Home) (q : ℕ) → (h ≡ home → q ≡ p → ⊥) → filed now h q ≡ filed s h q
-  filed_other h q other = elim (same_or_other home h) [
+  filed_other : {h : Home} {q : ℕ} → (h ≡ home → q ≡ p → ⊥) → filed now h q ≡ filed s h q
+  filed_other {h = h} {q = q} other = elim (same_or_other home h) [
     | inl same ↦ rw same (t.rest q (other same))
     | inr n ↦ ap (λ (places : List (Option ℕ)). get_or places q None) (t.maps h n)
   ]
 
   away : (u : ℕ) (h : Home) (q : ℕ) → uid_at s.vtocs h ≡ Some u → IsOther uid p u q → h ≡ home → q ≡ p → ⊥
-  away u h q used other same at = other (one_uid s.vtocs u uid h home used t.used same) at
+  away u h q used other same at = other (one_uid s.vtocs used t.used same) at
 
   out_other : (u : ℕ) (h : Home) (q : ℕ)
       → uid_at s.vtocs h ≡ Some u → IsOther uid p u q → words_out now h q ≡ words_out s h q
   out_other u h q used other = cc (
-    filed_other h q (away u h q used other),
+    filed_other (away u h q used other),
     filed_same (disk_of s h.volume)
         (disk_of now h.volume) (filed s h q) (λ k is. t.disks h.volume k (λ v its. let one = t.old.once home.volume
-        h.entry q home.entry p k (rw (← v) is) its in away u h q used other (one_home home h (v, one.0)) one.1)),
+        h.entry q home.entry p k (rw (← v) is) its in away u h q used other (one_home (v, one.0)) one.1)),
   )
 
   pub stored_other : (h : Home) (q : ℕ) → (h ≡ home → q ≡ p → ⊥) → is_stored now h q ≡ is_stored s h q
   unfolding is_filed_at
-  stored_other h q other = ap is_some (filed_other h q other)
+  stored_other h q other = ap is_some (filed_other other)
 
   -- its words
   pub words_other : (u : ℕ) (h : Home) (q : ℕ)
       → uid_at s.vtocs h ≡ Some u → IsOther uid p u q → words_at now u h q ≡ words_at s u h q
   unfolding words_of_page
-  words_other u h q used other = cc (place_same u q other, held (position (is_binding u q) (bindings s.core)) refl)
+  words_other u h q used other = cc (place_same other, held (position (is_binding u q) (bindings s.core)) refl)
     where
-      held : (x : Option ℕ) → position (is_binding u q) (bindings s.core) ≡ x
-          → words_held now.frames (disk_of now h.volume) (filed now h q) x
-          ≡ words_held s.frames (disk_of s h.volume) (filed s h q) x
+      held : (x : Option ℕ) → position (is_binding u q) (bindings s.core) ≡ x → words_held now.frames (disk_of now
+          h.volume) (filed now h q) x ≡ words_held s.frames (disk_of s h.volume) (filed s h q) x
       held None is = out_other u h q used other
       held (Some g) is = t.words g (λ e. off_and_on (is_binding u q (binding_at (bindings s.core) g))
           (cc (test_off (binding_at (bindings s.core) f) uid p u q t.was other))
@@ -163,13 +155,13 @@ module _ {s now : Plain} {uid : ℕ} {home : Home} {p f : ℕ} {frame : Frame} (
       ]
 
   -- that it is in a frame where it is stored and all zeros
-  pub zeros_other : (u : ℕ) (h : Home) (q : ℕ) → uid_at s.vtocs h ≡ Some u → IsOther uid p u q
+  pub zeros_other : {u : ℕ} (h : Home) {q : ℕ} → uid_at s.vtocs h ≡ Some u → IsOther uid p u q
       → (is_stored s h q ≡ true → AreZero (words_at s u h q) → IsInFrame (bindings s.core) u q)
       → is_stored now h q ≡ true → AreZero (words_at now u h q) → IsInFrame (bindings now.core) u q
-  zeros_other u h q used other zeros on all =
+  zeros_other {u = u} h {q = q} used other zeros on all =
       let there : IsInFrame (bindings s.core) u q =
       zeros (sym (stored_other h q (away u h q used other)) ∙ on) (subst AreZero (words_other u h q used other) all) in
-      rw binds (in_frame_kept (bindings s.core) f u q (bound_page frame)
+      rw binds (in_frame_kept (bindings s.core) f (bound_page frame)
       (λ is. other (t.was u q is).0 (t.was u q is).1) there)
 
   tie_other : {u : ℕ} {h : Home} {table : List Ptw} → u ≢ uid → IsTied s u h table → IsTied now u h table
@@ -178,27 +170,26 @@ module _ {s now : Plain} {uid : ℕ} {home : Home} {p f : ℕ} {frame : Frame} (
         volume = rw t.count tie.volume;
         used = t.uids h ∙ tie.used;
         pages = tie.pages;
-        table = rw binds (tables_kept f (bound_page frame) uid p t.was t.own n tie.table);
-        map = rw (t.maps h (λ same. n (one_uid s.vtocs u uid h home tie.used t.used same))) tie.map;
+        table = rw binds (tables_kept f t.was t.own n tie.table);
+        map = rw (t.maps h (λ same. n (one_uid s.vtocs tie.used t.used same))) tie.map;
         records = t.filed;
         clean = λ g q. clean_other u h g q tie.used (λ e _. n e) (tie.clean g q);
-        zeros = λ q. zeros_other u h q tie.used (λ e _. n e) (tie.zeros q);
+        zeros = λ q. zeros_other h tie.used (λ e _. n e) (tie.zeros q);
       }
 
   pub others_of : KeepsOthers s now uid home
   others_of = record {
     uids = t.uids;
     maps = t.maps;
-    tables = λ segment table n h. rw binds (tables_kept f (bound_page frame) uid p t.was t.own n h);
+    tables = λ segment table n h. rw binds (tables_kept f t.was t.own n h);
     ties = λ segment other table n tie. tie_other n tie;
   }
 
   -- where the page itself is in order, so is its segment
-  pub tie_own : (table those : List Ptw) → IsTied s uid home table → length those ≡ length table
-      → IsTableOf (bindings now.core) uid those → IsMapOf (map_at now.vtocs home) those
-      → ((g : ℕ) → is_modified (frame_in now g) ≡ false → binding_at (bindings now.core) g ≡ Some (uid, p)
-      → words_in now g ≡ words_out now home p) → (is_stored now home p ≡ true → AreZero (words_at now uid home p)
-      → IsInFrame (bindings now.core) uid p) → IsTied now uid home those
+  pub tie_own : (table those : List Ptw) → IsTied s uid home table → length those ≡ length table → IsTableOf (bindings
+      now.core) uid those → IsMapOf (map_at now.vtocs home) those → ((g : ℕ) → is_modified (frame_in now g) ≡ false →
+      binding_at (bindings now.core) g ≡ Some (uid, p) → words_in now g ≡ words_out now home p) → (is_stored now home p
+      ≡ true → AreZero (words_at now uid home p) → IsInFrame (bindings now.core) uid p) → IsTied now uid home those
   tie_own table those tie long its map clean zeros =
       let volume = tie.volume in
       let pages = tie.pages in
@@ -215,7 +206,7 @@ module _ {s now : Plain} {uid : ℕ} {home : Home} {p f : ℕ} {frame : Frame} (
         ];
         zeros = λ q on all. elim (cases_eq q p) [
           | inl same ↦ rw same (zeros (rw same at on) (rw same at all))
-          | inr n ↦ zeros_other uid home q tie.used (λ _ e. n e) (tie.zeros q) on all
+          | inr n ↦ zeros_other home tie.used (λ _ e. n e) (tie.zeros q) on all
         ];
       }
 

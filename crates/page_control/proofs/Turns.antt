@@ -1,12 +1,9 @@
 -- What a turn of the clock keeps of the frames.
-use Rattle.page_control.proofs.Prelude.{◌≡◌, ℕ, ◌<◌, length, Option, None, refl, sym, ap, ◌∙◌, arith, inl, inr, leb_tells, ext_get_or, length-map, Frame, Free, Core, frame_at, bound_page, is_modified, Plain, IsClockChoice, unmarked, way, bindings}
-use Rattle.page_control.proofs.Facts.{binding_is, bound_inside, bound_from_page}
-use Rattle.page_control.proofs.Marks.{Marks, marks_kept}
+pub use Rattle.page_control.proofs.Marks.{Core, Frame, Free, IsClockChoice, Marks, None, Option, Plain, ap, arith, binding_is, bindings, bound_from_page, bound_inside, bound_page, ext_get_or, frame_at, inl, inr, is_modified, leb_tells, length, length-map, marks_kept, picture_by, plain, refl, rules, sym, ties_marked, unmarked, way, ℕ, ◌<◌, ◌∙◌, ◌≡◌}
 
-pub kept_chosen : {X : Type 0} (t : Frame → X) {old new : Core} {f : ℕ} (i : ℕ)
-    → ((frame : Frame) → t (unmarked frame) ≡ t frame) → IsClockChoice old new f → i < length old.frames
-    → t (frame_at new i) ≡ t (frame_at old i)
-kept_chosen t {old} {new} {f} i same choice lt = elim choice.turn [
+pub kept_chosen : {X : Type 0} {t : Frame → X} {old new : Core} {f : ℕ} {i : ℕ} → ((frame : Frame) → t (unmarked frame)
+    ≡ t frame) → IsClockChoice old new f → i < length old.frames → t (frame_at new i) ≡ t (frame_at old i)
+kept_chosen {t = t} {old} {new} {f} {i = i} same choice lt = elim choice.turn [
   | inl over ↦ elim (leb_tells (way (length old.frames) old.hand f) (way (length old.frames) old.hand i)) [
     | inl far ↦ ap t (over.others i lt far.1)
     | inr near ↦ ap t (over.passed i lt near.1) ∙ same (frame_at old i)
@@ -25,7 +22,7 @@ bindings_chosen old new f choice =
     let long = length-map new.frames bound_page in
     let count = long ∙ choice.count ∙ sym (length-map old.frames bound_page) in
     ext_get_or none (bindings new) (bindings old) count (λ i lt. binding_is new i
-    ∙ kept_chosen bound_page i page_unmarked choice (omega (arith, lt, long, choice.count)) ∙ sym (binding_is old i))
+    ∙ kept_chosen page_unmarked choice (omega (arith, lt, long, choice.count)) ∙ sym (binding_is old i))
 
 -- it turns off used marks alone
 modified_unmarked : (frame : Frame) → is_modified (unmarked frame) ≡ is_modified frame
@@ -38,4 +35,4 @@ marks_chosen s now f choice frames disks records vtocs =
     marks_kept s now (bindings_chosen s.core now.core f choice) disks records vtocs (λ g y at off.
     (let page = sym (binding_is s.core g) ∙ at in
     let inside = bound_inside s.core g (bound_from_page (frame_at s.core g) y.0 y.1 page) in
-    (sym (kept_chosen is_modified g modified_unmarked choice inside) ∙ off, cc)))
+    (sym (kept_chosen modified_unmarked choice inside) ∙ off, cc)))

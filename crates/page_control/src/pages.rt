@@ -65,6 +65,7 @@ impl<D: Drive> Model for Pages<D> {
 impl<D: Drive> Pages<D> {
     /// As many free frames, over these volumes. `NoMemory` is want of memory. It takes 8 KiB for each frame. (Source:
     /// Bensoussan, Clingen and Daley 1972.)
+    #[tactic(auto, using(std::proofs::lemmas::Grind::common_steps))]
     pub fn new(alloc: Global, frames: u32, volumes: Volumes<D>) -> Result<Pages<D>, NoMemory>
         ensures { IfOk result (λ s. s ≡ record {
           core = record { frames = replicate frames Free; hand = 0 };
@@ -582,7 +583,7 @@ impl<D: Drive> Pages<D> {
     }
 
     /// The steps of `end_in`.
-    #[tactic(auto, using(std::proofs::lemmas::Grind::common_steps))]
+    #[tactic(auto, using(crate::proofs::Facts::tied_volume, std::proofs::lemmas::Grind::common_steps))]
     fn read_at(
         &mut self,
         t: &mut PageTable,
@@ -801,6 +802,7 @@ impl<D: Drive> Pages<D> {
     }
 
     /// Writes the page in the bound frame `f` to record `r` of a volume where its modified mark is on.
+    #[tactic(auto, using(std::proofs::lemmas::Grind::common_steps))]
     fn save(&mut self, f: u32, volume: u32, r: u32) -> Result<(), Failed>
         requires bound { is_bound (frame_at self.old.core f) ≡ true }
         requires volume { volume < length self.old.volumes.drives }

@@ -1,5 +1,4 @@
-use Rattle.page_control.proofs.Prelude.{arith}
-use Rattle.page_control.proofs.Moved.{part_end}
+use Rattle.page_control.proofs.Moved.{arith, part_end}
 use Rattle.page_control.proofs.pages.rename.Goals as goal
 
 pub returns : goal.returns

@@ -1,5 +1,4 @@
-use Rattle.page_control.proofs.Prelude.{entry_at, records_in}
-use Rattle.page_control.proofs.Moved.{IsPartRehomed}
+use Rattle.page_control.proofs.Moved.{IsPartRehomed, entry_at, records_in}
 use Rattle.page_control.proofs.pages.rename.Given as goal
 
 abbrev pub invariant-loop-p : goal.invariant-loop-p

@@ -1,7 +1,4 @@
-use Rattle.page_control.proofs.Prelude.{rules, plain}
-use Rattle.page_control.proofs.Pictures.{picture_by}
-use Rattle.page_control.proofs.Turns.{bindings_chosen, marks_chosen}
-use Rattle.page_control.proofs.Marks.{ties_marked}
+use Rattle.page_control.proofs.Turns.{bindings_chosen, marks_chosen, picture_by, plain, rules, ties_marked}
 use Rattle.page_control.proofs.pages.Pages.choose.Goals as goal
 
 pub returns-clause-words : goal.returns-clause-words

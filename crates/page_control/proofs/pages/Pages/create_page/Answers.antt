@@ -1,6 +1,4 @@
-use Rattle.page_control.proofs.Prelude.{rules, plain}
-use Rattle.page_control.proofs.Facts.{tied_volume}
-use Rattle.page_control.proofs.Calls.{Creates, has_made}
+use Rattle.page_control.proofs.Calls.{Creates, has_made, plain, rules, tied_volume}
 use Rattle.page_control.proofs.pages.Pages.create_page.Goals as goal
 
 -- what it was called with, and what its steps left
@@ -10,7 +8,7 @@ created : (g : _) (c : goal.After-create_at g)
 created g c = assumption (c.requires, c.create_at.ensures)
 
 pub create_at-requires-clause-volume : goal.create_at-requires-clause-volume
-create_at-requires-clause-volume g c = tied_volume g.D.Drive.pages c.args.self.now _ _ _ c.requires.tie
+create_at-requires-clause-volume g c = tied_volume g.D.Drive.pages c.args.self.now c.requires.tie
 
 pub returns : goal.returns
 returns g c = (let call = has_made (created g c) in search rules)

@@ -1,5 +1,4 @@
-use Rattle.page_control.proofs.Prelude.{rules, plain, uid_of_home}
-use Rattle.page_control.proofs.Calls.{Drops, tie_dropped, others_of_dropped, words_dropped, stored_dropped, starts_dropped, taken_dropped, counts_of_dropped}
+use Rattle.page_control.proofs.Calls.{Drops, counts_of_dropped, others_of_dropped, plain, rules, starts_dropped, stored_dropped, taken_dropped, tie_dropped, uid_of_home, words_dropped}
 use Rattle.page_control.proofs.pages.Pages.drop_page.Goals as goal
 
 -- what it was called with, and what its steps left

@@ -1,6 +1,5 @@
-use Rattle.page_control.proofs.Prelude.{Plain, plain, ap, rules}
-use Rattle.page_control.proofs.Erasing.{has_erased}
-use Rattle.page_control.proofs.Counting.{used_erased, taken_erased}
+use Rattle.page_control.proofs.Prelude.{Plain, ap, plain, rules}
+use Rattle.page_control.proofs.Erasing.{has_erased, taken_erased, used_erased}
 use Rattle.page_control.proofs.pages.Pages.erase.Goals as goal
 
 pub returns : goal.returns

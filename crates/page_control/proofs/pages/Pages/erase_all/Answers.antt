@@ -1,9 +1,8 @@
-use Rattle.page_control.proofs.Prelude.{arith, common_steps, refl, rules}
-use Rattle.page_control.proofs.Erasing.{ended, names_same, names_none, all_erased, filed_erased, count_end}
+use Rattle.page_control.proofs.Erasing.{all_erased, count_end, ended, filed_erased, names_none, names_same, refl, rules}
 use Rattle.page_control.proofs.pages.Pages.erase_all.Goals as goal
 
 pub free-requires-clause-empty : goal.free-requires-clause-empty
-free-requires-clause-empty g c = names_same c.vtoc_mut.result.now _ c.args.home.entry (search rules)
+free-requires-clause-empty g c = names_same (search rules)
     (names_none (ended c.give_back_all.ensures.part c.size.ensures.places refl (search rules)))
 
 pub returns-clause-erased : goal.returns-clause-erased
@@ -18,6 +17,3 @@ returns-clause-records g c =
 pub returns-clause-taken : goal.returns-clause-taken
 returns-clause-taken g c =
     count_end (ended c.give_back_all.ensures.part c.size.ensures.places refl (search rules)) (search rules)
-
-pub prove-unreachable-requires : goal.prove-unreachable-requires
-prove-unreachable-requires g c = grind (arith, common_steps)

@@ -1,16 +1,14 @@
-use Rattle.page_control.proofs.Prelude.{rules, plain, uid_of_home}
-use Rattle.page_control.proofs.Erasing.{part_empty}
+use Rattle.page_control.proofs.Erasing.{part_empty, plain, rules, uid_of_home}
 use Rattle.page_control.proofs.pages.Pages.give_back_all.Goals as goal
 
 pub loop-p-preserved : goal.loop-p-preserved
-loop-p-preserved g c = (
-  c.give_back.ensures.part (plain g.D.Drive.pages c.args.self.now)
-      (uid_of_home (plain g.D.Drive.pages c.args.self.now) c.args.home) c.loop-p.invariant.0,
-  search rules,
-  search rules,
-)
+loop-p-preserved g c =
+    search (
+      rules,
+      c.give_back.ensures.part (plain g.D.Drive.pages c.args.self.now) (uid_of_home (plain g.D.Drive.pages
+          c.args.self.now) c.args.home) c.loop-p.invariant.0,
+    )
 
 pub returns-then-names_none-clause-part : goal.returns-then-names_none-clause-part
 returns-then-names_none-clause-part g c =
-    part_empty (plain g.D.Drive.pages c.args.self.now) _ c.args.home c.vtoc.result.now c.requires.home
-    c.requires.records (search rules) (c.names_none.ensures.0 (search rules))
+    part_empty c.requires.home c.requires.records (search rules) (c.names_none.ensures.0 (search rules))

@@ -1,4 +1,4 @@
-use Rattle.page_control.proofs.Prelude.{◌≡◌, plain, uid_of_home, IsPartErased}
+use Rattle.page_control.proofs.Prelude.{IsPartErased, plain, uid_of_home, ◌≡◌}
 use Rattle.page_control.proofs.pages.Pages.give_back_all.Given as goal
 
 abbrev pub invariant-loop-p : goal.invariant-loop-p

@@ -1,5 +1,4 @@
-use Rattle.page_control.proofs.Prelude.{plain}
-use Rattle.page_control.proofs.Pictures.{shown_out}
+use Rattle.page_control.proofs.Pictures.{plain, shown_out}
 use Rattle.page_control.proofs.pages.Pages.into_volumes.Goals as goal
 
 pub returns-clause-away : goal.returns-clause-away

@@ -1,6 +1,4 @@
-use Rattle.page_control.proofs.Prelude.{rules}
-use Rattle.page_control.proofs.Facts.{plain_volume}
-use Rattle.page_control.proofs.Homes.{is_asked}
+use Rattle.page_control.proofs.Homes.{is_asked, plain_volume, rules}
 use Rattle.page_control.proofs.pages.Pages.new_home.Goals as goal
 
 pub returns : goal.returns

@@ -1,10 +1,6 @@
-use Rattle.page_control.proofs.Prelude.{◌≡◌, ◌<◌, rules, arith, refl, length, common_steps, plain, flags_of, flag_within}
-use Rattle.page_control.proofs.Facts.{tied_volume}
+use Rattle.page_control.proofs.Prelude.{arith, common_steps, flag_within, flags_of, length, plain, refl, rules, ◌<◌, ◌≡◌}
 use Rattle.page_control.proofs.Calls.{out_record}
 use Rattle.page_control.proofs.pages.Pages.read_at.Goals as goal
-
-pub size-requires : goal.size-requires
-size-requires g c = grind (arith, tied_volume g.D.Drive.pages c.args.self.now _ _ _ c.requires.tie, common_steps)
 
 pub prove-unreachable-requires : goal.prove-unreachable-requires
 prove-unreachable-requires g c =
@@ -14,10 +10,6 @@ prove-unreachable-requires g c =
     let size : c.size.result ≡ length (flags_of (plain g.D.Drive.pages c.args.self.now) c.args.home.volume) =
     search rules in
     omega arith
-
-pub read_page-requires-clause-volume : goal.read_page-requires-clause-volume
-read_page-requires-clause-volume g c =
-    grind (arith, tied_volume g.D.Drive.pages c.args.self.now _ _ _ c.requires.tie, common_steps)
 
 pub returns-in-Ok-clause-read : goal.returns-in-Ok-clause-read
 returns-in-Ok-clause-read g c =
@@ -34,12 +26,3 @@ returns-in-Err-clause-read g c = record {
   word = refl;
   frames = rw (← c.self.view_is) c.self.invariant.0;
 }
-
-pub invariant_of-self : goal.invariant_of-self
-invariant_of-self g c = grind (arith, common_steps)
-
-pub index_mut-requires : goal.index_mut-requires
-index_mut-requires g c = grind (arith, common_steps)
-
-pub bind-requires-clause-within : goal.bind-requires-clause-within
-bind-requires-clause-within g c = grind (arith, common_steps)

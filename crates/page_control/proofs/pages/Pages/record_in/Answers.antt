@@ -1,4 +1,4 @@
-use Rattle.page_control.proofs.Prelude.{rules, ◌≡◌, ◌<◌, length, arith, plain, flags_of, record_of, flag_within}
+use Rattle.page_control.proofs.Prelude.{arith, flag_within, flags_of, length, plain, record_of, rules, ◌<◌, ◌≡◌}
 use Rattle.page_control.proofs.pages.Pages.record_in.Goals as goal
 
 pub prove-unreachable-requires : goal.prove-unreachable-requires

@@ -1,11 +1,9 @@
-use Rattle.page_control.proofs.Prelude.{ap, plain}
-use Rattle.page_control.proofs.Moved.{Rehomes, size_rehomed, word_rehomed, tie_moved, page_moved, words_same, ties_same, bindings_same, reads_same, table_now, map_now}
+use Rattle.page_control.proofs.Moved.{Rehomes, ap, bindings_same, map_now, page_moved, plain, reads_same, size_rehomed, table_now, tie_moved, ties_same, word_rehomed, words_same}
 use Rattle.page_control.proofs.pages.Pages.rehome.Goals as goal
 
 -- what its steps left
-rehomes : (g : _) (c : goal.After-rehome_all g)
-    → Rehomes (plain g.D.Drive.pages c.args.self.now) (plain g.D.Drive.pages c.rehome_all.new.self) c.args.t.now
-    c.rehome_all.new.t c.args.uid c.args.home
+rehomes : (g : _) (c : goal.After-rehome_all g) → Rehomes (plain g.D.Drive.pages c.args.self.now) (plain g.D.Drive.pages
+    c.rehome_all.new.self) c.args.t.now c.rehome_all.new.t c.args.uid c.args.home
 rehomes g c = assumption (ap (plain g.D.Drive.pages) c.rehome_all.ensures.effect)
 
 pub returns : goal.returns

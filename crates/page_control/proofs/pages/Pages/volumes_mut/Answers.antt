@@ -1,5 +1,4 @@
-use Rattle.page_control.proofs.Prelude.{refl, ap, Paging, plain, with_volumes}
-use Rattle.page_control.proofs.Marks.{words_of_home, tie_of_home}
+use Rattle.page_control.proofs.Marks.{Paging, ap, plain, refl, tie_of_home, with_volumes, words_of_home}
 use Rattle.page_control.proofs.pages.Pages.volumes_mut.Goals as goal
 
 pub returns : goal.returns
