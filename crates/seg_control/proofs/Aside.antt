@@ -1,7 +1,6 @@
 -- Volumes that agree but for one home, which the one has free, and which the other uses.
-use Rattle.seg_control.proofs.Prelude.{◌≡◌, ◌≢◌, ◌⊎◌, ℕ, Bool, true, List, [], ◌∷◌, Option, None, Some, refl, sym, ap, ◌∙◌, length, get_or, set, inl, inr, cases_eq, cases_lt, get_or-set_same, get_or-set_other, get_or_past, set_past, in_use, Ptw, VtocEntry, record_at, records_in, Vols, records_at, Home, Plain, KeepsHome, words_at, AreFiled, IsNamed, flags_in, map_at, uid_homed, vtoc_in, IsTied, tie_of_home, words_of_home, Mover, entry_of, mover_map, mover_uid, IsMoving, given_back, undone, AddsRecords, AreKept, flags_given, no_record, entry_within, vtoc_within, gives, home_at, not_none, map_some, off_and_on, put_here, put_other}
-use Rattle.vtoc.specs.Vtoc.{entry_at, uid_of}
-use Rattle.page_control.proofs.Pictures.{out_by}
+use Rattle.seg_control.proofs.Prelude.{AddsRecords, AreFiled, AreKept, Bool, Home, IsMoving, IsNamed, IsTied, KeepsHome, List, Mover, None, Option, Plain, Ptw, Some, Vols, VtocEntry, [], ap, cases_eq, cases_lt, entry_of, entry_within, flags_given, flags_in, get_or, get_or-set_other, get_or-set_same, get_or_past, given_back, gives, home_at, in_use, inl, inr, length, map_at, map_some, mover_map, mover_uid, no_record, not_none, off_and_on, out_by, put_here, put_other, record_at, records_at, records_in, refl, set, set_past, sym, tie_of_home, true, uid_homed, undone, vtoc_entry as entry_at, vtoc_in, vtoc_within, words_at, words_of_home, ℕ, ◌∙◌, ◌∷◌, ◌≡◌, ◌≢◌, ◌⊎◌}
+use Rattle.vtoc.specs.Vtoc.{uid_of}
 
 -- ---- records and VTOCs
 
@@ -132,11 +131,8 @@ pub given_here : (all : List (List Bool)) (v : ℕ) (places : List (Option ℕ))
     → get_or (set all v (flags_given (get_or all v []) places)) v [] ≡ flags_given (get_or all v []) places
 given_here all v places = elim (cases_lt v (length all)) [
   | inl lt ↦ get_or-set_same all v (flags_given (get_or all v []) places) [] lt
-  | inr past ↦ rw (
-    set_past all v (flags_given (get_or all v []) places) past,
-    get_or_past all v [] past,
-    given_none places,
-  )
+  | inr past
+      ↦ rw (set_past all v (flags_given (get_or all v []) places) past, get_or_past all v [] past, given_none places)
 ]
 
 -- a home that is given up is aside
@@ -159,9 +155,8 @@ pub move_adds : {D : Type 0} {vols : Vols D} {m : Mover} → IsMoving vols m
     → AddsHome (undone vols m).records vols.records (undone vols m).vtocs vols.vtocs (home_at m.to)
 move_adds {vols} {m} moving = home_adds vols m.to m.uid moving.new_used moving.new_kept
 
-pub move_aside : {D : Type 0} {vols : Vols D} {m : Mover} → IsMoving vols m
-    → AreFiled (undone vols m).records (undone vols m).vtocs
-    → AreAside (undone vols m).records vols.records (undone vols m).vtocs vols.vtocs (home_at m.to)
+pub move_aside : {D : Type 0} {vols : Vols D} {m : Mover} → IsMoving vols m → AreFiled (undone vols m).records (undone
+    vols m).vtocs → AreAside (undone vols m).records vols.records (undone vols m).vtocs vols.vtocs (home_at m.to)
 move_aside moving filed = assumption (move_adds moving, filed_more (move_adds moving) filed)
 
 -- ---- page control

@@ -1,12 +1,7 @@
 -- A segment becomes active, or inactive: what is kept.
-use Rattle.seg_control.proofs.Prelude.{◌≡◌, ◌≢◌, ℕ, suc, zero, ◌<◌, ◌≤◌, List, [], ◌∷◌, ◌++◌, length, Option, None, Some, is_some, All, replicate, refl, sym, ap, ◌∙◌, arith, set, get_or, inl, inr, cases_eq, cases_lt, get_or-set_same, get_or-set_other, get_or_past, length-set, length-replicate, All-get_or, none-some, same_Some, Entry, Ptw, Null, Out, Here, Leaving, ptw_at, trailers_of, ActiveSegs, uid_in, entry_at, uid_at, table_at, activated, deactivated, IsAway, IsTree, Home, Plain, bindings, binding_at, IsTableOf, IsMapOf, frame_of, has_record, map_at, uid_homed, IsTied, Links, leads_at, IsHomeOf, IsInactive, AreLinked, IsKnownAt, HasTable, IsNotRead, IsKept, FitsIn, filed_word, table_for, made_active, all_same}
-use Rattle.std.proofs.Math.ListN.{get_or-append}
-use Rattle.std.proofs.Math.Seq.{get_or-append_seam}
-use Rattle.std.proofs.Common.{add-one}
-use Rattle.laws.proofs.Lists.{length_push}
-use Rattle.seg_control.proofs.Paged.{each_set}
+pub use Rattle.seg_control.proofs.Prelude.{ActiveSegs, All, All-get_or, AreActive, AreLinked, Contains, Entry, FitsIn, HasItsSuperiors, HasTable, Here, Home, IfNone, IsActive, IsAway, IsFirstInactive, IsFull, IsGoing, IsHomeOf, IsInactive, IsKept, IsKnownAt, IsMapOf, IsNotRead, IsStuck, IsTableOf, IsTied, IsTree, IsVictim, Leaving, Link, Links, List, MayActivate, None, Null, Option, Out, Plain, Ptw, Some, Victim, VtocEntry, [], activated, add-one, all_same, ap, arith, at_rest, binding_at, bindings, cases_eq, cases_lt, deactivated, entry_at, filed_word, frame_of, get_or, get_or-append, get_or-append_seam, get_or-set_other, get_or-set_same, get_or_past, has_record, inl, inr, is_some, leads_at, length, length-map, length-replicate, length-set, length_push, link_at, made_active, map_at, no_link, none-some, ptw_at, records_in, refl, replicate, rules, same_Some, set, suc, superior_of, sym, table_at, table_for, take, take-suc-set, trailers_of, true, uid_at, uid_homed, uid_in, uids_of, vtoc_entry, words_in, zero, ℕ, ◌++◌, ◌+◌, ◌<◌, ◌↔◌, ◌∙◌, ◌∷◌, ◌≡◌, ◌≢◌, ◌≤◌}
+use Rattle.seg_control.proofs.Calls.{each_set, sizes_kept}
 use Rattle.seg_control.proofs.Linked.{times_same}
-use Rattle.seg_control.proofs.Calls.{sizes_kept}
 
 -- ---- the page table by a file map
 
@@ -157,17 +152,15 @@ module _ (now : Plain) (ast : ActiveSegs) (links : Links) (place uid n : ℕ) (s
 -- ---- a segment becomes inactive
 
 away_frame : (w : Ptw) → IsAway w → frame_of w ≡ None
-away_frame Null away = refl
-away_frame (Out r) away = refl
 away_frame (Here f) away = absurd away
 away_frame (Leaving f) away = absurd away
+away_frame _ away = refl
 
 null_word : (n p : ℕ) → ptw_at (replicate n Null) p ≡ Null
 null_word n p = all_same n p Null
 
-module _ (now : Plain) (ast : ActiveSegs) (links : Links) (place : ℕ) (k : IsKept now ast links)
-    (within : place < length ast.entries)
-    (away : All IsAway (table_at ast.tables place)) (idle : IsNotRead now.core ast.entries place)
+module _ (now : Plain) (ast : ActiveSegs) (links : Links) (place : ℕ) (k : IsKept now ast links) (within : place
+    < length ast.entries) (away : All IsAway (table_at ast.tables place)) (idle : IsNotRead now.core ast.entries place)
     (cut : trailers_of links.trailers place ≡ []) (tree : IsTree (deactivated ast place).entries) where
   gone_within : place < length ast.tables
   gone_within = (omega arith)

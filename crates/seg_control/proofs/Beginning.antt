@@ -1,7 +1,5 @@
 -- A segment begins to move.
-use Rattle.seg_control.proofs.Prelude.{◌≡◌, ℕ, arith, List, Some, sym, ap, subst, Vols, KeepsTables, records_at, ActiveSegs, IsActive, Paging, plain, with_volumes, AreFiled, Mover, CanBegin, IsMoving, begun, mover_for, undone, AreKept, Links, IsHomeOf, IsKept, IsKeptAtRest, IsOnItsWay, IsUnread, at_rest, home_at}
-use Rattle.seg_mover.specs.Homes.{map_at}
-use Rattle.seg_control.proofs.Under.{can_plain, moving_plain}
+pub use Rattle.seg_control.proofs.Under.{ActiveSegs, AreFiled, AreKept, CanBegin, IsActive, IsHomeOf, IsKept, IsKeptAtRest, IsMoving, IsOnItsWay, IsUnread, KeepsTables, Links, List, Mover, Paging, Some, Vols, ap, arith, at_rest, begun, can_plain, home_at, kept_still, mover_for, mover_map as map_at, moving_plain, plain, records_at, refl, subst, sym, undone, with_volumes, ℕ, ◌≡◌}
 
 -- the records that the old home names are in use, each once
 pub kept_from : {D : Type 0} (vols : Vols D) (from : ℕ × ℕ) → AreFiled vols.records vols.vtocs

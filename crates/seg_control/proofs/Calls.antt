@@ -1,9 +1,6 @@
 -- What is kept after a call of page control.
-use Rattle.seg_control.proofs.Prelude.{◌≡◌, ℕ, ◌<◌, ◌+◌, ◌^◌, refl, true, false, List, [], length, Option, None, Some, Result, Ok, Err, sym, ap, ◌∙◌, arith, set, inl, inr, OnOk, OnErr, get_or-set_other, length-set, set-get_or, reads_of, Ptw, Null, Here, Leaving, ptw_at, ActiveSegs, uid_at, table_at, with_table, Home, Left, Plain, bindings, is_out, IsTied, KeepsOthers, words_left, words_here, word_of_left, after_evict, Links, place_of, table_of, table_here, table_left, read_at, IsHomeFor, HaveSizes, ArePaged, AreLinked, IsKept, page_is}
 use Rattle.seg_control.specs.Effects.{worded}
-use Rattle.seg_control.proofs.Paged.{none_read, each_set, KeepMarks, KeepReads, paged_call}
-use Rattle.active_segs.specs.Pool.{IsInPool}
-use Rattle.page_control.proofs.Pictures.{bound_now}
+pub use Rattle.seg_control.proofs.Paged.{ActiveSegs, AreFiled, AreLinked, ArePaged, Entry, Err, HasNoFrame, HasTable, HaveSizes, Here, Home, IfSome, IsActive, IsBlank, IsHomeFor, IsHomeOf, IsInPool, IsInactive, IsKept, IsTied, KeepMarks, KeepReads, KeepsOthers, KeepsTies, Leaving, Left, Links, List, None, Null, Ok, OnErr, OnOk, Option, Plain, Ptw, Result, Some, [], after_asked, after_evict, ap, arith, bindings, bound_now, cases_eq, each_set, erased, false, get_or-set_other, inl, inr, is_out, least_free_entry, length, length-set, none-some, none_read, page_is, paged_call, paged_same, paged_started, place_of, ptw_at, read_at, reads_of, refl, same_Some, set, set-get_or, subst, sym, table_at, table_here, table_left, table_of, true, uid_at, uid_homed, uid_in, uid_of_home, vtoc_of, with_table, word_of_left, words_here, words_left, ℕ, ◌+◌, ◌<◌, ◌^◌, ◌∙◌, ◌≡◌, ◌≢◌, ◌⊎◌}
 
 -- a table of the same length
 pub sizes_kept : (sizes : List ℕ) (ptws : List (List Ptw)) (place : ℕ) (t : List Ptw) → place < length ptws → length t
@@ -13,23 +10,18 @@ sizes_kept sizes ptws place t lt same h pool q pl = each_set ptws t [] (λ n tho
 
 -- the table of one place has changed
 pub kept_table : {old now : Plain} {ast : ActiveSegs} {links : Links} (place : ℕ) (t : List Ptw) → IsKept old ast links
-    → place < length ast.entries → length t ≡ length (table_at ast.tables place)
-    → (place < length ast.tables → ArePaged now ast.entries (set ast.tables place t))
-    → IsKept now (with_table ast place t) links
+    → place < length ast.entries → length t ≡ length (table_at ast.tables place) → (place < length ast.tables
+    → ArePaged now ast.entries (set ast.tables place t)) → IsKept now (with_table ast place t) links
 kept_table {ast} place t k within same paged =
     let lt : place < length ast.tables = (omega arith) in
-    assumption (
-      paged lt,
-      length-set ast.tables place t ∙ k.places,
-      sizes_kept ast.sizes ast.tables place t lt same k.sized,
-    )
+    assumption
+    (paged lt, length-set ast.tables place t ∙ k.places, sizes_kept ast.sizes ast.tables place t lt same k.sized)
 
 -- page p of the segment of a place was concerned by a call, which set that word of its table
 pub kept_call : {old now : Plain} {ast : ActiveSegs} {links : Links} {uid : ℕ} {home : Home} {t u : List Ptw}
-    (place p : ℕ) → IsKept old ast links → uid_at ast.entries place ≡ Some uid → place < length ast.entries
-    → t ≡ table_at ast.tables place → IsTied now uid home u → KeepsOthers old now uid home
-    → ((w : Ptw) × (u ≡ set t p w)) → KeepMarks old now uid → KeepReads old now uid p
-    → IsKept now (with_table ast place u) links
+    (place p : ℕ) → IsKept old ast links → uid_at ast.entries place ≡ Some uid → place < length ast.entries → t
+    ≡ table_at ast.tables place → IsTied now uid home u → KeepsOthers old now uid home → ((w : Ptw) × (u ≡ set t p w))
+    → KeepMarks old now uid → KeepReads old now uid p → IsKept now (with_table ast place u) links
 kept_call {t} {u} place p k at within table tie others word marks reads =
     kept_table place u k within (cc (length-set t p word.0)) (λ lt. paged_call k.paged k.tree (record {
       at = at;
@@ -91,20 +83,17 @@ reads_kept now place uid p k at off reads f u q e =
 
 pub kept_evicted : {E : Type 0} (result : Result Left E) {old now : Plain} {ast : ActiveSegs} {links : Links}
     (place : ℕ) {uid : ℕ} (p f r : ℕ) {home : Home} {t u : List Ptw} → IsKept old ast links
-    → uid_at ast.entries place ≡ Some uid → place < length ast.entries → t ≡ table_at ast.tables place
-    → ptw_at t p ≡ Leaving f → IsTied now uid home u → KeepsOthers old now uid home → u ≡ words_left t p r result
-    → OnOk result (bindings now.core ≡ set (bindings old.core) f None)
-    → OnErr result (bindings now.core ≡ bindings old.core) → reads_of now.core ≡ reads_of old.core
-    → IsKept now (with_table ast place u) links
+    → uid_at ast.entries place ≡ Some uid → place < length ast.entries → t ≡ table_at ast.tables place → ptw_at t p
+    ≡ Leaving f → IsTied now uid home u → KeepsOthers old now uid home → u ≡ words_left t p r result → OnOk result
+    (bindings now.core ≡ set (bindings old.core) f None) → OnErr result (bindings now.core ≡ bindings old.core)
+    → reads_of now.core ≡ reads_of old.core → IsKept now (with_table ast place u) links
 kept_evicted result {old} {now} place {uid} p f r {t} {u} k at within table leaving tie others word freed kept reads =
-    kept_call place p k at within table tie others (left_word result t u p r word)
-    (marks_set result old now uid f None (λ v q e. cc) freed kept)
-    (reads_kept now place uid p k at (rw (← table, leaving)) reads)
+    kept_call place p k at within table tie others (left_word result t u p r word) (marks_set result old now uid f None
+    (λ v q e. cc) freed kept) (reads_kept now place uid p k at (rw (← table, leaving)) reads)
 
 -- a word that is set, as the active segments are seen
-pub table_is_set : (ast : ActiveSegs) {place : ℕ} (uid p : ℕ) (w : Ptw) {t u : List Ptw}
-    → place ≡ place_of ast.entries uid → t ≡ table_at ast.tables place → u ≡ set t p w
-    → with_table ast place u ≡ worded ast uid p w
+pub table_is_set : (ast : ActiveSegs) {place : ℕ} (uid p : ℕ) (w : Ptw) {t u : List Ptw} → place ≡ place_of
+    ast.entries uid → t ≡ table_at ast.tables place → u ≡ set t p w → with_table ast place u ≡ worded ast uid p w
 table_is_set ast uid p w is table word = rw (word, table, is)
 
 -- the word of a page that leaves, as the active segments are seen
@@ -122,13 +111,12 @@ table_is_here (Ok x) ast uid p f is table word = table_is_set ast uid p (Here f)
 table_is_here (Err e) ast {place} uid p f is table word = rw (word, table, set-get_or ast.tables place [])
 
 -- a page that was being read into frame f
-pub kept_read : {T E : Type 0} (result : Result T E) {old now : Plain} {ast : ActiveSegs} {links : Links}
-    (place : ℕ) {uid : ℕ} (p f : ℕ) {home : Home} {t u : List Ptw} → IsKept old ast links
-    → uid_at ast.entries place ≡ Some uid → place < length ast.entries → t ≡ table_at ast.tables place
-    → read_at (reads_of old.core) f ≡ Some (uid, p) → IsTied now uid home u → KeepsOthers old now uid home
-    → u ≡ words_here t p f result → OnOk result (bindings now.core ≡ set (bindings old.core) f (Some (uid, p)))
-    → OnErr result (bindings now.core ≡ bindings old.core) → reads_of now.core ≡ set (reads_of old.core) f None
-    → IsKept now (with_table ast place u) links
+pub kept_read : {T E : Type 0} (result : Result T E) {old now : Plain} {ast : ActiveSegs} {links : Links} (place : ℕ)
+    {uid : ℕ} (p f : ℕ) {home : Home} {t u : List Ptw} → IsKept old ast links → uid_at ast.entries place ≡ Some uid
+    → place < length ast.entries → t ≡ table_at ast.tables place → read_at (reads_of old.core) f ≡ Some (uid, p)
+    → IsTied now uid home u → KeepsOthers old now uid home → u ≡ words_here t p f result → OnOk result (bindings
+    now.core ≡ set (bindings old.core) f (Some (uid, p))) → OnErr result (bindings now.core ≡ bindings old.core)
+    → reads_of now.core ≡ set (reads_of old.core) f None → IsKept now (with_table ast place u) links
 kept_read result {old} {now} place {uid} p f {t} {u} k at within table started tie others word bound lost reads =
     kept_call place p k at within table tie others (here_word result t u p f word)
     (marks_set result old now uid f (Some (uid, p)) (λ v q e. sym (page_is uid p v q e).0) bound lost)

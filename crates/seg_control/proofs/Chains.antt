@@ -1,8 +1,6 @@
 -- A chain of superiors, and its first segment that is not active.
-use Rattle.seg_control.proofs.Prelude.{◌≡◌, ℕ, suc, zero, ◌<◌, ◌≤◌, ◌+◌, true, List, length, Option, None, Some, is_some, IfNone, Contains, refl, sym, ◌∙◌, arith, set, get_or, inl, inr, take, ◌↔◌, take-suc-set, cases_eq, length-map, same_Some, Ptw, VtocEntry, Entry, ActiveSegs, uid_at, IsActive, IsFull, IsVictim, HasItsSuperiors, Link, uids_of, no_link, link_at, superior_of, words_in, filed_word, table_for, IsFirstInactive, AreActive, MayActivate, IsStuck, IsGoing}
 use Rattle.std.proofs.lemmas.List.{get_or-map}
-use Rattle.std.proofs.Common.{add-one}
-use Rattle.seg_control.proofs.Becoming.{table_suc}
+pub use Rattle.seg_control.proofs.Becoming.{ActiveSegs, AreActive, Contains, Entry, HasItsSuperiors, IfNone, IsActive, IsFirstInactive, IsFull, IsGoing, IsStuck, IsVictim, Link, List, MayActivate, None, Option, Ptw, Some, Victim, VtocEntry, add-one, ap, arith, at_rest, cases_eq, filed_word, get_or, inl, inr, is_some, kept_activated, length, length-map, link_at, no_link, records_in, refl, rules, same_Some, set, suc, superior_of, sym, table_for, table_suc, table_zero, take, take-suc-set, true, uid_at, uids_of, vtoc_entry, words_in, zero, ℕ, ◌+◌, ◌<◌, ◌↔◌, ◌∙◌, ◌≡◌, ◌≤◌}
 
 -- ---- superiors
 
@@ -77,11 +75,8 @@ if_none (Some i) x = tt
 -- ---- page tables
 
 pub words_few : (pool : ℕ) → pool < 4 → words_in pool ≤ 256
-words_few zero lt = omega arith
-words_few (suc zero) lt = omega arith
-words_few (suc (suc zero)) lt = omega arith
-words_few (suc (suc (suc zero))) lt = omega arith
 words_few (suc (suc (suc (suc pool)))) lt = absurd (omega arith)
+words_few _ lt = omega arith
 
 pub load_step : (places : List (Option ℕ)) (table : List Ptw) (p : ℕ) (w : Ptw) → p < length table → take p table
     ≡ table_for places p

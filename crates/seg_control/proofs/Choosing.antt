@@ -1,5 +1,5 @@
 -- The page of a segment that moves that is copied next.
-use Rattle.seg_control.proofs.Prelude.{◌≡◌, ℕ, zero, suc, ◌+◌, ◌<◌, ◌≤◌, Bool, true, false, ◌&&◌, not, List, length, Option, replicate, refl, sym, ap, ◌∙◌, arith, get_or, set, inl, inr, cases_eq, cases_lt, get_or-set_same, get_or-set_other, get_or_past, length-replicate, length-set, Ptw, Null, Out, ptw_at, IsMapOf, has_record, is_out, first_to_copy, is_to_copy, first_out, is_framed, all_same}
+pub use Rattle.seg_control.proofs.Prelude.{Bool, IsMapOf, List, Null, Option, Out, Ptw, all_same, ap, arith, cases_eq, cases_lt, false, first_out, first_to_copy, get_or, get_or-set_other, get_or-set_same, get_or_past, has_record, inl, inr, is_framed, is_out, is_to_copy, length, length-replicate, length-set, not, ptw_at, refl, replicate, rules, set, suc, sym, true, zero, ℕ, ◌&&◌, ◌+◌, ◌<◌, ◌∙◌, ◌≡◌, ◌≤◌}
 
 -- ---- the pages in frames
 
@@ -46,9 +46,8 @@ pub to_copy_out : {places : List (Option ℕ)} {t : List Ptw} (framed : List Boo
     → get_or framed p false ≡ is_framed (ptw_at t p) → is_to_copy places framed p ≡ is_out (ptw_at t p)
 to_copy_out {t} framed p map is = rw (map.stored p, is) (out_or_framed (ptw_at t p))
 
-pub first_same : (places : List (Option ℕ)) (t : List Ptw) (framed : List Bool) (count p : ℕ)
-    → ((q : ℕ) → is_to_copy places framed q ≡ is_out (ptw_at t q))
-    → first_to_copy places framed count p ≡ first_out t count p
+pub first_same : (places : List (Option ℕ)) (t : List Ptw) (framed : List Bool) (count p : ℕ) → ((q : ℕ)
+    → is_to_copy places framed q ≡ is_out (ptw_at t q)) → first_to_copy places framed count p ≡ first_out t count p
 unfolding first_to_copy first_out
 first_same places t framed zero p same = refl
 first_same places t framed (suc count) p same = rw (same p, first_same places t framed count (p + 1) same)

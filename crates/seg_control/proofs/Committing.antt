@@ -1,12 +1,8 @@
 -- The move of a segment is committed.
-use Rattle.seg_control.proofs.Prelude.{◌≡◌, ◌≢◌, ℕ, zero, suc, ◌+◌, ◌-◌, ◌<◌, ◌≤◌, Bool, true, false, cond, List, [], length, None, Some, refl, sym, ap, ◌∙◌, arith, count_by, get_or, is_some, set, inl, inr, cases_eq, cases_lt, get_or-set_other, none-some, same_Some, reads_of, Ptw, Null, ptw_at, Vols, ActiveSegs, entry_at, table_at, uid_at, uid_in, with_table, Home, named_on, taken, used, IsCopied, all_modified, is_filed_at, is_stored, words_at, Paging, Plain, bindings, plain, with_volumes, IsTableOf, is_out, map_at, uid_homed, IsTied, KeepsTies, named_here, Mover, IsMoving, given_back, Links, table_of, ArePaged, HasTable, IsHomeOf, IsOutAt, IsKeptAtRest, at_rest, first_out, home_at, next_out, volumes_of}
+pub use Rattle.seg_control.proofs.Prelude.{ActiveSegs, ArePaged, Bool, HasTable, Home, IsCopied, IsHomeOf, IsKeptAtRest, IsMoving, IsOutAt, IsTableOf, IsTied, KeepsTies, Links, List, Mover, None, Null, Option, Out, Paging, Plain, Ptw, Some, Vols, [], all_modified, ap, arith, at_rest, bindings, cases_eq, cases_lt, cond, count_by, entry_at, false, first_out, get_or, get_or-set_other, given_back, home_at, inl, inr, is_filed_at, is_out, is_some, is_stored, length, map_at, named_here, named_on, next_out, none-some, plain, ptw_at, reads_of, refl, rehomed_word, rules, same_Some, set, suc, sym, table_at, table_of, taken, true, uid_at, uid_homed, uid_in, used, volumes_of, with_table, with_volumes, words_at, zero, ℕ, ◌+◌, ◌-◌, ◌<◌, ◌∙◌, ◌≡◌, ◌≢◌, ◌≤◌}
 use Rattle.vtoc.specs.Vtoc.{uid_of}
-use Rattle.seg_control.proofs.Paged.{each_set}
-use Rattle.seg_control.proofs.Calls.{kept_table}
-use Rattle.seg_control.proofs.Aside.{AreAside, IsAside, filed_less, home_adds, map_same, not_free, tie_less, tie_more, uid_same, words_same}
-use Rattle.seg_control.proofs.Resting.{aside_of}
-use Rattle.seg_control.proofs.Copying.{tie_here}
-use Rattle.seg_control.proofs.Totals.{count_same, named_elsewhere, taken_given, used_given}
+use Rattle.seg_control.proofs.Totals.{AreAside, IsAside, count_same, filed_less, home_adds, map_same, named_elsewhere, not_free, taken_given, tie_less, tie_more, uid_same, used_given, words_same}
+pub use Rattle.seg_control.proofs.Copying.{aside_of, each_set, is_moving, kept_moving, kept_table, tie_here}
 
 -- ---- all is copied
 
@@ -132,9 +128,8 @@ module _ {D : Type 0} {pages : D → List (List ℕ)} {old mid : Paging D} {vols
   home_back : {uid : ℕ} {home : Home} → uid ≢ m.uid → IsHomeOf vols.vtocs uid home → IsHomeOf rest.vtocs uid home
   home_back {uid} {home} ne is = record {
     used = cc (uid_new home (not_from uid home is.used) (not_to uid home ne is.used));
-    only = λ other used. is.only other (uid_new other
-        (λ same. ne (same_Some _ _ (sym used ∙ rw same c.kept.way.home.used))) (not_free was_aside other uid used)
-        ∙ used);
+    only = λ other used. is.only other (uid_new other (λ same. ne
+        (same_Some _ _ (sym used ∙ rw same c.kept.way.home.used))) (not_free was_aside other uid used) ∙ used);
   }
 
   -- ---- ties
@@ -163,9 +158,8 @@ module _ {D : Type 0} {pages : D → List (List ℕ)} {old mid : Paging D} {vols
       let k = c.kept.kept.paged in
       let its : (v : ℕ) → uid_at ast.entries place ≡ Some v → v ≡ m.uid = λ v e. same_Some _ _ (cc) in
       record {
-        tables = λ q v e. each_set ast.tables u [] (λ n those. uid_at ast.entries n ≡ Some v
-            → IsTableOf (bindings mid.core) v those) lt (λ at. rw (its v at) c.table)
-            (λ n ne. rw c.bound (k.tables n v)) q e;
+        tables = λ q v e. each_set ast.tables u [] (λ n those. uid_at ast.entries n ≡ Some v → IsTableOf
+            (bindings mid.core) v those) lt (λ at. rw (its v at) c.table) (λ n ne. rw c.bound (k.tables n v)) q e;
         ties = λ q v home e is. each_set ast.tables u [] (λ n those. uid_at ast.entries n ≡ Some v
             → IsTied new v home those) lt (λ at. rw (its v at, ← is.only (home_at m.to) (rw (its v at) to_used))
             tie_new) (λ n ne at. tie_other is.used (k.ties n v home at (home_back (other_uid n v at ne) is))) q e;
@@ -179,9 +173,8 @@ module _ {D : Type 0} {pages : D → List (List ℕ)} {old mid : Paging D} {vols
             record {
               place = was.place;
               active = was.active;
-              out = each_set ast.tables u [] (λ n those. is_out (ptw_at (table_at ast.tables n) p) ≡ true
-                  → is_out (ptw_at those p) ≡ true) lt (λ yes. c.outs p ∙ rw c.here at yes) (λ n ne yes. yes) was.place
-                  was.out;
+              out = each_set ast.tables u [] (λ n those. is_out (ptw_at (table_at ast.tables n) p) ≡ true → is_out
+                  (ptw_at those p) ≡ true) lt (λ yes. c.outs p ∙ rw c.here at yes) (λ n ne yes. yes) was.place was.out;
             });
         once = rw c.reads k.once;
         filed = is_aside.tables.less_filed;

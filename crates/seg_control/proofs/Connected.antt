@@ -1,8 +1,6 @@
 -- Descriptors, trailers and known segment tables after one descriptor or number has changed.
-use Rattle.seg_control.proofs.Prelude.{◌≡◌, ◌≢◌, ℕ, ◌<◌, ◌+◌, List, [], ◌∷◌, ◌++◌, length, Option, None, Some, IsSome, refl, sym, ap, ◌∙◌, arith, set, get_or, inl, inr, count_by, Contains, remove, cases_lt, get_or-set_same, get_or-set_other, get_or_past, length-set, length-remove, position-Some, none-some, same_Some, Mode, Sdw, Fault, Present, sdw_at, trailers_of, leads_to, place_in, without_place, without_trailer, uid_of, without_number, HasOneNumberEach, Entry, uid_at, uid_in, Links, kst_at, sdws_at, leads, leads_at, linked, unlinked, with_kst, times, IsKnownAt, AreLinked, length_push, position_there, some_number, shown_within}
-use Rattle.seg_control.proofs.Paged.{each_set}
-use Rattle.seg_control.proofs.Counts.{weight, count_push, count_remove, count_some}
-use Rattle.seg_control.proofs.Linked.{pair_cases, leads_within, leads_this, leads_other, words_kept, leads_to_itself, leads_to_is, leads_to_not, times_same, times_other, most_trailers}
+use Rattle.seg_control.proofs.Prelude.{AreLinked, Contains, Entry, Fault, HasOneNumberEach, IsKnownAt, IsSome, Links, List, Mode, None, Option, Present, Sdw, Some, [], arith, cases_lt, count_by, get_or, get_or-set_other, get_or-set_same, get_or_past, inl, inr, kst_at, leads, leads_at, leads_to, length, length-remove, length-set, length_push, linked, none-some, place_in, position-Some, position_there, refl, remove, same_Some, sdw_at, sdws_at, set, shown_within, some_number, sym, times, trailers_of, uid_at, uid_in, uid_of, unlinked, with_kst, without_number, without_trailer, ℕ, ◌++◌, ◌+◌, ◌<◌, ◌∙◌, ◌∷◌, ◌≡◌, ◌≢◌}
+pub use Rattle.seg_control.proofs.Linked.{count_push, count_remove, count_some, count_two, each_set, leads_other, leads_this, leads_to_is, leads_to_itself, leads_to_not, leads_within, most_trailers, pair_cases, times_other, times_same, trailer_leads, weight, words_kept}
 
 -- a number that is known is one of 256
 number_within : (links : Links) (process number uid : ℕ) → length (kst_at links.known process) ≡ 256
@@ -73,9 +71,8 @@ pub record MayConnect (entries : List (Option Entry)) (links : Links) (process n
   pub cut : leads_at links.descriptors process number ≡ None
 
 pub may_connect : {entries : List (Option Entry)} {links : Links} (process number place : ℕ) → AreLinked entries links
-    → IsSome (uid_at entries place) → process < length links.known
-    → uid_of (kst_at links.known process) number ≡ uid_at entries place
-    → leads_at links.descriptors process number ≡ None → MayConnect entries links process number place
+    → IsSome (uid_at entries place) → process < length links.known → uid_of (kst_at links.known process) number ≡ uid_at
+    entries place → leads_at links.descriptors process number ≡ None → MayConnect entries links process number place
 may_connect {entries} {links} process number place linked active within known cut =
     let uid = some_number (uid_at entries place) active in
     let same = linked.lists.places in
@@ -108,13 +105,9 @@ module _ {entries : List (Option Entry)} {links : Links} {process number place :
         process_within = in_descriptors;
         number_within = in_words;
         place_within = m.place_within;
-        this = rw (
-          push process number,
-          leads_to_itself process number,
-          k.exact place process number,
-          m.cut,
-          times_same place,
-        ) refl;
+        this = rw
+            (push process number, leads_to_itself process number, k.exact place process number, m.cut, times_same place)
+            refl;
         others = λ q n ne. rw (push q n, leads_to_not q n (process, number) ne) (omega arith);
         there = λ pl ne. rw (m.cut, times_other place pl ne) refl;
         known = λ pl e. rw (← same_Some _ _ e) (record { uid = m.uid; active = m.active; known_as = m.known_as });
@@ -138,9 +131,8 @@ module _ {entries : List (Option Entry)} {links : Links} {process number place :
 -- ---- a descriptor is cut
 
 -- what a descriptor that was read leads to
-pub leading : (descriptors : List (List Sdw)) (process number : ℕ) (words : List Sdw) (word : Sdw)
-    → word ≡ sdw_at words number → words ≡ sdws_at descriptors process
-    → leads_at descriptors process number ≡ leads word
+pub leading : (descriptors : List (List Sdw)) (process number : ℕ) (words : List Sdw) (word : Sdw) → word
+    ≡ sdw_at words number → words ≡ sdws_at descriptors process → leads_at descriptors process number ≡ leads word
 leading descriptors process number words word is read = rw (is, read)
 
 module _ {entries : List (Option Entry)} {links : Links} (process number : ℕ) {place : ℕ} (k : AreLinked entries links)
@@ -169,9 +161,8 @@ module _ {entries : List (Option Entry)} {links : Links} (process number : ℕ) 
 
   -- its trailer
   trailer : (i : ℕ) × (i < length (trailers_of links.trailers place))
-      × (get_or (trailers_of links.trailers place) i (process, number) ≡ (process, number))
-      × (without_trailer (trailers_of links.trailers place) process number ≡ remove
-      (trailers_of links.trailers place) i)
+      × (get_or (trailers_of links.trailers place) i (process, number) ≡ (process, number)) × (without_trailer
+      (trailers_of links.trailers place) process number ≡ remove (trailers_of links.trailers place) i)
   trailer =
       let xs : List (ℕ × ℕ) = trailers_of links.trailers place in
       let found = count_some (leads_to process number) xs (process, number) (omega (arith, cut_once)) in
@@ -197,10 +188,7 @@ module _ {entries : List (Option Entry)} {links : Links} (process number : ℕ) 
     get_or-set_same links.trailers place (without_trailer (trailers_of links.trailers place)
         process number) [] cut_place,
     trailer.3,
-  ) (let lt = trailer.1 in omega (
-    arith,
-    length-remove (trailers_of links.trailers place) trailer.0 lt,
-  ))
+  ) (let lt = trailer.1 in omega (arith, length-remove (trailers_of links.trailers place) trailer.0 lt))
 
   pub linked_cut : AreLinked entries (unlinked links process number (Some place))
   linked_cut = linked_after k (record {
@@ -216,10 +204,9 @@ module _ {entries : List (Option Entry)} {links : Links} (process number : ℕ) 
 -- ---- a known segment table changes
 
 module _ {entries : List (Option Entry)} {links : Links} (process : ℕ) (kst : List (Option ℕ))
-    (k : AreLinked entries links) (within : process < length links.known)
-    (once : HasOneNumberEach kst) (size : length kst ≡ 256)
-    (kept : (n v place : ℕ) → leads_at links.descriptors process n ≡ Some place → uid_of (kst_at links.known process) n
-    ≡ Some v → uid_of kst n ≡ Some v) where
+    (k : AreLinked entries links) (within : process < length links.known) (once : HasOneNumberEach kst)
+    (size : length kst ≡ 256) (kept : (n v place : ℕ) → leads_at links.descriptors process n ≡ Some place
+    → uid_of (kst_at links.known process) n ≡ Some v → uid_of kst n ≡ Some v) where
   pub linked_known : AreLinked entries (with_kst links process kst)
   linked_known =
       let long = length-set links.known process kst in

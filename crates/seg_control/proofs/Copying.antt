@@ -1,12 +1,7 @@
 -- A page of a segment that moves is copied.
-use Rattle.seg_control.proofs.Prelude.{◌≡◌, ℕ, Bool, true, false, ◌&&◌, List, [], length, Option, None, Some, IfSome, Result, Ok, Err, refl, sym, ap, ◌∙◌, get_or, map, set, inl, inr, cases_eq, cases_lt, get_or-set_same, get_or-set_other, length-set, set_past, in_use, ptw_at, VtocEntry, Vols, KeepsTables, with_page, ActiveSegs, Home, IsCopied, KeepsHome, words_at, words_filed, words_out, Paging, Plain, filed, plain, with_volumes, flags_in, is_out, map_at, uid_homed, IsTied, KeepsTies, tie_of_home, words_of_home, filed_same, Mover, AreCopied, IsLeastToCopy, after_copy, is_to_copy, moved_on, page_to_copy, mover_map, place_at, mover_words, words_of, CanBegin, IsMoving, begun, number_or_zero, undone, vols_same, Links, table_of, IsKeptAtRest, IsOnItsWay, at_rest, home_at, is_framed, next_out, volumes_of, off_and_on, some_unwrapped}
-use Rattle.seg_control.proofs.Places.{place_is}
-use Rattle.seg_control.proofs.Paged.{paged_same}
-use Rattle.seg_control.proofs.Calls.{kept_paged}
-use Rattle.seg_control.proofs.Aside.{move_adds, tie_more}
-use Rattle.seg_control.proofs.Resting.{aside_of}
-use Rattle.seg_control.proofs.Under.{moving_plain, now_is}
-use Rattle.seg_control.proofs.Choosing.{first_same, out_from, to_copy_out}
+pub use Rattle.seg_control.proofs.Choosing.{first_same, out_from, rules, to_copy_out}
+use Rattle.seg_control.proofs.Places.{ActiveSegs, AreCopied, Bool, CanBegin, Err, Home, IfSome, IsCopied, IsKeptAtRest, IsLeastToCopy, IsMoving, IsOnItsWay, IsTied, KeepsHome, KeepsTables, KeepsTies, Links, List, Mover, None, Ok, Option, Paging, Plain, Result, Some, Vols, [], after_copy, ap, at_rest, begun, cases_eq, cases_lt, false, filed, filed_same, flags_in, get_or, get_or-set_other, get_or-set_same, home_at, in_use, inl, inr, is_framed, is_out, is_to_copy, length, length-set, map, moved_on, mover_map, mover_words, next_out, number_or_zero, off_and_on, page_to_copy, place_at, place_is, plain, ptw_at, refl, set, set_past, some_unwrapped, sym, table_of, tie_of_home, true, undone, vols_same, volumes_of, with_page, with_volumes, words_at, words_filed, words_of, words_of_home, words_out, ℕ, ◌&&◌, ◌∙◌, ◌≡◌}
+pub use Rattle.seg_control.proofs.Under.{aside_of, each_set, is_moving, kept_moving, kept_paged, kept_table, move_adds, moving_plain, now_is, paged_same, tie_more}
 
 -- ---- the segment that moves
 
@@ -115,9 +110,8 @@ module _ {D E : Type 0} {pages : D → List (List ℕ)} {old : Paging D} {vols :
 
   -- a record that is in use isn't written
   spared : (page : Option ℕ) (done : Result Bool E) → page_to_copy old.volumes m skip ≡ page → (w k : ℕ)
-      → in_use (flags_in rest.records w) k ≡ true
-      → get_or (get_or (after_copy (map pages old.volumes.drives) old.volumes m page done) w []) k []
-      ≡ get_or (get_or (map pages old.volumes.drives) w []) k []
+      → in_use (flags_in rest.records w) k ≡ true → get_or (get_or (after_copy (map pages old.volumes.drives)
+      old.volumes m page done) w []) k [] ≡ get_or (get_or (map pages old.volumes.drives) w []) k []
   spared None done is w k on = refl
   spared (Some p) (Err e) is w k on = refl
   spared (Some p) (Ok x) is w k on =
@@ -126,9 +120,8 @@ module _ {D E : Type 0} {pages : D → List (List ℕ)} {old : Paging D} {vols :
       let named : place_at old.volumes m.to p ≡ Some (number_or_zero (place_at old.volumes m.to p)) =
       some_unwrapped (place_at old.volumes m.to p) (moving.same p ∙ named_from _ _ least.wanted) in
       record_kept (map pages old.volumes.drives) m.to.0 (number_or_zero (place_at old.volumes m.to p)) _ w k
-      (λ volume same. off_and_on (in_use (flags_in rest.records w) k) (ap
-      (λ (v : ℕ). in_use (flags_in rest.records v) k) volume ∙ ap (in_use (flags_in rest.records m.to.0)) same
-      ∙ (move_adds moving).adds.fresh p _ named) on)
+      (λ volume same. off_and_on (in_use (flags_in rest.records w) k) (ap (λ (v : ℕ). in_use (flags_in rest.records v)
+      k) volume ∙ ap (in_use (flags_in rest.records m.to.0)) same ∙ (move_adds moving).adds.fresh p _ named) on)
 
   -- so every page at rest has the words that it had
   out_rest : (home : Home) (p : ℕ) → words_out next home p ≡ words_out rest home p

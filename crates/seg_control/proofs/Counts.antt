@@ -1,5 +1,5 @@
 -- How often a list has an element that passes a test.
-use Rattle.seg_control.proofs.Prelude.{◌≡◌, ℕ, suc, zero, ◌<◌, ◌≤◌, ◌+◌, Bool, true, false, cond, eqb, List, [], ◌∷◌, ◌++◌, length, refl, sym, ap, ◌∙◌, ◌||◌, arith, get_or, count_by, map, remove, list_any, eqb-true, sum_by_push, sum_by-remove, sum_by-cons}
+pub use Rattle.seg_control.proofs.Prelude.{AreExact, AreLinked, Bool, Entry, Fault, IsDistinct-from_apart, Links, List, Option, Sdw, Some, [], and_from, and_parts, ap, arith, cases_eq, cond, count_by, eq-eqb, eqb, eqb-true, false, get_or, get_or-map, get_or-set_other, get_or-set_same, get_or_any, inl, inr, kst_at, leads, leads_at, leads_to, length, length-le_from_distinct_below, length-map, length-set, list_any, map, ne_eqb, refl, remove, same_Some, sdw_at, sdws_at, set, shown_within, suc, sum_by-cons, sum_by-remove, sum_by_push, sym, times, times_few, times_one, trailers_of, true, uid_of, zero, ℕ, ◌++◌, ◌+◌, ◌<◌, ◌||◌, ◌∙◌, ◌∷◌, ◌≡◌, ◌≢◌, ◌≤◌, ◌⊎◌}
 
 abbrev pub weight : Bool → ℕ
 weight b = cond b 1 0

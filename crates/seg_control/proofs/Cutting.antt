@@ -1,8 +1,6 @@
 -- All descriptors of a place are cut, or connected again.
-use Rattle.seg_control.proofs.Prelude.{◌≡◌, ◌≢◌, ℕ, suc, zero, ◌<◌, ◌≤◌, ◌+◌, List, [], ◌∷◌, ◌++◌, length, Option, None, Some, map, drop, refl, sym, ◌∙◌, arith, set, get_or, slice_get, map-set_same, get_or-map, eq-eqb, ne_eqb, set-set, set-get_or, get_or-set_same, length-set, append-nil, append_assoc, get_or_from_slice_get, Mode, Sdw, Fault, Present, sdw_at, trailers_of, leads_to, without_trailer, uid_of, Entry, uid_at, Links, Control, kst_at, sdws_at, leads, leads_at, linked, unlinked, cut_one, faulting, all_cut, reconnected, AreLinked, pair_at, MayReconnect, one_left, times_few, same_Some}
-use Rattle.seg_control.proofs.Counts.{count_two}
-use Rattle.seg_control.proofs.Linked.{trailer_leads, leads_within, leads_to_itself, times_same}
-use Rattle.seg_control.proofs.Connected.{without_shorter}
+pub use Rattle.seg_control.proofs.Prelude.{AreLinked, Control, Entry, Fault, Links, List, MayReconnect, Mode, None, Option, Present, Sdw, Some, [], all_cut, ap, append-nil, append_assoc, arith, cut_one, drop, eq-eqb, faulting, get_or, get_or-map, get_or-set_same, get_or_from_slice_get, kst_at, leads, leads_at, leads_to, length, length-set, linked, map, map-set_same, ne_eqb, one_left, pair_at, reconnected, refl, rules, same_Some, sdw_at, sdws_at, set, set-get_or, set-set, slice_get, suc, sym, times_few, trailers_of, uid_at, uid_of, unlinked, without_trailer, zero, ℕ, ◌++◌, ◌+◌, ◌<◌, ◌∙◌, ◌∷◌, ◌≡◌, ◌≢◌, ◌≤◌}
+pub use Rattle.seg_control.proofs.Connected.{count_two, leads_to_itself, leads_within, times_same, trailer_leads, without_shorter}
 
 -- ---- the oldest trailer
 
@@ -35,9 +33,8 @@ none_left {links} place k none =
     let not_led : (q n : ℕ) → leads_at links.descriptors q n ≢ Some place =
     λ q n e. (let count = rw (empty, e, times_same place) at (k.exact place q n) in omega arith) in
     let words : map (map (faulting place)) links.descriptors ≡ links.descriptors =
-    map_same (map (faulting place)) links.descriptors []
-    (λ q lt. map_same (faulting place) (sdws_at links.descriptors q) Fault
-    (λ n less. not_faulting place (sdw_at (sdws_at links.descriptors q) n) (not_led q n))) in
+    map_same (map (faulting place)) links.descriptors [] (λ q lt. map_same (faulting place) (sdws_at
+    links.descriptors q) Fault (λ n less. not_faulting place (sdw_at (sdws_at links.descriptors q) n) (not_led q n))) in
     rw (words, rw empty at (set-get_or links.trailers place []))
 
 -- ---- one is cut, and then the rest
@@ -93,10 +90,9 @@ drop_end zero (x ∷ xs) le = absurd (omega arith)
 drop_end (suc i) (x ∷ xs) le = drop_end i xs (omega arith)
 
 pub reconnect_step : {D : Type 0} (start s now : Control D) (place i pages : ℕ) (list : List (ℕ × ℕ))
-    (modes : List Mode) (d : Mode) → i < length list
-    → length modes ≡ length list → reconnected s.links place (drop i list) (drop i modes) pages
-    ≡ reconnected start.links place list modes pages → s ≡ record start { links = s.links } → now ≡ record s
-    { links = linked s.links (pair_at list i).0 (pair_at list i).1 place (get_or modes i d) pages }
+    (modes : List Mode) (d : Mode) → i < length list → length modes ≡ length list → reconnected s.links place (drop
+    i list) (drop i modes) pages ≡ reconnected start.links place list modes pages → s ≡ record start { links = s.links }
+    → now ≡ record s { links = linked s.links (pair_at list i).0 (pair_at list i).1 place (get_or modes i d) pages }
     → (reconnected now.links place (drop (i + 1) list) (drop (i + 1) modes) pages
     ≡ reconnected start.links place list modes pages) × (now ≡ record start { links = now.links })
 reconnect_step start s now place i pages list modes d lt long all rest effect = (
@@ -111,10 +107,9 @@ pub reconnect_end : {D : Type 0} (start s : Control D) (place i pages : ℕ) (li
 reconnect_end start s place i pages list modes past all rest = rw (← all, drop_end i list past, again_none) rest
 
 -- the next pair may be connected
-pub may_here : {links : Links} {uid : Option ℕ} (list : List (ℕ × ℕ)) (i : ℕ) → i < length list
-    → MayReconnect links uid (drop i list) → ((pair_at list i).0 < length links.known)
-    × (uid_of (kst_at links.known (pair_at list i).0) (pair_at list i).1 ≡ uid)
-    × (leads_at links.descriptors (pair_at list i).0 (pair_at list i).1 ≡ None)
+pub may_here : {links : Links} {uid : Option ℕ} (list : List (ℕ × ℕ)) (i : ℕ) → i < length list → MayReconnect links uid
+    (drop i list) → ((pair_at list i).0 < length links.known) × (uid_of (kst_at links.known (pair_at list i).0)
+    (pair_at list i).1 ≡ uid) × (leads_at links.descriptors (pair_at list i).0 (pair_at list i).1 ≡ None)
 may_here list i lt may =
     let may' = rw (one_left list i (0, 0) lt) at may in
     (may'.processes 0 (omega arith), may'.known 0 (omega arith), may'.cut 0 (omega arith))
@@ -129,9 +124,8 @@ may_next now list i lt may known others =
     record {
       processes = λ j less. rw known (may'.processes (suc j) (omega arith));
       known = λ j less. rw known (may'.known (suc j) (omega arith));
-      cut = λ j less. others (pair_at (drop (i + 1) list) j).0 (pair_at (drop (i + 1) list) j).1
-          (λ e f. may'.once 0 (suc j) (omega arith) (omega arith) (λ t. (sym e t, sym f t)))
-          ∙ may'.cut (suc j) (omega arith);
+      cut = λ j less. others (pair_at (drop (i + 1) list) j).0 (pair_at (drop (i + 1) list) j).1 (λ e f. may'.once 0
+          (suc j) (omega arith) (omega arith) (λ t. (sym e t, sym f t))) ∙ may'.cut (suc j) (omega arith);
       once = λ a b less within. may'.once (suc a) (suc b) (omega arith) (omega arith);
     }
 

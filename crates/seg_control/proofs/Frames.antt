@@ -1,7 +1,5 @@
 -- What frames are bound to, and what is being read into them.
-use Rattle.seg_control.proofs.Prelude.{◌≡◌, ◌≢◌, ℕ, true, Some, sym, ap, ◌∙◌, get_or-map, same_Some, Core, reads_of, frame_at, is_bound, bound_page, started_page, Frame, Free, Started, Bound, Vols, ActiveSegs, IsActive, Plain, bindings, binding_at, number_in, IsBoundOnce, IsNotStarted, Links, read_at, IsKept, page_is}
-use Rattle.page_control.specs.Tied.{uid_in}
-use Rattle.page_control.proofs.Facts.{bound_to as page_of_bound}
+pub use Rattle.seg_control.proofs.Prelude.{ActiveSegs, ArePaged, Bound, Core, Entry, Err, Frame, Free, Here, Home, IsActive, IsBoundOnce, IsHomeFor, IsKept, IsNotStarted, IsOutAt, IsTableOf, IsTied, KeepsOthers, Leaving, Links, List, None, Null, Ok, OnErr, OnOk, Option, Paging, Plain, Ptw, Result, Some, Started, Vols, VtocEntry, [], after_create, ap, binding_at, bindings, bound_now, bound_page, bound_to as page_of_bound, cases_eq, dropped, entry_at, false, frame_at, get_or-map, get_or-set_other, inl, inr, is_bound, is_out, length, length-set, map-set, none-some, number_in, page_is, place_of, plain, ptw_at, read_at, reads_of, rules, same_Some, set, started_page, sym, table_at, table_of, true, uid_at, uid_framed as uid_in, uid_framed, uid_of_home, uid_or_zero, volumes_of, with_frame, with_table, word_of, words_here, ℕ, ◌<◌, ◌∙◌, ◌≡◌, ◌≢◌}
 
 pub read_is : (core : Core) (f : ℕ) → read_at (reads_of core) f ≡ started_page (frame_at core f)
 read_is core f = get_or-map started_page core.frames f Free
@@ -24,9 +22,8 @@ bound_once {now = now} {ast = ast} {f = f} kept e =
     record { only = λ g same. same_Some _ _ (sym (table.named g p (same ∙ at)) ∙ table.named f p at) }
 
 pub started_from : (frame : Frame) (uid p : ℕ) → started_page frame ≡ Some (uid, p) → frame ≡ Started uid p
-started_from Free uid p e = cc
 started_from (Started u q) uid p e = (let same = page_is u q uid p e in rw (same.0, same.1))
-started_from (Bound u q used modified) uid p e = cc
+started_from _ uid p e = cc
 
 -- a page that no frame is started for is being read into none
 pub none_started : {core : Core} {uid p : ℕ} → IsNotStarted core uid p → (f : ℕ)

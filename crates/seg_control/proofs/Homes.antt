@@ -1,6 +1,5 @@
 -- What is kept after a home is taken, or given up.
-use Rattle.seg_control.proofs.Prelude.{◌≡◌, ◌≢◌, ◌⊎◌, ℕ, List, [], Option, None, Some, refl, sym, ap, subst, ◌∙◌, arith, inl, inr, IfSome, cases_eq, none-some, same_Some, Ptw, least_free_entry, Entry, ActiveSegs, uid_at, table_at, IsActive, Home, Plain, bindings, vtoc_of, uid_of_home, AreFiled, HasNoFrame, IsBlank, uid_homed, IsTied, KeepsTies, after_asked, erased, Links, IsHomeOf, IsInactive, HasTable, ArePaged, IsKept}
-use Rattle.seg_control.proofs.Calls.{kept_paged}
+use Rattle.seg_control.proofs.Calls.{ActiveSegs, AreFiled, ArePaged, Entry, HasNoFrame, HasTable, Home, IfSome, IsActive, IsBlank, IsHomeOf, IsInactive, IsKept, IsTied, KeepsTies, Links, List, None, Option, Plain, Ptw, Some, [], after_asked, ap, arith, bindings, cases_eq, erased, inl, inr, kept_paged, least_free_entry, none-some, refl, same_Some, subst, sym, table_at, uid_at, uid_homed, uid_of_home, vtoc_of, ℕ, ◌∙◌, ◌≡◌, ◌≢◌, ◌⊎◌}
 
 pub home_cases : (a b : Home) → (a ≡ b) ⊎ (a ≢ b)
 home_cases a b = elim (cases_eq a.volume b.volume) [
@@ -13,11 +12,9 @@ home_cases a b = elim (cases_eq a.volume b.volume) [
 
 -- frames and page tables stay, and homes change
 paged_homes : {old now : Plain} {entries : List (Option Entry)} {ptws : List (List Ptw)} → ArePaged old entries ptws
-    → now.core ≡ old.core → AreFiled now.records now.vtocs
-    → ((place uid : ℕ) (home : Home) → uid_at entries place ≡ Some uid → IsHomeOf now.vtocs uid home
-    → IsTied now uid home (table_at ptws place))
-    → ((uid : ℕ) (home : Home) → IsInactive entries uid → IsHomeOf now.vtocs uid home → HasTable now uid home)
-    → ArePaged now entries ptws
+    → now.core ≡ old.core → AreFiled now.records now.vtocs → ((place uid : ℕ) (home : Home) → uid_at entries place
+    ≡ Some uid → IsHomeOf now.vtocs uid home → IsTied now uid home (table_at ptws place)) → ((uid : ℕ) (home : Home)
+    → IsInactive entries uid → IsHomeOf now.vtocs uid home → HasTable now uid home) → ArePaged now entries ptws
 paged_homes k core filed active rest = record {
   tables = rw core k.tables;
   ties = active;
@@ -61,13 +58,14 @@ kept_erased {old} {now} {ast} {home} k only effect gone uids filed ties = kept_p
 
 pub kept_homed : (result : Option ℕ) {old now : Plain} {ast : ActiveSegs} {links : Links} (volume : ℕ) {uid : ℕ}
     → IsKept old ast links → IsInactive ast.entries uid → result ≡ least_free_entry (vtoc_of old volume)
-    → now ≡ after_asked old volume uid result → IfSome result (λ e. uid_homed now.vtocs
-    (record { volume = volume; entry = e }) ≡ Some uid) → ((u : ℕ) (h : Home) → uid_homed old.vtocs h ≡ Some u
-    → uid_homed now.vtocs h ≡ Some u) → ((other : Home) → IfSome result
-    (λ e. other ≢ record { volume = volume; entry = e }) → uid_homed now.vtocs other ≡ uid_homed old.vtocs other)
-    → IfSome result (λ e. (words : List Ptw) → IsBlank words → HasNoFrame (bindings old.core) uid
-    → AreFiled old.records old.vtocs → IsTied now uid (record { volume = volume; entry = e }) words) → KeepsTies old now
-    → (AreFiled old.records old.vtocs → AreFiled now.records now.vtocs) → IsKept now ast links
+    → now ≡ after_asked old volume uid result → IfSome result (λ e. uid_homed now.vtocs (record {
+      volume = volume;
+      entry = e;
+    }) ≡ Some uid) → ((u : ℕ) (h : Home) → uid_homed old.vtocs h ≡ Some u → uid_homed now.vtocs h ≡ Some u)
+    → ((other : Home) → IfSome result (λ e. other ≢ record { volume = volume; entry = e }) → uid_homed now.vtocs other
+    ≡ uid_homed old.vtocs other) → IfSome result (λ e. (words : List Ptw) → IsBlank words → HasNoFrame (bindings
+    old.core) uid → AreFiled old.records old.vtocs → IsTied now uid (record { volume = volume; entry = e }) words)
+    → KeepsTies old now → (AreFiled old.records old.vtocs → AreFiled now.records now.vtocs) → IsKept now ast links
 kept_homed None {ast} {links} volume k idle least effect home homes uids tie ties filed =
     subst (λ (s : Plain). IsKept s ast links) (sym effect) k
 kept_homed (Some e) {old} {now} {ast} volume {uid} k idle least effect home homes uids tie ties filed =
@@ -83,10 +81,7 @@ kept_homed (Some e) {old} {now} {ast} volume {uid} k idle least effect home home
           } in
           let blank : IsBlank [] = record { pages = omega arith; null = λ p. refl } in
           let made : IsTied now uid it [] = tie [] blank none k.paged.filed in
-          record {
-            table = [];
-            tie = rw (← uid_is, same) made;
-          })
+          record { table = []; tie = rw (← uid_is, same) made })
       | inr ne ↦ (let was = k.paged.rest u h off (back u h is ne) in record
           { table = was.table; tie = ties.ties u h was.table was.tie })
     ]))

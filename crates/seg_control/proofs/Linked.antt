@@ -1,7 +1,6 @@
 -- Descriptors, trailers and known segment tables after a call.
-use Rattle.seg_control.proofs.Prelude.{◌≡◌, ◌≢◌, ◌⊎◌, ℕ, ◌<◌, ◌≤◌, Bool, true, false, eqb, List, [], length, Option, Some, refl, sym, ap, ◌∙◌, arith, set, get_or, inl, inr, map, cases_eq, eq-eqb, eqb-true, ne_eqb, and_from, get_or-set_same, get_or-set_other, length-set, length-map, IsDistinct-from_apart, length-le_from_distinct_below, same_Some, get_or-map, Sdw, Fault, sdw_at, trailers_of, leads_to, uid_of, Entry, Links, kst_at, sdws_at, leads, leads_at, times, AreExact, AreLinked, and_parts, get_or_any, shown_within, times_few, times_one}
-use Rattle.seg_control.proofs.Paged.{each_set}
-use Rattle.seg_control.proofs.Counts.{weight, count_one, count_two, any_at}
+pub use Rattle.seg_control.proofs.Counts.{AreExact, AreLinked, Bool, Entry, Fault, IsDistinct-from_apart, Links, List, Option, Sdw, Some, [], and_from, and_parts, any_at, ap, arith, cases_eq, count_one, count_push, count_remove, count_some, count_two, eq-eqb, eqb, eqb-true, false, get_or, get_or-map, get_or-set_other, get_or-set_same, get_or_any, inl, inr, kst_at, leads, leads_at, leads_to, length, length-le_from_distinct_below, length-map, length-set, map, ne_eqb, refl, same_Some, sdw_at, sdws_at, set, shown_within, sym, times, times_few, times_one, trailers_of, true, uid_of, weight, ℕ, ◌<◌, ◌∙◌, ◌≡◌, ◌≢◌, ◌≤◌, ◌⊎◌}
+pub use Rattle.seg_control.proofs.Paged.{each_set}
 
 -- ---- descriptors
 
@@ -29,16 +28,14 @@ module _ (descriptors : List (List Sdw)) (process number : ℕ) (w : Sdw) (proce
 
   pub leads_other : (q n : ℕ) → (q ≡ process → n ≢ number)
       → leads_at (set descriptors process (set (sdws_at descriptors process) number w)) q n ≡ leads_at descriptors q n
-  leads_other q n = each_set descriptors (set (sdws_at descriptors process) number w) [] (λ k words.
-      (k ≡ process → n ≢ number) → leads (sdw_at words n) ≡ leads_at descriptors k n) process_within
-      (λ other. rw (get_or-set_other (sdws_at descriptors process) number n w Fault (other refl)))
-      (λ k ne other. refl) q
+  leads_other q n = each_set descriptors (set (sdws_at descriptors process) number w) [] (λ k words. (k ≡ process
+      → n ≢ number) → leads (sdw_at words n) ≡ leads_at descriptors k n) process_within (λ other. rw
+      (get_or-set_other (sdws_at descriptors process) number n w Fault (other refl))) (λ k ne other. refl) q
 
   pub words_kept : (q : ℕ) → length (sdws_at (set descriptors process (set (sdws_at descriptors process) number w)) q)
       ≡ length (sdws_at descriptors q)
-  words_kept = each_set descriptors (set (sdws_at descriptors process) number w) [] (λ k words.
-      length words ≡ length (sdws_at descriptors k)) process_within
-      (length-set (sdws_at descriptors process) number w) (λ k ne. refl)
+  words_kept = each_set descriptors (set (sdws_at descriptors process) number w) [] (λ k words. length words ≡ length
+      (sdws_at descriptors k)) process_within (length-set (sdws_at descriptors process) number w) (λ k ne. refl)
 
 -- ---- trailers
 
@@ -64,9 +61,8 @@ times_other place q ne = ap weight (ne_eqb place q (λ e. ne (sym e)))
 
 -- a trailer leads to a descriptor that leads back
 pub trailer_leads : (trailers : List (List (ℕ × ℕ))) (descriptors : List (List Sdw)) (place i : ℕ)
-    → AreExact trailers descriptors → i < length (trailers_of trailers place)
-    → leads_at descriptors (get_or (trailers_of trailers place) i (0, 0)).0
-    (get_or (trailers_of trailers place) i (0, 0)).1 ≡ Some place
+    → AreExact trailers descriptors → i < length (trailers_of trailers place) → leads_at descriptors
+    (get_or (trailers_of trailers place) i (0, 0)).0 (get_or (trailers_of trailers place) i (0, 0)).1 ≡ Some place
 trailer_leads trailers descriptors place i exact lt =
     let x : ℕ × ℕ = get_or (trailers_of trailers place) i (0, 0) in
     let some = count_one (leads_to x.0 x.1) (trailers_of trailers place) i (0, 0) lt (leads_to_itself x.0 x.1) in

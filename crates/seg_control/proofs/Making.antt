@@ -1,16 +1,12 @@
 -- What is kept after a page is made, dropped, taken or given back.
-use Rattle.seg_control.proofs.Prelude.{◌≡◌, ℕ, ◌<◌, true, false, List, length, Option, None, Some, Result, Ok, Err, sym, ap, ◌∙◌, set, inl, inr, OnOk, OnErr, cases_eq, get_or-set_other, length-set, map-set, none-some, same_Some, Core, reads_of, frame_at, with_frame, bound_page, Free, Ptw, Null, Here, Leaving, ptw_at, VtocEntry, Entry, ActiveSegs, uid_in, entry_at, uid_at, table_at, with_table, Home, Paging, Plain, plain, bindings, binding_at, number_in, uid_or_zero, uid_of_home, IsTableOf, IsNotStarted, is_out, uid_framed, IsTied, KeepsOthers, words_here, after_create, dropped, Links, place_of, table_of, word_of, IsHomeFor, IsOutAt, ArePaged, IsKept, [], page_is}
 use Rattle.vtoc.specs.Vtoc.{uid_of}
-use Rattle.seg_control.proofs.Frames.{none_started}
-use Rattle.seg_control.proofs.Paged.{each_set}
-use Rattle.seg_control.proofs.Calls.{kept_table, kept_call, here_word, marks_set, reads_kept, tied_home}
-use Rattle.page_control.proofs.Pictures.{bound_now}
+use Rattle.seg_control.proofs.Frames.{ActiveSegs, ArePaged, Core, Entry, Err, Free, Here, Home, IsHomeFor, IsKept, IsNotStarted, IsOutAt, IsTableOf, IsTied, KeepsOthers, Leaving, Links, List, None, Null, Ok, OnErr, OnOk, Option, Paging, Plain, Ptw, Result, Some, VtocEntry, [], after_create, ap, binding_at, bindings, bound_now, bound_page, cases_eq, dropped, entry_at, false, frame_at, get_or-set_other, inl, inr, is_out, length, length-set, map-set, none-some, none_started, number_in, page_is, place_of, plain, ptw_at, reads_of, same_Some, set, sym, table_at, table_of, true, uid_at, uid_framed, uid_of_home, uid_or_zero, with_frame, with_table, word_of, words_here, ℕ, ◌<◌, ◌∙◌, ◌≡◌}
+pub use Rattle.seg_control.proofs.Calls.{each_set, here_word, kept_call, kept_table, marks_set, reads_kept, tied_home, uid_in}
 
 -- ---- a page is made
 
-pub lost_created : {T E : Type 0} (result : Result T E) (old : Plain) {now : Plain} (uid p : ℕ) (home : Home)
-    (f at w : ℕ) → now ≡ after_create old uid p home f at w result
-    → OnErr result (bindings now.core ≡ bindings old.core)
+pub lost_created : {T E : Type 0} (result : Result T E) (old : Plain) {now : Plain} (uid p : ℕ) (home : Home) (f
+    at w : ℕ) → now ≡ after_create old uid p home f at w result → OnErr result (bindings now.core ≡ bindings old.core)
 lost_created (Ok x) old uid p home f at w e = tt
 lost_created (Err e') old uid p home f at w e = rw e
 
@@ -18,9 +14,8 @@ pub kept_created : {T E : Type 0} (result : Result T E) {old now : Plain} {ast :
     (place : ℕ) {uid : ℕ} (p f : ℕ) {home : Home} {t u : List Ptw} → IsKept old ast links
     → uid_at ast.entries place ≡ Some uid → place < length ast.entries → t ≡ table_at ast.tables place
     → ptw_at t p ≡ Null → IsTied now uid home u → KeepsOthers old now uid home → u ≡ words_here t p f result
-    → OnOk result (bindings now.core ≡ set (bindings old.core) f (Some (uid, p)))
-    → OnErr result (bindings now.core ≡ bindings old.core) → reads_of now.core ≡ reads_of old.core
-    → IsKept now (with_table ast place u) links
+    → OnOk result (bindings now.core ≡ set (bindings old.core) f (Some (uid, p))) → OnErr result (bindings now.core
+    ≡ bindings old.core) → reads_of now.core ≡ reads_of old.core → IsKept now (with_table ast place u) links
 kept_created result {old} {now} place {uid} p f {t} {u} k at within table null tie others word bound lost reads =
     kept_call place p k at within table tie others (here_word result t u p f word)
     (marks_set result old now uid f (Some (uid, p)) (λ v q e. sym (page_is uid p v q e).0) bound lost)
@@ -56,19 +51,17 @@ pub kept_dropped : {old now : Plain} {ast : ActiveSegs} {links : Links} (place :
     → KeepsOthers old now uid home → u ≡ set t p Null → now ≡ dropped old home p word
     → reads_of now.core ≡ reads_of old.core → IsKept now (with_table ast place u) links
 kept_dropped {old} {now} place {p} {home} word k at within table idle tie others is effect reads =
-    kept_call place p k at within table tie others (Null, is)
-    (λ g v q e. inr (marks_dropped word old now home p effect g v q e))
-    (λ g v q e. (let was = rw reads at e in (was, λ same page. none_started idle g (rw (same, page) at was))))
+    kept_call place p k at within table tie others (Null, is) (λ g v q e. inr (marks_dropped word old now home p effect
+    g v q e)) (λ g v q e. (let was = rw reads at e in (was, λ same page. none_started idle g (rw (same, page) at was))))
 
 -- ---- a page is taken, or given back
 
 -- words of one table change, and no page that is on its record alone
 module _ {now : Plain} {entries : List (Option Entry)} {ptws : List (List Ptw)} (place : ℕ) (u : List Ptw)
     (k : ArePaged now entries ptws) (within : place < length ptws) (table : (uid : ℕ) → uid_at entries place ≡ Some uid
-    → IsTableOf (bindings now.core) uid u)
-    (tie : (uid : ℕ) (home : Home) → uid_at entries place ≡ Some uid → IsTied now uid home (table_at ptws place)
-    → IsTied now uid home u) (null : (q : ℕ) → entry_at entries place ≡ None → ptw_at u q ≡ Null)
-    (out : (q : ℕ) → is_out (ptw_at (table_at ptws place) q) ≡ true → is_out (ptw_at u q) ≡ true) where
+    → IsTableOf (bindings now.core) uid u) (tie : (uid : ℕ) (home : Home) → uid_at entries place ≡ Some uid → IsTied now
+    uid home (table_at ptws place) → IsTied now uid home u) (null : (q : ℕ) → entry_at entries place ≡ None → ptw_at u q
+    ≡ Null) (out : (q : ℕ) → is_out (ptw_at (table_at ptws place) q) ≡ true → is_out (ptw_at u q) ≡ true) where
   pub paged_words : ArePaged now entries (set ptws place u)
   paged_words = record {
     tables = λ q v e. each_set ptws u [] (λ n those. uid_at entries n ≡ Some v → IsTableOf (bindings now.core) v those)
@@ -99,18 +92,15 @@ out_kept t u p w is off q out = elim (cases_eq q p) [
 
 -- the word of the page in frame f changes, and page control nothing else
 pub moved_word : {D : Type 0} {old now : Paging D} {ast : ActiveSegs} {links : Links} {place uid : ℕ} {t u : List Ptw}
-    (pages : D → List (List ℕ)) (f : ℕ) (was word : Ptw)
-    → IsKept (plain pages old) ast links → now ≡ old → uid_framed (frame_at old.core f) ≡ uid
-    → word_of ast uid (number_in (frame_at old.core f)) ≡ was → is_out was ≡ false
-    → uid_at ast.entries place ≡ Some uid → place < length ast.entries → place ≡ place_of ast.entries uid
-    → t ≡ table_at ast.tables place → u ≡ set t (number_in (frame_at old.core f)) word
-    → IsTableOf (bindings now.core) (uid_framed (frame_at old.core f)) u
-    → ((v : ℕ) (home : Home) → IsTied (plain pages old) v home t → IsTied (plain pages now) v home u)
-    → IsKept (plain pages now) (with_table ast place u) links
+    (pages : D → List (List ℕ)) (f : ℕ) (was word : Ptw) → IsKept (plain pages old) ast links → now ≡ old
+    → uid_framed (frame_at old.core f) ≡ uid → word_of ast uid (number_in (frame_at old.core f)) ≡ was → is_out was
+    ≡ false → uid_at ast.entries place ≡ Some uid → place < length ast.entries → place ≡ place_of ast.entries uid
+    → t ≡ table_at ast.tables place → u ≡ set t (number_in (frame_at old.core f)) word → IsTableOf (bindings now.core)
+    (uid_framed (frame_at old.core f)) u → ((v : ℕ) (home : Home) → IsTied (plain pages old) v home t
+    → IsTied (plain pages now) v home u) → IsKept (plain pages now) (with_table ast place u) links
 moved_word {old} {ast} {place} {uid} {t} {u} pages f was word k same own its off at within is table words tied tie =
     let p : ℕ = number_in (frame_at old.core f) in
     let off : is_out (ptw_at t p) ≡ false = rw (table, is, its) off in
-    rw same (kept_table place u k within (cc (length-set t p word))
-    (λ lt. paged_words place u k.paged lt (λ v e. rw (same_Some _ _ (sym e ∙ at), ← own) (rw same at tied))
-    (λ v h e tied. rw same at (tie v h (rw table tied))) (λ q e. absurd (none-some uid (sym (ap uid_in e) ∙ at)))
-    (λ q out. out_kept t u p word words off q (rw table out))))
+    rw same (kept_table place u k within (cc (length-set t p word)) (λ lt. paged_words place u k.paged lt (λ v e. rw
+    (same_Some _ _ (sym e ∙ at), ← own) (rw same at tied)) (λ v h e tied. rw same at (tie v h (rw table tied)))
+    (λ q e. absurd (none-some uid (sym (ap uid_in e) ∙ at))) (λ q out. out_kept t u p word words off q (rw table out))))

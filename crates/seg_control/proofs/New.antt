@@ -1,5 +1,5 @@
 -- Segment control where nothing is active, known or connected.
-use Rattle.seg_control.proofs.Prelude.{◌≡◌, ◌≢◌, ℕ, suc, zero, ◌≤◌, ◌+◌, ◌^◌, List, [], ◌∷◌, ◌++◌, length, Option, None, Some, sum, replicate, count_by, refl, sym, ap, ◌∙◌, get_or, inl, inr, cases_lt, get_or-replicate, get_or_past, length-replicate, none-some, reads_of, bound_page, started_page, Ptw, Null, ptw_at, leads_to, Sdw, Fault, sdw_at, all_faults, uid_of, ActiveSegs, uid_in, superior_in, uid_at, superior_at, table_at, null_tables, no_segments, IsTree, AreNullTables, size_of, Plain, bindings, binding_at, AreFiled, Links, kst_at, leads, leads_at, no_links, read_at, times, AreFree, AreAtRest, AreLinked, IsKept, Free, get_or-map, all_same, length_of_four}
+pub use Rattle.seg_control.proofs.Prelude.{ActiveSegs, AreAtRest, AreFiled, AreFree, AreLinked, AreNullTables, Fault, Free, IsKept, IsTree, Links, List, None, Null, Option, Plain, Ptw, Sdw, Some, [], all_faults, all_same, ap, arith, binding_at, bindings, bound_page, cases_lt, count_by, get_or, get_or-map, get_or-replicate, get_or_past, inl, inr, kst_at, leads, leads_at, leads_to, length, length-replicate, length_of_four, no_links, no_segments, none-some, null_tables, plain, ptw_at, read_at, reads_of, refl, replicate, sdw_at, size_of, started_page, suc, sum, superior_at, superior_in, sym, table_at, times, uid_at, uid_in, uid_of, zero, ℕ, ◌++◌, ◌+◌, ◌^◌, ◌∙◌, ◌∷◌, ◌≡◌, ◌≢◌, ◌≤◌}
 use Rattle.seg_control.proofs.Frames.{read_is}
 
 -- one of many equal ones, or the default past their end
@@ -81,9 +81,8 @@ linked_none n places processes same few = record {
 -- ---- the whole
 
 pub kept_new : (now : Plain) (pools : List ℕ) (places processes : ℕ) (ast : ActiveSegs) (links : Links) → length pools
-    ≡ 4 → processes ≤ 32 → AreFree now.core
-    → AreFiled now.records now.vtocs → AreAtRest now → ast ≡ no_segments pools → AreNullTables pools ast.tables
-    → places ≡ sum pools → links ≡ no_links places processes → IsKept now ast links
+    ≡ 4 → processes ≤ 32 → AreFree now.core → AreFiled now.records now.vtocs → AreAtRest now → ast ≡ no_segments pools
+    → AreNullTables pools ast.tables → places ≡ sum pools → links ≡ no_links places processes → IsKept now ast links
 kept_new now pools places processes ast links four few free filed rest is_ast null same is_links =
     rw (is_ast, is_links) (record {
       paged = record {

@@ -1,6 +1,5 @@
 -- Page tables, frames and file maps after a call of page control.
-use Rattle.seg_control.proofs.Prelude.{◌≡◌, ◌≢◌, ◌⊎◌, ℕ, ◌<◌, true, false, List, [], length, Option, None, Some, sym, ap, subst, ◌∙◌, set, get_or, inl, inr, cases_eq, get_or-set_same, get_or-set_other, none-some, same_Some, reads_of, Ptw, Null, ptw_at, VtocEntry, Entry, uid_in, entry_at, uid_at, table_at, IsTree, Home, Plain, bindings, binding_at, IsTableOf, is_out, uid_homed, IsTied, KeepsOthers, KeepsTies, IsHomeOf, IsInactive, HasTable, read_at, IsOutAt, ArePaged}
-use Rattle.page_control.proofs.Pictures.{bound_now}
+pub use Rattle.seg_control.proofs.Prelude.{ActiveSegs, AreFiled, AreLinked, ArePaged, Entry, Err, HasNoFrame, HasTable, HaveSizes, Here, Home, IfSome, IsActive, IsBlank, IsHomeFor, IsHomeOf, IsInPool, IsInactive, IsKept, IsOutAt, IsTableOf, IsTied, IsTree, KeepsOthers, KeepsTies, Leaving, Left, Links, List, None, Null, Ok, OnErr, OnOk, Option, Plain, Ptw, Result, Some, VtocEntry, [], after_asked, after_evict, ap, arith, binding_at, bindings, bound_now, cases_eq, entry_at, erased, false, get_or, get_or-set_other, get_or-set_same, inl, inr, is_out, least_free_entry, length, length-set, none-some, page_is, place_of, ptw_at, read_at, reads_of, refl, same_Some, set, set-get_or, subst, sym, table_at, table_here, table_left, table_of, true, uid_at, uid_homed, uid_in, uid_of_home, vtoc_of, with_table, word_of_left, words_here, words_left, ℕ, ◌+◌, ◌<◌, ◌^◌, ◌∙◌, ◌≡◌, ◌≢◌, ◌⊎◌}
 
 -- ---- lists
 
@@ -16,10 +15,7 @@ each_set xs {place} x d P lt here there q = elim (cases_eq q place) [
 
 pub home_back : (old new : List (List (Option VtocEntry))) (uid : ℕ) (home : Home)
     → ((other : Home) → uid_homed new other ≡ uid_homed old other) → IsHomeOf new uid home → IsHomeOf old uid home
-home_back old new uid home same h = record {
-  used = cc (same home);
-  only = λ other e. h.only other (same other ∙ e);
-}
+home_back old new uid home same h = record { used = cc (same home); only = λ other e. h.only other (same other ∙ e) }
 
 -- ---- what is being read
 
@@ -80,9 +76,8 @@ module _ {old now : Plain} {entries : List (Option Entry)} {ptws : List (List Pt
         place = out.place;
         active = out.active;
         out = each_set ptws t [] (λ n those. uid_at entries n ≡ Some u → is_out (ptw_at (table_at ptws n) q) ≡ true
-            → is_out (ptw_at those q) ≡ true) call.within
-            (λ at yes. rw (call.words q (was.1 (same_Some _ _ (sym at ∙ call.at)))) yes) (λ n ne at yes. yes) out.place
-            out.active out.out;
+            → is_out (ptw_at those q) ≡ true) call.within (λ at yes. rw (call.words q
+            (was.1 (same_Some _ _ (sym at ∙ call.at)))) yes) (λ n ne at yes. yes) out.place out.active out.out;
       }
 
   pub paged_call : ArePaged now entries (set ptws place t)

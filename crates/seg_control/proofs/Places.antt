@@ -1,5 +1,5 @@
 -- The place in which a segment is active.
-use Rattle.seg_control.proofs.Prelude.{◌≡◌, ℕ, ◌<◌, Bool, true, false, List, [], ◌∷◌, length, Option, None, Some, refl, arith, get_or, suc, zero, position_or_len, eqb-true, eq-eqb, same_Some, common_steps, Entry, uid_in, uid_at, entry_at, IsTree, is_for, place_of, shown_within}
+pub use Rattle.seg_control.proofs.Prelude.{ActiveSegs, AreCopied, Bool, CanBegin, Entry, Err, Home, IfSome, IsActive, IsCopied, IsKeptAtRest, IsLeastToCopy, IsMoving, IsOnItsWay, IsTied, IsTree, KeepsCounts, KeepsHome, KeepsOthers, KeepsTables, KeepsTies, KeepsWords, Links, List, Mover, None, Ok, OnErr, OnOk, Option, Paging, Plain, Ptw, Result, Some, Vols, VtocEntry, [], after_copy, after_read, ap, arith, at_rest, begun, bindings, bound_now, cases_eq, cases_lt, common_steps, count_by, entry_at, eq-eqb, eqb-true, false, filed, filed_same, flags_in, get_or, get_or-set_other, get_or-set_same, home_at, in_use, inl, inr, is_for, is_framed, is_out, is_some, is_to_copy, length, length-set, map, map_at, moved_on, mover_map, mover_words, next_out, number_or_zero, off_and_on, page_to_copy, place_at, place_of, plain, position_or_len, ptw_at, read_at, reads_of, refl, same_Some, set, set_past, shown_within, some_unwrapped, suc, sym, table_at, table_of, tie_of_home, true, uid_at, uid_homed, uid_in, undone, vols_same, volumes_of, with_page, with_table, with_volumes, words_at, words_filed, words_here, words_of, words_of_home, words_out, zero, ℕ, ◌&&◌, ◌<◌, ◌∙◌, ◌∷◌, ◌≡◌, ◌≢◌}
 
 -- the first element that passes
 first_is : {X : Type 0} (p : X → Bool) (xs : List X) (k : ℕ) (d : X) → k < length xs → p (get_or xs k d) ≡ true

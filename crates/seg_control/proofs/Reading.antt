@@ -1,10 +1,6 @@
 -- A page comes into its frame, while another segment may move.
-use Rattle.seg_control.proofs.Prelude.{◌≡◌, ◌≢◌, ℕ, ◌<◌, Bool, List, length, Option, None, Some, Result, Ok, Err, OnOk, OnErr, refl, sym, ap, ◌∙◌, map, set, count_by, is_some, inl, inr, same_Some, reads_of, Ptw, VtocEntry, Vols, KeepsTables, ActiveSegs, uid_at, table_at, with_table, IsActive, IsTree, Home, KeepsCounts, after_read, words_here, KeepsWords, Paging, Plain, plain, bindings, map_at, uid_homed, IsTied, KeepsOthers, Mover, Links, place_of, table_of, read_at, IsKeptAtRest, IsOnItsWay, at_rest, home_at, volumes_of, [], get_or-set_other}
-use Rattle.seg_control.proofs.Places.{place_is}
-use Rattle.seg_control.proofs.Calls.{kept_read}
-use Rattle.seg_control.proofs.Aside.{IsAside, map_same, not_free, tie_less, tie_more, uid_same, words_same}
-use Rattle.seg_control.proofs.Resting.{aside_of, aside_stays, if_moves, plain_rest, rest_same, way_kept}
-use Rattle.page_control.proofs.Pictures.{bound_now}
+use Rattle.seg_control.proofs.Places.{ActiveSegs, Bool, Err, Home, IsActive, IsKeptAtRest, IsOnItsWay, IsTied, IsTree, KeepsCounts, KeepsOthers, KeepsTables, KeepsWords, Links, List, Mover, None, Ok, OnErr, OnOk, Option, Paging, Plain, Ptw, Result, Some, Vols, VtocEntry, [], after_read, ap, at_rest, bindings, bound_now, count_by, get_or-set_other, home_at, inl, inr, is_some, length, map, map_at, place_is, place_of, plain, read_at, reads_of, refl, same_Some, set, sym, table_at, table_of, uid_at, volumes_of, with_table, words_here, ℕ, ◌<◌, ◌∙◌, ◌≡◌, ◌≢◌}
+pub use Rattle.seg_control.proofs.Resting.{IsAside, aside_of, aside_stays, if_moves, kept_read, map_same, not_free, out_of, plain_rest, rest_same, table_is_here, tie_less, tie_more, tied_home, uid_same, way_kept, words_same}
 
 -- a segment that is tied to its home at rest is tied to it as the volumes are
 pub tied_now : {D : Type 0} {pages : D → List (List ℕ)} {s : Paging D} {ast : ActiveSegs} {links : Links}
@@ -43,10 +39,7 @@ module _ {D T E : Type 0} {pages : D → List (List ℕ)} {old now : Paging D} {
   vtocs_same = ap (λ (vols : Vols (List (List ℕ))). vols.vtocs) resting
 
   pub tables_read : KeepsTables (at_rest old moving).volumes (at_rest now moving).volumes
-  tables_read = record {
-    records = ap (λ (vols : Vols (List (List ℕ))). vols.records) resting;
-    vtocs = vtocs_same;
-  }
+  tables_read = record { records = ap (λ (vols : Vols (List (List ℕ))). vols.records) resting; vtocs = vtocs_same }
 
   pub counts_read : KeepsCounts (plain pages (at_rest old moving)) (plain pages (at_rest now moving))
   counts_read = assumption (
@@ -64,9 +57,8 @@ pub record IsRead {T E : Type 0} (rest now : Plain) (uid p : ℕ) (home : Home) 
   pub words : KeepsWords rest now uid home
   pub effect : now ≡ after_read rest uid p home f result
 
-after_rest : {T E : Type 0} (result : Result T E) (s : Plain) (records : List (List Bool))
-    (vtocs : List (List (Option VtocEntry))) (uid p : ℕ) (home : Home) (f : ℕ) → map_at s.vtocs home ≡ map_at vtocs home
-    → record s {
+after_rest : {T E : Type 0} (result : Result T E) (s : Plain) (records : List (List Bool)) (vtocs : List
+    (List (Option VtocEntry))) (uid p : ℕ) (home : Home) (f : ℕ) → map_at s.vtocs home ≡ map_at vtocs home → record s {
       core = (after_read s uid p home f result).core;
       frames = (after_read s uid p home f result).frames;
       records = records;
@@ -100,9 +92,8 @@ module _ {D T E : Type 0} {pages : D → List (List ℕ)} {old now : Paging D} {
     };
     words = record {
       words = λ v h q homes. (let other = not_free was_aside h v homes.used in
-          sym (words_same is_aside v h q other)
-          ∙ r.words.words v h q (assumption (uid_same was_aside h other ∙ homes.used))
-          ∙ words_same was_aside v h q other);
+          sym (words_same is_aside v h q other) ∙ r.words.words v h q
+          (assumption (uid_same was_aside h other ∙ homes.used)) ∙ words_same was_aside v h q other);
     };
     effect = plain_rest pages old now (Some m) (same r) r.effect
         ∙ after_rest result (plain pages old) _ _ uid p home f (map_same was_aside home apart);
@@ -123,21 +114,19 @@ not_moving : {rest now : Plain} {ast : ActiveSegs} {m : Mover} (uid p f : ℕ) �
 not_moving uid p f w started same = w.unread.none f p (cc)
 
 -- so that the page table of the other stays
-other_table : (ast : ActiveSegs) (place uid other : ℕ) (u : List Ptw) → IsTree ast.entries
-    → uid_at ast.entries place ≡ Some uid → IsActive ast.entries other → uid ≢ other
-    → table_of (with_table ast place u) other ≡ table_of ast other
+other_table : (ast : ActiveSegs) (place uid other : ℕ) (u : List Ptw) → IsTree ast.entries → uid_at ast.entries place
+    ≡ Some uid → IsActive ast.entries other → uid ≢ other → table_of (with_table ast place u) other ≡ table_of ast other
 other_table ast place uid other u tree at active ne =
     get_or-set_other ast.tables place (place_of ast.entries other) u [] (λ same. ne (same_Some _ _ (sym at
     ∙ ap (uid_at ast.entries) (sym same ∙ place_is ast.entries other active.0 tree active.1) ∙ active.1)))
 
-pub kept_at_rest : {D T E : Type 0} {pages : D → List (List ℕ)} {old now : Paging D} {ast : ActiveSegs}
-    {links : Links} {moving : Option Mover} {uid p : ℕ} {home : Home} {f : ℕ} {t u : List Ptw}
-    {result : Result T E} (place : ℕ) → Reads pages old now ast links moving uid p home f t u result
-    → uid_at ast.entries place ≡ Some uid → place < length ast.entries → t ≡ table_at ast.tables place
-    → read_at (reads_of old.core) f ≡ Some (uid, p) → u ≡ words_here t p f result
-    → OnOk result (bindings now.core ≡ set (bindings old.core) f (Some (uid, p)))
-    → OnErr result (bindings now.core ≡ bindings old.core) → reads_of now.core ≡ set (reads_of old.core) f None
-    → IsKeptAtRest pages now (with_table ast place u) links moving
+pub kept_at_rest : {D T E : Type 0} {pages : D → List (List ℕ)} {old now : Paging D} {ast : ActiveSegs} {links : Links}
+    {moving : Option Mover} {uid p : ℕ} {home : Home} {f : ℕ} {t u : List Ptw} {result : Result T E} (place : ℕ)
+    → Reads pages old now ast links moving uid p home f t u result → uid_at ast.entries place ≡ Some uid
+    → place < length ast.entries → t ≡ table_at ast.tables place → read_at (reads_of old.core) f ≡ Some (uid, p)
+    → u ≡ words_here t p f result → OnOk result (bindings now.core ≡ set (bindings old.core) f (Some (uid, p)))
+    → OnErr result (bindings now.core ≡ bindings old.core)
+    → reads_of now.core ≡ set (reads_of old.core) f None → IsKeptAtRest pages now (with_table ast place u) links moving
 kept_at_rest {pages} {old} {now} {ast} {moving} {uid} {p} {f} {u} {result} place r at within table started word bound
     lost reads = record {
       kept = kept_read result place p f r.kept.kept at within table started (is_read r).tie

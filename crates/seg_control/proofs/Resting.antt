@@ -1,8 +1,7 @@
 -- What is kept of the volumes at rest: where no segment moves, and where the volumes stay while one does.
-use Rattle.seg_control.proofs.Prelude.{◌≡◌, ℕ, Bool, true, false, List, [], Option, None, Some, IfSome, is_some, get_or, refl, sym, ap, subst, ◌∙◌, position, reads_of, record_at, Vols, ActiveSegs, Home, Paging, Plain, plain, bindings, binding_at, disk_of, filed, vtoc_in, is_binding, words_filed, words_held, words_of_page, words_out, words_at, changed_at, changed_page, KeepsTies, words_marked, bound_within, Mover, begun, undone, Links, table_of, AreLinked, IsHomeOf, IsKept, read_at, IsKeptAtRest, IsOnItsWay, at_rest, home_at, volumes_of, off_and_on, position_there}
-use Rattle.seg_control.proofs.Paged.{paged_same}
-use Rattle.seg_control.proofs.Calls.{kept_paged, kept_with}
-use Rattle.seg_control.proofs.Aside.{AreAside, IsAside, move_aside, not_free, tie_less, tie_more}
+pub use Rattle.seg_control.proofs.Prelude.{ActiveSegs, All, AreLinked, Bool, FitsIn, Here, Home, IfSome, IsAway, IsHomeOf, IsInactive, IsKept, IsKeptAtRest, IsLeastFree, IsNotRead, IsOnItsWay, IsTree, KeepsTies, Leaving, Links, List, Mover, None, Null, Option, Paging, Plain, Some, Vols, [], ap, at_rest, begun, binding_at, bindings, bound_within, changed_at, changed_page, deactivated, disk_of, false, filed, frame_at, get_or, home_at, is_binding, is_some, kst_at, leads_at, length, map_at, number_in, off_and_on, plain, position, position_there, ptw_at, read_at, reads_of, record_at, record_of, refl, rules, subst, sym, table_at, table_of, trailers_of, true, uid_homed, undone, volumes_of, vtoc_in, with_number, without_number, words_at, words_filed, words_held, words_in, words_marked, words_of_page, words_out, ℕ, ◌<◌, ◌∙◌, ◌≡◌, ◌≤◌}
+pub use Rattle.seg_control.proofs.Aside.{AreAside, IsAside, map_same, move_adds, move_aside, not_free, tie_less, tie_more, uid_same, words_same}
+pub use Rattle.seg_control.proofs.Calls.{each_set, kept_evicted, kept_paged, kept_read, kept_table, kept_with, lost_bindings, out_of, paged_same, paged_started, table_is_here, table_is_left, table_is_set, tied_home}
 
 -- ---- no segment moves
 
@@ -33,10 +32,9 @@ out_same new now home p same = ap (λ (vols : Vols (List (List ℕ))). words_fil
 
 -- a move goes on, where its segment keeps its page table, and no page of it begins to be read
 pub way_kept : {rest now : Plain} {ast : ActiveSegs} {m : Mover} (next new : Plain) (those : ActiveSegs)
-    → IsOnItsWay rest now ast m → volumes_of next ≡ volumes_of rest → volumes_of new ≡ volumes_of now
-    → those.entries ≡ ast.entries → table_of those m.uid ≡ table_of ast m.uid
-    → ((f p : ℕ) → read_at (reads_of new.core) f ≡ Some (m.uid, p) → read_at (reads_of now.core) f ≡ Some (m.uid, p))
-    → IsOnItsWay next new those m
+    → IsOnItsWay rest now ast m → volumes_of next ≡ volumes_of rest → volumes_of new ≡ volumes_of now → those.entries
+    ≡ ast.entries → table_of those m.uid ≡ table_of ast m.uid → ((f p : ℕ) → read_at (reads_of new.core) f
+    ≡ Some (m.uid, p) → read_at (reads_of now.core) f ≡ Some (m.uid, p)) → IsOnItsWay next new those m
 way_kept {now} {m} next new those w resting same entries table reads = record {
   active = rw entries w.active;
   home = subst (λ (vols : Vols (List (List ℕ))). IsHomeOf vols.vtocs m.uid (home_at m.from)) (sym resting) w.home;
@@ -71,23 +69,16 @@ aside_of k = assumption (move_aside k.way.moving k.kept.paged.filed)
 
 -- so it stays, while the volumes do
 pub aside_stays : {D : Type 0} (pages : D → List (List ℕ)) (old now : Paging D) (m : Mover)
-    → volumes_of (plain pages now) ≡ volumes_of (plain pages old)
-    → IsAside (plain pages (at_rest old (Some m))) (plain pages old) (home_at m.to)
-    → IsAside (plain pages (at_rest now (Some m))) (plain pages now) (home_at m.to)
-aside_stays pages old now m same a = record {
-  core = refl;
-  frames = refl;
-  disks = refl;
-  tables = subst (λ (vols : Vols (List (List ℕ))). AreAside (undone vols m).records vols.records
-      (undone vols m).vtocs vols.vtocs (home_at m.to)) (sym same) a.tables;
-}
+    → volumes_of (plain pages now) ≡ volumes_of (plain pages old) → IsAside (plain pages (at_rest old (Some m)))
+    (plain pages old) (home_at m.to) → IsAside (plain pages (at_rest now (Some m))) (plain pages now) (home_at m.to)
+aside_stays pages old now m same a = assumption (subst (λ (vols : Vols (List (List ℕ))). AreAside (undone vols
+    m).records vols.records (undone vols m).vtocs vols.vtocs (home_at m.to)) (sym same) a.tables)
 
 -- what is true of each segment stays true with the volumes at rest, where it does with the volumes as they are
-pub ties_rest : {D : Type 0} {pages : D → List (List ℕ)} {old : Paging D}
-    (now : Paging D) {ast : ActiveSegs} {links : Links} {moving : Option Mover}
-    → IsKeptAtRest pages old ast links moving → volumes_of (plain pages now) ≡ volumes_of (plain pages old)
-    → KeepsTies (plain pages old) (plain pages now) → KeepsTies (plain pages (at_rest old moving))
-    (plain pages (at_rest now moving))
+pub ties_rest : {D : Type 0} {pages : D → List (List ℕ)} {old : Paging D} (now : Paging D)
+    {ast : ActiveSegs} {links : Links} {moving : Option Mover} → IsKeptAtRest pages old ast links moving
+    → volumes_of (plain pages now) ≡ volumes_of (plain pages old) → KeepsTies (plain pages old) (plain pages now)
+    → KeepsTies (plain pages (at_rest old moving)) (plain pages (at_rest now moving))
 ties_rest now {moving = None} k same ties = ties
 ties_rest {pages} {old} now {moving = Some m} k same ties =
     let aside = aside_of k in
@@ -97,10 +88,9 @@ ties_rest {pages} {old} now {moving = Some m} k same ties =
     }
 
 -- marks and words in frames have changed, and no binding
-pub kept_rest : {D : Type 0} {pages : D → List (List ℕ)} {old : Paging D}
-    (now : Paging D) {ast : ActiveSegs} {links : Links} {moving : Option Mover}
-    → IsKeptAtRest pages old ast links moving → volumes_of (plain pages now) ≡ volumes_of (plain pages old)
-    → bindings now.core ≡ bindings old.core → reads_of now.core ≡ reads_of old.core
+pub kept_rest : {D : Type 0} {pages : D → List (List ℕ)} {old : Paging D} (now : Paging D) {ast : ActiveSegs}
+    {links : Links} {moving : Option Mover} → IsKeptAtRest pages old ast links moving → volumes_of (plain pages now)
+    ≡ volumes_of (plain pages old) → bindings now.core ≡ bindings old.core → reads_of now.core ≡ reads_of old.core
     → KeepsTies (plain pages old) (plain pages now) → IsKeptAtRest pages now ast links moving
 kept_rest {pages} {old} now {ast} {links} {moving} k same bound reads tied =
     let resting = rest_same pages old now moving same in
@@ -171,22 +161,19 @@ volumes_rest old now moving volumes = rw volumes
 
 -- where bindings and words in frames stay
 pub words_rest : {D : Type 0} (pages : D → List (List ℕ)) (old now : Paging D) (moving : Option Mover)
-    → volumes_of (plain pages now) ≡ volumes_of (plain pages old) → bindings now.core ≡ bindings old.core
-    → now.frames ≡ old.frames
-    → words_at (plain pages (at_rest now moving)) ≡ words_at (plain pages (at_rest old moving))
+    → volumes_of (plain pages now) ≡ volumes_of (plain pages old) → bindings now.core ≡ bindings old.core → now.frames
+    ≡ old.frames → words_at (plain pages (at_rest now moving)) ≡ words_at (plain pages (at_rest old moving))
 words_rest pages old now moving same bound frames =
     let resting = rest_same pages old now moving same in
-    words_marked (plain pages (at_rest old moving)) (plain pages (at_rest now moving)) bound frames
-    (ap (λ (vols : Vols (List (List ℕ))). vols.drives) resting)
-    (ap (λ (vols : Vols (List (List ℕ))). vols.vtocs) resting)
+    words_marked (plain pages (at_rest old moving)) (plain pages (at_rest now moving)) bound frames (ap
+    (λ (vols : Vols (List (List ℕ))). vols.drives) resting) (ap (λ (vols : Vols (List (List ℕ))). vols.vtocs) resting)
 
 -- where one bound page has other words in its frame
-pub words_put : {D : Type 0} (pages : D → List (List ℕ)) (old now : Paging D) (moving : Option Mover) (uid p f : ℕ)
-    (words : List ℕ) → volumes_of (plain pages now) ≡ volumes_of (plain pages old)
+pub words_put : {D : Type 0} (pages : D → List (List ℕ)) (old now : Paging D)
+    (moving : Option Mover) (uid p f : ℕ) (words : List ℕ) → volumes_of (plain pages now) ≡ volumes_of (plain pages old)
     → bindings now.core ≡ bindings old.core → binding_at (bindings old.core) f ≡ Some (uid, p)
-    → words_at (plain pages now) ≡ changed_page (words_at (plain pages old)) uid p words
-    → words_at (plain pages (at_rest now moving))
-    ≡ changed_page (words_at (plain pages (at_rest old moving))) uid p words
+    → words_at (plain pages now) ≡ changed_page (words_at (plain pages old)) uid p words → words_at
+    (plain pages (at_rest now moving)) ≡ changed_page (words_at (plain pages (at_rest old moving))) uid p words
 words_put pages old now moving uid p f words same bound at put =
     λ i. λ u h q. point u h q (position (is_binding u q) (bindings old.core)) refl i
   where
@@ -202,9 +189,8 @@ words_put pages old now moving uid p f words same bound at put =
 
     point : (u : ℕ) (h : Home) (q : ℕ) (place : Option ℕ) → position (is_binding u q) (bindings old.core) ≡ place
         → words_at next u h q ≡ changed_page (words_at rest) uid p words u h q
-    point u h q (Some g) is = held_in next u h q g (moved u q (Some g) is)
-        ∙ sym (held_in (plain pages now) u h q g (moved u q (Some g) is))
-        ∙ ap (λ (w : ℕ → Home → ℕ → List ℕ). w u h q) put
+    point u h q (Some g) is = held_in next u h q g (moved u q (Some g) is) ∙ sym
+        (held_in (plain pages now) u h q g (moved u q (Some g) is)) ∙ ap (λ (w : ℕ → Home → ℕ → List ℕ). w u h q) put
         ∙ changed_by (λ v n. words_at (plain pages old) v h n) (λ v n. words_at rest v h n) uid p words u q
         (held_in (plain pages old) u h q g is ∙ sym (held_in rest u h q g is))
     point u h q None is = held_out next u h q (moved u q None is)

@@ -1,9 +1,7 @@
 -- A page table whose pages are taken from a number on.
-use Rattle.seg_control.proofs.Prelude.{◌≡◌, ◌⊎◌, ℕ, suc, zero, ◌<◌, ◌≤◌, ◌+◌, List, [], ◌∷◌, length, Option, map, refl, sym, ap, ◌∙◌, arith, set, inl, inr, get_or-map, length-map, set-get_or, Ptw, Null, Out, Here, ptw_at, ActiveSegs, table_at, Plain, IsTableOf, IsMapOf, frame_of, has_record, is_out, Links, gone, taken_from, all_taken, IsKept}
-use Rattle.seg_control.proofs.Calls.{kept_table}
-use Rattle.std.proofs.Common.{add-one}
+pub use Rattle.seg_control.proofs.Prelude.{ActiveSegs, Here, IsKept, IsMapOf, IsTableOf, Links, List, Null, Option, Out, Plain, Ptw, [], add-one, all_taken, ap, arith, frame_of, get_or-map, gone, has_record, inl, inr, is_out, length, length-map, length-set, map, ptw_at, refl, rules, set, set-get_or, suc, sym, table_at, taken_from, zero, ℕ, ◌+◌, ◌<◌, ◌∙◌, ◌∷◌, ◌≡◌, ◌≤◌, ◌⊎◌}
+use Rattle.seg_control.proofs.Making.{kept_table, paged_words}
 use Rattle.seg_control.proofs.Becoming.{retied}
-use Rattle.seg_control.proofs.Making.{paged_words}
 
 taken_zero : (t : List Ptw) → taken_from 0 t ≡ map gone t
 unfolding taken_from
@@ -94,10 +92,11 @@ pub kept_taken : {now : Plain} {ast : ActiveSegs} {links : Links} (place from : 
     → place < length ast.entries → IsKept now (all_taken ast place from) links
 kept_taken {now} {ast} place from k within =
     let t : List Ptw = table_at ast.tables place in
-    kept_table place (taken_from from t) k within (taken_length from t)
-    (λ lt. paged_words place (taken_from from t) k.paged lt (λ uid e. table_taken from (k.paged.tables place uid e))
-    (λ uid home e tie. retied tie (omega (arith, taken_length from t))
-    (table_taken from tie.table) (map_taken from tie.map)) (λ q e. elim (taken_word from t q) [
+    kept_table place (taken_from from t) k within (taken_length from t) (λ lt. paged_words place (taken_from from t)
+    k.paged lt (λ uid e. table_taken from (k.paged.tables place uid e)) (λ uid home e tie. retied tie (omega (
+      arith,
+      taken_length from t,
+    )) (table_taken from tie.table) (map_taken from tie.map)) (λ q e. elim (taken_word from t q) [
       | inl same ↦ same ∙ k.paged.blank place q e
       | inr same ↦ same ∙ ap gone (k.paged.blank place q e)
     ]) (λ q out. alike is_out gone_is_out from t q ∙ out))

@@ -1,7 +1,6 @@
 -- How much of each volume is in use after a move is committed.
-use Rattle.seg_control.proofs.Prelude.{◌≡◌, ◌≢◌, ℕ, suc, ◌+◌, ◌<◌, false, cond, List, [], ◌∷◌, length, Option, None, Some, IsSome, is_some, refl, sym, arith, get_or, set, count_by, inl, inr, eqb_tells, get_or-set_same, sum_by-cons, sum_by-set, VtocEntry, Vols, records_at, vtoc_at, Home, named_on, taken, used, entry_of, mover_map, mover_uid, given_back, AreKept, entry_within, vtoc_within, count_given, map_some}
-use Rattle.vtoc.specs.Vtoc.{entry_at}
-use Rattle.seg_control.proofs.Aside.{given_here}
+use Rattle.seg_control.proofs.Prelude.{AreKept, Home, IsSome, List, None, Option, Some, Vols, VtocEntry, [], arith, cond, count_by, count_given, entry_of, entry_within, eqb_tells, false, get_or, get_or-set_same, given_back, inl, inr, is_some, length, map_some, mover_map, mover_uid, named_on, records_at, refl, set, suc, sum_by-cons, sum_by-set, sym, taken, used, vtoc_at, vtoc_entry as entry_at, vtoc_within, ℕ, ◌+◌, ◌<◌, ◌∷◌, ◌≡◌, ◌≢◌}
+pub use Rattle.seg_control.proofs.Aside.{AreAside, IsAside, filed_less, given_here, home_adds, map_same, not_free, tie_less, tie_more, uid_same, words_same}
 
 -- ---- file maps that name the same pages
 
@@ -12,9 +11,8 @@ count_none (place ∷ places) none =
     rw (sum_by-cons (λ (x : Option ℕ). cond {A = ℕ} (is_some x) 1 0) place places, none 0)
     (omega (arith, count_none places (λ p. none (suc p))))
 
-pub count_same : (places those : List (Option ℕ))
-    → ((p : ℕ) → is_some (get_or places p None) ≡ is_some (get_or those p None))
-    → count_by is_some places ≡ count_by is_some those
+pub count_same : (places those : List (Option ℕ)) → ((p : ℕ)
+    → is_some (get_or places p None) ≡ is_some (get_or those p None)) → count_by is_some places ≡ count_by is_some those
 count_same [] those same = sym (count_none those (λ p. sym (same p)))
 count_same (place ∷ places) [] same = count_none (place ∷ places) same
 count_same (place ∷ places) (x ∷ those) same = rw (

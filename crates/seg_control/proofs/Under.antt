@@ -1,8 +1,6 @@
 -- What is seen of a move that is under way.
-use Rattle.seg_control.proofs.Prelude.{◌≡◌, ℕ, Bool, List, [], length, Option, None, Some, IfSome, refl, sym, ap, ◌∙◌, get_or, map, set, get_or-map, length-map, length-set, map-set, set-get_or, Vols, HasParts, ActiveSegs, Paging, plain, Mover, CanBegin, IsMoving, Links, IsKeptAtRest, IsUnderWay, at_rest, in_move, volumes_of}
-use Rattle.seg_mover.specs.Homes.{map_at}
-use Rattle.seg_control.proofs.Resting.{if_moves}
-use Rattle.seg_mover.proofs.Records.{length_given}
+pub use Rattle.seg_control.proofs.Prelude.{ActiveSegs, AreFiled, AreKept, Bool, CanBegin, HasParts, IfSome, IsActive, IsHomeOf, IsKept, IsKeptAtRest, IsMoving, IsOnItsWay, IsUnderWay, IsUnread, KeepsTables, Links, List, Mover, None, Option, Paging, Some, Vols, [], ap, arith, at_rest, begun, get_or, get_or-map, home_at, in_move, length, length-map, length-set, length_given, map, map-set, mover_for, mover_map as map_at, mover_map, plain, records_at, refl, set, set-get_or, subst, sym, undone, volumes_of, with_volumes, ℕ, ◌∙◌, ◌≡◌}
+pub use Rattle.seg_control.proofs.Resting.{aside_of, each_set, if_moves, kept_moving, kept_paged, kept_still, kept_table, move_adds, paged_same, tie_more}
 
 -- ---- drives, and their pages in place of them
 

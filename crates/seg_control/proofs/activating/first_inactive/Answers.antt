@@ -1,5 +1,4 @@
-use Rattle.seg_control.proofs.Prelude.{◌≡◌, rules, true, is_some}
-use Rattle.seg_control.proofs.Chains.{active_from, one_more}
+use Rattle.seg_control.proofs.Chains.{active_from, is_some, one_more, rules, true, ◌≡◌}
 use Rattle.seg_control.proofs.activating.first_inactive.Goals as goal
 
 pub loop-i-preserved : goal.loop-i-preserved

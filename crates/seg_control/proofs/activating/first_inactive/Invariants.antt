@@ -1,4 +1,4 @@
-use Rattle.seg_control.proofs.Prelude.{ℕ, ◌<◌, IsActive, link_at}
+use Rattle.seg_control.proofs.Prelude.{IsActive, link_at, ℕ, ◌<◌}
 use Rattle.seg_control.proofs.activating.first_inactive.Given as goal
 
 abbrev pub invariant-loop-i : goal.invariant-loop-i

@@ -1,7 +1,4 @@
-use Rattle.seg_control.proofs.Prelude.{◌≡◌, ◌∙◌, None, refl, sym, ap, rules, get_or, records_in, filed_word}
-use Rattle.vtoc.specs.Vtoc.{entry_at}
-use Rattle.seg_control.proofs.Becoming.{table_zero}
-use Rattle.seg_control.proofs.Chains.{load_step}
+use Rattle.seg_control.proofs.Chains.{None, ap, filed_word, get_or, load_step, records_in, rules, sym, table_zero, vtoc_entry as entry_at, ◌∙◌, ◌≡◌}
 use Rattle.seg_control.proofs.activating.load.Goals as goal
 use Rattle.seg_control.proofs.activating.load.Goals.{in-Some, in-None}
 

@@ -1,5 +1,4 @@
-use Rattle.seg_control.proofs.Prelude.{◌≡◌, take, length, records_in, table_for}
-use Rattle.vtoc.specs.Vtoc.{entry_at}
+use Rattle.seg_control.proofs.Prelude.{length, records_in, table_for, take, vtoc_entry as entry_at, ◌≡◌}
 use Rattle.seg_control.proofs.activating.load.Given as goal
 
 abbrev pub invariant-loop-p : goal.invariant-loop-p

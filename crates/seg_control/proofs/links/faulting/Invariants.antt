@@ -1,4 +1,4 @@
-use Rattle.seg_control.proofs.Prelude.{◌≡◌, ◌≤◌, replicate, vec_len, vec_capacity, all_faults}
+use Rattle.seg_control.proofs.Prelude.{all_faults, replicate, vec_capacity, vec_len, ◌≡◌, ◌≤◌}
 use Rattle.seg_control.proofs.links.faulting.Given as goal
 
 abbrev pub invariant-loop-process : goal.invariant-loop-process

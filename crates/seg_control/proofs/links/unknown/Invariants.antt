@@ -1,4 +1,4 @@
-use Rattle.seg_control.proofs.Prelude.{◌≡◌, ◌≤◌, None, replicate, vec_len, vec_capacity}
+use Rattle.seg_control.proofs.Prelude.{None, replicate, vec_capacity, vec_len, ◌≡◌, ◌≤◌}
 use Rattle.seg_control.proofs.links.unknown.Given as goal
 
 abbrev pub invariant-loop-process : goal.invariant-loop-process

@@ -1,5 +1,4 @@
-use Rattle.seg_control.proofs.Prelude.{◌≤◌, length, rules}
-use Rattle.seg_control.proofs.Choosing.{framed_start, framed_more, framed_end}
+use Rattle.seg_control.proofs.Choosing.{framed_end, framed_more, framed_start, length, rules, ◌≤◌}
 use Rattle.seg_control.proofs.moving.framed_pages.Goals as goal
 
 pub loop-p-init : goal.loop-p-init

@@ -1,5 +1,4 @@
-use Rattle.seg_control.proofs.Prelude.{sym, refl}
-use Rattle.seg_control.proofs.Places.{place_is}
+use Rattle.seg_control.proofs.Places.{place_is, refl, sym}
 use Rattle.seg_control.proofs.segs.place_in.Goals as goal
 
 pub returns-clause-is : goal.returns-clause-is

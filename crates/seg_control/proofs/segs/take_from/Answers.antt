@@ -1,5 +1,4 @@
-use Rattle.seg_control.proofs.Prelude.{◌≡◌, ◌<◌, ◌≤◌, ◌∙◌, length, ap, sym, set, rules, length-set, ptw_at, gone}
-use Rattle.seg_control.proofs.Taking.{taken_step, taken_skip, taken_end}
+use Rattle.seg_control.proofs.Taking.{ap, gone, length, length-set, ptw_at, rules, set, sym, taken_end, taken_skip, taken_step, ◌<◌, ◌∙◌, ◌≡◌, ◌≤◌}
 use Rattle.seg_control.proofs.segs.take_from.Goals as goal
 use Rattle.seg_control.proofs.segs.take_from.Goals.{in-Here, in_default}
 

@@ -1,5 +1,4 @@
-use Rattle.seg_control.proofs.Prelude.{◌∙◌, ℕ, length, ap, sym, rules, Victim}
-use Rattle.seg_control.proofs.Chains.{superior_active, given_superiors, going_whole, going_free, going_is}
+use Rattle.seg_control.proofs.Chains.{given_superiors, going_free, going_is, going_whole, length, rules, superior_active}
 use Rattle.seg_control.proofs.segs.Segs.activate_next.Goals as goal
 
 pub make_active-requires-clause-superior : goal.make_active-requires-clause-superior

@@ -1,6 +1,5 @@
-use Rattle.seg_control.proofs.Prelude.{refl, rules, Here, Leaving}
 use Rattle.seg_control.proofs.Making.{moved_word}
-use Rattle.seg_control.proofs.Resting.{kept_still, still_kept}
+use Rattle.seg_control.proofs.Resting.{Here, Leaving, kept_still, refl, rules, still_kept}
 use Rattle.seg_control.proofs.segs.Segs.back.Goals as goal
 
 pub invariant_of-self : goal.invariant_of-self

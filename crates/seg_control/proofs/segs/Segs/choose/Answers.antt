@@ -1,4 +1,3 @@
-use Rattle.seg_control.proofs.Prelude.{ap, Paging, plain, volumes_of}
 use Rattle.seg_control.proofs.Resting.{kept_rest, words_rest}
 use Rattle.seg_control.proofs.segs.Segs.choose.Goals as goal
 

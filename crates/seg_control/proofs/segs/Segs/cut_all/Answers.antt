@@ -1,4 +1,4 @@
-use Rattle.seg_control.proofs.Cutting.{cut_step, cut_smaller}
+use Rattle.seg_control.proofs.Cutting.{cut_smaller, cut_step}
 use Rattle.seg_control.proofs.segs.Segs.cut_all.Goals as goal
 
 pub loop-process-smaller : goal.loop-process-smaller

@@ -1,4 +1,4 @@
-use Rattle.seg_control.proofs.Prelude.{◌≡◌, length, trailers_of, all_cut}
+use Rattle.seg_control.proofs.Prelude.{all_cut, length, trailers_of, ◌≡◌}
 use Rattle.seg_control.proofs.segs.Segs.cut_all.Given as goal
 
 abbrev pub invariant-loop-process : goal.invariant-loop-process

@@ -1,4 +1,4 @@
-use Rattle.seg_control.proofs.Connected.{leading, cut_place, cut_there, linked_cut}
+use Rattle.seg_control.proofs.Connected.{cut_place, cut_there, leading, linked_cut}
 use Rattle.seg_control.proofs.Resting.{kept_linked}
 use Rattle.seg_control.proofs.segs.Segs.cut_one.Goals as goal
 

@@ -1,6 +1,5 @@
-use Rattle.seg_control.proofs.Prelude.{◌≡◌, ◌<◌, [], All, length, rules, trailers_of, table_at, deactivated, IsAway, IsTree, plain, IsNotRead}
+use Rattle.seg_control.proofs.Resting.{All, IsAway, IsNotRead, IsTree, [], deactivated, kept_still, length, plain, rules, still_kept, table_at, trailers_of, ◌<◌, ◌≡◌}
 use Rattle.seg_control.proofs.Becoming.{kept_deactivated}
-use Rattle.seg_control.proofs.Resting.{kept_still, still_kept}
 use Rattle.seg_control.proofs.segs.Segs.deactivate.Goals as goal
 
 pub invariant_of-self : goal.invariant_of-self
@@ -12,6 +11,5 @@ invariant_of-self g c =
     let idle : IsNotRead c.self.inside.pages.core c.self.inside.ast.entries c.args.place = search rules in
     let cut : trailers_of c.self.inside.links.trailers c.args.place ≡ [] = search rules in
     let tree : IsTree (deactivated c.self.inside.ast c.args.place).entries = search rules in
-    still_kept still (rw c.deactivate.ensures.inactive
-    (kept_deactivated (plain g.D.Drive.pages c.self.inside.pages) c.self.inside.ast c.self.inside.links c.args.place
-    k within away idle cut tree))
+    still_kept still (rw c.deactivate.ensures.inactive (kept_deactivated (plain g.D.Drive.pages c.self.inside.pages)
+    c.self.inside.ast c.self.inside.links c.args.place k within away idle cut tree))

@@ -1,7 +1,5 @@
-use Rattle.seg_control.proofs.Prelude.{rules, Null, ptw_at}
-use Rattle.seg_control.proofs.Calls.{tied_home, table_is_set}
-use Rattle.seg_control.proofs.Making.{kept_dropped, homed_active}
-use Rattle.seg_control.proofs.Resting.{kept_still, still_kept}
+use Rattle.seg_control.proofs.Making.{homed_active, kept_dropped}
+use Rattle.seg_control.proofs.Resting.{Null, kept_still, ptw_at, rules, still_kept, table_is_set, tied_home}
 use Rattle.seg_control.proofs.segs.Segs.drop_page.Goals as goal
 
 pub drop_page-requires-clause-away : goal.drop_page-requires-clause-away
@@ -22,11 +20,10 @@ invariant_of-self g c =
     let k = kept_still still c.self.invariant in
     let its = homed_active k c.place_in-place.ensures.at c.place_in-place.ensures.is c.table_mut.ensures.value
     (rw (← c.self.view_is, still) at c.requires.home) in
-    still_kept still (kept_dropped c.place_in-place.result (ptw_at c.table_mut.result.now c.args.p) k
-    c.place_in-place.ensures.at c.place_in-place.ensures.within c.table_mut.ensures.value
-    (rw (← c.self.view_is) at c.requires.idle) (rw its at c.drop_page.ensures.tie)
-    (rw its at c.drop_page.ensures.others) c.drop_page.ensures.word c.drop_page.ensures.effect
-    c.drop_page.ensures.reads)
+    still_kept still (kept_dropped c.place_in-place.result
+    (ptw_at c.table_mut.result.now c.args.p) k c.place_in-place.ensures.at c.place_in-place.ensures.within
+    c.table_mut.ensures.value (rw (← c.self.view_is) at c.requires.idle) (rw its at c.drop_page.ensures.tie) (rw
+    its at c.drop_page.ensures.others) c.drop_page.ensures.word c.drop_page.ensures.effect c.drop_page.ensures.reads)
 
 pub returns : goal.returns
 returns g c =

@@ -1,7 +1,5 @@
-use Rattle.seg_control.proofs.Prelude.{rules}
-use Rattle.seg_control.proofs.Frames.{started_for}
-use Rattle.seg_control.proofs.Calls.{tied_home, out_of, table_is_here}
-use Rattle.seg_control.proofs.Reading.{Reads, tied_now, is_read, tables_read, counts_read, kept_at_rest}
+use Rattle.seg_control.proofs.Frames.{rules, started_for}
+use Rattle.seg_control.proofs.Reading.{Reads, counts_read, is_read, kept_at_rest, out_of, table_is_here, tables_read, tied_home, tied_now}
 use Rattle.seg_control.proofs.segs.Segs.end_in.Goals as goal
 
 pub end_in-requires-clause-out : goal.end_in-requires-clause-out

@@ -1,6 +1,4 @@
-use Rattle.seg_control.proofs.Prelude.{rules, ◌≡◌, ℕ, Leaving, ptw_at, frame_at, plain, number_in, record_of}
-use Rattle.seg_control.proofs.Calls.{tied_home, kept_evicted, table_is_left, lost_bindings}
-use Rattle.seg_control.proofs.Resting.{kept_still, still_kept}
+use Rattle.seg_control.proofs.Resting.{Leaving, frame_at, kept_evicted, kept_still, lost_bindings, number_in, plain, ptw_at, record_of, rules, still_kept, table_is_left, tied_home, ℕ, ◌≡◌}
 use Rattle.seg_control.proofs.segs.Segs.evict.Goals as goal
 
 pub evict-requires-clause-bound : goal.evict-requires-clause-bound
@@ -24,12 +22,11 @@ invariant_of-self g c =
     let p : ℕ = number_in (frame_at c.self.inside.pages.core c.args.f) in
     let word : ptw_at c.table_mut.result.now p ≡ Leaving c.args.f =
     rw (c.table_mut.ensures.value, c.place_in-place.ensures.is) (rw (← c.self.view_is) at c.requires.leaving) in
-    still_kept still (kept_evicted c.evict.result c.place_in-place.result p c.args.f
-    (record_of (plain g.D.Drive.pages c.self.inside.pages) c.args.home p) (kept_still still c.self.invariant)
-    c.place_in-place.ensures.at c.place_in-place.ensures.within c.table_mut.ensures.value word
-    (rw own at c.evict.ensures.tie) (rw own at c.evict.ensures.others) c.evict.ensures.word c.evict.ensures.freed
-    (lost_bindings c.evict.result (plain g.D.Drive.pages c.self.inside.pages) c.args.home p c.args.f
-    c.evict.ensures.effect) c.evict.ensures.reads)
+    still_kept still (kept_evicted c.evict.result c.place_in-place.result p c.args.f (record_of (plain
+    g.D.Drive.pages c.self.inside.pages) c.args.home p) (kept_still still c.self.invariant) c.place_in-place.ensures.at
+    c.place_in-place.ensures.within c.table_mut.ensures.value word (rw own at c.evict.ensures.tie)
+    (rw own at c.evict.ensures.others) c.evict.ensures.word c.evict.ensures.freed (lost_bindings c.evict.result
+    (plain g.D.Drive.pages c.self.inside.pages) c.args.home p c.args.f c.evict.ensures.effect) c.evict.ensures.reads)
 
 pub returns : goal.returns
 returns g c =

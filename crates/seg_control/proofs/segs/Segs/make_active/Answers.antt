@@ -1,7 +1,5 @@
-use Rattle.seg_control.proofs.Prelude.{◌≡◌, ◌≤◌, ◌<◌, Some, length, rules, table_at, IsLeastFree, plain, map_at, vtoc_in, uid_homed, IsInactive, FitsIn, words_in}
-use Rattle.seg_control.proofs.Becoming.{kept_activated}
-use Rattle.seg_control.proofs.Chains.{words_few}
-use Rattle.seg_control.proofs.Resting.{kept_still, still_kept}
+use Rattle.seg_control.proofs.Resting.{FitsIn, IsInactive, IsLeastFree, Some, kept_still, length, map_at, plain, rules, still_kept, table_at, uid_homed, vtoc_in, words_in, ◌<◌, ◌≡◌, ◌≤◌}
+use Rattle.seg_control.proofs.Chains.{kept_activated, words_few}
 use Rattle.seg_control.proofs.segs.Segs.make_active.Goals as goal
 
 pub load-requires-clause-few : goal.load-requires-clause-few
@@ -28,7 +26,6 @@ invariant_of-self g c =
     let lent = rw c.activate.ensures.active at c.table_mut.ensures.value in
     let vtoc : c.vtoc.result.now ≡ vtoc_in c.self.inside.pages.volumes.vtocs c.args.link.home.volume = search rules in
     let loaded = rw (vtoc, lent, long) at c.load.ensures in
-    still_kept still (rw (c.activate.ensures.active, loaded) (kept_activated
-    (plain g.D.Drive.pages c.self.inside.pages) c.self.inside.ast c.self.inside.links c.args.place c.args.link.uid
-    (words_in c.args.link.pool) c.args.superior c.args.link.home k within least.free inactive homed fits
-    (words_few c.args.link.pool c.requires.pool) long tree))
+    still_kept still (rw (c.activate.ensures.active, loaded) (kept_activated (plain g.D.Drive.pages c.self.inside.pages)
+    c.self.inside.ast c.self.inside.links c.args.place c.args.link.uid (words_in c.args.link.pool) c.args.superior
+    c.args.link.home k within least.free inactive homed fits (words_few c.args.link.pool c.requires.pool) long tree))

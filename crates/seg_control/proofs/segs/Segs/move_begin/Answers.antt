@@ -1,6 +1,4 @@
-use Rattle.seg_control.proofs.Prelude.{refl, ap, with_volumes}
-use Rattle.seg_control.proofs.Resting.{kept_still}
-use Rattle.seg_control.proofs.Beginning.{kept_begun, kept_from}
+use Rattle.seg_control.proofs.Beginning.{ap, kept_begun, kept_from, kept_still, with_volumes}
 use Rattle.seg_control.proofs.segs.Segs.move_begin.Goals as goal
 
 pub invariant_of-self : goal.invariant_of-self

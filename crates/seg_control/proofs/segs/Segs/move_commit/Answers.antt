@@ -1,28 +1,15 @@
-use Rattle.seg_control.proofs.Prelude.{◌≡◌, ◌∙◌, ℕ, Option, None, ap, refl, Ptw, Out, ptw_at, table_at, rehomed_word, bindings, is_out, table_of}
-use Rattle.seg_control.proofs.Resting.{kept_moving}
-use Rattle.seg_control.proofs.Under.{is_moving}
-use Rattle.seg_control.proofs.Copying.{tie_here}
-use Rattle.seg_control.proofs.Committing.{Commits, kept_committed, new_free, uid_new, map_new, words_moved, words_others, stored_moved, named_moved, taken_moved, gained}
+use Rattle.seg_control.proofs.Committing.{Commits, None, Option, Out, Ptw, ap, gained, is_moving, is_out, kept_committed, kept_moving, map_new, named_moved, new_free, ptw_at, refl, rehomed_word, stored_moved, table_at, table_of, taken_moved, tie_here, uid_new, words_moved, words_others, ℕ, ◌∙◌, ◌≡◌}
 use Rattle.seg_control.proofs.segs.Segs.move_commit.Goals as goal
 
-pub rehome-requires-clause-pages : goal.rehome-requires-clause-pages
-rehome-requires-clause-pages g c =
+pub rehome-requires : goal.rehome-requires
+rehome-requires g c =
     let k = kept_moving (rw (← c.self.view_is) at c.requires.moving) c.self.invariant in
-    rw (c.table_mut.ensures.value, c.place_in-place.ensures.is) (tie_here k).pages
-
-pub rehome-requires-clause-table : goal.rehome-requires-clause-table
-rehome-requires-clause-table g c =
-    let k = kept_moving (rw (← c.self.view_is) at c.requires.moving) c.self.invariant in
-    rw (c.table_mut.ensures.value, c.place_in-place.ensures.is) (tie_here k).table
-
-pub rehome-requires-clause-home : goal.rehome-requires-clause-home
-rehome-requires-clause-home g c =
-    let k = kept_moving (rw (← c.self.view_is) at c.requires.moving) c.self.invariant in
+    let here = tie_here k in
     let moving = k.way.moving in
     rw (c.table_mut.ensures.value, c.place_in-place.ensures.is) (record {
-      volume = moving.target;
-      used = moving.new_used;
-      stored = λ p. moving.same p ∙ (tie_here k).map.stored p;
+      pages = here.pages;
+      table = here.table;
+      home = record { volume = moving.target; used = moving.new_used; stored = λ p. moving.same p ∙ here.map.stored p };
     })
 
 pub commit-requires : goal.commit-requires
@@ -37,9 +24,8 @@ out_rehomed (Out r) None = refl
 out_rehomed _ _ = refl
 
 -- what was called for, and what it left
-commits : (g : _) (c : goal.After-self-3-1 g)
-    → Commits g.D.Drive.pages c.self.inside.pages c.rehome.new.self c.commit.new.v c.self.inside.ast
-    c.self.inside.links c.args.m c.place_in-place.result c.rehome.new.t
+commits : (g : _) (c : goal.After-self-3-1 g) → Commits g.D.Drive.pages c.self.inside.pages c.rehome.new.self
+    c.commit.new.v c.self.inside.ast c.self.inside.links c.args.m c.place_in-place.result c.rehome.new.t
 commits g c =
     let here = ap (table_at c.self.inside.ast.tables) c.place_in-place.ensures.is in
     let table : c.table_mut.result.now ≡ table_of c.self.inside.ast c.args.m.uid = c.table_mut.ensures.value ∙ here in
@@ -66,37 +52,30 @@ pub invariant_of-self : goal.invariant_of-self
 invariant_of-self g c = kept_committed (commits g c)
 
 pub returns-clause-free : goal.returns-clause-free
-returns-clause-free g c =
-    (let is = rw (← c.self.view_is) at c.requires.moving in rw (← c.self.view_is, is) (new_free (commits g c)))
+returns-clause-free g c = rw (← c.self.view_is, rw (← c.self.view_is) at c.requires.moving) (new_free (commits g c))
 
 pub returns-clause-uids : goal.returns-clause-uids
-returns-clause-uids g c =
-    (let is = rw (← c.self.view_is) at c.requires.moving in rw (← c.self.view_is, is) (uid_new (commits g c)))
+returns-clause-uids g c = rw (← c.self.view_is, rw (← c.self.view_is) at c.requires.moving) (uid_new (commits g c))
 
 pub returns-clause-maps : goal.returns-clause-maps
-returns-clause-maps g c =
-    (let is = rw (← c.self.view_is) at c.requires.moving in rw (← c.self.view_is, is) (map_new (commits g c)))
+returns-clause-maps g c = rw (← c.self.view_is, rw (← c.self.view_is) at c.requires.moving) (map_new (commits g c))
 
 pub returns-clause-stored : goal.returns-clause-stored
 returns-clause-stored g c =
-    (let is = rw (← c.self.view_is) at c.requires.moving in rw (← c.self.view_is, is) (stored_moved (commits g c)))
+    rw (← c.self.view_is, rw (← c.self.view_is) at c.requires.moving) (stored_moved (commits g c))
 
 pub returns-clause-named : goal.returns-clause-named
-returns-clause-named g c =
-    (let is = rw (← c.self.view_is) at c.requires.moving in rw (← c.self.view_is, is) (named_moved (commits g c)))
+returns-clause-named g c = rw (← c.self.view_is, rw (← c.self.view_is) at c.requires.moving) (named_moved (commits g c))
 
 pub returns-clause-taken : goal.returns-clause-taken
-returns-clause-taken g c =
-    (let is = rw (← c.self.view_is) at c.requires.moving in rw (← c.self.view_is, is) (taken_moved (commits g c)))
+returns-clause-taken g c = rw (← c.self.view_is, rw (← c.self.view_is) at c.requires.moving) (taken_moved (commits g c))
 
 pub returns-clause-gained : goal.returns-clause-gained
-returns-clause-gained g c =
-    (let is = rw (← c.self.view_is) at c.requires.moving in rw (← c.self.view_is, is) (gained (commits g c)))
+returns-clause-gained g c = rw (← c.self.view_is, rw (← c.self.view_is) at c.requires.moving) (gained (commits g c))
 
 pub returns-clause-moved : goal.returns-clause-moved
-returns-clause-moved g c =
-    (let is = rw (← c.self.view_is) at c.requires.moving in rw (← c.self.view_is, is) (words_moved (commits g c)))
+returns-clause-moved g c = rw (← c.self.view_is, rw (← c.self.view_is) at c.requires.moving) (words_moved (commits g c))
 
 pub returns-clause-words : goal.returns-clause-words
 returns-clause-words g c =
-    (let is = rw (← c.self.view_is) at c.requires.moving in rw (← c.self.view_is, is) (words_others (commits g c)))
+    rw (← c.self.view_is, rw (← c.self.view_is) at c.requires.moving) (words_others (commits g c))

@@ -1,6 +1,4 @@
-use Rattle.seg_control.proofs.Resting.{kept_moving}
-use Rattle.seg_control.proofs.Under.{is_moving}
-use Rattle.seg_control.proofs.Copying.{Copies, tie_moving, page_is, kept_copied, tables_copied, words_copied, disks_copied}
+use Rattle.seg_control.proofs.Copying.{Copies, disks_copied, is_moving, kept_copied, kept_moving, page_is, rules, tables_copied, tie_moving, words_copied}
 use Rattle.seg_control.proofs.segs.Segs.move_next.Goals as goal
 
 pub framed_pages-framed-requires : goal.framed_pages-framed-requires
@@ -31,22 +29,11 @@ copies g c = record {
 pub invariant_of-self : goal.invariant_of-self
 invariant_of-self g c = kept_copied (copies g c)
 
-pub returns-clause-answer : goal.returns-clause-answer
-returns-clause-answer g c = rw (← c.self.view_is)
-    (rw (c.volumes_mut.ensures.value, page_is (copies g c)) at c.copy_next-result.ensures.answer)
-
-pub returns-clause-mover : goal.returns-clause-mover
-returns-clause-mover g c = rw (← c.self.view_is)
-    (rw (c.volumes_mut.ensures.value, page_is (copies g c)) at c.copy_next-result.ensures.mover)
-
-pub returns-clause-disks : goal.returns-clause-disks
-returns-clause-disks g c =
-    (let is = rw (← c.self.view_is) at c.requires.moving in rw (← c.self.view_is, is) (disks_copied (copies g c)))
-
-pub returns-clause-tables : goal.returns-clause-tables
-returns-clause-tables g c =
-    (let is = rw (← c.self.view_is) at c.requires.moving in rw (← c.self.view_is, is) (tables_copied (copies g c)))
-
-pub returns-clause-words : goal.returns-clause-words
-returns-clause-words g c =
-    (let is = rw (← c.self.view_is) at c.requires.moving in rw (← c.self.view_is, is) (words_copied (copies g c)))
+pub returns : goal.returns
+returns g c =
+    let k = copies g c in
+    let out = page_is k in
+    let answer = rw (c.volumes_mut.ensures.value, out) at c.copy_next-result.ensures.answer in
+    let mover = rw (c.volumes_mut.ensures.value, out) at c.copy_next-result.ensures.mover in
+    rw (← c.self.view_is, rw (← c.self.view_is) at c.requires.moving)
+    (search (rules, answer, mover, disks_copied k, tables_copied k, words_copied k))

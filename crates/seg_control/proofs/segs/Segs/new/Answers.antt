@@ -1,5 +1,4 @@
-use Rattle.seg_control.proofs.Prelude.{arith, plain}
-use Rattle.seg_control.proofs.New.{kept_new}
+use Rattle.seg_control.proofs.New.{arith, kept_new, plain}
 use Rattle.seg_control.proofs.segs.Segs.new.Goals as goal
 
 pub invariant_of-result : goal.invariant_of-result

@@ -1,5 +1,4 @@
-use Rattle.seg_control.proofs.Prelude.{◌∙◌, length, rules, at_rest}
-use Rattle.seg_control.proofs.Chains.{given_superiors, not_stuck_active, not_stuck_free, if_none}
+use Rattle.seg_control.proofs.Chains.{at_rest, given_superiors, if_none, length, not_stuck_active, not_stuck_free, rules}
 use Rattle.seg_control.proofs.segs.Segs.next_victim.Goals as goal
 
 pub next_victim-requires-clause-superiors : goal.next_victim-requires-clause-superiors

@@ -1,5 +1,4 @@
-use Rattle.seg_control.proofs.Prelude.{rules, ap, volumes_of}
-use Rattle.seg_control.proofs.Frames.{bound_once, bound_to}
+use Rattle.seg_control.proofs.Frames.{ap, bound_once, bound_to, rules, volumes_of}
 use Rattle.seg_control.proofs.Resting.{kept_rest, plain_rest, volumes_rest, words_put}
 use Rattle.seg_control.proofs.segs.Segs.put_word.Goals as goal
 

@@ -1,22 +1,17 @@
-use Rattle.seg_control.proofs.Prelude.{◌<◌, ◌≤◌, ◌∙◌, length, ap, sym, rules, uid_at, Control}
-use Rattle.seg_control.proofs.Cutting.{reconnect_step, reconnect_end, may_here, may_next}
+use Rattle.seg_control.proofs.Cutting.{Control, ap, length, may_here, may_next, reconnect_end, reconnect_step, rules, sym, uid_at, ◌<◌, ◌∙◌, ◌≤◌}
 use Rattle.seg_control.proofs.segs.Segs.reconnect_all.Goals as goal
 
-pub connect_to-requires-clause-process : goal.connect_to-requires-clause-process
-connect_to-requires-clause-process g c =
+pub connect_to-requires : goal.connect_to-requires
+connect_to-requires g c =
     let lt : c.loop-i.i < length c.args.list.now = search rules in
-    (may_here c.args.list.now c.loop-i.i lt c.loop-i.invariant.may).0
-
-pub connect_to-requires-clause-known : goal.connect_to-requires-clause-known
-connect_to-requires-clause-known g c =
-    let lt : c.loop-i.i < length c.args.list.now = search rules in
-    (may_here c.args.list.now c.loop-i.i lt c.loop-i.invariant.may).1
-    ∙ ap (λ (s : Control g.row.D.Denot). uid_at s.ast.entries c.args.aste) (sym c.loop-i.invariant.rest)
-
-pub connect_to-requires-clause-cut : goal.connect_to-requires-clause-cut
-connect_to-requires-clause-cut g c =
-    let lt : c.loop-i.i < length c.args.list.now = search rules in
-    (may_here c.args.list.now c.loop-i.i lt c.loop-i.invariant.may).2
+    let may = may_here c.args.list.now c.loop-i.i lt c.loop-i.invariant.may in
+    record {
+      process = may.0;
+      active = search rules;
+      known = may.1
+          ∙ ap (λ (s : Control g.row.D.Denot). uid_at s.ast.entries c.args.aste) (sym c.loop-i.invariant.rest);
+      cut = may.2;
+    }
 
 pub loop-i-preserved : goal.loop-i-preserved
 loop-i-preserved g c =

@@ -1,4 +1,4 @@
-use Rattle.seg_control.proofs.Prelude.{◌≡◌, drop, uid_at, reconnected, MayReconnect}
+use Rattle.seg_control.proofs.Prelude.{MayReconnect, drop, reconnected, uid_at, ◌≡◌}
 use Rattle.seg_control.proofs.segs.Segs.reconnect_all.Given as goal
 
 abbrev pub invariant-loop-i : goal.invariant-loop-i

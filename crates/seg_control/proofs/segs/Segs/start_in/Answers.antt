@@ -1,8 +1,5 @@
-use Rattle.seg_control.proofs.Prelude.{◌∙◌, ap, ℕ, ptw_at, table_at, is_out}
-use Rattle.seg_control.proofs.Paged.{paged_started}
-use Rattle.seg_control.proofs.Frames.{same_vtocs, same_records, none_started}
-use Rattle.seg_control.proofs.Calls.{kept_paged}
-use Rattle.seg_control.proofs.Resting.{kept_still, still_kept}
+use Rattle.seg_control.proofs.Frames.{none_started, same_records, same_vtocs}
+use Rattle.seg_control.proofs.Resting.{kept_paged, kept_still, paged_started, still_kept}
 use Rattle.seg_control.proofs.segs.Segs.start_in.Goals as goal
 
 pub invariant_of-self : goal.invariant_of-self

@@ -1,6 +1,5 @@
-use Rattle.seg_control.proofs.Prelude.{◌<◌, length, rules}
+use Rattle.seg_control.proofs.Resting.{kept_still, length, rules, still_kept, ◌<◌}
 use Rattle.seg_control.proofs.Taking.{kept_taken}
-use Rattle.seg_control.proofs.Resting.{kept_still, still_kept}
 use Rattle.seg_control.proofs.segs.Segs.take_all.Goals as goal
 
 pub invariant_of-self : goal.invariant_of-self

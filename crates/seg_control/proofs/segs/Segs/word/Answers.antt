@@ -1,4 +1,4 @@
-use Rattle.seg_control.proofs.Prelude.{rules, ap, Plain, volumes_of}
+use Rattle.seg_control.proofs.Prelude.{Plain, ap, rules, volumes_of}
 use Rattle.seg_control.proofs.Resting.{kept_rest, plain_rest, volumes_rest, words_rest}
 use Rattle.seg_control.proofs.segs.Segs.word.Goals as goal
 
