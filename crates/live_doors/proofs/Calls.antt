@@ -1,5 +1,5 @@
 -- What a call leaves, from what its step told.
-use Rattle.live_doors.proofs.Prelude.{◌≡◌, ℕ, suc, zero, ◌+◌, ◌<◌, ◌≤◌, List, [], ◌∷◌, ◌++◌, length, None, refl, sym, ap, subst, ◌∙◌, arith, get_or, take, drop, All, All-append, length-replicate, common_steps, Me, TableId, Walk, Watch, View, Walking, Keeping, blank, first_watch, first_passes, AreNew, DoorsModel, PassModel, KeeperModel, IsPassOf, IsKeeperOf, OnlyNoted, HasNoted, having_noted, EntryRows, KeeperRows, AreEntriesOf, AreRowsOf, PassFits, KeeperFits, walk_of, watch_of}
+pub use Rattle.live_doors.proofs.Prelude.{All, All-append, AreEntriesOf, AreNew, AreRowsOf, DoorsModel, EntryRows, HasNoted, IsKeeperOf, IsPassOf, KeeperFits, KeeperModel, KeeperRows, Keeping, List, Me, None, OnlyNoted, PassFits, PassModel, TableId, View, Walk, Walking, Watch, [], ap, arith, blank, common_steps, drop, first_passes, first_watch, get_or, having_noted, length, length-replicate, refl, rules, subst, suc, sym, take, walk_of, watch_of, zero, ℕ, ◌++◌, ◌+◌, ◌<◌, ◌∙◌, ◌∷◌, ◌≡◌, ◌≤◌}
 
 -- a pass whose fields are those of its view
 pub pass_fits : {m : Me (Unit {0}) View} {q : Walk} {e : EntryRows} → m ≡ (Walking q, []) → AreEntriesOf e q
@@ -11,11 +11,10 @@ pub without_slots : {V S : Type 0} (m : V × List S) (v : V) → m ≡ (v, []) �
 without_slots m v is = cc
 
 -- it came with the same doors as before
-pub pass_stays_of : {doors : DoorsModel} {now : PassModel} {t t' : TableId} (m : Me (Unit {0}) View)
-    {m' : Me (Unit {0}) View} {q : Walk}
-    → record { table = t; walk = walk_of m.0 } ≡ now → IsPassOf doors now → t' ≡ t → m' ≡ (Walking q, [])
-    → length q.held ≡ length (walk_of m.0).held → q.cpu ≡ (walk_of m.0).cpu
-    → IsPassOf doors record { table = t'; walk = walk_of m'.0 }
+pub pass_stays_of : {doors : DoorsModel} {now : PassModel} {t t' : TableId}
+    (m : Me (Unit {0}) View) {m' : Me (Unit {0}) View} {q : Walk} → record { table = t; walk = walk_of m.0 } ≡ now
+    → IsPassOf doors now → t' ≡ t → m' ≡ (Walking q, []) → length q.held ≡ length (walk_of m.0).held
+    → q.cpu ≡ (walk_of m.0).cpu → IsPassOf doors record { table = t'; walk = walk_of m'.0 }
 pass_stays_of {doors} m view ok same is row cpu = record {
   table = cc;
   frames = cc;
@@ -28,18 +27,13 @@ pub keeper_fits : {m : Me (Unit {0}) View} {w : Watch} {r : KeeperRows} {cleared
 keeper_fits {r} {cleared} is rows noted = subst (λ x. KeeperFits x r cleared) (sym is) assumption
 
 -- it came with the same doors as before
-pub keeper_stays_of : {doors : DoorsModel} {now : KeeperModel} {t t' : TableId} (cleared cleared' : ℕ)
-    (m : Me (Unit {0}) View) {m' : Me (Unit {0}) View} {w : Watch}
-    → record { table = t; watch = watch_of m.0; cleared = cleared } ≡ now → IsKeeperOf doors now → t' ≡ t
-    → m' ≡ (Keeping w, []) → length w.doors ≡ length (watch_of m.0).doors → length w.since ≡ length (watch_of m.0).since
-    → length w.noted ≡ length (watch_of m.0).noted
-    → IsKeeperOf doors record { table = t'; watch = watch_of m'.0; cleared = cleared' }
-keeper_stays_of cleared cleared' m view ok same is a b c = record {
-  table = cc;
-  frames = cc;
-  since = cc;
-  cpus = cc;
-}
+pub keeper_stays_of : {doors : DoorsModel} {now : KeeperModel} {t t' : TableId}
+    (cleared cleared' : ℕ) (m : Me (Unit {0}) View) {m' : Me (Unit {0}) View} {w : Watch} → record
+    { table = t; watch = watch_of m.0; cleared = cleared } ≡ now → IsKeeperOf doors now → t' ≡ t → m' ≡ (Keeping w, [])
+    → length w.doors ≡ length (watch_of m.0).doors → length w.since ≡ length (watch_of m.0).since → length w.noted
+    ≡ length (watch_of m.0).noted → IsKeeperOf doors record { table = t'; watch = watch_of m'.0; cleared = cleared' }
+keeper_stays_of cleared cleared' m view ok same is a b c =
+    record { table = cc; frames = cc; since = cc; cpus = cc }
 
 -- what the keeper has noted once it has read the acknowledgements of the first few processors, each at least the stamp
 pub record NotedSoFar (old now : Watch) (stamp cpu : ℕ) : Type 0 where
@@ -86,10 +80,7 @@ opened {doors} {frames} {cpus} {door} f c is row = record {
     since = length-replicate frames 0 ∙ sym f;
     cpus = length-replicate cpus 0 ∙ sym c;
   };
-  watch = (
-    cc,
-    cc,
-  );
+  watch = (cc, cc);
   first = cc;
   passes_of = rw row (all_first doors.cpus (omega arith));
 }

@@ -1,5 +1,5 @@
 -- Each kind of step keeps the rule, and the laws that rest on it.
-use Rattle.live_doors.proofs.Prelude.{◌≡◌, ◌≢◌, ℕ, suc, zero, ◌+◌, ◌%◌, ◌<◌, ◌≤◌, ◌⊎◌, Bool, true, false, eqb, List, [], ◌∷◌, ◌++◌, length, replicate, Option, Some, None, refl, sym, ap, subst, ◌∙◌, arith, get_or, set, inl, inr, ⊎_elim, set-get_or, length-replicate, length-append, get_or-replicate, get_or_append_left, get_or-append-add, ext_get_or, State, Me, step, keeps, Allows, Splits, Joins, Final, Seen, Size, Walk, Watch, View, Walking, Keeping, Spent, IsShut, blank, first_watch, forgotten, acknowledged, shut, raised, having_noted, door_at, ack_at, first_words, filled_if, filled, walk_of, watch_of, Fills, Forgets, Acknowledges, Closes, Raises, Looks, keeper_with_pass, pass_of_keeper, PlanOk, PassOk, SeatOk, Kept, NotedIsClear, NeverBoundHasNoHolder, MayBindHasNoHolder, filled_ok, forgotten_ok, plan_acknowledged, acknowledged_ok, pass_stays, plan_shut, pass_shut, plan_raised, pass_raised, plan_noted, plan_admits, pass_admits, blank_ok, entry_gone, entry_never, seats_stay, valued, valued_else, valued_here}
+pub use Rattle.live_doors.proofs.Prelude.{Acknowledges, Allows, Bool, Closes, Fills, Final, Forgets, IsShut, Joins, Keeping, Kept, List, Looks, MayBindHasNoHolder, Me, NeverBoundHasNoHolder, None, NotedIsClear, Option, PassOk, PlanOk, Raises, SeatOk, Seen, Size, Some, Spent, Splits, State, View, Walk, Walking, Watch, [], ack_at, acknowledged, acknowledged_ok, ap, arith, blank, blank_ok, door_at, entry_gone, entry_never, eqb, ext_get_or, false, filled, filled_if, filled_ok, first_watch, first_words, forgotten, forgotten_ok, get_or, get_or-append-add, get_or-replicate, get_or_append_left, having_noted, inl, inr, keeper_with_pass, keeps, length, length-append, length-replicate, length-set, noted_still, pass_admits, pass_of_keeper, pass_raised, pass_shut, pass_stays, plan_acknowledged, plan_admits, plan_noted, plan_raised, plan_shut, raised, refl, replicate, rows_noted, rules, seats_stay, set, set-get_or, shut, step, subst, suc, sym, true, valued, valued_else, valued_here, walk_of, watch_of, zero, ℕ, ⊎_elim, ◌%◌, ◌++◌, ◌+◌, ◌<◌, ◌∙◌, ◌∷◌, ◌≡◌, ◌≢◌, ◌≤◌, ◌⊎◌}
 use mathlib.Core.Option.{some, none, some-injective, some-ne-none}
 use lib.ListN.{get_elem?}
 
@@ -12,9 +12,8 @@ InOrder z s = Kept z s.words s.views
 module _ (z : Size) where
   -- a pass has looked at a word
   pass_looked : (words : List ℕ) (views : List View) (id i : ℕ) (p p' : Walk) → (h : Kept z words views)
-      → get_elem? views id ≡ some (Walking p) → p'.cpu ≡ p.cpu
-      → (PassOk z.frames z.cpus words h.plan p → PassOk z.frames z.cpus words h.plan p')
-      → Kept z (set words i (get_or words i 0)) (set views id (Walking p'))
+      → get_elem? views id ≡ some (Walking p) → p'.cpu ≡ p.cpu → (PassOk z.frames z.cpus words h.plan p
+      → PassOk z.frames z.cpus words h.plan p') → Kept z (set words i (get_or words i 0)) (set views id (Walking p'))
   pass_looked words views id i p p' h at same ok =
       let mine = h.seats_ok id (Walking p) at in
       subst (λ ws. Kept z ws (set views id (Walking p'))) (sym (set-get_or words i 0))
@@ -116,9 +115,8 @@ module _ (z : Size) where
             (λ j v other e. stays h.keeper h.seat_of mine.0 (pass was) j v other (rw mine.1 (h.seats_ok j v e)));
       }
     where
-      stays : (keeper : ℕ) (seat_of : ℕ → ℕ) → keeper ≡ id
-          → ((q : Walk) → PassOk z.frames z.cpus words w q → PassOk z.frames z.cpus words' w' q)
-          → (j : ℕ) (v : View) → j ≢ id
+      stays : (keeper : ℕ) (seat_of : ℕ → ℕ) → keeper ≡ id → ((q : Walk)
+          → PassOk z.frames z.cpus words w q → PassOk z.frames z.cpus words' w' q) → (j : ℕ) (v : View) → j ≢ id
           → SeatOk z.frames z.cpus words w keeper seat_of j v → SeatOk z.frames z.cpus words' w' keeper seat_of j v
       stays keeper seat_of here pass j (Walking q) other k = (k.0, pass q k.1)
       stays keeper seat_of here pass j (Keeping u) other k = absurd (other (cc))
@@ -131,9 +129,8 @@ module _ (z : Size) where
     Keeping (shut f w),
     keeps,
     tt,
-    keeper_stepped s.words (set s.words (door_at f) (get_or w.doors f 0 + 1)) s.views id w (shut f w) h at
-        (plan_shut z.frames z.cpus s.words w f inside)
-        (λ k q ok. pass_shut z.frames z.cpus s.words w f q inside even k ok),
+    keeper_stepped s.words (set s.words (door_at f) (get_or w.doors f 0 + 1)) s.views id w (shut f w) h at (plan_shut
+        z.frames z.cpus s.words w f inside) (λ k q ok. pass_shut z.frames z.cpus s.words w f q inside even k ok),
     λ g e. ap (λ k. (Keeping (shut k w), [])) (omega arith),
   )
 
@@ -150,9 +147,8 @@ module _ (z : Size) where
     refl,
   )
 
-  pub looks : (slots id c : ℕ) (w : Watch) → c < z.cpus → length w.doors ≡ z.frames
-      → Allows (InOrder z) slots id (Keeping w, []) (ack_at z.frames c) (λ n. n)
-      (Looks (step slots (ack_at z.frames c) 0 0 none) (Keeping w, []))
+  pub looks : (slots id c : ℕ) (w : Watch) → c < z.cpus → length w.doors ≡ z.frames → Allows (InOrder z) slots id
+      (Keeping w, []) (ack_at z.frames c) (λ n. n) (Looks (step slots (ack_at z.frames c) 0 0 none) (Keeping w, []))
   looks slots id c w inside row s h homes here fits =
       let at : ℕ = ack_at z.frames c in
       let n : ℕ = get_or s.words (ack_at z.frames c) 0 in
@@ -164,10 +160,7 @@ module _ (z : Size) where
         keeper_stepped s.words (set s.words (ack_at z.frames c) n) s.views id w (having_noted at c n w) h here
             (λ k. rw (set-get_or s.words (ack_at z.frames c) 0) (plan_noted z.frames z.cpus s.words w at c n inside refl
             k)) (λ _ q ok. rw (set-get_or s.words (ack_at z.frames c) 0) ok),
-        λ d e. let same : c ≡ d = omega arith in (
-          rw (← same) low,
-          cc,
-        ),
+        λ d e. let same : c ≡ d = omega arith in (rw (← same) low, cc),
       )
 
   -- the same at a seat that is known to be a pass's or the keeper's
@@ -195,10 +188,9 @@ module _ (z : Size) where
       ≡ (watch_of m.0).request + 1 → Allows (InOrder z) slots id m 0 (λ _. n) (λ _. Raises (step slots 0 n 0 none) m n)
   raises_at {slots} id {m} is word = rw (word, is) (raises slots id (watch_of m.0))
 
-  pub looks_at : {slots : ℕ} (id : ℕ) {i : ℕ} (c : ℕ) {m : Me (Unit {0}) View} → m ≡ (Keeping (watch_of m.0), [])
-      → i ≡ ack_at z.frames c
-      → c < z.cpus → length (watch_of m.0).doors ≡ z.frames → Allows (InOrder z) slots id m i (λ n. n)
-      (Looks (step slots i 0 0 none) m)
+  pub looks_at : {slots : ℕ} (id : ℕ) {i : ℕ} (c : ℕ) {m : Me (Unit {0}) View}
+      → m ≡ (Keeping (watch_of m.0), []) → i ≡ ack_at z.frames c → c < z.cpus → length (watch_of m.0).doors ≡ z.frames
+      → Allows (InOrder z) slots id m i (λ n. n) (Looks (step slots i 0 0 none) m)
   looks_at {slots} id c {m} is word inside row =
       subst (λ k. Allows (InOrder z) slots id m k (λ n. n) (Looks (step slots k 0 0 none) m)) (sym word)
       (rw is (looks slots id c (watch_of m.0) inside row))
@@ -226,9 +218,8 @@ module _ (z : Size) where
         keeper = h.keeper;
         seat_of = seat_of;
         plan_ok = plan_admits z.frames z.cpus s.words w room was;
-        seats_ok = λ j v e. ⊎_elim (λ (old : get_elem? longer j ≡ some v).
-            seats_stay (SeatOk z.frames z.cpus s.words (record w { made = w.made + 1 }) h.keeper seat_of) s.views id
-            (keeper_with_pass (Keeping w)) (
+        seats_ok = λ j v e. ⊎_elim (λ (old : get_elem? longer j ≡ some v). seats_stay (SeatOk z.frames z.cpus s.words
+            (record w { made = w.made + 1 }) h.keeper seat_of) s.views id (keeper_with_pass (Keeping w)) (
               mine.0,
               refl,
             ) (λ i u other there. stays s.words h.keeper h.seat_of (length longer) mine.0 i u other
@@ -311,9 +302,8 @@ module _ (z : Size) where
     seats_ok = one;
   }
     where
-      one : (j : ℕ) (v : View) → get_elem? (Keeping (first_watch z.frames z.cpus z.door) ∷ []) j ≡ some v
-          → SeatOk z.frames z.cpus (first_words z.frames z.cpus z.door) (first_watch z.frames z.cpus z.door) 0 (λ c. 0)
-          j v
+      one : (j : ℕ) (v : View) → get_elem? (Keeping (first_watch z.frames z.cpus z.door) ∷ []) j ≡ some v → SeatOk
+          z.frames z.cpus (first_words z.frames z.cpus z.door) (first_watch z.frames z.cpus z.door) 0 (λ c. 0) j v
       one zero v e = subst (SeatOk z.frames z.cpus (first_words z.frames z.cpus z.door)
           (first_watch z.frames z.cpus z.door) 0 (λ c. 0) 0) (some-injective _ _ e) (refl, refl)
       one (suc j) v e = absurd (some-ne-none v (sym e))
@@ -357,9 +347,11 @@ elem_get_or [] i {a} e = absurd (some-ne-none a (sym e))
 elem_get_or (x ∷ xs) zero {a} e = some-injective x a e
 elem_get_or (x ∷ xs) (suc i) {a} e = elem_get_or xs i e
 
-ended_plan : {z : Size} {id : ℕ} {m : Me (Unit {0}) View} {words : List ℕ} (slots : List (Unit {0})) → m
-    ≡ (Keeping (watch_of m.0), [])
-    → Final (Seen (InOrder z) id m.0) words slots → PlanOk z.frames z.cpus words (watch_of m.0)
+ended_plan : {z : Size} {id : ℕ} {m : Me (Unit {0}) View} {words : List ℕ} (slots : List (Unit {0})) → m ≡ (
+  Keeping
+      (watch_of m.0),
+  [],
+) → Final (Seen (InOrder z) id m.0) words slots → PlanOk z.frames z.cpus words (watch_of m.0)
 ended_plan {z} {id} {m} slots is end =
     let s = end.0 in
     let h : Kept z s.words s.views = end.1.0 in

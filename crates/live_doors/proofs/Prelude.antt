@@ -4,9 +4,9 @@ pub use Rattle.std.proofs.lemmas.Grind.{common_steps}
 pub use Rattle.std.proofs.lemmas.List.{ext_get_or, get_or-append-add, get_or-replicate, get_or_append_left, length-append, length-replicate, length-set, set-get_or}
 pub use Rattle.std.proofs.lemmas.List.Elements.{All-append}
 pub use Rattle.std.specs.Mem.Slots.{slots_items}
-pub use Rattle.laws.proofs.Places.{valued, valued_else, valued_here}
 pub use Rattle.atomic_table.specs.Seated.{TableId}
 pub use Rattle.atomic_table.specs.Table.{Allows, Final, Joins, Me, Seen, Splits, State, keeps, step}
+pub use Rattle.laws.proofs.Places.{valued, valued_else, valued_here}
 pub use Rattle.live_doors.specs.Beside.{AreEntriesOf, AreRowsOf, EntryRows, KeeperRows}
 pub use Rattle.live_doors.specs.Doors.{AreNew, DoorsModel, HasNoted, IsKeeperOf, IsPassOf, IsShut, KeeperModel, MayBind, OnlyNoted, PassModel, acknowledged, blank, first_passes, first_watch, forgotten, having_noted, raised, shut}
 pub use Rattle.live_doors.specs.Kept.{Kept, MayBindHasNoHolder, NeverBoundHasNoHolder, NotedIsClear, PassOk, PlanOk, SeatOk}

@@ -1,4 +1,4 @@
-use Rattle.live_doors.proofs.Prelude.{◌≡◌, ℕ, ◌+◌, ◌<◌, length, slice_index, slots_items}
+use Rattle.live_doors.proofs.Prelude.{length, slice_index, slots_items, ℕ, ◌+◌, ◌<◌, ◌≡◌}
 use mathlib.Core.Option.{some}
 use lib.ListN.{get_elem?}
 use Rattle.live_doors.proofs.doors.read_doors.Given as goal

@@ -1,5 +1,4 @@
-use Rattle.live_doors.proofs.Prelude.{rules}
-use Rattle.live_doors.proofs.Keeps.{admits_at}
+use Rattle.live_doors.proofs.Keeps.{admits_at, rules}
 use Rattle.live_doors.proofs.opening.admit.Goals as goal
 
 pub split_seat-seat-requires : goal.split_seat-seat-requires

@@ -1,4 +1,4 @@
-use Rattle.live_doors.proofs.Prelude.{◌≡◌, ◌≤◌, first_passes}
+use Rattle.live_doors.proofs.Prelude.{first_passes, ◌≡◌, ◌≤◌}
 use Rattle.live_doors.proofs.opening.admit_all.Given as goal
 
 abbrev pub invariant-loop-cpu : goal.invariant-loop-cpu

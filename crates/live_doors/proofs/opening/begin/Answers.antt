@@ -1,5 +1,4 @@
-use Rattle.live_doors.proofs.Prelude.{rules}
-use Rattle.live_doors.proofs.Calls.{opened}
+use Rattle.live_doors.proofs.Calls.{opened, rules}
 use Rattle.live_doors.proofs.opening.begin.Goals as goal
 
 pub returns : goal.returns

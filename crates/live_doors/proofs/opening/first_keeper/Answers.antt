@@ -1,5 +1,4 @@
-use Rattle.live_doors.proofs.Prelude.{rules}
-use Rattle.live_doors.proofs.Keeps.{opens_at}
+use Rattle.live_doors.proofs.Keeps.{opens_at, rules}
 use Rattle.live_doors.proofs.opening.first_keeper.Goals as goal
 
 pub of_words-requires : goal.of_words-requires

@@ -1,4 +1,4 @@
-use Rattle.live_doors.proofs.Prelude.{rules, ap, ◌∙◌}
+use Rattle.live_doors.proofs.Prelude.{rules}
 use Rattle.live_doors.proofs.Keeps.{acknowledges_at}
 use Rattle.live_doors.proofs.doors.LiveDoors.acknowledge.Goals as goal
 

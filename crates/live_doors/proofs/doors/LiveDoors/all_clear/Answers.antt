@@ -1,5 +1,4 @@
-use Rattle.live_doors.proofs.Prelude.{rules}
-use Rattle.live_doors.proofs.Keeps.{noted_is_clear}
+use Rattle.live_doors.proofs.Keeps.{noted_is_clear, rules}
 use Rattle.live_doors.proofs.doors.LiveDoors.all_clear.Goals as goal
 
 pub returns-clause-clear : goal.returns-clause-clear

@@ -1,5 +1,4 @@
-use Rattle.live_doors.proofs.Prelude.{◌≤◌}
-use Rattle.live_doors.proofs.Calls.{ClearSoFar}
+use Rattle.live_doors.proofs.Calls.{ClearSoFar, ◌≤◌}
 use Rattle.live_doors.proofs.doors.LiveDoors.all_clear.Given as goal
 
 abbrev pub invariant-loop-cpu : goal.invariant-loop-cpu

@@ -1,4 +1,4 @@
-use Rattle.live_doors.proofs.Prelude.{rules, ◌+◌, get_or, ap, ◌∙◌}
+use Rattle.live_doors.proofs.Prelude.{rules}
 use Rattle.live_doors.proofs.Keeps.{closes_at}
 use Rattle.live_doors.proofs.doors.LiveDoors.close_door.Goals as goal
 

@@ -1,6 +1,6 @@
-use Rattle.live_doors.proofs.Prelude.{rules, ap, ◌∙◌, Walk, walk_of, filled, filled_row, entries_filled, when_bound, when_admitted, when_closed}
-use Rattle.live_doors.proofs.Keeps.{fills_at}
+use Rattle.live_doors.proofs.Prelude.{Walk, ap, entries_filled, filled, filled_row, rules, walk_of, when_admitted, when_bound, when_closed, ◌∙◌}
 use Rattle.live_doors.proofs.Calls.{pass_fits, pass_stays_of}
+use Rattle.live_doors.proofs.Keeps.{fills_at}
 use Rattle.live_doors.proofs.doors.LiveDoors.fill.Goals as goal
 
 pub load-word-requires : goal.load-word-requires
@@ -26,13 +26,11 @@ returns-clause-bound c = when_bound c.enter.result c.load-word.result
     (c.load-word.ensures.2 c.args.f c.door_word.ensures).0 c.enter.ensures.bound
 
 pub returns-clause-admitted : goal.returns-clause-admitted
-returns-clause-admitted c = when_admitted c.enter.result c.args.f c.load-word.result
-    (λ (h : Walk → Walk). h c.args.pass.now.walk) _
-    (ap (λ x. walk_of x.0) (c.load-word.ensures.2 c.args.f c.door_word.ensures).1
+returns-clause-admitted c = when_admitted c.enter.result c.args.f c.load-word.result (λ (h : Walk → Walk).
+    h c.args.pass.now.walk) _ (ap (λ x. walk_of x.0) (c.load-word.ensures.2 c.args.f c.door_word.ensures).1
     ∙ ap (λ v. filled c.args.f c.load-word.result v.walk) c.pass.view_is) c.enter.ensures.bound
 
 pub returns-clause-closed : goal.returns-clause-closed
-returns-clause-closed c = when_closed c.enter.result c.args.f c.load-word.result
-    (λ (h : Walk → Walk). h c.args.pass.now.walk) _
-    (ap (λ x. walk_of x.0) (c.load-word.ensures.2 c.args.f c.door_word.ensures).1
+returns-clause-closed c = when_closed c.enter.result c.args.f c.load-word.result (λ (h : Walk → Walk).
+    h c.args.pass.now.walk) _ (ap (λ x. walk_of x.0) (c.load-word.ensures.2 c.args.f c.door_word.ensures).1
     ∙ ap (λ v. filled c.args.f c.load-word.result v.walk) c.pass.view_is) c.enter.ensures.closed

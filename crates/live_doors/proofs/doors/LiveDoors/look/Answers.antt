@@ -1,6 +1,5 @@
-use Rattle.live_doors.proofs.Prelude.{rules, refl, length-set, watch_of, noted_still, rows_noted}
-use Rattle.live_doors.proofs.Keeps.{looks_at}
 use Rattle.live_doors.proofs.Calls.{keeper_fits, keeper_stays_of}
+use Rattle.live_doors.proofs.Keeps.{length-set, looks_at, noted_still, refl, rows_noted, rules, watch_of}
 use Rattle.live_doors.proofs.doors.LiveDoors.look.Goals as goal
 
 pub load-requires : goal.load-requires

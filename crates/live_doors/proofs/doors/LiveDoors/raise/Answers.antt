@@ -1,5 +1,4 @@
-use Rattle.live_doors.proofs.Prelude.{rules}
-use Rattle.live_doors.proofs.Keeps.{raises_at}
+use Rattle.live_doors.proofs.Keeps.{raises_at, rules}
 use Rattle.live_doors.proofs.doors.LiveDoors.raise.Goals as goal
 
 pub store-requires : goal.store-requires

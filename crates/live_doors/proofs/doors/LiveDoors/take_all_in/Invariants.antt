@@ -1,4 +1,4 @@
-use Rattle.live_doors.proofs.Prelude.{◌≡◌, All, vec_len, IsPassOf}
+use Rattle.live_doors.proofs.Prelude.{All, IsPassOf, vec_len, ◌≡◌}
 use Rattle.live_doors.proofs.doors.LiveDoors.take_all_in.Given as goal
 
 abbrev pub decreases-loop-pass : goal.decreases-loop-pass

@@ -1,4 +1,4 @@
-use Rattle.live_doors.proofs.Prelude.{ℕ, Some, None, ◌≡◌, get_or, subst, sym, ap, IsTrue, ◌↔◌, holds_entry}
+use Rattle.live_doors.proofs.Prelude.{ap, holds_entry}
 use Rattle.live_doors.proofs.entries.Entries.holds.Goals as goal
 
 pub returns : goal.returns

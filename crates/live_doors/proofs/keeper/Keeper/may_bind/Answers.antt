@@ -1,4 +1,4 @@
-use Rattle.live_doors.proofs.Prelude.{subst, HasNoted, MayBind, watch_of, may_bind_by}
+use Rattle.live_doors.proofs.Prelude.{may_bind_by, watch_of}
 use Rattle.live_doors.proofs.Keeps.{may_bind_is_free}
 use Rattle.live_doors.proofs.keeper.Keeper.may_bind.Goals as goal
 
