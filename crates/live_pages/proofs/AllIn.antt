@@ -1,12 +1,9 @@
 -- What the end hands out.
-use Rattle.live_pages.proofs.Prelude.{◌≡◌, ◌≢◌, ℕ, suc, zero, ◌+◌, ◌<◌, ◌≤◌, List, [], ◌∷◌, ◌++◌, length, Option, Some, None, refl, sym, ap, ◌∙◌, arith, get_or, set, Bool, false, IsTrue, option_to_list, All, get_or-set_same, get_or-set_other, length-set, get_or_append_left, All-append, Final, Seen, Held, Size, Made, Free, Out, In, Holder, Keeping, Seat, page_given, AllIn, ended_bindings, last_bindings, all_bindings, IsLeftAfterAll, EndIsLegal, PagesModel, PassModel, KeeperModel, AreAll, HavePages, taking_in, taking_all_in, get_or_push, length_push, filled}
+pub use Rattle.live_pages.proofs.Ends.{All, All-append, All-pop, AllIn, AreAll, Bool, EndIsLegal, Final, Free, HavePages, Held, Holder, In, InOrder, IsLeftAfterAll, IsPassOf, IsTrue, KeeperModel, Keeping, List, Made, None, Option, Out, PagesModel, PassModel, Seat, Seen, Size, Some, [], all_bindings, all_in_is_legal, ap, arith, ended_bindings, false, filled, get_or, get_or-set_other, get_or-set_same, get_or_append_left, get_or_push, last_are_left, last_bindings, length, length-set, length_push, option_to_list, page_given, refl, rules, set, slots_items, suc, sym, taking_all_in, taking_in, zero, ℕ, ◌++◌, ◌+◌, ◌<◌, ◌∙◌, ◌∷◌, ◌≡◌, ◌≢◌, ◌≤◌}
 use mathlib.Core.Logic.{dite}
 use mathlib.Core.Option as M
 use native.Mathlib.Decide.{ℕ_discrete}
 use lib.ListN.{get_elem?}
-use Rattle.live_pages.proofs.ByTicket.{last_are_left}
-use Rattle.live_pages.proofs.Quiet.{InOrder}
-use Rattle.live_pages.proofs.Ends.{all_in_is_legal}
 
 -- the last of the passes goes first
 pub taking_last : (ps : List PassModel) (p : PassModel) (k : Holder) → taking_all_in (ps ++ p ∷ []) k
@@ -65,14 +62,12 @@ pub slots_held : {frames cpus : ℕ} {k : Holder} {slots : List (Option Held)} �
 slots_held end f inside = let there = end.legal.2 f inside in (there.0, end.home f (Some there.0) there.1)
 
 held_of : Held → M.Option (Option Held) → Held
-held_of d M.none = d
-held_of d (M.some None) = d
 held_of d (M.some (Some h)) = h
+held_of d _ = d
 
 -- and the pages handed out are those of their bindings
-pub pages_left : {frames cpus : ℕ} {k : Holder} {slots : List (Option Held)} (pages : List (List ℕ))
-    → AtEnd frames cpus k slots → length pages ≡ frames → HavePages slots pages
-    → All (IsLeftAfterAll k) (all_bindings pages k)
+pub pages_left : {frames cpus : ℕ} {k : Holder} {slots : List (Option Held)} (pages : List (List ℕ)) → AtEnd
+    frames cpus k slots → length pages ≡ frames → HavePages slots pages → All (IsLeftAfterAll k) (all_bindings pages k)
 unfolding held_of
 pages_left {k = k} pages end count have =
     All-append (IsLeftAfterAll k) (ended_bindings (page_given k.ended) k.ended) (last_bindings (length pages) pages k)
@@ -83,10 +78,9 @@ pages_left {k = k} pages end count have =
 
 -- one pass was taken in
 pub taking_goes_on : {all next : KeeperModel} (now : KeeperModel) {items : List PassModel}
-    (left : List PassModel) {o : Option PassModel} {p : PassModel}
-    → items ≡ left ++ option_to_list o → o ≡ Some p → next ≡ record now { holder = taking_in p now.holder }
-    → record now { holder = taking_all_in items now.holder } ≡ all
-    → record next { holder = taking_all_in left next.holder } ≡ all
+    (left : List PassModel) {o : Option PassModel} {p : PassModel} → items ≡ left ++ option_to_list o → o ≡ Some p
+    → next ≡ record now { holder = taking_in p now.holder } → record now { holder = taking_all_in items now.holder }
+    ≡ all → record next { holder = taking_all_in left next.holder } ≡ all
 taking_goes_on now left {p = p} popped some is so = rw (is, ← taking_last left p now.holder) (rw (popped, some) at so)
 
 -- a slot that has a page is not empty
@@ -115,9 +109,8 @@ set_default (x ∷ xs) (suc i) = set_default xs i
 
 pub taken_more : (filled : List Bool) {filled' : List Bool} {f : ℕ} → filled' ≡ set filled f false
     → ((k : ℕ) → k < f → get_or filled k false ≡ false) → (k : ℕ) → k < f + 1 → get_or filled' k false ≡ false
-taken_more filled {f = f} is before k below = rw is (dite (ℕ_discrete k f)
-    (λ (here : k ≡ f). rw here (set_default filled f))
-    (λ (other : k ≢ f). get_or-set_other filled f k false false other ∙ before k (omega arith)))
+taken_more filled {f = f} is before k below = rw is (dite (ℕ_discrete k f) (λ (here : k ≡ f). rw here
+    (set_default filled f)) (λ (other : k ≢ f). get_or-set_other filled f k false false other ∙ before k (omega arith)))
 
 pub still_there : (filled : List Bool) {filled' : List Bool} {f frames : ℕ} → filled' ≡ set filled f false
     → ((k : ℕ) → f ≤ k → k < frames → IsTrue (get_or filled k false))

@@ -1,8 +1,7 @@
 -- By their tickets the touches of the processors give the one list of all touches.
-use Rattle.live_pages.proofs.Prelude.{◌≡◌, ◌≢◌, ℕ, suc, zero, ◌+◌, ◌<◌, ◌≤◌, Bool, true, false, eqb, List, [], ◌∷◌, ◌++◌, length, reverse, refl, sym, ap, ◌∙◌, arith, get_or, All, eq-eqb, ne_eqb, append-nil, length-append, length-reverse, reverse-append, All-nil, All-cons, All-append, Watch, Made, Bound, Part, Out, Holder, answer, Given, page_given, is_of, touched_if, after, IsLegal, AreBelow, mine, mine_if, with_ticket, by_ticket, touching, after_all, AreOfOneThread, current, AreOfBindings, HaveLeft, BookOk, AllIn, touches_in, touches_in_first, in_order, pages_after, ended_bindings, last_bindings, IsLeftAfterAll, HasNext, IsOfOneThread}
+pub use Rattle.live_pages.proofs.Replay.{All, All-append, All-cons, All-nil, All-pop, AllIn, AllInIsLegal, AreAll, AreBelow, AreOfBindings, AreOfOneThread, BookOk, Bool, Bound, EndIsLegal, EntryIsCurrent, Final, Free, Given, HasNext, HasNoted, HaveLeft, HavePages, HaveZeroPages, Held, Holder, HoldsEntry, In, IsClearOf, IsCurrent, IsLeftAfterAll, IsLegal, IsOfOneThread, IsPassOf, IsTrue, Joins, KeeperModel, Keeping, Kept, Known, List, Made, MayBindHasNoHolder, None, Option, Out, PagesModel, Part, PassModel, Passing, Seat, SeatOk, Seen, Size, Some, Spent, Splits, View, Walk, Walker, Watch, [], ack_at, after, after_all, all_below, all_bindings, answer, ap, append-nil, append_assoc, arith, at_longer, at_map, binding_at, binding_in, bindings_stay, blank_ok, by_ticket, count_all, count_below, current, door_at, ended_bindings, eq-eqb, eqb, false, filled, first_holder, first_watch, get_or, get_or-append-add, get_or-replicate, get_or-set_other, get_or-set_same, get_or_append_left, get_or_push, holder_of, in_order, inl, inr, is_of, keeper_with_pass, last_bindings, left_stays, length, length-append, length-replicate, length-reverse, length-set, length_push, map, may_bind_by, mine, mine_else, mine_here, mine_if, ne_eqb, opening_words, option_to_list, page_given, pages_after, pass_admits, pass_of_keeper, plan_admits, refl, replicate, replicate-append-replicate, reverse, reverse-append, rules, seats_stay, set, set_again, set_else, shown, slots_items, suc, sym, taken_in, taking_all_in, taking_in, ticket_at, touched_if, touches_in, touches_in_first, touching, true, turn_at, valued, valued_else, valued_here, watching, with_ticket, zero, ℕ, ⊎_elim, ◌++◌, ◌+◌, ◌<◌, ◌∙◌, ◌∷◌, ◌≡◌, ◌≢◌, ◌≤◌, ◌⊎◌}
 use mathlib.Core.Logic.{dite}
 use native.Mathlib.Decide.{ℕ_discrete}
-use Rattle.live_pages.proofs.Replay.{mine_here, mine_else, all_below, count_below, count_all}
 
 reverse_more : (e : Made) (es : List Made) → reverse (e ∷ es) ≡ reverse es ++ e ∷ []
 reverse_more e es = reverse-append (e ∷ []) es
@@ -18,18 +17,16 @@ replayed given [] f b = refl
 replayed given (e ∷ es) f b =
     rw (reverse_more e es, after_all_more (reverse es) e given f b, replayed given es f b) refl
 
-one_thread_more : (n : ℕ) (pages : Given) (es : List Made) (e : Made) → AreOfOneThread n pages es
-    → e.ticket ≡ n + length es → e.word ≡ answer e.touch (after_all es pages e.frame e.binding)
-    → AreOfOneThread n pages (es ++ e ∷ [])
+one_thread_more : (n : ℕ) (pages : Given) (es : List Made) (e : Made) → AreOfOneThread n pages es → e.ticket ≡ n
+    + length es → e.word ≡ answer e.touch (after_all es pages e.frame e.binding) → AreOfOneThread n pages (es ++ e ∷ [])
 one_thread_more n pages [] e ok ticket word = ((omega arith), word, tt)
 one_thread_more n pages (x ∷ xs) e ok ticket word =
     (ok.0, ok.1, one_thread_more (n + 1) (touching x pages) xs e ok.2 (omega arith) word)
 
 pub of_one_thread : (given : Given) (log : List Made) → IsLegal given log → AreOfOneThread 0 given (reverse log)
 of_one_thread given [] legal = tt
-of_one_thread given (e ∷ es) legal = rw (reverse_more e es)
-    (one_thread_more 0 given (reverse es) e (of_one_thread given es legal.0) (omega (arith, length-reverse es))
-    (rw (replayed given es e.frame e.binding) legal.1))
+of_one_thread given (e ∷ es) legal = rw (reverse_more e es) (one_thread_more 0 given (reverse es) e (of_one_thread
+    given es legal.0) (omega (arith, length-reverse es)) (rw (replayed given es e.frame e.binding) legal.1))
 
 bindings_more : (cpus : ℕ) (plan : Watch) (es : List Made) (e : Made) → AreOfBindings cpus plan es → e.cpu < cpus
     → e.binding ≤ current plan e.frame → AreOfBindings cpus plan (es ++ e ∷ [])
@@ -72,8 +69,8 @@ ticket_mine ticket cpu (e ∷ es) =
     let ih = ticket_mine ticket cpu es in
     dite (ℕ_discrete e.cpu cpu) (λ (own : e.cpu ≡ cpu). rw (eq-eqb e.cpu cpu own) (dite (ℕ_discrete e.ticket ticket)
     (λ (here : e.ticket ≡ ticket). rw (eq-eqb e.ticket ticket here, eq-eqb e.cpu cpu own, ih) refl)
-    (λ (else : e.ticket ≢ ticket). rw (ne_eqb e.ticket ticket else) ih)))
-    (λ (other : e.cpu ≢ cpu). rw (ne_eqb e.cpu cpu other) (dite (ℕ_discrete e.ticket ticket)
+    (λ (else : e.ticket ≢ ticket). rw (ne_eqb e.ticket ticket else) ih))) (λ (other : e.cpu ≢ cpu). rw
+    (ne_eqb e.cpu cpu other) (dite (ℕ_discrete e.ticket ticket)
     (λ (here : e.ticket ≡ ticket). rw (eq-eqb e.ticket ticket here, ne_eqb e.cpu cpu other) ih)
     (λ (else : e.ticket ≢ ticket). rw (ne_eqb e.ticket ticket else) ih)))
 
@@ -118,10 +115,9 @@ gathered_once : (ticket cpus : ℕ) (plan : Watch) (given : Given) (log : List M
     → AreOfBindings cpus plan log → gathered cpus (with_ticket ticket log) ≡ with_ticket ticket log
 gathered_once ticket cpus plan given [] legal ok = gathered_none cpus
 gathered_once ticket cpus plan given (e ∷ es) legal ok = dite (ℕ_discrete e.ticket ticket)
-    (λ (same : e.ticket ≡ ticket). rw (
-      ticket_here ticket e es same,
-      ticket_above (length es) ticket es (all_below given es legal.0) (omega arith),
-    ) ((gathered_one cpus e).0 ok.1)) (λ (other : e.ticket ≢ ticket).
+    (λ (same : e.ticket ≡ ticket).
+    rw (ticket_here ticket e es same, ticket_above (length es) ticket es (all_below given es legal.0) (omega arith))
+    ((gathered_one cpus e).0 ok.1)) (λ (other : e.ticket ≢ ticket).
     rw (ticket_else ticket e es other) (gathered_once ticket cpus plan given es legal.0 ok.0))
 
 by_same : (n : ℕ) (xs ys : List Made) → ((ticket : ℕ) → ticket < n → with_ticket ticket xs ≡ with_ticket ticket ys)
@@ -141,9 +137,8 @@ count_gathered : (n : ℕ) (es : List Made) → length (gathered n es) ≡ count
 count_gathered zero es = refl
 count_gathered (suc n) es = rw (length-append, count_gathered n es) refl
 
-first_gathered : (n : ℕ) (parts : List Part) (log : List Made)
-    → ((cpu : ℕ) → cpu < n → touches_in (get_or parts cpu Out) ≡ mine cpu log)
-    → touches_in_first n parts ≡ gathered n log
+first_gathered : (n : ℕ) (parts : List Part) (log : List Made) → ((cpu : ℕ)
+    → cpu < n → touches_in (get_or parts cpu Out) ≡ mine cpu log) → touches_in_first n parts ≡ gathered n log
 first_gathered zero parts log own = refl
 first_gathered (suc n) parts log own =
     rw (first_gathered n parts log (λ cpu below. own cpu (omega arith)), own n (omega arith)) refl
@@ -172,9 +167,8 @@ ended_are_left k log same (b ∷ bs) ok =
     (All-cons (IsLeftAfterAll k) _ [] (ok.2 ∙ sym (same b.frame b.binding)) (All-nil (IsLeftAfterAll k)))
 
 -- the bindings whose pages are left
-pub last_are_left : (n : ℕ) (pages : List (List ℕ)) (k : Holder)
-    → ((f : ℕ) → f < n → get_or pages f [] ≡ pages_after k f (current k.watch f))
-    → All (IsLeftAfterAll k) (last_bindings n pages k)
+pub last_are_left : (n : ℕ) (pages : List (List ℕ)) (k : Holder) → ((f : ℕ) → f < n
+    → get_or pages f [] ≡ pages_after k f (current k.watch f)) → All (IsLeftAfterAll k) (last_bindings n pages k)
 last_are_left zero pages k is = All-nil (IsLeftAfterAll k)
 last_are_left (suc n) pages k is =
     All-append (IsLeftAfterAll k) (last_bindings n pages k) _ (last_are_left n pages k (λ f below. is f (omega arith)))

@@ -1,8 +1,8 @@
 -- What a call leaves at seats that are known to be a pass's or the keeper's, and what is there at the start.
-use Rattle.live_pages.proofs.Prelude.{◌≡◌, All, List, None, Option, Some, [], ap, arith, get_or, length, refl, replicate, set, suc, sym, zero, ℕ, ◌*◌, ◌++◌, ◌+◌, ◌/◌, ◌<◌, ◌∙◌, ◌∷◌, ◌≢◌, ◌≤◌, get_or_append_left, get_or_push, length-replicate, length-set, length_push, All-append, All-cons, All-nil, NotedSoFar, AreEntriesOf, AreRowsOf, EntryRows, KeeperRows, HasNoted, Watch, at_last, at_longer, TableId, rest, AreNew, HaveZeroPages, IsKeeperOf, IsPassOf, KeeperFits, KeeperModel, PagesModel, PassFits, PassModel, SameButWatch, first_passes, rebound, Seat, admitted, bound_anew, first_holder, having_made, holder_of, walker_of, watching, Held, Free, Has, Holder, Out, View, Keeping, Passing, Walker}
+pub use Rattle.live_pages.proofs.Prelude.{All, All-append, All-cons, All-nil, AreEntriesOf, AreNew, AreRowsOf, EntryRows, Free, Has, HasNoted, HaveZeroPages, Held, Holder, IsKeeperOf, IsPassOf, KeeperFits, KeeperModel, KeeperRows, Keeping, List, MayBind, None, NotedSoFar, Option, Out, PagesModel, PassFits, PassModel, Passing, SameButWatch, Seat, Some, TableId, View, Walker, Watch, [], admitted, ap, arith, at_last, at_longer, bound_anew, first_holder, first_passes, get_or, get_or_append_left, get_or_push, having_made, having_touched, holder_of, length, length-replicate, length-set, length_push, noted_still, rebound, refl, replicate, rest, rows_noted, rules, set, subst, suc, sym, taken, walker_of, watching, zero, ℕ, ◌*◌, ◌++◌, ◌+◌, ◌/◌, ◌<◌, ◌∙◌, ◌∷◌, ◌≡◌, ◌≢◌, ◌≤◌}
+pub use Rattle.live_pages.proofs.Turning.{fills, keeper_gives, keeper_takes, looks, takes_turn, with_hand}
 use mathlib.Core.Logic.{dite}
 use native.Mathlib.Decide.{ℕ_discrete}
-use Rattle.live_pages.proofs.Turning.{with_hand}
 
 -- a pass whose fields are those of its view
 pub pass_fits : {m : Seat} {q : Walker} {e : EntryRows} {touches : ℕ} → m ≡ (Passing q, []) → q.hand ≡ Free
@@ -99,9 +99,8 @@ pub drawn : {m m' : Seat} {w : Walker} {f ticket : ℕ} {hd : Held} → m ≡ (P
 drawn is told = rw (told, is) refl
 
 -- the keeper's seat after the door has admitted the next binding
-pub bound_now : {m m' : Seat} {k : Holder} {f : ℕ} {hd : Held} → m ≡ (Keeping k, (f, Some hd) ∷ [])
-    → m' ≡ (Keeping (bound_anew f hd.page (holder_of m.0)), m.1)
-    → m' ≡ (Keeping (bound_anew f hd.page k), (f, Some hd) ∷ [])
+pub bound_now : {m m' : Seat} {k : Holder} {f : ℕ} {hd : Held} → m ≡ (Keeping k, (f, Some hd) ∷ []) → m'
+    ≡ (Keeping (bound_anew f hd.page (holder_of m.0)), m.1) → m' ≡ (Keeping (bound_anew f hd.page k), (f, Some hd) ∷ [])
 bound_now is told = rw (told, is) refl
 
 -- and after the turn was given back
@@ -116,19 +115,21 @@ rebound_now k {f = f} page left is told free = rw (told, is)
 -- one more slot with a page of zeros
 pub zero_pages_push : (slots : List (Option Held)) (h : Held) → HaveZeroPages slots → h.page ≡ replicate 1024 0
     → HaveZeroPages (slots ++ Some h ∷ [])
-zero_pages_push slots h zeros page f inside = dite (ℕ_discrete f (length slots))
-    (λ (same : f ≡ length slots). (h, rw same (at_last slots (Some h) (length slots) refl), page))
-    (λ (other : f ≢ length slots).
+zero_pages_push slots h zeros page f inside = dite (ℕ_discrete f (length slots)) (λ (same : f ≡ length slots).
+    (h, rw same (at_last slots (Some h) (length slots) refl), page)) (λ (other : f ≢ length slots).
     let old = zeros f (omega (arith, length_push slots (Some h))) in
     (old.0, at_longer slots (Some h ∷ []) f (Some old.0) old.1, old.2))
 
 -- every new pass came with its pages
 all_first : (pages : PagesModel) (n : ℕ) → n ≤ pages.cpus → All (IsPassOf pages) (first_passes pages n)
 all_first pages zero few = All-nil (IsPassOf pages)
-all_first pages (suc n) few = All-append (IsPassOf pages) (first_passes pages n) _ (all_first pages n (omega arith))
-    (All-cons (IsPassOf pages) _ [] record
-    { table = refl; frames = length-replicate pages.frames None; cpu = omega arith; cpus = refl }
-    (All-nil (IsPassOf pages)))
+all_first pages (suc n) few = All-append (IsPassOf pages)
+    (first_passes pages n) _ (all_first pages n (omega arith)) (All-cons (IsPassOf pages) _ [] record {
+      table = refl;
+      frames = length-replicate pages.frames None;
+      cpu = omega arith;
+      cpus = refl;
+    } (All-nil (IsPassOf pages)))
 
 pub first_count : (pages : PagesModel) (n : ℕ) → length (first_passes pages n) ≡ n
 first_count pages zero = refl
@@ -141,9 +142,8 @@ first_place pages zero cpu d inside = absurd (omega arith)
 first_place pages (suc n) cpu d inside =
     let l = first_count pages n in
     dite (ℕ_discrete cpu n)
-    (λ (here : cpu ≡ n). rw (get_or_push (first_passes pages n) _ d cpu (omega arith)) (sym here))
-    (λ (other : cpu ≢ n). rw (get_or_append_left (first_passes pages n) _ d cpu (omega arith))
-    (first_place pages n cpu d (omega arith)))
+    (λ (here : cpu ≡ n). rw (get_or_push (first_passes pages n) _ d cpu (omega arith)) (sym here)) (λ (other : cpu ≢ n).
+    rw (get_or_append_left (first_passes pages n) _ d cpu (omega arith)) (first_place pages n cpu d (omega arith)))
 
 -- what is there at the start, once every pass is made
 pub opened : {pages : PagesModel} {keeper : KeeperModel} {passes : List PassModel} {frames cpus : ℕ}

@@ -1,22 +1,16 @@
 -- The steps that change a page: a touch draws its ticket, and a frame is bound anew.
-use Rattle.live_pages.proofs.Prelude.{◌≡◌, List, None, Option, Some, [], ap, arith, cond, eqb, get_or, inl, inr, length, refl, set, suc, sym, ℕ, ⊎_elim, ◌%◌, ◌&&◌, ◌*◌, ◌+◌, ◌/◌, ◌<◌, ◌^◌, ◌∙◌, ◌∷◌, ◌≢◌, ◌≤◌, eq-eqb, ne_eqb, get_or-set_other, get_or-set_same, length-set, HasNoted, MayBind, PassOk, PlanOk, pass_stored, plan_stored, seats_stay, door_at, Walk, Watch, Allows, keeps, step, BookOk, Given, after, answer, ended_of, mine, touched, Binds, Draws, Seat, admitted, binding_at, binding_in, bound_anew, current, having_made, page_of, ticket_at, turn_at, Held, Size, Bound, Made, Has, Holder, Out, View, Keeping, Passing, Walker}
+pub use Rattle.live_pages.proofs.Prelude.{All-append, Allows, AreBelow, Binds, BookOk, Bound, Draws, Given, Has, HasNoted, Held, Holder, Keeping, Known, List, MOST_CPUS, Made, MayBind, None, Option, Out, PassOk, Passing, PlanOk, Seat, Size, Some, View, Walk, Walker, Watch, [], admitted, after, answer, ap, arith, binding_at, binding_in, bound_anew, cond, current, door_at, ended_of, eq-eqb, eqb, get_or, get_or-set_other, get_or-set_same, having_made, inl, inr, keeps, length, length-set, mine, ne_eqb, page_of, pass_stored, plan_stored, refl, rules, same_Some, seats_stay, set, step, suc, sym, ticket_at, touched, turn_at, walker_of, ℕ, ⊎_elim, ◌%◌, ◌&&◌, ◌*◌, ◌+◌, ◌/◌, ◌<◌, ◌^◌, ◌∙◌, ◌∷◌, ◌≡◌, ◌≢◌, ◌≤◌}
+pub use Rattle.live_pages.proofs.Turning.{HasTurn, InOrder, KeptBy, Stands, after_else, after_frame, after_here, after_next, as_keeper, as_known, bindings_stay, gives_turn, hand_stays, has_frame, holder_stands, left_next, left_stays, left_touched, legal_next, mine_else, mine_here, own_below, pass_above, plan_above, regiven, regiven_binding, regiven_here, seat_stays, tickets_fit, turn_stays}
 use mathlib.Core.Logic.{dite}
 use mathlib.Core.Option as M
 use native.Mathlib.Decide.{ℕ_discrete}
-use Rattle.live_pages.specs.Kept.{Known}
-use Rattle.live_pages.proofs.Replay.{own_below, regiven_here, after_here, after_frame, after_else, after_next, regiven, regiven_binding, legal_next, left_next, bindings_stay, left_stays, left_touched, mine_here, mine_else, tickets_fit}
-use Rattle.live_pages.proofs.Quiet.{InOrder, KeptBy, Stands, as_keeper, as_known, seat_stays, turn_stays}
-use Rattle.live_pages.proofs.Turning.{has_frame, plan_above, pass_above, holder_stands}
-use Rattle.live_doors.specs.declared.rule.TheConstants.{MOST_CPUS}
 
 -- the touch of the pass in hand goes behind all others
 book_touched : {z : Size} {words : List ℕ} {homes : List (M.Option (Option Held))} {views : List View} {n : Known}
-    → KeptBy z words homes views n → (e : Made) → z.cpus ≤ MOST_CPUS
-    → e.ticket ≡ get_or words (ticket_at z.frames z.cpus) 0 → e.cpu < n.plan.watch.made
-    → e.binding ≡ current n.plan.watch e.frame → e.word ≡ answer e.touch (after n.given e.frame e.binding n.log)
-    → length (mine e.cpu n.log) < 2 ^ 32 → get_or n.plan.parts e.cpu Out ≡ Out
-    → BookOk z.frames z.cpus (set words (ticket_at z.frames z.cpus) ((e.ticket + 1) % 2 ^ 64)) n.plan n.given
-    (e ∷ n.log)
+    → KeptBy z words homes views n → (e : Made) → z.cpus ≤ MOST_CPUS → e.ticket ≡ get_or words (ticket_at z.frames
+    z.cpus) 0 → e.cpu < n.plan.watch.made → e.binding ≡ current n.plan.watch e.frame → e.word ≡ answer e.touch (after
+    n.given e.frame e.binding n.log) → length (mine e.cpu n.log) < 2 ^ 32 → get_or n.plan.parts e.cpu Out ≡ Out → BookOk
+    z.frames z.cpus (set words (ticket_at z.frames z.cpus) ((e.ticket + 1) % 2 ^ 64)) n.plan n.given (e ∷ n.log)
 book_touched {z} {words} {n = n} h e low ticket cpu binding word few out =
     let b = h.book_ok in
     let at : ℕ = ticket_at z.frames z.cpus in
@@ -106,9 +100,8 @@ draws z slots id i f {w} {hd} page is low has after_touch word few place = rw (i
             let old = h.slots_ok g within (sym (stays g within) ∙ free) in
             let other : f ≢ g = λ is. hand.2 (rw is (sym (stays g within) ∙ free)) in
             (old.0, old.1, old.2 ∙ sym (after_frame n.given g (current n.plan.watch g) e n.log other));
-        turns_ok = λ g within busy. turn_stays s.views id (n.holder g) g (Passing w) (Passing w') at
-            (λ p here. (hd.page, cc (has_frame (sym has ∙ here))))
-            (h.turns_ok g within (λ is. busy (stays g within ∙ is)));
+        turns_ok = λ g within busy. turn_stays s.views id (n.holder g) g (Passing w) (Passing w') at (λ p here.
+            (hd.page, cc (has_frame (sym has ∙ here)))) (h.turns_ok g within (λ is. busy (stays g within ∙ is)));
         seats_ok = seats_stay (Stands z words' n') s.views id (Passing w') (
           own.0,
           record {
@@ -240,9 +233,8 @@ binds z slots id f x cleared {k} {hd} page is has noted may word = rw (is, word)
             let other : g ≢ f = λ e. away (sym ok.1 ∙ ap n.holder e ∙ hand.1) in
             (ok.0, ok.1, (λ e. ok.2 (sym (turn g) ∙ e)), ok.3 ∙ moved g other)) v (λ q here ok. (
               here,
-              pass_stored _ _ _ k.watch f (2 * next) k.watch.since q.walk
-                  (λ b e. absurd (holder_stands q.walk f plan ok.pass_ok noted may e)) (λ g other. refl) inside plan
-                  ok.pass_ok,
+              pass_stored _ _ _ k.watch f (2 * next) k.watch.since q.walk (λ b e. absurd
+                  (holder_stands q.walk f plan ok.pass_ok noted may e)) (λ g other. refl) inside plan ok.pass_ok,
               ok.made,
               ok.out,
             )) (λ is. absurd (away (sym is ∙ mine.0))) (by.seats_ok j v there));

@@ -1,15 +1,10 @@
 -- The start, the making of passes, and the end.
-use Rattle.live_pages.proofs.Prelude.{◌≡◌, List, None, Option, Some, [], ap, arith, get_or, inl, inr, length, map, refl, replicate, set, suc, sym, zero, ℕ, ⊎_elim, ◌++◌, ◌+◌, ◌<◌, ◌∙◌, ◌∷◌, ◌≢◌, ◌⊎◌, append_assoc, get_or-append-add, get_or-replicate, get_or-set_other, get_or-set_same, get_or_append_left, length-append, length-replicate, length-set, replicate-append-replicate, valued, valued_else, valued_here, HasNoted, HoldsEntry, first_watch, blank_ok, pass_admits, plan_admits, seats_stay, ack_at, door_at, Walk, at_longer, at_map, set_again, set_else, Joins, Splits, AllInIsLegal, BookOk, EntryIsCurrent, IsClearOf, IsCurrent, Kept, MayBindHasNoHolder, SeatOk, HaveZeroPages, Given, after, mine, page_given, Seat, binding_at, binding_in, current, first_holder, keeper_with_pass, opening_words, pass_of_keeper, shown, taken_in, ticket_at, turn_at, watching, Held, Size, Made, Free, Holder, Part, In, Out, View, Keeping, Passing, Spent, Walker}
+pub use Rattle.live_pages.proofs.ByTicket.{All, All-pop, AllIn, AllInIsLegal, AreAll, BookOk, Bool, EndIsLegal, EntryIsCurrent, Final, Free, Given, HasNoted, HavePages, HaveZeroPages, Held, Holder, HoldsEntry, In, IsClearOf, IsCurrent, IsLeftAfterAll, IsPassOf, IsTrue, Joins, KeeperModel, Keeping, Kept, Known, List, Made, MayBindHasNoHolder, None, Option, Out, PagesModel, Part, PassModel, Passing, Seat, SeatOk, Seen, Size, Some, Spent, Splits, View, Walk, Walker, [], ack_at, after, all_bindings, all_ended_left, all_of_one_thread, ap, append_assoc, arith, at_longer, at_map, binding_at, binding_in, bindings_stay, blank_ok, current, door_at, ended_bindings, false, filled, first_holder, first_watch, get_or, get_or-append-add, get_or-replicate, get_or-set_other, get_or-set_same, get_or_append_left, get_or_push, holder_of, inl, inr, keeper_with_pass, last_are_left, last_bindings, left_stays, length, length-append, length-replicate, length-set, length_push, map, may_bind_by, mine, opening_words, option_to_list, page_given, pages_are, pass_admits, pass_of_keeper, plan_admits, refl, replicate, replicate-append-replicate, rules, seats_stay, set, set_again, set_else, shown, slots_items, suc, sym, taken_in, taking_all_in, taking_in, ticket_at, turn_at, valued, valued_else, valued_here, watching, zero, ℕ, ⊎_elim, ◌++◌, ◌+◌, ◌<◌, ◌∙◌, ◌∷◌, ◌≡◌, ◌≢◌, ◌≤◌, ◌⊎◌}
+pub use Rattle.live_pages.proofs.Changing.{All-append, HasTurn, InOrder, Stands, as_keeper, binds, entry_is_current, hand_stays, holder_stands, seat_stays, turn_stays}
 use mathlib.Core.Logic.{dite}
 use mathlib.Core.Option as M
 use native.Mathlib.Decide.{ℕ_discrete}
 use lib.ListN.{get_elem?}
-use Rattle.live_pages.specs.Kept.{Known}
-use Rattle.live_pages.proofs.Replay.{bindings_stay, left_stays}
-use Rattle.live_pages.proofs.Changing.{entry_is_current}
-use Rattle.live_pages.proofs.ByTicket.{pages_are, all_of_one_thread, all_ended_left}
-use Rattle.live_pages.proofs.Quiet.{HasTurn, InOrder, Stands, as_keeper, hand_stays, seat_stays, turn_stays}
-use Rattle.live_pages.proofs.Turning.{holder_stands}
 
 -- where the last of a longer list stands
 snoc_place : {V : Type 0} (l : List V) (a b : V) (j : ℕ) → get_elem? (l ++ a ∷ []) j ≡ M.some b
@@ -24,9 +19,8 @@ snoc_place (x ∷ xs) a b (suc j) e = ⊎_elim (λ t. inl t) (λ (t : (j ≡ len
 turn_longer : (views : List View) (v : View) (seat f : ℕ) → HasTurn views seat f → HasTurn (views ++ v ∷ []) seat f
 turn_longer views v seat f (u, page, there, has) = (u, page, at_longer views (v ∷ []) seat u there, has)
 
-seats_longer : (K : ℕ → View → Type 0) (views : List View) (w : View) → K (length views) w
-    → ((j : ℕ) (v : View) → get_elem? views j ≡ M.some v → K j v)
-    → (j : ℕ) (v : View) → get_elem? (views ++ w ∷ []) j ≡ M.some v → K j v
+seats_longer : (K : ℕ → View → Type 0) (views : List View) (w : View) → K (length views) w → ((j : ℕ) (v : View)
+    → get_elem? views j ≡ M.some v → K j v) → (j : ℕ) (v : View) → get_elem? (views ++ w ∷ []) j ≡ M.some v → K j v
 seats_longer K views w mine others j v e = ⊎_elim (λ (old : get_elem? views j ≡ M.some v). others j v old)
     (λ (new : (j ≡ length views) × (w ≡ v)). rw (new.0, ← new.1) mine) (snoc_place views w v j e)
 
@@ -66,9 +60,8 @@ admits z id {m} {k} is room row count = rw is (λ s h at.
         taken_in = book.taken_in;
       };
       slots_ok = by.slots_ok;
-      turns_ok = λ f inside busy. turn_longer longer (pass_of_keeper (Keeping k)) (n.holder f) f
-          (turn_stays s.views id (n.holder f) f (Keeping k) (Keeping k') at (λ page has. (page, has))
-          (by.turns_ok f inside busy));
+      turns_ok = λ f inside busy. turn_longer longer (pass_of_keeper (Keeping k)) (n.holder f) f (turn_stays s.views id
+          (n.holder f) f (Keeping k) (Keeping k') at (λ page has. (page, has)) (by.turns_ok f inside busy));
       seats_ok = seats_longer (Stands z s.words n') longer (pass_of_keeper (Keeping k)) (
         valued_here k.watch.made (length longer) n.seat_of,
         record {
@@ -94,9 +87,8 @@ list_of Out = []
 list_of (In l) = l
 
 -- the keeper takes a pass in, with its touches
-pub takes_in : (z : Size) (id other : ℕ) {m w : Seat} {k : Holder} {q : Walker} → m ≡ (Keeping k, [])
-    → w ≡ (Passing q, []) → q.hand ≡ Free
-    → Joins (InOrder z) id m.0 other w.0 (taken_in m.0 w.0) (Spent (first_holder 0 0))
+pub takes_in : (z : Size) (id other : ℕ) {m w : Seat} {k : Holder} {q : Walker} → m ≡ (Keeping k, []) → w
+    ≡ (Passing q, []) → q.hand ≡ Free → Joins (InOrder z) id m.0 other w.0 (taken_in m.0 w.0) (Spent (first_holder 0 0))
 unfolding list_of
 takes_in z id other {m} {w} {k} {q} is his_is free = rw (is, his_is) (λ s h at apart there.
     let n : Known = record h.known { plan = k } in
@@ -132,10 +124,9 @@ takes_in z id other {m} {w} {k} {q} is his_is free = rw (is, his_is) (λ s h at 
             (sym (get_or-set_other k.parts q.walk.cpu c (In q.made) Out else) ∙ part));
       };
       slots_ok = by.slots_ok;
-      turns_ok = λ f within busy. turn_stays (set s.views id (Keeping k')) other (n.holder f) f (Passing q)
-          (Spent (first_holder 0 0)) there (λ page has. absurd (cc))
-          (turn_stays s.views id (n.holder f) f (Keeping k) (Keeping k') at (λ page has. (page, has))
-          (by.turns_ok f within busy));
+      turns_ok = λ f within busy. turn_stays (set s.views id (Keeping k')) other
+          (n.holder f) f (Passing q) (Spent (first_holder 0 0)) there (λ page has. absurd (cc)) (turn_stays s.views id
+          (n.holder f) f (Keeping k) (Keeping k') at (λ page has. (page, has)) (by.turns_ok f within busy));
       seats_ok = seats_stay (Stands z s.words n') (set s.views id (Keeping k')) other (Spent (first_holder 0 0)) tt
           (λ j v not_other e. seats_stay (λ i u. i ≢ other → Stands z s.words n' i u) s.views id (Keeping k')
           (λ away. (own.0, refl, own.2))
@@ -179,9 +170,8 @@ module _ (frames n : ℕ) where
       rw at (get_or-append-add (replicate frames 1) (replicate n 0) j 0 ∙ get_or-replicate n j 0 0 inside)
 
 words_are : (frames cpus : ℕ) → opening_words frames cpus ≡ first_row frames (cpus + (frames + 1))
-words_are frames cpus = ap (λ (l : List ℕ). 0 ∷ l)
-    (append_assoc (replicate frames 1) (replicate cpus 0) (replicate (frames + 1) 0)
-    ∙ ap (λ (l : List ℕ). replicate frames 1 ++ l) (replicate-append-replicate cpus (frames + 1) 0))
+words_are frames cpus = ap (λ (l : List ℕ). 0 ∷ l) (append_assoc (replicate frames 1) (replicate cpus 0) (replicate
+    (frames + 1) 0) ∙ ap (λ (l : List ℕ). replicate frames 1 ++ l) (replicate-append-replicate cpus (frames + 1) 0))
 
 -- the rule holds at the start, with a page of zeros in each slot
 pub opens : (z : Size) (words : List ℕ) (slots : List (Option Held)) → words ≡ opening_words z.frames z.cpus

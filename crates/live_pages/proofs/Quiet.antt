@@ -1,11 +1,9 @@
 -- The steps that leave turns, tickets and pages alone: they keep the rule as they keep that of the doors.
-use Rattle.live_pages.proofs.Prelude.{◌≡◌, List, Option, [], ap, arith, get_or, length, refl, set, suc, sym, zero, ℕ, ◌%◌, ◌+◌, ◌/◌, ◌<◌, ◌∙◌, ◌∷◌, ◌≢◌, ◌≤◌, get_or-set_other, get_or-set_same, length-set, set-get_or, acknowledged, forgotten, having_noted, raised, shut, PassOk, PlanOk, acknowledged_ok, filled_ok, filled_row, forgotten_ok, pass_raised, pass_shut, pass_stays, plan_acknowledged, plan_noted, plan_raised, plan_shut, seats_stay, ack_at, door_at, filled, Walk, Watch, set_else, Allows, State, keeps, step, BookOk, HandOk, Kept, SeatOk, SlotsOk, TurnsOk, WalkerOk, after, mine, Acknowledges, Closes, Fills, Forgets, Looks, Raises, Seat, current, hand_of, ticket_at, turn_at, walking, watching, Held, Size, Hand, Free, Has, Holder, Out, View, Keeping, Passing, Spent, Walker}
+pub use Rattle.live_pages.proofs.Replay.{Acknowledges, Allows, BookOk, Closes, Fills, Forgets, Free, Hand, HandOk, Has, Held, Holder, Keeping, Kept, Known, List, Looks, Option, Out, PassOk, Passing, PlanOk, Raises, Seat, SeatOk, Size, SlotsOk, Spent, State, TurnsOk, View, Walk, Walker, WalkerOk, Watch, [], ack_at, acknowledged, acknowledged_ok, after, after_else, after_frame, after_here, after_next, ap, arith, bindings_stay, current, door_at, filled, filled_ok, filled_row, forgotten, forgotten_ok, get_or, get_or-set_other, get_or-set_same, hand_of, having_noted, keeps, left_next, left_stays, left_touched, legal_next, length, length-set, mine, mine_else, mine_here, own_below, pass_raised, pass_shut, pass_stays, plan_acknowledged, plan_noted, plan_raised, plan_shut, raised, refl, regiven, regiven_binding, regiven_here, rules, seats_stay, set, set-get_or, set_else, shut, step, suc, sym, ticket_at, tickets_fit, turn_at, walking, watching, zero, ℕ, ◌%◌, ◌+◌, ◌/◌, ◌<◌, ◌∙◌, ◌∷◌, ◌≡◌, ◌≢◌, ◌≤◌}
 use mathlib.Core.Logic.{dite}
 use mathlib.Core.Option as M
 use native.Mathlib.Decide.{ℕ_discrete}
 use lib.ListN.{get_elem?}
-use Rattle.live_pages.specs.Kept.{Known}
-use Rattle.live_pages.proofs.Replay.{bindings_stay, left_stays}
 
 abbrev pub Board : Type 0
 Board = State (Option Held) View
@@ -76,25 +74,20 @@ turn_stays views id seat f v v' at still (u, page, there, has) = dite (ℕ_discr
     (v', mine.0, rw here (set_at views id v v' at), mine.1))
     (λ (other : seat ≢ id). (u, page, set_else views id seat v' other ∙ there, has))
 
-module _ (z : Size) (words words' : List ℕ) (n n' : Known) (seat : ℕ)
-    (turns : (f : ℕ) (page : List ℕ) → HandStands z words n seat (Has f page)
-    → HandStands z words' n' seat (Has f page)) where
+module _ (z : Size) (words words' : List ℕ) (n n' : Known) (seat : ℕ) (turns : (f : ℕ) (page : List ℕ)
+    → HandStands z words n seat (Has f page) → HandStands z words' n' seat (Has f page)) where
   pub hand_stays : (hand : Hand) → HandStands z words n seat hand → HandStands z words' n' seat hand
   hand_stays Free ok = tt
   hand_stays (Has f page) ok = turns f page ok
 
   -- A seat stays in order with its turn, if it is the keeper's only with the plan, and if it is a pass's with its
   -- processor's seat, entries, touches and part.
-  pub seat_stays : (v : View)
-      → ((q : Walker) → n.seat_of q.walk.cpu ≡ seat → WalkerStands z words n seat q → (n'.seat_of q.walk.cpu ≡ seat)
-      × PassOk z.frames z.cpus words' n'.plan.watch q.walk × (q.made ≡ mine q.walk.cpu n'.log)
-      × (get_or n'.plan.parts q.walk.cpu Out ≡ Out)) → (n.keeper ≡ seat → (n'.keeper ≡ seat) × (n.plan ≡ n'.plan))
-      → Stands z words n seat v → Stands z words' n' seat v
+  pub seat_stays : (v : View) → ((q : Walker) → n.seat_of q.walk.cpu ≡ seat → WalkerStands z words n seat q
+      → (n'.seat_of q.walk.cpu ≡ seat) × PassOk z.frames z.cpus words' n'.plan.watch q.walk
+      × (q.made ≡ mine q.walk.cpu n'.log) × (get_or n'.plan.parts q.walk.cpu Out ≡ Out)) → (n.keeper ≡ seat
+      → (n'.keeper ≡ seat) × (n.plan ≡ n'.plan)) → Stands z words n seat v → Stands z words' n' seat v
   seat_stays (Passing q) pass plans (here, ok) =
-      let now = pass q here ok in (
-        now.0,
-        assumption (hand_stays q.hand ok.hand_ok),
-      )
+      let now = pass q here ok in (now.0, assumption (hand_stays q.hand ok.hand_ok))
   seat_stays (Keeping u) pass plans (here, is, ok) = ((plans here).0, is ∙ (plans here).1, hand_stays u.hand ok)
   seat_stays (Spent u) pass plans ok = tt
 
@@ -130,10 +123,9 @@ module _ {z : Size} {words words' : List ℕ} {homes : List (M.Option (Option He
 
   -- a seat has another view, which is in order, with the same turn
   pub quiet_kept : (id : ℕ) (v v' : View) → get_elem? views id ≡ M.some v → hand_of v' ≡ hand_of v
-      → PlanOk z.frames z.cpus words' w → Stands z words' (with_watch n w) id v'
-      → ((seat : ℕ) (q : Walker) → seat ≢ id → n.seat_of q.walk.cpu ≡ seat
-      → PassOk z.frames z.cpus words n.plan.watch q.walk → PassOk z.frames z.cpus words' w q.walk)
-      → ((seat : ℕ) → seat ≢ id → n.keeper ≡ seat → n.plan.watch ≡ w) → Kept z words' homes (set views id v')
+      → PlanOk z.frames z.cpus words' w → Stands z words' (with_watch n w) id v' → ((seat : ℕ) (q : Walker) → seat ≢ id
+      → n.seat_of q.walk.cpu ≡ seat → PassOk z.frames z.cpus words n.plan.watch q.walk → PassOk z.frames z.cpus words'
+      w q.walk) → ((seat : ℕ) → seat ≢ id → n.keeper ≡ seat → n.plan.watch ≡ w) → Kept z words' homes (set views id v')
   quiet_kept id v v' at hand plan own passes plans = record {
     known = with_watch n w;
     book_ok =
@@ -170,11 +162,9 @@ module _ (z : Size) where
   pub pass_stepped : {words words' : List ℕ} {homes : List (M.Option (Option Held))} {views : List View} (id : ℕ)
       {w : Walker} (change : Walk → Walk) (h : Kept z words homes views) → get_elem? views id ≡ M.some (Passing w)
       → w.hand ≡ Free → (change w.walk).cpu ≡ w.walk.cpu → Quiet z words words' h.known.plan.watch h.known.plan.watch
-      → PlanOk z.frames z.cpus words' h.known.plan.watch
-      → PassOk z.frames z.cpus words' h.known.plan.watch (change w.walk)
-      → ((q : Walk) → q.cpu ≢ w.walk.cpu → PassOk z.frames z.cpus words h.known.plan.watch q
-      → PassOk z.frames z.cpus words' h.known.plan.watch q)
-      → Kept z words' homes (set views id (Passing (walking change w)))
+      → PlanOk z.frames z.cpus words' h.known.plan.watch → PassOk z.frames z.cpus words' h.known.plan.watch
+      (change w.walk) → ((q : Walk) → q.cpu ≢ w.walk.cpu → PassOk z.frames z.cpus words h.known.plan.watch q → PassOk
+      z.frames z.cpus words' h.known.plan.watch q) → Kept z words' homes (set views id (Passing (walking change w)))
   pass_stepped id {w} change h at free cpu quiet plan own others =
       let mine = h.seats_ok id (Passing w) at in
       quiet_kept (as_known h) quiet id (Passing w) (Passing (walking change w)) at refl plan (
@@ -190,13 +180,12 @@ module _ (z : Size) where
       ) (λ seat q other here. others q.walk (λ e. other (cc))) (λ seat other is. refl)
 
   -- the keeper has read or stored a word, and no frame's current binding is another
-  pub keeper_stepped : {words words' : List ℕ} {homes : List (M.Option (Option Held))} {views : List View} (id : ℕ)
-      {k : Holder} (change : Watch → Watch) → Kept z words homes views → get_elem? views id ≡ M.some (Keeping k)
-      → Quiet z words words' k.watch (change k.watch)
+  pub keeper_stepped : {words words' : List ℕ} {homes : List (M.Option (Option Held))} {views : List View}
+      (id : ℕ) {k : Holder} (change : Watch → Watch) → Kept z words homes views
+      → get_elem? views id ≡ M.some (Keeping k) → Quiet z words words' k.watch (change k.watch)
       → (PlanOk z.frames z.cpus words k.watch → PlanOk z.frames z.cpus words' (change k.watch))
-      → (PlanOk z.frames z.cpus words k.watch → (q : Walk) → PassOk z.frames z.cpus words k.watch q
-      → PassOk z.frames z.cpus words' (change k.watch) q)
-      → Kept z words' homes (set views id (Keeping (watching change k)))
+      → (PlanOk z.frames z.cpus words k.watch → (q : Walk) → PassOk z.frames z.cpus words k.watch q → PassOk
+      z.frames z.cpus words' (change k.watch) q) → Kept z words' homes (set views id (Keeping (watching change k)))
   keeper_stepped {words} {words'} id {k} change h at quiet plan pass =
       let n = record h.known { plan = k } in
       let by = as_keeper h id at in
@@ -249,11 +238,10 @@ module _ (z : Size) where
           Passing (walking acknowledged w),
           keeps,
           tt,
-          pass_stepped id acknowledged h at free refl
-              (quiet_set (ack_at z.frames w.walk.cpu) _ (omega arith) (λ f. refl) refl)
-              (plan_acknowledged _ _ _ _ w.walk k own) (acknowledged_ok _ _ _ _ w.walk k own)
-              (λ q other. pass_stays z.frames z.cpus s.words h.known.plan.watch q (ack_at z.frames w.walk.cpu)
-              w.walk.stamp (λ e. other (omega arith))),
+          pass_stepped id acknowledged h at free refl (quiet_set
+              (ack_at z.frames w.walk.cpu) _ (omega arith) (λ f. refl) refl) (plan_acknowledged _ _ _ _ w.walk k own)
+              (acknowledged_ok _ _ _ _ w.walk k own) (λ q other. pass_stays z.frames z.cpus s.words h.known.plan.watch q
+              (ack_at z.frames w.walk.cpu) w.walk.stamp (λ e. other (omega arith))),
           refl,
         ))
 

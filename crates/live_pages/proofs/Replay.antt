@@ -1,8 +1,7 @@
 -- Touches replayed: what one more touch, or one more binding, changes.
-use Rattle.live_pages.proofs.Prelude.{◌≡◌, ◌≢◌, ℕ, suc, zero, ◌+◌, ◌*◌, ◌^◌, ◌<◌, ◌≤◌, ◌⊎◌, Bool, true, false, cond, eqb, ◌&&◌, List, [], ◌∷◌, length, refl, sym, ap, ◌∙◌, arith, inl, inr, ⊎_elim, suc-mul, mul-le-mul_right, eq-eqb, ne_eqb, Watch, Made, Bound, touched, answer, Given, is_of, touched_if, after, IsLegal, AreBelow, mine, mine_if, current, AreOfBindings, HaveLeft, and_false}
+pub use Rattle.live_pages.proofs.Prelude.{Acknowledges, All, All-append, All-cons, All-nil, All-pop, AllIn, AllInIsLegal, Allows, AreAll, AreBelow, AreOfBindings, AreOfOneThread, BookOk, Bool, Bound, Closes, EndIsLegal, EntryIsCurrent, Fills, Final, Forgets, Free, Given, Hand, HandOk, Has, HasNext, HasNoted, HaveLeft, HavePages, HaveZeroPages, Held, Holder, HoldsEntry, In, IsClearOf, IsCurrent, IsLeftAfterAll, IsLegal, IsOfOneThread, IsPassOf, IsTrue, Joins, KeeperModel, Keeping, Kept, Known, List, Looks, MOST_CPUS, Made, MayBindHasNoHolder, None, Option, Out, PagesModel, Part, PassModel, PassOk, Passing, PlanOk, Raises, Seat, SeatOk, Seen, Size, SlotsOk, Some, Spent, Splits, State, TurnsOk, View, Walk, Walker, WalkerOk, Watch, [], ack_at, acknowledged, acknowledged_ok, after, after_all, all_bindings, and_false, answer, ap, append-nil, append_assoc, arith, at_longer, at_map, binding_at, binding_in, blank_ok, by_ticket, cond, current, door_at, ended_bindings, eq-eqb, eqb, false, filled, filled_ok, filled_row, first_holder, first_watch, forgotten, forgotten_ok, get_or, get_or-append-add, get_or-replicate, get_or-set_other, get_or-set_same, get_or_append_left, get_or_push, hand_of, having_noted, holder_of, in_order, inl, inr, is_of, keeper_with_pass, keeps, last_bindings, length, length-append, length-replicate, length-reverse, length-set, length_push, map, may_bind_by, mine, mine_if, mul-le-mul_right, ne_eqb, opening_words, option_to_list, page_given, pages_after, pass_admits, pass_of_keeper, pass_raised, pass_shut, pass_stays, plan_acknowledged, plan_admits, plan_noted, plan_raised, plan_shut, raised, refl, replicate, replicate-append-replicate, reverse, reverse-append, rules, seats_stay, set, set-get_or, set_again, set_else, shown, shut, slots_items, step, suc, suc-mul, sym, taken_in, taking_all_in, taking_in, ticket_at, touched, touched_if, touches_in, touches_in_first, touching, true, turn_at, valued, valued_else, valued_here, walking, watching, with_ticket, zero, ℕ, ⊎_elim, ◌%◌, ◌&&◌, ◌*◌, ◌++◌, ◌+◌, ◌/◌, ◌<◌, ◌^◌, ◌∙◌, ◌∷◌, ◌≡◌, ◌≢◌, ◌≤◌, ◌⊎◌}
 use mathlib.Core.Logic.{dite}
 use native.Mathlib.Decide.{ℕ_discrete}
-use Rattle.live_doors.specs.declared.rule.TheConstants.{MOST_CPUS}
 
 -- a touch of this binding
 pub after_here : (given : Given) (f b : ℕ) (e : Made) (es : List Made) → e.frame ≡ f → e.binding ≡ b
@@ -151,9 +150,8 @@ count_more : (n : ℕ) (e : Made) (es : List Made) → (e.cpu < n → count_belo
 count_more zero e es = ((λ l. absurd (omega arith)), λ l. refl)
 count_more (suc n) e es =
     let before = count_more n e es in (
-      (λ l. dite (ℕ_discrete e.cpu n)
-          (λ (same : e.cpu ≡ n). rw (before.1 (omega arith), mine_here n e es same) (omega arith))
-          (λ (other : e.cpu ≢ n). rw (before.0 (omega arith), mine_else n e es other) (omega arith))),
+      (λ l. dite (ℕ_discrete e.cpu n) (λ (same : e.cpu ≡ n). rw (before.1 (omega arith), mine_here n e es same)
+          (omega arith)) (λ (other : e.cpu ≢ n). rw (before.0 (omega arith), mine_else n e es other) (omega arith))),
       λ l. rw (before.1 (omega arith), mine_else n e es (λ same. omega arith)) refl,
     )
 

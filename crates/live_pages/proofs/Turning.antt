@@ -1,12 +1,11 @@
 -- The steps that take a turn, touch the page in hand, and give the turn back.
-use Rattle.live_pages.proofs.Prelude.{◌≡◌, List, None, Option, Some, [], ap, arith, eqb, get_or, length, refl, set, sym, ℕ, ⊎_elim, ◌+◌, ◌<◌, ◌∙◌, ◌∷◌, ◌≢◌, ◌≤◌, get_or-set_other, get_or-set_same, length-set, set-get_or, valued, valued_else, valued_here, HasNoted, IsShut, MayBind, having_read, PassOk, PlanOk, entry_gone, entry_never, pass_stays, seats_stay, ack_at, door_at, Walk, Watch, exchanged, set_else, set_here, Act, Allows, Me, State, Valid, carried_after, gives, homes_after, keeps, step, takes, Kept, after, mine, Gives, KeeperGives, KeeperTakes, Seat, Takes, current, hand_of, taken, ticket_at, turn_at, turn_of, walking, Held, Size, Hand, Free, Has, Holder, View, Keeping, Passing, Spent, Walker}
+use Rattle.live_pages.proofs.Prelude.{Act, Allows, Free, Gives, Hand, Has, HasNoted, Held, Holder, IsShut, KeeperGives, KeeperTakes, Keeping, Kept, Known, List, MayBind, Me, None, Option, PassOk, Passing, PlanOk, Seat, Size, Some, Spent, State, Takes, Valid, View, Walk, Walker, Watch, [], ack_at, after, ap, arith, carried_after, current, door_at, entry_gone, entry_never, eqb, exchanged, get_or, get_or-set_other, get_or-set_same, gives, hand_of, having_read, homes_after, keeps, length, length-set, mine, pass_stays, refl, seats_stay, set, set-get_or, set_else, set_here, step, sym, taken, takes, ticket_at, turn_at, turn_of, valued, valued_else, valued_here, walking, ℕ, ⊎_elim, ◌+◌, ◌<◌, ◌∙◌, ◌∷◌, ◌≡◌, ◌≢◌, ◌≤◌}
+pub use Rattle.live_pages.proofs.Quiet.{HandStands, HasTurn, InOrder, KeptBy, Stands, after_else, after_frame, after_here, after_next, as_keeper, as_known, bindings_stay, fills, hand_stays, left_next, left_stays, left_touched, legal_next, looks, mine_else, mine_here, own_below, pass_stepped, regiven, regiven_binding, regiven_here, seat_stays, set_at, tickets_fit, turn_stays}
 use mathlib.Core.Logic.{dite}
 use mathlib.Core.Option as M
 use native.Mathlib.Decide.{ℕ_discrete}
 use prog.Atomic.{either}
 use lib.ListN.{get_elem?}
-use Rattle.live_pages.specs.Kept.{Known}
-use Rattle.live_pages.proofs.Quiet.{HandStands, HasTurn, InOrder, KeptBy, Stands, as_keeper, as_known, pass_stepped, seat_stays, set_at, turn_stays}
 
 abbrev frame_in : Hand → ℕ
 frame_in Free = 0
@@ -49,9 +48,8 @@ tail_of (y ∷ ys) = ys
 
 -- with one word stored: the tuple that a step owes
 abbrev Owed : Size → State (Option Held) View → ℕ → ℕ → ℕ → (ℕ → Me (Option Held) View → Type 0) → Type 0
-Owed z s id i x then = (v : View) × (a : Act (Option Held)) × Valid s.homes [] a
-    × Kept z (set s.words i x) (homes_after s.homes [] a) (set s.views id v)
-    × then (get_or s.words i 0) (v, carried_after [] a)
+Owed z s id i x then = (v : View) × (a : Act (Option Held)) × Valid s.homes [] a × Kept z
+    (set s.words i x) (homes_after s.homes [] a) (set s.views id v) × then (get_or s.words i 0) (v, carried_after [] a)
 
 module _ {z : Size} {words : List ℕ} {homes : List (M.Option (Option Held))} {views : List View} {n : Known}
     (h : KeptBy z words homes views n) (f x : ℕ) (inside : f < z.frames) where
@@ -66,15 +64,13 @@ module _ {z : Size} {words : List ℕ} {homes : List (M.Option (Option Held))} {
 
   -- A seat has another view by it, and other holders those of other frames' turns alone. What lies in the slot is the
   -- binding's page where the turn is free, and the turn is the holder's where it is not.
-  turned : (id : ℕ) (v v' : View) (hand : Hand) (holder : ℕ → ℕ) (home : M.Option (Option Held))
-      → get_elem? views id ≡ M.some v → ((g : ℕ) → g ≢ f → holder g ≡ n.holder g)
-      → ((g : ℕ) (page : List ℕ) → g ≢ f → hand_of v ≡ Has g page → ⊥)
-      → (x ≡ 0 → (hd : Held) × (get_elem? (set homes f home) f ≡ M.some (M.some (Some hd)))
-      × (hd.page ≡ after n.given f (current n.plan.watch f) n.log)) → (x ≢ 0 → HasTurn (set views id v') (holder f) f)
-      → Stands z (set words (turn_at z.frames z.cpus f) x) (with_turns n hand holder) id v'
-      → ((seat : ℕ) (page : List ℕ) → seat ≢ id → HandStands z words n seat (Has f page) → ⊥)
-      → ((seat : ℕ) → seat ≢ id → n.keeper ≡ seat → n.plan ≡ with_hand hand n.plan)
-      → Kept z (set words (turn_at z.frames z.cpus f) x) (set homes f home) (set views id v')
+  turned : (id : ℕ) (v v' : View) (hand : Hand) (holder : ℕ → ℕ) (home : M.Option (Option Held)) → get_elem? views id
+      ≡ M.some v → ((g : ℕ) → g ≢ f → holder g ≡ n.holder g) → ((g : ℕ) (page : List ℕ) → g ≢ f → hand_of v ≡ Has g page
+      → ⊥) → (x ≡ 0 → (hd : Held) × (get_elem? (set homes f home) f ≡ M.some (M.some (Some hd))) × (hd.page
+      ≡ after n.given f (current n.plan.watch f) n.log)) → (x ≢ 0 → HasTurn (set views id v') (holder f) f) → Stands z
+      (set words (turn_at z.frames z.cpus f) x) (with_turns n hand holder) id v' → ((seat : ℕ) (page : List ℕ)
+      → seat ≢ id → HandStands z words n seat (Has f page) → ⊥) → ((seat : ℕ) → seat ≢ id → n.keeper ≡ seat → n.plan
+      ≡ with_hand hand n.plan) → Kept z (set words (turn_at z.frames z.cpus f) x) (set homes f home) (set views id v')
   turned id v v' hand holder home at same apart slot busy own others plans =
       let words' : List ℕ = set words (turn_at z.frames z.cpus f) x in
       let n' : Known = with_turns n hand holder in
@@ -97,17 +93,15 @@ module _ {z : Size} {words : List ℕ} {homes : List (M.Option (Option Held))} {
           unmade = b.unmade;
           taken_in = b.taken_in;
         };
-        slots_ok = λ g within free. dite (ℕ_discrete g f)
-            (λ (here : g ≡ f). rw here (slot (sym turn_here ∙ (rw here at free))))
-            (λ (other : g ≢ f). let old = h.slots_ok g within (sym (turn_else g other) ∙ free) in
+        slots_ok = λ g within free. dite (ℕ_discrete g f) (λ (here : g ≡ f). rw here (slot (sym turn_here
+            ∙ (rw here at free)))) (λ (other : g ≢ f). let old = h.slots_ok g within (sym (turn_else g other) ∙ free) in
             (old.0, set_else homes f g home other ∙ old.1, old.2));
         turns_ok = λ g within taken. dite (ℕ_discrete g f)
             (λ (here : g ≡ f). rw here (busy (λ e. taken (rw here (turn_here ∙ e)))))
             (λ (other : g ≢ f). rw (same g other) (turn_stays views id (n.holder g) g v v' at
             (λ page has. absurd (apart g page other has)) (h.turns_ok g within (λ e. taken (turn_else g other ∙ e)))));
-        seats_ok = seats_stay (Stands z words' n') views id v' own (λ seat u away there.
-            seat_stays z words words' n n' seat
-            (λ g page ok. let other : g ≢ f = λ e. others seat page away (rw e at ok) in
+        seats_ok = seats_stay (Stands z words' n') views id v' own (λ seat u away there. seat_stays
+            z words words' n n' seat (λ g page ok. let other : g ≢ f = λ e. others seat page away (rw e at ok) in
             (ok.0, same g other ∙ ok.1, (λ e. ok.2 (sym (turn_else g other) ∙ e)), ok.3)) u (λ q here ok. (
               here,
               pass_above (turn_at z.frames z.cpus f) x (omega arith) b.plan_ok q.walk ok.pass_ok,
@@ -124,9 +118,8 @@ module _ {z : Size} {words : List ℕ} {homes : List (M.Option (Option Held))} {
       → Kept z (set words (turn_at z.frames z.cpus f) x) (set homes f M.none) (set views id v')
   taken_kept id hd v v' hand one at free has hit own plans =
       turned id v v' hand (valued f id n.holder) M.none at (λ g. valued_else f g id n.holder) (λ g page other e. cc)
-      (λ e. absurd (omega arith))
-      (λ e. (v', hd.page, rw (valued_here f id n.holder) (set_at views id v v' at), has)) own
-      (λ seat page away ok. ok.2 hit) plans
+      (λ e. absurd (omega arith)) (λ e. (v', hd.page, rw (valued_here f id n.holder) (set_at views id v v' at), has))
+      own (λ seat page away ok. ok.2 hit) plans
 
   -- the turn of a seat is given back, and the page with it
   given_back_kept : (id : ℕ) (hd : Held) (v v' : View) (hand : Hand) → x ≡ 0 → get_elem? views id ≡ M.some v
@@ -151,10 +144,9 @@ holder_stands {frames} {cpus} {words} {plan} q f {cleared} {b} k ok noted may e 
 
 -- so its turn is free, where the keeper has none
 turn_is_free : {z : Size} {words : List ℕ} {homes : List (M.Option (Option Held))} {views : List View}
-    (id f cleared : ℕ)
-    {k : Holder} → (h : Kept z words homes views) → get_elem? views id ≡ M.some (Keeping k) → k.hand ≡ Free
-    → HasNoted k.watch cleared → MayBind k.watch cleared f → f < z.frames
-    → get_or words (turn_at z.frames z.cpus f) 0 ≢ 0 → ⊥
+    (id f cleared : ℕ) {k : Holder} → (h : Kept z words homes views)
+    → get_elem? views id ≡ M.some (Keeping k) → k.hand ≡ Free → HasNoted k.watch cleared
+    → MayBind k.watch cleared f → f < z.frames → get_or words (turn_at z.frames z.cpus f) 0 ≢ 0 → ⊥
 turn_is_free {views = views} id f cleared {k} h at free noted may inside busy = of_view (h.turns_ok f inside busy)
   where
     of_view : HasTurn views (h.known.holder f) f → ⊥
@@ -199,17 +191,13 @@ module _ (z : Size) (slots id : ℕ) {m : Seat} where
                 out = mine.1.out;
               },
             ) (λ seat other is. refl),
-        λ g e. (
-          (λ zeroed. (slot.0, rw (← frame g e) refl)),
-          λ busy. absurd (busy hit),
-        ),
+        λ g e. ((λ zeroed. (slot.0, rw (← frame g e) refl)), λ busy. absurd (busy hit)),
       )) (λ (miss : n ≢ 0). (
         Passing (walking (having_read turn n) w),
         keeps,
         tt,
-        rw (set-get_or s.words turn 0) (pass_stepped z id (having_read turn n) h at free refl
-            (record { count = refl; above = λ j up. refl; same = λ g. refl; made = refl }) k mine.1.pass_ok
-            (λ q other ok. ok)),
+        rw (set-get_or s.words turn 0) (pass_stepped z id (having_read turn n) h at free refl (record
+            { count = refl; above = λ j up. refl; same = λ g. refl; made = refl }) k mine.1.pass_ok (λ q other ok. ok)),
         λ g e. ((λ zeroed. absurd (miss zeroed)), λ busy. refl),
       )))
 
@@ -232,20 +220,14 @@ module _ (z : Size) (slots id : ℕ) {m : Seat} where
         taken_kept by f 1 inside id slot.0 (Keeping k) (Keeping (with_hand hand k)) hand refl at free refl hit (
           mine.0,
           refl,
-          (
-            inside,
-            valued_here f id h.known.holder,
-            (λ e. omega (arith, turn_here by f 1 inside)),
-            slot.2,
-          ),
+          (inside, valued_here f id h.known.holder, (λ e. omega (arith, turn_here by f 1 inside)), slot.2),
         ) (λ seat other is. absurd (other (cc))),
         λ g e. (hit, (slot.0, rw (← frame g e) refl)),
       )) (λ (miss : n ≢ 0). absurd (turn_is_free id f cleared h at free noted may inside miss)))
 
 module _ (z : Size) (slots id : ℕ) {m : Seat} (all : slots ≡ z.frames) where
-  pub gives_turn : (i f : ℕ) {w : Walker} {hd : Held} → m ≡ (Passing w, (f, Some hd) ∷ []) → w.hand ≡ Has f hd.page
-      → i ≡ turn_at z.frames z.cpus f
-      → Allows (InOrder z) slots id m i (λ _. 0) (λ _. Gives (step slots i 0 0 M.none) m 0)
+  pub gives_turn : (i f : ℕ) {w : Walker} {hd : Held} → m ≡ (Passing w, (f, Some hd) ∷ []) → w.hand ≡ Has f hd.page → i
+      ≡ turn_at z.frames z.cpus f → Allows (InOrder z) slots id m i (λ _. 0) (λ _. Gives (step slots i 0 0 M.none) m 0)
   gives_turn i f {w} {hd} is has word = rw (is, word) (λ s h homes at fits.
       let mine = h.seats_ok id (Passing w) at in
       let hand = rw has at mine.1.hand_ok in (

@@ -1,5 +1,4 @@
-use Rattle.live_pages.proofs.Prelude.{rules, ◌∙◌, slots_items}
-use Rattle.live_pages.proofs.AllIn.{not_empty, pages_push, taken_more, still_there}
+use Rattle.live_pages.proofs.AllIn.{not_empty, pages_push, rules, slots_items, still_there, taken_more, ◌∙◌}
 use Rattle.live_pages.proofs.closing.take_pages.Goals as goal
 
 pub unreachable-requires : goal.unreachable-requires

@@ -1,4 +1,4 @@
-use Rattle.live_pages.proofs.Prelude.{◌≡◌, ℕ, ◌<◌, ◌≤◌, length, vec_capacity, slice_index_or, IsTrue, false, slots_items, slots_filled, slots_len, HavePages}
+use Rattle.live_pages.proofs.Prelude.{HavePages, IsTrue, false, length, slice_index_or, slots_filled, slots_items, slots_len, vec_capacity, ℕ, ◌<◌, ◌≡◌, ◌≤◌}
 use Rattle.live_pages.proofs.closing.take_pages.Given as goal
 
 abbrev pub invariant-loop-f : goal.invariant-loop-f

@@ -1,5 +1,4 @@
-use Rattle.live_pages.proofs.Prelude.{rules}
-use Rattle.live_pages.proofs.Ends.{admits}
+use Rattle.live_pages.proofs.Ends.{admits, rules}
 use Rattle.live_pages.proofs.opening.admit.Goals as goal
 
 pub split_seat-seat-requires : goal.split_seat-seat-requires

@@ -1,4 +1,4 @@
-use Rattle.live_pages.proofs.Prelude.{◌≡◌, ◌≤◌, watching, first_passes}
+use Rattle.live_pages.proofs.Prelude.{first_passes, watching, ◌≡◌, ◌≤◌}
 use Rattle.live_pages.proofs.opening.admit_all.Given as goal
 
 abbrev pub invariant-loop-cpu : goal.invariant-loop-cpu

@@ -1,5 +1,4 @@
-use Rattle.live_pages.proofs.Prelude.{rules}
-use Rattle.live_pages.proofs.Calls.{opened}
+use Rattle.live_pages.proofs.Calls.{opened, rules}
 use Rattle.live_pages.proofs.opening.begin.Goals as goal
 
 pub returns : goal.returns

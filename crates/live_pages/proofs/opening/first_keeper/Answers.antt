@@ -1,5 +1,4 @@
-use Rattle.live_pages.proofs.Prelude.{rules}
-use Rattle.live_pages.proofs.Ends.{opens}
+use Rattle.live_pages.proofs.Ends.{opens, rules}
 use Rattle.live_pages.proofs.opening.first_keeper.Goals as goal
 
 pub new-requires-2 : goal.new-requires-2

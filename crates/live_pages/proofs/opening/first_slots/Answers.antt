@@ -1,5 +1,4 @@
-use Rattle.live_pages.proofs.Prelude.{rules, ◌≡◌, [], ◌∷◌, ◌++◌, Some}
-use Rattle.live_pages.proofs.Calls.{zero_pages_push}
+use Rattle.live_pages.proofs.Calls.{Some, [], rules, zero_pages_push, ◌++◌, ◌∷◌, ◌≡◌}
 use Rattle.live_pages.proofs.opening.first_slots.Goals as goal
 
 pub loop-preserved : goal.loop-preserved

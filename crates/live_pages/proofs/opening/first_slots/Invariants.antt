@@ -1,4 +1,4 @@
-use Rattle.live_pages.proofs.Prelude.{◌≡◌, length, HaveZeroPages}
+use Rattle.live_pages.proofs.Prelude.{HaveZeroPages, length, ◌≡◌}
 use Rattle.live_pages.proofs.opening.first_slots.Given as goal
 
 abbrev pub invariant-loop : goal.invariant-loop

@@ -1,5 +1,4 @@
-use Rattle.live_pages.proofs.Prelude.{rules, ap, ◌∙◌}
-use Rattle.live_pages.proofs.Quiet.{acknowledges}
+use Rattle.live_pages.proofs.Quiet.{acknowledges, ap, rules, ◌∙◌}
 use Rattle.live_pages.proofs.pages.LivePages.acknowledge.Goals as goal
 
 pub store-requires : goal.store-requires

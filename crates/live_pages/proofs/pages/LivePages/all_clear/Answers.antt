@@ -1,5 +1,4 @@
-use Rattle.live_pages.proofs.Prelude.{rules}
-use Rattle.live_pages.proofs.Ends.{noted_is_clear}
+use Rattle.live_pages.proofs.Ends.{noted_is_clear, rules}
 use Rattle.live_pages.proofs.pages.LivePages.all_clear.Goals as goal
 
 pub returns-clause-clear : goal.returns-clause-clear

@@ -1,5 +1,4 @@
-use Rattle.live_pages.proofs.Prelude.{◌≤◌}
-use Rattle.live_pages.proofs.Calls.{ClearSoFar}
+use Rattle.live_pages.proofs.Calls.{ClearSoFar, ◌≤◌}
 use Rattle.live_pages.proofs.pages.LivePages.all_clear.Given as goal
 
 abbrev pub invariant-loop-cpu : goal.invariant-loop-cpu

@@ -1,8 +1,5 @@
-use Rattle.live_pages.proofs.Prelude.{rules, Some, [], ap, get_or, refl, set, subst, sym, ◌*◌, ◌+◌, ◌/◌, ◌∙◌, ◌≡◌, length-set, HasNoted, MayBind, rebound, holder_of, Keeping}
-use Rattle.live_pages.proofs.Turning.{keeper_takes, keeper_gives}
-use Rattle.live_pages.proofs.Changing.{binds}
-use Rattle.live_pages.proofs.Ends.{may_bind_is_free}
-use Rattle.live_pages.proofs.Calls.{told_with, swapped, bound_now, rebound_now, keeper_fits, keeper_stays_of, rows_admitted}
+use Rattle.live_pages.proofs.Calls.{HasNoted, Keeping, MayBind, Some, [], bound_now, get_or, holder_of, keeper_fits, keeper_gives, keeper_stays_of, keeper_takes, length-set, rebound, rebound_now, refl, rows_admitted, rules, set, subst, swapped, sym, told_with, ◌*◌, ◌+◌, ◌/◌, ◌∙◌, ◌≡◌}
+use Rattle.live_pages.proofs.Ends.{ap, binds, may_bind_is_free}
 use Rattle.live_pages.proofs.pages.LivePages.bind.Goals as goal
 
 pub compare_exchange-requires : goal.compare_exchange-requires
@@ -10,9 +7,8 @@ compare_exchange-requires c = (
   search rules,
   search rules,
   keeper_takes c.self.inside.table.shared.key _ _ _ c.args.f c.keeper.inside.cleared c.keeper.invariant.seat
-      c.keeper.invariant.hand c.keeper.invariant.cleared
-      (subst (λ v. MayBind v.holder.watch v.cleared c.args.f) (sym c.keeper.view_is) c.requires.may_bind)
-      (search rules) (search rules),
+      c.keeper.invariant.hand c.keeper.invariant.cleared (subst (λ v. MayBind v.holder.watch v.cleared c.args.f)
+      (sym c.keeper.view_is) c.requires.may_bind) (search rules) (search rules),
 )
 
 pub swap_page-old-requires-clause-hand : goal.swap_page-old-requires-clause-hand

@@ -1,5 +1,4 @@
-use Rattle.live_pages.proofs.Prelude.{ap, sym, ◌∙◌, slots_items}
-use Rattle.live_pages.proofs.AllIn.{AtEnd, all_are_in, ended, slots_held, pages_left}
+use Rattle.live_pages.proofs.AllIn.{AtEnd, all_are_in, ap, ended, pages_left, slots_held, slots_items, sym, ◌∙◌}
 use Rattle.live_pages.proofs.pages.LivePages.close.Goals as goal
 
 pub take_pages-requires-clause-held : goal.take_pages-requires-clause-held
@@ -13,13 +12,12 @@ take_pages-requires-clause-held c =
 -- the seat that is left shows what the keeper knew with the touches of every pass
 shown : (c : goal.After-drop-keeper-inside-2)
     → AtEnd c.args.self.frames c.args.self.cpus c.show-shown.result (slots_items c.close_with-closed.result.slots)
-shown c = ended c.self.inside.table.shared.key _ _ (slots_items c.close_with-closed.result.slots)
-    (c.self.invariant.frames ∙ ap (λ v. v.frames) c.self.view_is)
-    (c.self.invariant.cpus ∙ ap (λ v. v.cpus) c.self.view_is) c.keeper.invariant.seat
-    (ap (λ v. v.holder) (c.keeper.view_is ∙ c.show-shown.ensures.keeper) ∙ sym c.show-shown.ensures.shown)
-    c.keeper.invariant.hand (rw (c.show-shown.ensures.shown, c.take_all_in.ensures.taken)
-    (all_are_in c.args.self c.args.passes.items c.args.keeper.holder c.requires.keeper.parts c.requires.all))
-    c.close_with-closed.ensures.values.2
+shown c = ended c.self.inside.table.shared.key _ _
+    (slots_items c.close_with-closed.result.slots) (c.self.invariant.frames ∙ ap (λ v. v.frames) c.self.view_is)
+    (c.self.invariant.cpus ∙ ap (λ v. v.cpus) c.self.view_is) c.keeper.invariant.seat (ap (λ v. v.holder)
+    (c.keeper.view_is ∙ c.show-shown.ensures.keeper) ∙ sym c.show-shown.ensures.shown) c.keeper.invariant.hand
+    (rw (c.show-shown.ensures.shown, c.take_all_in.ensures.taken) (all_are_in c.args.self c.args.passes.items
+    c.args.keeper.holder c.requires.keeper.parts c.requires.all)) c.close_with-closed.ensures.values.2
 
 pub returns-clause-one_thread : goal.returns-clause-one_thread
 returns-clause-one_thread c = (shown c).legal.0

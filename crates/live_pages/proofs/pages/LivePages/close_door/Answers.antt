@@ -1,5 +1,4 @@
-use Rattle.live_pages.proofs.Prelude.{rules, ◌+◌, get_or, ap, ◌∙◌}
-use Rattle.live_pages.proofs.Quiet.{closes}
+use Rattle.live_pages.proofs.Quiet.{ap, closes, get_or, rules, ◌+◌, ◌∙◌}
 use Rattle.live_pages.proofs.pages.LivePages.close_door.Goals as goal
 
 pub store-requires : goal.store-requires

@@ -1,6 +1,5 @@
-use Rattle.live_pages.proofs.Prelude.{rules, [], refl, ap, ◌≡◌, ◌∙◌, Walk, filled, filled_row, entries_filled, when_bound, when_admitted, when_closed, Passing, walking, walker_of}
-use Rattle.live_pages.proofs.Quiet.{fills}
-use Rattle.live_pages.proofs.Calls.{told_alone, pass_fits, pass_stays_of}
+use Rattle.live_pages.proofs.Prelude.{Passing, Walk, [], ap, entries_filled, filled, filled_row, refl, rules, walker_of, walking, when_admitted, when_bound, when_closed, ◌∙◌, ◌≡◌}
+use Rattle.live_pages.proofs.Calls.{fills, pass_fits, pass_stays_of, told_alone}
 use Rattle.live_pages.proofs.pages.LivePages.fill.Goals as goal
 
 pub load-word-requires : goal.load-word-requires

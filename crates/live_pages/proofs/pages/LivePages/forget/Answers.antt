@@ -1,5 +1,4 @@
-use Rattle.live_pages.proofs.Prelude.{rules}
-use Rattle.live_pages.proofs.Quiet.{forgets}
+use Rattle.live_pages.proofs.Quiet.{forgets, rules}
 use Rattle.live_pages.proofs.pages.LivePages.forget.Goals as goal
 
 pub load-stamp-requires : goal.load-stamp-requires

@@ -1,5 +1,4 @@
-use Rattle.live_pages.proofs.Prelude.{rules}
-use Rattle.live_pages.proofs.Quiet.{raises}
+use Rattle.live_pages.proofs.Quiet.{raises, rules}
 use Rattle.live_pages.proofs.pages.LivePages.raise.Goals as goal
 
 pub store-requires : goal.store-requires

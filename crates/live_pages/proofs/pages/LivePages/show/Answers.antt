@@ -1,5 +1,4 @@
-use Rattle.live_pages.proofs.Prelude.{rules}
-use Rattle.live_pages.proofs.Ends.{shows}
+use Rattle.live_pages.proofs.Ends.{rules, shows}
 use Rattle.live_pages.proofs.pages.LivePages.show.Goals as goal
 
 pub split_seat-seat-requires : goal.split_seat-seat-requires

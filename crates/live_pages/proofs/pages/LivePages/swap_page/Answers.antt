@@ -1,5 +1,5 @@
-use Rattle.live_pages.proofs.Prelude.{rules, sym, ap, ◌∙◌, Held, none-some, same_Some}
-use Rattle.live_pages.proofs.Calls.{slot_in_hand, exchanged_twice, found_in_slot, with_slots}
+use Rattle.live_pages.proofs.Prelude.{Held, ap, none-some, rules, same_Some, sym, ◌∙◌}
+use Rattle.live_pages.proofs.Calls.{exchanged_twice, found_in_slot, slot_in_hand, with_slots}
 use Rattle.live_pages.proofs.pages.LivePages.swap_page.Goals as goal
 
 pub exchange-requires : goal.exchange-requires

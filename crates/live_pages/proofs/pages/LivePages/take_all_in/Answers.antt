@@ -1,5 +1,4 @@
-use Rattle.live_pages.proofs.Prelude.{All-pop, IsPassOf}
-use Rattle.live_pages.proofs.AllIn.{taking_goes_on}
+use Rattle.live_pages.proofs.AllIn.{All-pop, IsPassOf, taking_goes_on}
 use Rattle.live_pages.proofs.pages.LivePages.take_all_in.Goals as goal
 
 pub loop-pass-preserved : goal.loop-pass-preserved

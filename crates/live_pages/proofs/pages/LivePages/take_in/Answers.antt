@@ -1,5 +1,4 @@
-use Rattle.live_pages.proofs.Prelude.{rules, ap}
-use Rattle.live_pages.proofs.Ends.{takes_in}
+use Rattle.live_pages.proofs.Ends.{ap, rules, takes_in}
 use Rattle.live_pages.proofs.pages.LivePages.take_in.Goals as goal
 
 pub join_seat-requires : goal.join_seat-requires

@@ -1,7 +1,5 @@
-use Rattle.live_pages.proofs.Prelude.{rules, None, Some, [], ap, get_or, refl, ◌∙◌, ◌∷◌, ◌≡◌, having_touched, taken, walker_of, Held, Passing}
-use Rattle.live_pages.proofs.Turning.{takes_turn}
-use Rattle.live_pages.proofs.Ends.{held_is_current}
-use Rattle.live_pages.proofs.Calls.{seat_form, told_alone, told_with, pass_fits, pass_stays_of}
+use Rattle.live_pages.proofs.Calls.{Held, None, Passing, Some, [], get_or, having_touched, pass_fits, pass_stays_of, refl, rules, seat_form, taken, takes_turn, told_alone, told_with, walker_of, ◌∙◌, ◌∷◌, ◌≡◌}
+use Rattle.live_pages.proofs.Ends.{ap, held_is_current}
 use Rattle.live_pages.proofs.pages.LivePages.touch.Goals as goal
 
 -- the turn was free: the pass has it, with the page that lay in the slot
@@ -31,9 +29,8 @@ compare_exchange-word-requires c = (
 )
 
 pub invariant_of-pass : goal.invariant_of-pass
-invariant_of-pass c = pass_fits (told_alone c.pass.invariant.seat
-    ((c.compare_exchange-word.ensures.2 c.args.f (search rules)).1 c.if-word-ne0.true))
-    c.pass.invariant.hand c.pass.invariant.entries c.pass.invariant.touches
+invariant_of-pass c = pass_fits (told_alone c.pass.invariant.seat ((c.compare_exchange-word.ensures.2 c.args.f
+    (search rules)).1 c.if-word-ne0.true)) c.pass.invariant.hand c.pass.invariant.entries c.pass.invariant.touches
 
 pub returns-then-word-ne0-clause-pass : goal.returns-then-word-ne0-clause-pass
 returns-then-word-ne0-clause-pass c = pass_stays_of c.pass.view_is c.requires.pass c.compare_exchange-word.ensures.0

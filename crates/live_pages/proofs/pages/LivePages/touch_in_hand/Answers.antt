@@ -1,7 +1,5 @@
-use Rattle.live_pages.proofs.Prelude.{rules, Some, [], ap, refl, sym, ◌∙◌, ◌∷◌, ◌≡◌, same_Some, AreBelow, having_made, walker_of, Passing}
-use Rattle.live_pages.proofs.Turning.{gives_turn}
-use Rattle.live_pages.proofs.Changing.{draws}
-use Rattle.live_pages.proofs.Calls.{slot_in_hand, exchanged_twice, found_in_slot, drawn}
+use Rattle.live_pages.proofs.Calls.{drawn, exchanged_twice, found_in_slot, slot_in_hand, sym}
+use Rattle.live_pages.proofs.Changing.{AreBelow, Passing, Some, [], ap, draws, gives_turn, having_made, refl, rules, same_Some, walker_of, ◌∙◌, ◌∷◌, ◌≡◌}
 use Rattle.live_pages.proofs.pages.LivePages.touch_in_hand.Goals as goal
 
 pub exchange-requires : goal.exchange-requires
@@ -14,10 +12,9 @@ fetch_add-ticket-requires c =
     let same = same_Some _ _ (sym c.in-Some.is ∙ found_in_slot c.requires.hand.1 c.exchange.ensures.2) in (
       search rules,
       search rules,
-      draws c.self.inside.table.shared.key _ _ _ c.args.f c.requires.hand.0.page there (search rules)
-          c.requires.hand.2 (rw (c.touch-word.ensures.kept.0, ← same) c.touch-word.ensures.page)
-          (c.touch-word.ensures.kept.1 ∙ (rw (c.touch-word.ensures.kept.0, ← same) c.touch-word.ensures.word))
-          c.requires.few (search rules),
+      draws c.self.inside.table.shared.key _ _ _ c.args.f c.requires.hand.0.page there (search rules) c.requires.hand.2
+          (rw (c.touch-word.ensures.kept.0, ← same) c.touch-word.ensures.page) (c.touch-word.ensures.kept.1
+          ∙ (rw (c.touch-word.ensures.kept.0, ← same) c.touch-word.ensures.word)) c.requires.few (search rules),
     )
 
 -- what is known of the seat with the touched page in hand, once its ticket was drawn
