@@ -1,5 +1,5 @@
 -- Touches that add to the first word of a frame's page.
-use Rattle.drill.proofs.Prelude.{◌≡◌, ℕ, zero, suc, ◌+◌, ◌/◌, ◌%◌, ◌^◌, ◌<◌, Bool, true, false, cond, eqb, List, [], ◌∷◌, ◌++◌, map, reverse, length, get_or, sym, ap, subst, refl, ◌∙◌, arith, mod-lt, get_or-set_same, length-set, eq-eqb, reverse-append, next_state, drawn, Watch, Touch, Add, Made, Given, touched, is_of, touched_if, touching, after_all, mine, mine_if, AreOfBindings, state_after, word_at, add_at, added, sum_of, deed, done, words_to}
+pub use Rattle.drill.proofs.Prelude.{Add, All, All-pop, All-push, AreAll, AreDone, AreFirstOf, AreOfBindings, Bool, EachRole, Given, HasDone, IsFresh, IsPassOf, List, Made, Option, PagesModel, PassModel, Role, RoleDone, RoleFresh, Some, Touch, Watch, Worker, Works, [], add-one, add_at, added, after_all, ap, arith, cond, deed, done, drawn, eq-eqb, eqb, false, first_passes, first_walker, first_words, get_or, get_or-append_seam, get_or-set_same, get_or_append_left, is_of, length, length-append, length-set, made_by, made_count, map, mine, mine_if, missing, mod-lt, next_state, option_to_list, refl, reverse, reverse-append, reverse-reverse, rules, state_after, subst, suc, sum, sum_of, sums_of, sym, touched, touched_if, touching, true, vec_len, word_at, words_to, work_of, zero, ℕ, ◌%◌, ◌++◌, ◌+◌, ◌-◌, ◌/◌, ◌<◌, ◌^◌, ◌∙◌, ◌∷◌, ◌≡◌, ◌≢◌, ◌≤◌}
 use Rattle.drill.proofs.Words.{done_sum}
 
 -- each touch is an add to the first word of the page of a frame that there is

@@ -1,9 +1,8 @@
 -- Each touch is of just one binding and by just one processor, so the sums over all of these have each touch once.
-use Rattle.drill.proofs.Prelude.{◌≡◌, ◌≢◌, ℕ, ◌+◌, ◌<◌, ◌≤◌, Bool, true, false, cond, eqb, ◌&&◌, List, [], ◌∷◌, sym, ap, refl, ◌∙◌, arith, eq-eqb, ne_eqb, Watch, Made, Bound, ended_of, AreInTurn, mine, mine_if, current, AreOfBindings, added}
+pub use Rattle.drill.proofs.Adds.{AreAdds, adds_all, adds_reverse, done_adds, first_word, weigh, weigh_of, weigh_reverse, weight}
+pub use Rattle.drill.proofs.Sums.{All, AreDone, AreFirstOf, AreInTurn, AreOfBindings, Binding, Bool, Bound, Holder, IsKeeperOf, IsLeftAfterAll, IsOfOneThread, KeeperModel, List, MOST_CPUS, Made, PagesModel, PassModel, TookZeros, Touch, Watch, [], add_at, added, all_bindings, all_sums, ap, arith, at_else, at_here, at_point, cond, current, deed, done, ended_add, ended_bindings, ended_of, ended_sum, ended_zero, eq-eqb, eqb, false, first_words, get_or, get_or-append-add, get_or-replicate, get_or_append_left, in_order, last_add, last_bindings, last_range, last_same, last_sum, last_zero, length, length-append, length-replicate, length-reverse, made_by, made_count, map, map-append, mine, mine_if, missing, ne_eqb, page_given, pages_after, point_sum, range_sum, refl, replicate, reverse, reverse-append, same_few, subst, suc, sum, sums_of, sym, take, take-append-le, take_all, taking_all_in, true, words_few, words_left, words_to, work_of, zero, ℕ, ◌%◌, ◌&&◌, ◌++◌, ◌+◌, ◌<◌, ◌^◌, ◌∙◌, ◌∷◌, ◌≡◌, ◌≢◌, ◌≤◌}
 use mathlib.Core.Logic.{dite}
 use native.Mathlib.Decide.{ℕ_discrete}
-use Rattle.drill.proofs.Sums.{last_sum, ended_sum, last_add, last_same, last_zero, ended_add, ended_zero, at_point, at_here, at_else, point_sum}
-use Rattle.drill.proofs.Adds.{AreAdds, weigh, weight, weigh_of}
 
 weight_here : (e : Made) (f b : ℕ) → e.frame ≡ f → weight e f b ≡ at_point (added e.touch) e.binding b
 weight_here e f b same = ap (λ t. cond (t && eqb e.binding b) (added e.touch) 0) (eq-eqb e.frame f same)
@@ -18,9 +17,8 @@ ended_else : (f : ℕ) (b : Bound) (bs : List Bound) → f ≢ b.frame → ended
 ended_else f b bs other = ap (λ t. cond t (ended_of f bs + 1) (ended_of f bs)) (ne_eqb b.frame f (λ is. other (sym is)))
 
 -- a touch of a binding that has ended is counted once, and any other never
-ended_point : (e : Made) (bs : List Bound) → AreInTurn bs
-    → (e.binding < ended_of e.frame bs → ended_sum (weight e) bs ≡ added e.touch)
-    × (ended_of e.frame bs ≤ e.binding → ended_sum (weight e) bs ≡ 0)
+ended_point : (e : Made) (bs : List Bound) → AreInTurn bs → (e.binding < ended_of e.frame bs
+    → ended_sum (weight e) bs ≡ added e.touch) × (ended_of e.frame bs ≤ e.binding → ended_sum (weight e) bs ≡ 0)
 ended_point e [] turn = (λ lt. absurd (omega arith), λ le. refl)
 ended_point e (b ∷ bs) turn =
     let rest = ended_point e bs turn.0 in
@@ -46,12 +44,10 @@ ended_point e (b ∷ bs) turn =
 last_point : (e : Made) (c : ℕ → ℕ) (n : ℕ) → e.frame < n → last_sum (λ f. weight e f (c f)) n
     ≡ at_point (added e.touch) e.binding (c e.frame)
 last_point e c n lt =
-    last_same (λ f. weight e f (c f)) (at_point (at_point (added e.touch) e.binding (c e.frame)) e.frame) n
-    (λ f below. dite (ℕ_discrete e.frame f)
-    (λ (same : e.frame ≡ f). weight_here e f (c f) same ∙ ap (λ g. at_point (added e.touch) e.binding (c g)) (sym same)
-    ∙ sym (at_here _ e.frame f same))
-    (λ (other : e.frame ≢ f). weight_else e f (c f) other ∙ sym (at_else _ e.frame f other)))
-    ∙ (point_sum (at_point (added e.touch) e.binding (c e.frame)) e.frame n).0 lt
+    last_same (λ f. weight e f (c f)) (at_point (at_point (added e.touch) e.binding (c e.frame)) e.frame) n (λ f below.
+    dite (ℕ_discrete e.frame f) (λ (same : e.frame ≡ f). weight_here e f (c f) same ∙ ap (λ g. at_point (added e.touch)
+    e.binding (c g)) (sym same) ∙ sym (at_here _ e.frame f same)) (λ (other : e.frame ≢ f). weight_else e f (c f) other
+    ∙ sym (at_else _ e.frame f other))) ∙ (point_sum (at_point (added e.touch) e.binding (c e.frame)) e.frame n).0 lt
 
 one_binding : (e : Made) (bs : List Bound) (c : ℕ → ℕ) (n : ℕ) → AreInTurn bs → ((f : ℕ) → c f ≡ ended_of f bs)
     → e.frame < n → e.binding ≤ c e.frame → ended_sum (weight e) bs + last_sum (λ f. weight e f (c f)) n ≡ added e.touch

@@ -1,14 +1,9 @@
 -- What is known once the pages are closed: each processor's touches are the first ones of its work, and the total is
 -- right.
-use Rattle.drill.proofs.Prelude.{◌≡◌, ◌≢◌, ℕ, zero, suc, ◌+◌, ◌%◌, ◌^◌, ◌<◌, ◌≤◌, Bool, true, false, cond, eqb, ◌&&◌, List, [], ◌∷◌, ◌++◌, map, reverse, take, replicate, length, get_or, All, sum, sym, ap, subst, refl, ◌∙◌, arith, length-reverse, map-append, reverse-append, length-append, get_or_append_left, get_or-append-add, take-append-le, take_all, length-replicate, get_or-replicate, Touch, Made, Bound, Holder, page_given, mine, current, PagesModel, PassModel, KeeperModel, IsKeeperOf, taking_all_in, in_order, made_by, pages_after, Binding, ended_bindings, last_bindings, all_bindings, IsLeftAfterAll, IsOfOneThread, add_at, work_of, added, deed, AreFirstOf, sums_of, done, words_to, words_left, TookZeros, AreDone, missing, made_count, first_words}
+pub use Rattle.drill.proofs.Bindings.{All, AreAdds, AreDone, AreFirstOf, Binding, Bool, Bound, Holder, IsKeeperOf, IsLeftAfterAll, IsOfOneThread, KeeperModel, List, MOST_CPUS, Made, PagesModel, PassModel, TookZeros, Touch, [], add_at, added, adds_all, adds_reverse, all_bindings, all_sums, ap, arith, bindings_sum, cond, cpus_sum, current, deed, done, done_adds, ended_bindings, ended_sum, eqb, false, first_word, first_words, get_or, get_or-append-add, get_or-replicate, get_or_append_left, in_order, last_bindings, last_range, last_sum, length, length-append, length-replicate, length-reverse, made_by, made_count, map, map-append, mine, missing, page_given, pages_after, range_sum, refl, replicate, reverse, reverse-append, same_few, subst, suc, sum, sums_of, sym, take, take-append-le, take_all, taking_all_in, true, weigh, weigh_of, weigh_reverse, words_few, words_left, words_to, work_of, zero, ℕ, ◌%◌, ◌&&◌, ◌++◌, ◌+◌, ◌<◌, ◌^◌, ◌∙◌, ◌∷◌, ◌≡◌, ◌≢◌, ◌≤◌}
+use Rattle.drill.proofs.Parts.{IsWorkTo, count_all, last_same, made_by_all, made_missing, parts_sum, parts_work, same_ended, touches_at}
 use mathlib.Core.Logic.{dite}
 use native.Mathlib.Decide.{ℕ_discrete}
-use Rattle.drill.proofs.Words.{words_few}
-use Rattle.drill.proofs.Sums.{last_sum, ended_sum, range_sum, last_same, last_range, same_few, all_sums}
-use Rattle.drill.proofs.Adds.{AreAdds, adds_reverse, done_adds, adds_all, weigh, weigh_of, weigh_reverse, first_word}
-use Rattle.drill.proofs.Bindings.{bindings_sum, cpus_sum}
-use Rattle.drill.proofs.Parts.{same_ended, touches_at, IsWorkTo, parts_work, made_by_all, parts_sum, count_all, made_missing}
-use Rattle.live_doors.specs.declared.rule.TheConstants.{MOST_CPUS}
 
 reverse_deeds : (es : List Made) → map deed (reverse es) ≡ reverse (map deed es)
 reverse_deeds [] = refl
@@ -100,11 +95,10 @@ module _ (pages : PagesModel) (seed adds : ℕ) (ps : List PassModel) (keeper : 
   mine_is c below = sym (end.one_thread.own c below) ∙ made_is c
 
   all_adds : AreAdds pages.frames (in_order shown)
-  all_adds = adds_all pages.cpus pages.frames shown.watch (in_order shown) end.one_thread.bindings
-      (λ c below. subst (AreAdds pages.frames) (sym (mine_is c below))
-      (adds_reverse pages.frames (touches_at ps keeper.holder c)
-      (done_adds pages.frames (seed + c) (length (touches_at ps keeper.holder c)) (touches_at ps keeper.holder c)
-      end.some (own_work c below).deeds)))
+  all_adds = adds_all pages.cpus pages.frames shown.watch
+      (in_order shown) end.one_thread.bindings (λ c below. subst (AreAdds pages.frames) (sym (mine_is c below))
+      (adds_reverse pages.frames (touches_at ps keeper.holder c) (done_adds pages.frames (seed + c)
+      (length (touches_at ps keeper.holder c)) (touches_at ps keeper.holder c) end.some (own_work c below).deeds)))
 
   pub ended_is : shown.ended ≡ keeper.holder.ended
   ended_is = ap (λ k. k.ended) end.taken ∙ same_ended ps keeper.holder
@@ -179,9 +173,8 @@ module _ (pages : PagesModel) (seed adds : ℕ) (ps : List PassModel) (keeper : 
   touches = sym (made_all (λ (es : List Made). length es) (λ e. 1) refl (λ e es. omega arith)
       (λ es. length-reverse es) ∙ count_all ps)
 
-  pub total : (s u t : ℕ) → s ≡ words_left keeper.holder.ended % 2 ^ 36 → u ≡ missing adds ps % 2 ^ 36
-      → t ≡ ((s + u) % 2 ^ 36 + first_words (length left) left) % 2 ^ 36
-      → t ≡ sum (sums_of pages.frames adds seed pages.cpus)
+  pub total : (s u t : ℕ) → s ≡ words_left keeper.holder.ended % 2 ^ 36 → u ≡ missing adds ps % 2 ^ 36 → t ≡ ((s + u)
+      % 2 ^ 36 + first_words (length left) left) % 2 ^ 36 → t ≡ sum (sums_of pages.frames adds seed pages.cpus)
   total s u t taken unmade is =
       let before : List Binding = ended_bindings (page_given shown.ended) shown.ended in
       let ended = ended_words shown.ended (all_front (IsLeftAfterAll shown) before

@@ -1,11 +1,8 @@
 -- What the keeper has of each pass once all were taken in.
-use Rattle.drill.proofs.Prelude.{◌≡◌, ◌≢◌, ℕ, ◌+◌, ◌<◌, ◌≤◌, List, [], ◌∷◌, map, set, length, get_or, sym, ap, subst, refl, ◌∙◌, arith, get_or-set_same, get_or-set_other, Made, Out, In, Holder, PagesModel, PassModel, taking_all_in, touches_in, deed, done, words_to, AreDone, missing, made_count}
+use Rattle.drill.proofs.Adds.{weigh, weigh_done}
+pub use Rattle.drill.proofs.Sums.{AreDone, Holder, In, List, Made, Out, PagesModel, PassModel, [], ap, arith, deed, done, get_or, get_or-set_other, get_or-set_same, last_same, last_sum, length, made_count, map, missing, parts_stay, range_same, range_sum, refl, set, subst, sym, taking_all_in, touches_in, words_mono, words_to, ℕ, ◌+◌, ◌<◌, ◌∙◌, ◌∷◌, ◌≡◌, ◌≢◌, ◌≤◌}
 use mathlib.Core.Logic.{dite}
 use native.Mathlib.Decide.{ℕ_discrete}
-use Rattle.drill.proofs.Words.{words_mono}
-use Rattle.drill.proofs.Sums.{last_sum, range_sum, range_same}
-use Rattle.drill.proofs.Adds.{weigh, weigh_done}
-use Rattle.live_pages.proofs.AllIn.{parts_stay}
 
 pub same_ended : (ps : List PassModel) (k : Holder) → (taking_all_in ps k).ended ≡ k.ended
 same_ended [] k = refl

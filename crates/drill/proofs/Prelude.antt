@@ -7,7 +7,10 @@ pub use Rattle.std.proofs.lemmas.List.Elements.{All-pop, All-push}
 pub use Rattle.std.proofs.lemmas.List.Sums.{sum_by-append}
 unfoldable pub use Rattle.draws.specs.Draws.{drawn, next_state}
 pub use Rattle.live_doors.specs.Doors.{OnlyNoted}
+pub use Rattle.live_doors.specs.declared.rule.TheConstants.{MOST_CPUS}
 pub use Rattle.live_doors.specs.declared.views.Watch.{Watch}
+pub use Rattle.live_pages.proofs.AllIn.{parts_stay}
+pub use Rattle.live_pages.proofs.Calls.{first_count}
 pub use Rattle.live_pages.specs.Ending.{Binding, IsLeftAfterAll, IsOfOneThread, all_bindings, ended_bindings, in_order, last_bindings, made_by, pages_after, touches_in}
 pub use Rattle.live_pages.specs.Kept.{AreOfBindings}
 pub use Rattle.live_pages.specs.Models.{AreAll, IsKeeperOf, IsPassOf, KeeperModel, PagesModel, PassModel, SameButWatch, first_passes, taking_all_in}

@@ -1,8 +1,7 @@
 -- The rows of roles and passes, from which the last one is taken and to which one is added.
-use Rattle.drill.proofs.Prelude.{◌≡◌, ◌≢◌, ℕ, zero, suc, ◌+◌, ◌-◌, ◌<◌, ◌≤◌, List, [], ◌∷◌, ◌++◌, reverse, length, get_or, All, Option, Some, option_to_list, sym, ap, subst, refl, ◌∙◌, arith, add-one, get_or-append_seam, reverse-append, reverse-reverse, length-append, get_or_append_left, All-pop, All-push, first_walker, PagesModel, PassModel, IsPassOf, first_passes, AreAll, Worker, Role, Works, done, words_to, HasDone, AreDone, missing, made_count, IsFresh, RoleFresh, RoleDone, EachRole}
+pub use Rattle.drill.proofs.Adds.{All, All-pop, All-push, AreAll, AreDone, AreFirstOf, EachRole, HasDone, IsFresh, IsPassOf, List, Option, PagesModel, PassModel, Role, RoleDone, RoleFresh, Some, Worker, Works, [], add-one, ap, arith, done, done_count, first_passes, first_walker, first_words, get_or, get_or-append_seam, get_or_append_left, length, length-append, made_by, made_count, missing, option_to_list, refl, reverse, reverse-append, reverse-reverse, rules, subst, suc, sum, sums_of, sym, vec_len, words_to, work_of, zero, ℕ, ◌%◌, ◌++◌, ◌+◌, ◌-◌, ◌<◌, ◌^◌, ◌∙◌, ◌∷◌, ◌≡◌, ◌≢◌, ◌≤◌}
 use mathlib.Core.Logic.{dite}
 use native.Mathlib.Decide.{ℕ_discrete}
-use Rattle.drill.proofs.Adds.{done_count}
 
 snoc_parts : {X : Type 0} (xs ys : List X) (x y : X) → xs ++ x ∷ [] ≡ ys ++ y ∷ [] → (xs ≡ ys) × (x ≡ y)
 snoc_parts xs ys x y e =
@@ -25,9 +24,8 @@ each_last ok xs x each = subst (ok (length xs)) (get_or-append_seam xs x [] x)
 each_push : (ok : ℕ → Role → Type 0) (xs : List Role) (x : Role) → EachRole ok xs → ok (length xs) x
     → EachRole ok (xs ++ x ∷ [])
 each_push ok xs x each last place d lt =
-    dite (ℕ_discrete place (length xs))
-    (λ (here : place ≡ length xs). subst (λ p. ok p (get_or (xs ++ x ∷ []) p d)) (sym here)
-    (subst (ok (length xs)) (sym (get_or-append_seam xs x [] d)) last)) (λ (other : place ≢ length xs).
+    dite (ℕ_discrete place (length xs)) (λ (here : place ≡ length xs). subst (λ p. ok p (get_or (xs ++ x ∷ []) p d))
+    (sym here) (subst (ok (length xs)) (sym (get_or-append_seam xs x [] d)) last)) (λ (other : place ≢ length xs).
     let below : place < length xs = omega (arith, length-append xs (x ∷ [])) in
     subst (ok place) (sym (get_or_append_left xs (x ∷ []) d place below)) (each place d below))
 
@@ -40,10 +38,9 @@ new_pass pages m = record { table = pages.table; walker = first_walker pages.fra
 
 -- a new pass was seated
 pub fresh_push : (pages : PagesModel) (roles seated : List Role) (passes rest : List PassModel) (r : Option PassModel)
-    (pass : PassModel) (n m cpu : ℕ)
-    → passes ≡ rest ++ option_to_list r → r ≡ Some pass → passes ≡ first_passes pages n → All (IsPassOf pages) passes
-    → EachRole (RoleFresh pages pages.cpus) roles → seated ≡ roles
-    ++ Works (record { pass = pass; cpu = cpu; done = 0 }) ∷ [] → n ≡ m + 1 → cpu ≡ m → n + length roles ≡ pages.cpus
+    (pass : PassModel) (n m cpu : ℕ) → passes ≡ rest ++ option_to_list r → r ≡ Some pass → passes ≡ first_passes pages n
+    → All (IsPassOf pages) passes → EachRole (RoleFresh pages pages.cpus) roles → seated ≡ roles ++ Works
+    (record { pass = pass; cpu = cpu; done = 0 }) ∷ [] → n ≡ m + 1 → cpu ≡ m → n + length roles ≡ pages.cpus
     → EachRole (RoleFresh pages pages.cpus) seated × (rest ≡ first_passes pages m) × All (IsPassOf pages) rest
 unfolding new_pass
 fresh_push pages roles seated passes rest r pass n m cpu popped some first all each pushed less number count =
@@ -66,9 +63,8 @@ fresh_push pages roles seated passes rest r pass n m cpu popped some first all e
     )
 
 done_more : (pages : PagesModel) (seed adds first : ℕ) (ps : List PassModel) (p : PassModel)
-    → AreDone pages seed adds first ps
-    → p.walker.walk.cpu ≡ first + length ps → HasDone pages seed (length p.walker.made) p → length p.walker.made ≤ adds
-    → AreDone pages seed adds first (ps ++ p ∷ [])
+    → AreDone pages seed adds first ps → p.walker.walk.cpu ≡ first + length ps → HasDone pages seed
+    (length p.walker.made) p → length p.walker.made ≤ adds → AreDone pages seed adds first (ps ++ p ∷ [])
 done_more pages seed adds first [] p all cpu own few = (tt, omega arith, own, few)
 done_more pages seed adds first (q ∷ qs) p all cpu own few =
     (done_more pages seed adds (first + 1) qs p all.0 (omega arith) own few, all.1, all.2, all.3)
@@ -85,11 +81,10 @@ count_more (q ∷ qs) p = let e = count_more qs p in omega (arith, e)
 -- a worker's pass was put into the row
 pub done_push : (pages : PagesModel) (seed adds cpus : ℕ) (roles rest : List Role) (r : Option Role) (role : Role)
     (w : Worker) (row now : List PassModel) → roles ≡ rest ++ option_to_list r → r ≡ Some role → role ≡ Works w
-    → EachRole (RoleDone pages seed adds cpus) roles → All (IsPassOf pages) row → AreDone pages seed adds 0 row → now
-    ≡ row ++ w.pass ∷ [] → length rest + 1 + length row ≡ cpus
-    → EachRole (RoleDone pages seed adds cpus) rest × All (IsPassOf pages) now × AreDone pages seed adds 0 now
-    × (missing adds now ≡ missing adds row + (words_to adds - words_to w.done))
-    × (made_count now ≡ made_count row + w.done) × (w.done ≤ adds)
+    → EachRole (RoleDone pages seed adds cpus) roles → All (IsPassOf pages) row → AreDone pages seed adds 0 row
+    → now ≡ row ++ w.pass ∷ [] → length rest + 1 + length row ≡ cpus → EachRole (RoleDone pages seed adds cpus) rest
+    × All (IsPassOf pages) now × AreDone pages seed adds 0 now × (missing adds now ≡ missing adds row
+    + (words_to adds - words_to w.done)) × (made_count now ≡ made_count row + w.done) × (w.done ≤ adds)
 done_push pages seed adds cpus roles rest r role w row now popped some works each all are put count =
     let is = popped_is roles rest r role popped some ∙ ap (λ x. rest ++ x ∷ []) works in
     let whole : EachRole (RoleDone pages seed adds cpus) (rest ++ Works w ∷ []) =

@@ -1,8 +1,7 @@
 -- Sums over the first numbers, over a range of numbers, and over the bindings that have ended.
-use Rattle.drill.proofs.Prelude.{◌≡◌, ◌≢◌, ℕ, zero, suc, ◌+◌, ◌*◌, ◌<◌, ◌≤◌, cond, eqb, List, [], ◌∷◌, sum, ap, refl, arith, add-one, eq-eqb, ne_eqb, sum_by-append, Bound, sum_of, work_of, sums_of, words_to}
+pub use Rattle.drill.proofs.Words.{All, AreDone, AreFirstOf, AreInTurn, AreOfBindings, Binding, Bool, Bound, Holder, In, IsKeeperOf, IsLeftAfterAll, IsOfOneThread, KeeperModel, List, MOST_CPUS, Made, Out, PagesModel, PassModel, TookZeros, Touch, Watch, [], add-one, add_at, added, all_bindings, ap, arith, cond, current, deed, done, ended_bindings, ended_of, eq-eqb, eqb, false, first_words, get_or, get_or-append-add, get_or-replicate, get_or-set_other, get_or-set_same, get_or_append_left, in_order, last_bindings, length, length-append, length-replicate, length-reverse, made_by, made_count, map, map-append, mine, mine_if, missing, ne_eqb, page_given, pages_after, parts_stay, refl, replicate, reverse, reverse-append, set, subst, suc, sum, sum_by-append, sum_of, sums_of, sym, take, take-append-le, take_all, taking_all_in, touches_in, true, words_few, words_left, words_mono, words_to, work_of, work_sum, zero, ℕ, ◌%◌, ◌&&◌, ◌*◌, ◌++◌, ◌+◌, ◌<◌, ◌^◌, ◌∙◌, ◌∷◌, ◌≡◌, ◌≢◌, ◌≤◌}
 use mathlib.Core.Logic.{dite}
 use native.Mathlib.Decide.{ℕ_discrete}
-use Rattle.drill.proofs.Words.{work_sum}
 
 -- over the numbers below n
 abbrev pub last_sum : (ℕ → ℕ) → ℕ → ℕ

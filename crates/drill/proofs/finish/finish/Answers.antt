@@ -1,6 +1,5 @@
-use Rattle.drill.proofs.Prelude.{rules, ◌+◌, ◌%◌, ◌^◌, length, sum, sym, ap, subst, ◌∙◌, arith, made_by, work_of, AreFirstOf, sums_of, first_words}
-use Rattle.drill.proofs.Rows.{done_all}
-use Rattle.drill.proofs.Closing.{AtClose, front, ended_is, touches, total}
+use Rattle.drill.proofs.Rows.{AreFirstOf, arith, done_all, first_words, length, made_by, rules, sum, sums_of, sym, work_of, ◌%◌, ◌+◌, ◌^◌, ◌∙◌}
+use Rattle.drill.proofs.Closing.{AtClose, ap, ended_is, front, subst, total, touches}
 use Rattle.drill.proofs.finish.finish.Goals as goal
 
 pub close-ended-requires-clause-all : goal.close-ended-requires-clause-all

@@ -1,4 +1,4 @@
-use Rattle.drill.proofs.Prelude.{◌≡◌, ◌+◌, ◌%◌, ◌^◌, first_words}
+use Rattle.drill.proofs.Prelude.{first_words, ◌%◌, ◌+◌, ◌^◌, ◌≡◌}
 use Rattle.drill.proofs.finish.with_pages.Given as goal
 
 abbrev pub invariant-loop-page : goal.invariant-loop-page

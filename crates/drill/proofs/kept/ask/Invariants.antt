@@ -1,4 +1,4 @@
-use Rattle.drill.proofs.Prelude.{OnlyNoted, IsKeeperOf, SameButWatch}
+use Rattle.drill.proofs.Prelude.{IsKeeperOf, OnlyNoted, SameButWatch}
 use Rattle.drill.proofs.kept.ask.Given as goal
 
 abbrev pub invariant-loop : goal.invariant-loop

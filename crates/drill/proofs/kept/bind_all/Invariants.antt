@@ -1,4 +1,4 @@
-use Rattle.drill.proofs.Prelude.{◌≡◌, ℕ, ◌<◌, ◌≤◌, slice_index, IsKept}
+use Rattle.drill.proofs.Prelude.{IsKept, slice_index, ℕ, ◌<◌, ◌≡◌, ◌≤◌}
 use Rattle.drill.proofs.kept.bind_all.Given as goal
 
 abbrev pub invariant-loop-f : goal.invariant-loop-f

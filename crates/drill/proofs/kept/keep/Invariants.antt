@@ -1,4 +1,4 @@
-use Rattle.drill.proofs.Prelude.{◌≡◌, IsKept}
+use Rattle.drill.proofs.Prelude.{IsKept, ◌≡◌}
 use Rattle.drill.proofs.kept.keep.Given as goal
 
 abbrev pub invariant-loop-r : goal.invariant-loop-r

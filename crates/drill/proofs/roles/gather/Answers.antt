@@ -1,5 +1,4 @@
-use Rattle.drill.proofs.Prelude.{rules, ◌+◌, ◌≡◌, length, vec_len, arith}
-use Rattle.drill.proofs.Rows.{done_push}
+use Rattle.drill.proofs.Rows.{arith, done_push, length, rules, vec_len, ◌+◌, ◌≡◌}
 use Rattle.drill.proofs.roles.gather.Goals as goal
 
 pub loop-role-preserved : goal.loop-role-preserved

@@ -1,6 +1,5 @@
-use Rattle.drill.proofs.Prelude.{rules, ◌+◌, ◌≡◌, length, vec_len, sym, ap, ◌∙◌, arith, first_passes}
+use Rattle.drill.proofs.Prelude.{ap, arith, first_count, first_passes, length, rules, sym, vec_len, ◌+◌, ◌∙◌, ◌≡◌}
 use Rattle.drill.proofs.Rows.{fresh_push}
-use Rattle.live_pages.proofs.Calls.{first_count}
 use Rattle.drill.proofs.roles.seat.Goals as goal
 
 pub loop-pass-init : goal.loop-pass-init

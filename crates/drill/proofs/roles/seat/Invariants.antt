@@ -1,4 +1,4 @@
-use Rattle.drill.proofs.Prelude.{◌≡◌, ◌+◌, ◌≤◌, All, vec_len, vec_capacity, IsPassOf, first_passes, RoleFresh, EachRole}
+use Rattle.drill.proofs.Prelude.{All, EachRole, IsPassOf, RoleFresh, first_passes, vec_capacity, vec_len, ◌+◌, ◌≡◌, ◌≤◌}
 use Rattle.drill.proofs.roles.seat.Given as goal
 
 abbrev pub invariant-loop-pass : goal.invariant-loop-pass

@@ -1,4 +1,4 @@
-use Rattle.drill.proofs.Prelude.{◌≡◌, ◌++◌, drop, string_bytes, sum_lines}
+use Rattle.drill.proofs.Prelude.{drop, string_bytes, sum_lines, ◌++◌, ◌≡◌}
 use Rattle.drill.proofs.text.push_sums.Given as goal
 
 abbrev pub invariant-loop-cpu : goal.invariant-loop-cpu

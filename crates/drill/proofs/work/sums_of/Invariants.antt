@@ -1,4 +1,4 @@
-use Rattle.drill.proofs.Prelude.{◌≡◌, sums_of}
+use Rattle.drill.proofs.Prelude.{sums_of, ◌≡◌}
 use Rattle.drill.proofs.work.sums_of.Given as goal
 
 abbrev pub invariant-loop : goal.invariant-loop

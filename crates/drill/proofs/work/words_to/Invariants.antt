@@ -1,4 +1,4 @@
-use Rattle.drill.proofs.Prelude.{◌≡◌, ◌*◌, ◌≤◌, words_to}
+use Rattle.drill.proofs.Prelude.{words_to, ◌*◌, ◌≡◌, ◌≤◌}
 use Rattle.drill.proofs.work.words_to.Given as goal
 
 abbrev pub invariant-loop-i : goal.invariant-loop-i

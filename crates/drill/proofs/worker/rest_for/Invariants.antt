@@ -1,4 +1,4 @@
-use Rattle.drill.proofs.Prelude.{◌≡◌, IsPassOf}
+use Rattle.drill.proofs.Prelude.{IsPassOf, ◌≡◌}
 use Rattle.drill.proofs.worker.rest_for.Given as goal
 
 abbrev pub invariant-loop : goal.invariant-loop

@@ -1,4 +1,4 @@
-use Rattle.drill.proofs.Prelude.{◌≡◌, IsPassOf}
+use Rattle.drill.proofs.Prelude.{IsPassOf, ◌≡◌}
 use Rattle.drill.proofs.worker.try_add.Given as goal
 
 abbrev pub invariant-loop : goal.invariant-loop

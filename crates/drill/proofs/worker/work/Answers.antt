@@ -1,5 +1,4 @@
-use Rattle.drill.proofs.Prelude.{◌+◌, arith}
-use Rattle.drill.proofs.Adds.{done_count}
+use Rattle.drill.proofs.Adds.{arith, done_count, ◌+◌}
 use Rattle.drill.proofs.worker.work.Goals as goal
 
 pub try_add-requires-clause-few : goal.try_add-requires-clause-few

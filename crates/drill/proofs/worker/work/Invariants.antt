@@ -1,4 +1,4 @@
-use Rattle.drill.proofs.Prelude.{◌≡◌, ◌+◌, ◌≤◌, map, IsPassOf, state_after, deed, done}
+use Rattle.drill.proofs.Prelude.{IsPassOf, deed, done, map, state_after, ◌+◌, ◌≡◌, ◌≤◌}
 use Rattle.drill.proofs.worker.work.Given as goal
 
 abbrev pub invariant-loop-i : goal.invariant-loop-i
