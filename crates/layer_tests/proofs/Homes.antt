@@ -1,18 +1,5 @@
 -- A record that the tests of moves take at a home.
-use Rattle.std.proofs.Common.{◌≡◌, ◌⊎◌, ℕ, ◌<◌, ◌≤◌, Bool, true, false, List, [], length, Option, None, Some, IsSome, refl, sym, ap, ◌∙◌, arith, get_or, set, inl, inr}
-use Rattle.std.proofs.lemmas.Bool.{cases_eq}
-use Rattle.std.proofs.lemmas.List.{get_or-set_same, get_or-set_other, get_or_past, length-set}
-use Rattle.bitmap.specs.Bitmap.{in_use, IsLeastFree}
-use Rattle.vtoc.specs.Vtoc.{Entry, records_in, with_record}
-use Rattle.volumes.specs.Volumes.{Vols, records_at, vtoc_at, with_record_used, with_vtoc}
-use Rattle.seg_mover.specs.Homes.{entry_of, map_at}
-use Rattle.seg_mover.specs.Records.{AreKept}
-use Rattle.layer_tests.specs.Homes.{IsHome}
-use Rattle.laws.proofs.Numbers.{below_or_past}
-use Rattle.laws.proofs.Options.{not_none, some_same}
-use Rattle.laws.proofs.Bools.{off_and_on}
-use Rattle.laws.proofs.Lists.{within_from}
-use Rattle.laws.proofs.Places.{list_within, put_here, some_within}
+pub use Rattle.layer_tests.proofs.Prelude.{AreKept, Bool, Entry, IsHome, IsLeastFree, IsSome, List, None, Option, Some, Vols, [], ap, arith, below_or_past, cases_eq, entry_of, false, get_or, get_or-set_other, get_or-set_same, get_or_past, in_use, inl, inr, length, length-set, list_within, map_at, not_none, off_and_on, put_here, records_at, records_in, refl, rules, set, some_same, some_within, sym, true, vtoc_at, with_record, with_record_used, with_vtoc, within_from, ℕ, ◌<◌, ◌∙◌, ◌≡◌, ◌≤◌, ◌⊎◌}
 
 -- ---- a record that is filed
 
@@ -73,10 +60,8 @@ map_with None p place used = cc
 map_with (Some entry) p place used = (refl, refl)
 
 pub filed_home : {D : Type 0} (old now : Vols D) (home : ℕ × ℕ) (n r : ℕ) → IsHome old home
-    → IsLeastFree (records_at old home.0) r
-    → now ≡ with_vtoc (with_record_used old home.0 r true) home.0
-    (set (vtoc_at old home.0) home.1 (with_record (entry_of old home) n (Some r)))
-    → IsHome now home
+    → IsLeastFree (records_at old home.0) r → now ≡ with_vtoc (with_record_used old home.0 r true) home.0
+    (set (vtoc_at old home.0) home.1 (with_record (entry_of old home) n (Some r))) → IsHome now home
 filed_home old now home n r h least is =
     let new : Vols _ = with_vtoc (with_record_used old home.0 r true) home.0
     (set (vtoc_at old home.0) home.1 (with_record (entry_of old home) n (Some r))) in

@@ -1,2 +1,3 @@
+mod Prelude
 pub mod Homes
 pub mod Rehomed

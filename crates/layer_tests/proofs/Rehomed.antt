@@ -1,20 +1,5 @@
 -- What the test of a segment that moves goes by: volumes and tables of which nothing is in use, and file maps.
-use Rattle.std.proofs.Common.{◌≡◌, ◌≢◌, ◌<◌, ℕ, zero, suc, false, List, [], ◌∷◌, length, map, Option, None, Some, replicate, is_some, refl, sym, ap, ◌∙◌, arith, get_or}
-use Rattle.std.specs.Prelude.{Result, Ok, Err, IfOk}
-use Rattle.std.proofs.Math.ListN.{get_or-map}
-use Rattle.std.proofs.lemmas.List.{length-replicate}
-use Rattle.core_map.specs.declared.Frame.TheVariants.{Free, Started}
-use Rattle.core_map.specs.CoreMap.{Core, frame_at, reads_of, started_page}
-use Rattle.vtoc.specs.Vtoc.{Entry, entry_at, record_at, records_in}
-use Rattle.volumes.specs.declared.Part.{Part}
-use Rattle.volumes.specs.Volumes.{Vols, made_of}
-use Rattle.page_table.specs.declared.Ptw.{Ptw}
-use Rattle.page_table.specs.declared.Ptw.TheVariants.{Null}
-use Rattle.page_table.specs.PageTable.{ptw_at}
-use Rattle.page_control.specs.Tied.{AreFiled, IsBlank, IsNotStarted, flags_in, has_record, vtoc_in}
-use Rattle.laws.proofs.Lists.{all_same}
-use Rattle.laws.proofs.Bools.{off_and_on}
-use Rattle.vtoc.proofs.Table.{no_record}
+pub use Rattle.layer_tests.proofs.Prelude.{AreFiled, Core, DriveState, Entry, Err, Free, IfOk, IsBlank, IsNotStarted, List, None, Null, Ok, Option, Part, Ptw, Result, Some, Started, Vols, [], all_same, ap, arith, entry_at, false, flags_in, frame_at, get_or, get_or-map, has_record, is_some, length, length-replicate, made_of, map, no_record, off_and_on, ptw_at, reads_of, record_at, records_in, refl, replicate, started_page, suc, sym, vtoc_in, zero, ℕ, ◌<◌, ◌∙◌, ◌∷◌, ◌≡◌, ◌≢◌}
 
 abbrev no_entry : Option Entry
 no_entry = None

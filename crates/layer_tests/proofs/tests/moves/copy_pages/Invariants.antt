@@ -1,4 +1,4 @@
-use Rattle.seg_mover.specs.Moves.{IsMoving}
+use Rattle.layer_tests.proofs.Prelude.{IsMoving}
 use Rattle.layer_tests.proofs.tests.moves.copy_pages.Given as goal
 
 abbrev pub invariant-loop-copies : goal.invariant-loop-copies

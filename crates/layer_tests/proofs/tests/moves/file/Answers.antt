@@ -1,5 +1,4 @@
-use Rattle.std.proofs.Common.{rules}
-use Rattle.layer_tests.proofs.Homes.{filed_home}
+use Rattle.layer_tests.proofs.Homes.{filed_home, rules}
 use Rattle.layer_tests.proofs.tests.moves.file.Goals as goal
 
 pub returns : goal.returns

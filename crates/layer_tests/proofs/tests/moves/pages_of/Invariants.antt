@@ -1,5 +1,4 @@
-use Rattle.std.proofs.Common.{◌≡◌, count_by, is_some, take}
-use Rattle.seg_mover.specs.Homes.{map_at}
+use Rattle.layer_tests.proofs.Prelude.{count_by, is_some, map_at, take, ◌≡◌}
 use Rattle.layer_tests.proofs.tests.moves.pages_of.Given as goal
 
 abbrev pub invariant-loop-p : goal.invariant-loop-p

@@ -1,4 +1,4 @@
-use Rattle.layer_tests.specs.Homes.{IsHome}
+use Rattle.layer_tests.proofs.Prelude.{IsHome}
 use Rattle.layer_tests.proofs.tests.moves.segment.Given as goal
 
 abbrev pub invariant-loop-p : goal.invariant-loop-p

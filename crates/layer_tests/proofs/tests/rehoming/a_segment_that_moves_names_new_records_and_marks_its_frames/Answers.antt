@@ -1,5 +1,4 @@
-use Rattle.std.proofs.Common.{refl}
-use Rattle.layer_tests.proofs.Rehomed.{blank}
+use Rattle.layer_tests.proofs.Rehomed.{blank, refl}
 use Rattle.layer_tests.proofs.tests.rehoming.a_segment_that_moves_names_new_records_and_marks_its_frames.Goals as goal
 
 pub moves-is_moved-requires-clause-blank : goal.moves-is_moved-requires-clause-blank

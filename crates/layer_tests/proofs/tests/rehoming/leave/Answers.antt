@@ -1,10 +1,4 @@
-use Rattle.std.proofs.Common.{◌≡◌, ◌∙◌, sym, ap}
-use Rattle.std.proofs.lemmas.List.{get_or-set_same}
-use Rattle.core_map.specs.CoreMap.{frame_at}
-use Rattle.page_table.specs.declared.Ptw.TheVariants.{Null, Here, Leaving}
-use Rattle.page_table.specs.PageTable.{ptw_at}
-use Rattle.page_control.specs.Tied.{frame_of, uid_in}
-use Rattle.page_control.proofs.Facts.{here_within}
+use Rattle.layer_tests.proofs.Prelude.{Here, Leaving, Null, ap, frame_at, frame_of, get_or-set_same, here_within, ptw_at, sym, uid_in, ◌∙◌, ◌≡◌}
 use Rattle.layer_tests.proofs.tests.rehoming.leave.Goals as goal
 
 pub take-requires-clause-bound : goal.take-requires-clause-bound
@@ -33,9 +27,8 @@ evict-requires-clause-leaving g c =
     let frame =
     (c.look.ensures.seen c.args.uid c.args.home c.requires.tie).frame c.in-Here.f (ap frame_of c.in-Here.is) in
     let here : ptw_at c.args.t.now c.args.p ≡ Here c.in-Here.f = sym c.look.ensures.word ∙ c.in-Here.is in
-    rw (c.take.ensures.same, c.take.ensures.word, frame.page)
-    (get_or-set_same c.args.t.now c.args.p (Leaving c.in-Here.f) Null
-    (here_within c.args.t.now c.args.p c.in-Here.f here))
+    rw (c.take.ensures.same, c.take.ensures.word, frame.page) (get_or-set_same c.args.t.now c.args.p
+    (Leaving c.in-Here.f) Null (here_within c.args.t.now c.args.p c.in-Here.f here))
 
 pub evict-requires-clause-tie : goal.evict-requires-clause-tie
 evict-requires-clause-tie g c =

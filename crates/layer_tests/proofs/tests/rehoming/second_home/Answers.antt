@@ -1,9 +1,4 @@
-use Rattle.std.proofs.Common.{◌≡◌, ◌<◌, ◌∙◌, ap, rules, subst, true, length, List, Option, Some, is_some}
-use Rattle.page_table.specs.PageTable.{ptw_at}
-use Rattle.vtoc.specs.Vtoc.{Entry, entry_at, record_at, uid_of}
-use Rattle.volumes.specs.Volumes.{Vols, vtoc_at}
-use Rattle.page_control.specs.Tied.{has_record}
-use Rattle.page_control.proofs.Facts.{plain_volume}
+use Rattle.layer_tests.proofs.Prelude.{Entry, List, Option, Some, Vols, ap, entry_at, has_record, is_some, length, plain_volume, ptw_at, record_at, rules, subst, true, uid_of, vtoc_at, ◌<◌, ◌∙◌, ◌≡◌}
 use Rattle.layer_tests.proofs.tests.rehoming.second_home.Goals as goal
 
 pub returns-clause-home : goal.returns-clause-home

@@ -1,5 +1,4 @@
-use Rattle.page_control.specs.Plain.{bindings}
-use Rattle.page_control.specs.Tied.{IsTableOf}
+use Rattle.layer_tests.proofs.Prelude.{IsTableOf, bindings}
 use Rattle.layer_tests.proofs.tests.rehoming.second_home.Given as goal
 
 abbrev pub invariant-loop-p : goal.invariant-loop-p

@@ -1,5 +1,4 @@
-use Rattle.volumes.specs.CoreDrive.{DriveState}
-use Rattle.layer_tests.proofs.Rehomed.{filed_new}
+use Rattle.layer_tests.proofs.Rehomed.{DriveState, filed_new}
 use Rattle.layer_tests.proofs.tests.rehoming.two_volumes.Goals as goal
 
 pub returns : goal.returns
