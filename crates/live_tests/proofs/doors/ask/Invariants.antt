@@ -1,4 +1,4 @@
-use Rattle.live_doors.specs.Doors.{IsKeeperOf, OnlyNoted}
+use Rattle.live_tests.proofs.Prelude.{IsKeeperOf, OnlyNoted}
 use Rattle.live_tests.proofs.doors.ask.Given as goal
 
 abbrev pub invariant-loop : goal.invariant-loop

@@ -1,5 +1,4 @@
-use Rattle.std.proofs.Common.{◌≡◌, ℕ, ◌<◌, ◌≤◌}
-use Rattle.live_doors.specs.Doors.{IsKeeperOf, IsAdmitted}
+use Rattle.live_tests.proofs.Prelude.{IsAdmitted, IsKeeperOf, ℕ, ◌<◌, ◌≡◌, ◌≤◌}
 use Rattle.live_tests.proofs.doors.keep.Given as goal
 
 abbrev pub invariant-loop-f : goal.invariant-loop-f

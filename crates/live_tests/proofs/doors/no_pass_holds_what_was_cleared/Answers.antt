@@ -1,6 +1,4 @@
-use Rattle.std.proofs.Common.{◌%◌, subst, sym, ap}
-use Rattle.std.proofs.lemmas.List.{get_or-replicate}
-use Rattle.live_doors.specs.Doors.{IsAdmitted}
+use Rattle.live_tests.proofs.Prelude.{IsAdmitted, ap, get_or-replicate, subst, sym, ◌%◌}
 use Rattle.live_tests.proofs.doors.no_pass_holds_what_was_cleared.Goals as goal
 
 pub run-zero-requires-clause-keeper : goal.run-zero-requires-clause-keeper

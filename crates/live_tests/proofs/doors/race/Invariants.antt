@@ -1,4 +1,4 @@
-use Rattle.live_doors.specs.Doors.{IsPassOf}
+use Rattle.live_tests.proofs.Prelude.{IsPassOf}
 use Rattle.live_tests.proofs.doors.race.Given as goal
 
 abbrev pub invariant-loop-turn : goal.invariant-loop-turn

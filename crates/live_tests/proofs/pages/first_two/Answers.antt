@@ -1,12 +1,9 @@
-use Rattle.std.proofs.Common.{◌≡◌, ℕ, ◌<◌, List, [], length, All, get_or, sym, ap, refl, subst, ◌∙◌, arith}
-use Rattle.std.proofs.lemmas.Option.{IfSome_then}
-use Rattle.live_pages.specs.Turns.{first_walker}
-use Rattle.live_pages.specs.Models.{PagesModel, PassModel, IsPassOf, first_passes}
+use Rattle.live_tests.proofs.Prelude.{All, IfSome_then, List, PagesModel, PassModel, [], ap, arith, first_passes, first_walker, get_or, length, refl, subst, sym, ℕ, ◌<◌, ◌∙◌, ◌≡◌}
+use Rattle.live_pages.specs.Models.{IsPassOf}
 use Rattle.live_tests.proofs.pages.first_two.Goals as goal
 
-first_is : (pages : PagesModel) (items : List PassModel) → items ≡ first_passes pages 2 → All (IsPassOf pages) items
-    → (x : PassModel) (k cpu : ℕ) → k < 2
-    → get_or (first_passes pages 2) k x ≡ record {
+first_is : (pages : PagesModel) (items : List PassModel) → items ≡ first_passes pages 2
+    → All (IsPassOf pages) items → (x : PassModel) (k cpu : ℕ) → k < 2 → get_or (first_passes pages 2) k x ≡ record {
       table = pages.table;
       walker =
           first_walker pages.frames pages.cpus cpu;
