@@ -1,11 +1,5 @@
 -- Laws of fields that begin so (own).
-use Rattle.std.proofs.Common.{◌≡◌, ℕ, ◌+◌, ◌<◌, Bool, true, false, ◌&&◌, cond, List, [], ◌∷◌, length, map, drop, get_or, Some, None, refl, sym, ap, ◌∙◌}
-use Rattle.std.specs.Str.{bytes_eq}
-use Rattle.std.proofs.lemmas.List.{drop-map}
-use Rattle.std.proofs.lemmas.Option.{none-some}
-use Rattle.std.proofs.lemmas.Slice.Eq.{bytes_eq-Decides}
-use Rattle.schedule.specs.Fields.{after_word, begins}
-use Rattle.laws.proofs.Lists.{one_left}
+use Rattle.schedule.proofs.Prelude.{Bool, List, None, Some, [], after_word, ap, begins, bytes_eq, bytes_eq-Decides, cond, drop, drop-map, false, get_or, length, map, none-some, one_left, refl, sym, true, ℕ, ◌&&◌, ◌+◌, ◌<◌, ◌∙◌, ◌∷◌, ◌≡◌}
 
 -- the first field is another one, or there is none
 begins_other : (word : List ℕ) (words fields : List (List ℕ)) → after_word word fields ≡ None
@@ -21,8 +15,7 @@ begins_other word words (field ∷ fields) e = by (bytes_eq field word) e
 pub left_at : {X : Type 0} (text : X → List ℕ) (xs : List X) (i : ℕ) (x : X) → i < length xs → x ≡ get_or xs i x
     → drop i (map text xs) ≡ text x ∷ drop (i + 1) (map text xs)
 left_at text xs i x lt at =
-    drop-map text i xs
-    ∙ ap (map text) (one_left xs i x lt ∙ ap (λ y. y ∷ drop (i + 1) xs) (sym at))
+    drop-map text i xs ∙ ap (map text) (one_left xs i x lt ∙ ap (λ y. y ∷ drop (i + 1) xs) (sym at))
     ∙ ap (λ (t : List (List ℕ)). text x ∷ t) (sym (drop-map text (i + 1) xs))
 
 -- a field more begins so

@@ -1,13 +1,5 @@
 -- Laws of the lines of a schedule (own).
-use Rattle.std.proofs.Common.{◌≡◌, ℕ, ◌+◌, List, [], ◌∷◌, ◌++◌, length, Result, Ok, Err, Option, Some, None, refl, IfSome, sym, ap, subst, ◌∙◌, arith}
-use Rattle.std.proofs.lemmas.List.Elements.{All-push}
-use Rattle.std.proofs.lemmas.List.{append_assoc, append-nil}
-use Rattle.text_model.specs.Lines.{fields_of, lines_of}
-use Rattle.schedule.specs.Orders.{AreWithin, IsWithin, after_line, as_lines, line_order, onto, orders_from}
-use Rattle.schedule.specs.declared.orders.Line.{Line}
-use Rattle.schedule.specs.declared.orders.Order.{Order}
-use Rattle.schedule.specs.declared.refusals.Cause.{Cause}
-use Rattle.schedule.specs.declared.refusals.Refused.{Refused}
+pub use Rattle.schedule.proofs.Prelude.{All-push, AreWithin, Cause, Err, IfSome, IsWithin, Line, List, None, Ok, Option, Order, Refused, Result, Some, [], after_line, ap, append-nil, append_assoc, arith, as_lines, fields_of, length, line_order, lines_of, onto, orders_from, refl, subst, sym, ℕ, ◌++◌, ◌+◌, ◌∙◌, ◌∷◌, ◌≡◌}
 
 pub none_before : (read : Result (List Line) Refused) → onto [] read ≡ read
 none_before (Ok lines) = refl
@@ -18,15 +10,13 @@ onto_append : (front more : List Line) (read : Result (List Line) Refused)
 onto_append front more (Ok lines) = ap Ok (append_assoc front more lines)
 onto_append front more (Err r) = refl
 
-first_of : (p n : ℕ) (bytes line rest : List ℕ) → lines_of bytes ≡ line ∷ lines_of rest
-    → orders_from p n (lines_of bytes)
-    ≡ after_line n (line_order p (fields_of line)) (orders_from p (n + 1) (lines_of rest))
+first_of : (p n : ℕ) (bytes line rest : List ℕ) → lines_of bytes ≡ line ∷ lines_of rest → orders_from p n
+    (lines_of bytes) ≡ after_line n (line_order p (fields_of line)) (orders_from p (n + 1) (lines_of rest))
 unfolding orders_from
 first_of p n bytes line rest e = ap (orders_from p n) e
 
 module _ (p n : ℕ) (front : List Line) (bytes line rest : List ℕ) (all : Result (List Line) Refused)
-    (cut : lines_of bytes ≡ line ∷ lines_of rest)
-    (so : onto front (orders_from p n (lines_of bytes)) ≡ all)
+    (cut : lines_of bytes ≡ line ∷ lines_of rest) (so : onto front (orders_from p n (lines_of bytes)) ≡ all)
   where
     here : (read : Result (Option Order) Cause) → line_order p (fields_of line) ≡ read
         → onto front (after_line n read (orders_from p (n + 1) (lines_of rest))) ≡ all
@@ -36,8 +26,7 @@ module _ (p n : ℕ) (front : List Line) (bytes line rest : List ℕ) (all : Res
     pub line_added : (order : Option Order) (new : List Line) → line_order p (fields_of line) ≡ Ok order
         → new ≡ front ++ as_lines n order → onto new (orders_from p (n + 1) (lines_of rest)) ≡ all
     line_added order new is added = ap (λ (ls : List Line). onto ls (orders_from p (n + 1) (lines_of rest))) added
-        ∙ onto_append front (as_lines n order) (orders_from p (n + 1) (lines_of rest))
-        ∙ here (Ok order) is
+        ∙ onto_append front (as_lines n order) (orders_from p (n + 1) (lines_of rest)) ∙ here (Ok order) is
 
     pub line_refused : (why : Cause) → line_order p (fields_of line) ≡ Err why
         → all ≡ Err (record { line = n; cause = why })

@@ -1,19 +1,7 @@
 -- Laws of a script with a schedule below it (own).
-use Rattle.std.proofs.Common.{◌≡◌, ℕ, Bool, List, Result, Ok, Err, fold, sym, ap, ◌∙◌}
-use Rattle.script.specs.Drafts.{blank}
-use Rattle.text_model.specs.Lines.{lines_of}
-use Rattle.script.specs.Grammar.{Reads, finished, numbered, script_of}
-use Rattle.script.specs.Plans.{Plan}
-use Rattle.script.specs.declared.reader.ScriptFault.{ScriptFault}
+pub use Rattle.schedule.proofs.Prelude.{Bool, Err, FailsLines, FailsScheduled, Line, List, Ok, Plan, Reads, ReadsScheduled, Refusal, Refused, Result, ScheduleFault, ScriptFault, ap, blank, finished, first_number, fold, has_schedule, lines_of, numbered, of_script, orders_in, schedule_lines, scheduled_of, script_lines, script_of, script_of_lines, subst, sym, with_orders, with_plan, ℕ, ◌∙◌, ◌≡◌}
 use Rattle.script.specs.declared.reader.ScriptFault.TheVariants as script_fault
-use Rattle.script.specs.declared.refusals.Refusal.{Refusal}
-use Rattle.schedule.specs.Inputs.{first_number, has_schedule, schedule_lines, script_lines}
-use Rattle.schedule.specs.Orders.{orders_in}
-use Rattle.schedule.specs.Scheduled.{FailsLines, FailsScheduled, of_script, scheduled_of, script_of_lines, with_orders, with_plan}
-use Rattle.schedule.specs.declared.orders.Line.{Line}
-use Rattle.schedule.specs.declared.reader.ScheduleFault.{ScheduleFault}
 use Rattle.schedule.specs.declared.reader.ScheduleFault.TheVariants as fault
-use Rattle.schedule.specs.declared.refusals.Refused.{Refused}
 
 same_script : (part : List ℕ) (lines : List (List ℕ)) → lines_of part ≡ script_lines lines
     → script_of part ≡ script_of_lines (script_lines lines)
@@ -32,15 +20,13 @@ script_fails part lines (script_fault.Refused r) e is = by_script part lines (Er
 script_fails part lines script_fault.Memory e is = tt
 
 -- the script was read
-pub script_read : (part : List ℕ) (lines rest : List (List ℕ)) (p : Plan) (first : ℕ) (found : Bool)
-    → lines_of part ≡ script_lines lines → rest ≡ schedule_lines lines → first ≡ first_number lines
-    → found ≡ has_schedule lines → script_of part ≡ Ok p
-    → scheduled_of lines ≡ with_plan p (orders_in p.processors found first rest)
+pub script_read : (part : List ℕ) (lines rest : List (List ℕ)) (p : Plan) (first : ℕ) (found : Bool) → lines_of part
+    ≡ script_lines lines → rest ≡ schedule_lines lines → first ≡ first_number lines → found ≡ has_schedule lines
+    → script_of part ≡ Ok p → scheduled_of lines ≡ with_plan p (orders_in p.processors found first rest)
 script_read part lines rest p first found e below at has is =
-    by_script part lines (Ok p) e is
-    ∙ ap (λ (b : Bool). with_plan p (orders_in p.processors b (first_number lines) (schedule_lines lines))) (sym has)
-    ∙ ap (λ (n : ℕ). with_plan p (orders_in p.processors found n (schedule_lines lines))) (sym at)
-    ∙ ap (λ (ls : List (List ℕ)). with_plan p (orders_in p.processors found first ls)) (sym below)
+    by_script part lines (Ok p) e is ∙ ap (λ (b : Bool). with_plan p (orders_in p.processors b (first_number lines)
+    (schedule_lines lines))) (sym has) ∙ ap (λ (n : ℕ). with_plan p (orders_in p.processors found n (schedule_lines
+    lines))) (sym at) ∙ ap (λ (ls : List (List ℕ)). with_plan p (orders_in p.processors found first ls)) (sym below)
 
 -- the schedule was read
 pub lines_ok : (p : Plan) (read : Result (List Line) Refused) (lines : List Line) → read ≡ Ok lines

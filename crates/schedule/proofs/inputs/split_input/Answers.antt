@@ -1,6 +1,4 @@
-use Rattle.std.proofs.Common.{rules, arith}
-use Rattle.schedule.specs.Inputs.{is_schedule_line}
-use Rattle.text_model.proofs.PartLaws.{end_after, end_before, end_first, end_found, line_passed, stop_after, stop_before, stop_first, stop_found}
+use Rattle.schedule.proofs.Prelude.{arith, end_after, end_before, end_first, end_found, is_schedule_line, line_passed, rules, stop_after, stop_before, stop_first, stop_found}
 use Rattle.schedule.proofs.inputs.split_input.Goals as goal
 
 pub returns-then-is_schedule-clause-script : goal.returns-then-is_schedule-clause-script
@@ -26,9 +24,8 @@ returns-then-is_schedule-clause-found c = stop_found is_schedule_line c.args.byt
 pub loop-at-preserved : goal.loop-at-preserved
 loop-at-preserved c = record {
   passed = line_passed is_schedule_line c.args.bytes.now c.next_line.result.0.now
-      c.next_line.result.1.now c.loop-at.at c.loop-at.number (omega arith)
-      c.next_line.ensures.lines c.loop-at.invariant.passed c.next_line.ensures.rest c.next_line.ensures.shorter
-      c.next_line.ensures.closes (cc);
+      c.next_line.result.1.now c.loop-at.at c.loop-at.number (omega arith) c.next_line.ensures.lines
+      c.loop-at.invariant.passed c.next_line.ensures.rest c.next_line.ensures.shorter c.next_line.ensures.closes (cc);
   within = search rules;
   few = search rules;
 }

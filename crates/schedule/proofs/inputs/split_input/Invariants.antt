@@ -1,6 +1,4 @@
-use Rattle.std.proofs.Common.{◌+◌, ◌-◌, ◌≤◌, length}
-use Rattle.text_model.specs.Parts.{IsAtLine}
-use Rattle.schedule.specs.Inputs.{is_schedule_line}
+use Rattle.schedule.proofs.Prelude.{IsAtLine, is_schedule_line, length, ◌+◌, ◌-◌, ◌≤◌}
 use Rattle.schedule.proofs.inputs.split_input.Given as goal
 
 -- the lines up to here are passed, and none of them is the line `schedule`

@@ -1,6 +1,4 @@
-use Rattle.std.proofs.Common.{◌≡◌, drop, map}
-use Rattle.text_model.specs.Lines.{fields_of}
-use Rattle.schedule.specs.Fields.{begins}
+use Rattle.schedule.proofs.Prelude.{begins, drop, fields_of, map, ◌≡◌}
 use Rattle.schedule.proofs.orders.begin_with.Given as goal
 
 -- what is left of the fields decides

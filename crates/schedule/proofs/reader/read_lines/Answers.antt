@@ -1,5 +1,4 @@
-use Rattle.std.proofs.Common.{arith}
-use Rattle.schedule.proofs.OrderLaws.{line_added, within_more}
+use Rattle.schedule.proofs.OrderLaws.{arith, line_added, within_more}
 use Rattle.schedule.proofs.reader.read_lines.Goals as goal
 
 pub loop-rest-preserved : goal.loop-rest-preserved

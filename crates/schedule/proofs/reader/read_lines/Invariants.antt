@@ -1,6 +1,4 @@
-use Rattle.std.proofs.Common.{◌≡◌, ◌+◌, ◌≤◌, length}
-use Rattle.text_model.specs.Lines.{lines_of}
-use Rattle.schedule.specs.Orders.{AreWithin, onto, orders_from}
+use Rattle.schedule.proofs.Prelude.{AreWithin, length, lines_of, onto, orders_from, ◌+◌, ◌≡◌, ◌≤◌}
 use Rattle.schedule.proofs.reader.read_lines.Given as goal
 
 -- the lines so far, and those that are left, give what all give

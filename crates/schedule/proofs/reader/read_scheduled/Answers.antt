@@ -1,6 +1,4 @@
-use Rattle.std.proofs.Common.{sym, subst}
-use Rattle.schedule.proofs.ScheduledLaws.{script_fails, script_read}
-use Rattle.schedule.specs.Scheduled.{ReadsScheduled}
+use Rattle.schedule.proofs.ScheduledLaws.{ReadsScheduled, script_fails, script_read, subst, sym}
 use Rattle.schedule.proofs.reader.read_scheduled.Goals as goal
 
 pub returns-in-Ok-clause-given : goal.returns-in-Ok-clause-given

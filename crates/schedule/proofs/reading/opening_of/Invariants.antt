@@ -1,5 +1,4 @@
-use Rattle.std.proofs.Common.{◌≡◌, ◌++◌, length}
-use Rattle.text_model.specs.Lines.{fields_of}
+use Rattle.schedule.proofs.Prelude.{fields_of, length, ◌++◌, ◌≡◌}
 use Rattle.schedule.proofs.reading.opening_of.Given as goal
 
 -- the fields so far, and those that are left, are all
