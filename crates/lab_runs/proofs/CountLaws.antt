@@ -1,5 +1,5 @@
 -- Laws of the runs of a script by schedules that are drawn.
-use Rattle.lab_runs.proofs.Prelude.{◌≡◌, ◌+◌, ℕ, suc, List, map, length, Err, sym, subst, ap, ◌∙◌, arith, sum_by, Result, Ok, IfOk, OnOk, Entry, any_places, counted_on, HaveCounted, KeepsParts, told_still, AreTold, faults_in, plan_of, IsBooted, Machine, script_of, Plan, Table, added, DrawsOut, HasDrawn, drawn_cpus, AddsDrawn, AddsRun, Gathers, accounts_after, replies_of, EndsRan, Runs, moves_of, processor_of, Ran, Step}
+pub use Rattle.lab_runs.proofs.Prelude.{AddsDrawn, AddsRun, AreTold, DrawsOut, EndsRan, Entry, Err, Gathers, HasDrawn, HaveCounted, IfOk, IsBooted, KeepsParts, List, Machine, Ok, OnOk, Plan, Ran, Result, Runs, Step, Table, accounts_after, added, any_places, ap, arith, counted_on, drawn_cpus, faults_in, flat_of, length, map, moves_of, plan_of, processor_of, replies_of, script_of, subst, suc, sum_by, sym, told_still, ℕ, ◌+◌, ◌∙◌, ◌≡◌}
 use Rattle.lab_runs.proofs.StepLaws.{made_keeps, made_run}
 
 -- the machine of a script has made the steps that were drawn
@@ -42,18 +42,14 @@ module _ (p : Plan) (seed : ℕ) (booted stepped : Machine) (boot : IsBooted p b
 
 -- how it ended was added to a table
 pub adds_by : {T E : Type 0} (p : Plan) (seed : ℕ) (m : Machine) (script : Plan) (entries : List Entry)
-    (replies accounts : List ℕ) (old new : Table) (r : Result T E) → HasDrawn p seed m → script ≡ m.state.plan
-    → entries ≡ m.state.entries → replies ≡ replies_of script entries
-    → accounts ≡ accounts_after m.state.plan m.state.entries → OnOk r (new ≡ added old replies accounts seed)
-    → OnOk r (AddsDrawn p seed old new)
+    (replies accounts : List ℕ) (old new : Table) (r : Result T E) → HasDrawn p seed m → script ≡ m.state.plan → entries
+    ≡ m.state.entries → replies ≡ replies_of script entries → accounts ≡ accounts_after m.state.plan m.state.entries
+    → OnOk r (new ≡ added old replies accounts seed) → OnOk r (AddsDrawn p seed old new)
 adds_by p seed m script entries replies accounts old new (Ok x) run same there told left is = record {
   machine = m;
   run = run;
-  added_is = is
-      ∙ ap (λ (t : List ℕ). added old t accounts seed)
-      (told ∙ ap (λ (q : Plan). replies_of q entries) (same ∙ run.script)
-      ∙ ap (replies_of p) there)
-      ∙ ap (λ (t : List ℕ). added old (replies_of p m.state.entries) t seed)
+  added_is = is ∙ ap (λ (t : List ℕ). added old t accounts seed) (told ∙ ap (λ (q : Plan). replies_of q entries) (same
+      ∙ run.script) ∙ ap (replies_of p) there) ∙ ap (λ (t : List ℕ). added old (replies_of p m.state.entries) t seed)
       (left ∙ ap (λ (q : Plan). accounts_after q m.state.entries) run.script);
 }
 adds_by p seed m script entries replies accounts old new (Err e) run same there told left is = is

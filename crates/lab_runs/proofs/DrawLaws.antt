@@ -1,7 +1,7 @@
 -- Laws of steps that are made by processors that are drawn.
-use Rattle.lab_runs.proofs.Prelude.{◌≡◌, ◌<◌, ◌≤◌, ◌+◌, ◌-◌, ◌^◌, ◌++◌, ◌∷◌, ℕ, zero, suc, Bool, true, false, List, [], drop, length, map, refl, sym, ap, ◌∙◌, arith, inl, inr, false≢true, list_any, common_steps, append_assoc, append-nil, length-append, map-append, list_any-append, Entry, drawn, next_state, Grows, Machine, AreAnswered, AreLast, AreTo, Draws, DrawsOne, DrawsOut, DrawsUntil, IsAnswering, IsEnding, answers, found_end, is_answer, drawn_cpus, is_end, state_after, IsMade, processor_of, Trial, Step, front_dropped}
+pub use Rattle.lab_runs.proofs.Prelude.{AreAnswered, AreLast, AreTo, Bool, CameTo, Draws, DrawsOne, DrawsOut, DrawsUntil, Entry, Grows, IsAnswering, IsEnding, IsMade, List, Machine, Step, Trial, [], answers, ap, append-nil, append_assoc, arith, common_steps, drawn, drawn_cpus, drop, false, false≢true, found_end, front_dropped, inl, inr, is_answer, is_end, length, length-append, list_any, list_any-append, map, map-append, next_state, processor_of, refl, rules, state_after, subst, suc, sym, true, zero, ℕ, ◌++◌, ◌+◌, ◌-◌, ◌<◌, ◌^◌, ◌∙◌, ◌∷◌, ◌≡◌, ◌≤◌}
+pub use Rattle.lab_runs.proofs.StepLaws.{made_append, made_grows, made_on}
 use Rattle.lab_runs.specs.declared.following.Trial.TheVariants as trial
-use Rattle.lab_runs.proofs.StepLaws.{made_append, made_grows}
 
 -- ---- what is drawn
 
@@ -16,12 +16,10 @@ cpus_on p x m zero = let same : m + 0 ≡ m = omega arith in
     ap (drawn_cpus p x) same ∙ sym (append-nil (drawn_cpus p x m))
 cpus_on p x m (suc n) =
     let same : m + suc n ≡ suc (m + n) = omega arith in
-    ap (drawn_cpus p x) same
-    ∙ ap (λ (cs : List ℕ). cs ++ drawn p (state_after x (suc (m + n))) ∷ []) (cpus_on p x m n)
+    ap (drawn_cpus p x) same ∙ ap (λ (cs : List ℕ). cs ++ drawn p (state_after x (suc (m + n))) ∷ []) (cpus_on p x m n)
     ∙ ap (λ (s : ℕ). (drawn_cpus p x m ++ drawn_cpus p (state_after x m) n) ++ drawn p (next_state s) ∷ [])
-    (state_on x m n)
-    ∙ append_assoc (drawn_cpus p x m) (drawn_cpus p (state_after x m) n)
-    (drawn p (state_after (state_after x m) (suc n)) ∷ [])
+    (state_on x m n) ∙ append_assoc
+    (drawn_cpus p x m) (drawn_cpus p (state_after x m) n) (drawn p (state_after (state_after x m) (suc n)) ∷ [])
 
 pub draws_none : (p : ℕ) (old : Machine) (x : ℕ) → Draws p old old x x []
 draws_none p old x = record { made = refl; cpus_are = refl; state = refl }
@@ -30,16 +28,12 @@ pub draws_append : (p : ℕ) (old mid new : Machine) (x y z : ℕ) (ss ts : List
     → Draws p mid new y z ts → Draws p old new x z (ss ++ ts)
 draws_append p old mid new x y z ss ts one two = record {
   made = made_append old mid new ss ts one.made two.made;
-  cpus_are = map-append processor_of ss ts
-      ∙ ap (λ (cs : List ℕ). cs ++ map processor_of ts) one.cpus_are
+  cpus_are = map-append processor_of ss ts ∙ ap (λ (cs : List ℕ). cs ++ map processor_of ts) one.cpus_are
       ∙ ap (λ (cs : List ℕ). drawn_cpus p x (length ss) ++ cs) two.cpus_are
       ∙ ap (λ (s : ℕ). drawn_cpus p x (length ss) ++ drawn_cpus p s (length ts)) one.state
-      ∙ sym (cpus_on p x (length ss) (length ts))
-      ∙ ap (drawn_cpus p x) (sym (length-append ss ts));
-  state = two.state
-      ∙ ap (λ (s : ℕ). state_after s (length ts)) one.state
-      ∙ sym (state_on x (length ss) (length ts))
-      ∙ ap (state_after x) (sym (length-append ss ts));
+      ∙ sym (cpus_on p x (length ss) (length ts)) ∙ ap (drawn_cpus p x) (sym (length-append ss ts));
+  state = two.state ∙ ap (λ (s : ℕ). state_after s (length ts)) one.state
+      ∙ sym (state_on x (length ss) (length ts)) ∙ ap (state_after x) (sym (length-append ss ts));
 }
 
 draws_one : (p : ℕ) (old new : Machine) (x y : ℕ) (step : Step) → IsMade old new step → y ≡ next_state x
@@ -56,9 +50,8 @@ pub added : (old new : List Entry) (g : Grows old new) → drop (length old) new
 added old new g = ap (drop (length old)) g.entries ∙ front_dropped old g.more
 
 -- none answers in what two ways of going on append
-quiet_on : (old mid new : Machine) (g : Grows old.state.entries mid.state.entries)
-    (h : Grows mid.state.entries new.state.entries) → answers old mid ≡ false → answers mid new ≡ false
-    → answers old new ≡ false
+quiet_on : (old mid new : Machine) (g : Grows old.state.entries mid.state.entries) (h : Grows
+    mid.state.entries new.state.entries) → answers old mid ≡ false → answers mid new ≡ false → answers old new ≡ false
 quiet_on old mid new g h one two =
     let first : list_any is_answer g.more ≡ false =
     sym (ap (list_any is_answer) (added old.state.entries mid.state.entries g)) ∙ one in
@@ -67,8 +60,7 @@ quiet_on old mid new g h one two =
     ap (λ (es : List Entry). list_any is_answer (drop (length old.state.entries) es))
     (h.entries ∙ ap (λ (es : List Entry). es ++ h.more) g.entries ∙ append_assoc old.state.entries g.more h.more)
     ∙ ap (list_any is_answer) (front_dropped old.state.entries (g.more ++ h.more))
-    ∙ list_any-append is_answer g.more h.more
-    ∙ rw (first, second) refl
+    ∙ list_any-append is_answer g.more h.more ∙ rw (first, second) refl
 
 -- where one answers there are more entries
 longer : (before : ℕ) (es : List Entry) → list_any is_answer (drop before es) ≡ true → before < length es
@@ -119,8 +111,7 @@ module _ (p : ℕ) (old mid new : Machine) (x y z tried : ℕ) (was : IsDrawing 
     count = let more = length-append was.steps (one.step ∷ []) in let so_far = was.count in
         omega (arith, more, so_far);
     quiet = quiet_on old mid new old_grows (one_grows one.step one.made) was.quiet one.came.0;
-    going = list_any-append (λ (s : Step). is_end s.answer) was.steps (one.step ∷ [])
-        ∙ rw (was.going, one.came.1) refl;
+    going = list_any-append (λ (s : Step). is_end s.answer) was.steps (one.step ∷ []) ∙ rw (was.going, one.came.1) refl;
   }
 
   -- the row that such a step ends

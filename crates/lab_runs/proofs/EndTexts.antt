@@ -1,5 +1,5 @@
 -- Laws of the texts of how a run ended.
-use Rattle.lab_runs.proofs.Prelude.{◌≡◌, List, [], flat_map, append-nil, AccountCount, account_text, summary_text}
+use Rattle.lab_runs.proofs.Prelude.{AccountCount, List, [], account_text, append-nil, flat_map, summary_text, ◌≡◌}
 
 -- a summary without volumes
 pub accounts_alone : (accounts : List AccountCount) → summary_text (record { accounts = accounts; volumes = [] })

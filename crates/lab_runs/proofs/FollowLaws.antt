@@ -1,9 +1,8 @@
 -- Laws of lines that are followed one after the other.
-use Rattle.lab_runs.proofs.Prelude.{◌≡◌, ◌+◌, ◌<◌, ◌≤◌, ◌++◌, ◌∷◌, ℕ, zero, suc, List, [], length, take, drop, get_or, refl, sym, ap, subst, ◌∙◌, arith, All, common_steps, append_assoc, append-nil, take_more, All-append, All-nil, All-push, All-same, drawn, Machine, Line, AreFollowed, FollowsOrder, IsAstray, IsFollowed, Strays, StraysIn, drawn_cpus, numbers, rounds, state_after, AreMade, Astray, Step}
+use Rattle.lab_runs.proofs.Prelude.{All, All-append, All-nil, All-push, All-same, AreFollowed, AreMade, Astray, FollowsOrder, IsAstray, IsFollowed, Line, List, Machine, Step, Strays, StraysIn, [], ap, append-nil, append_assoc, arith, common_steps, drawn, drawn_below, drawn_cpus, drop, get_or, length, numbers, refl, rounds, state_after, subst, suc, sym, take, take_more, zero, ℕ, ◌++◌, ◌+◌, ◌<◌, ◌∙◌, ◌∷◌, ◌≡◌, ◌≤◌}
+pub use Rattle.lab_runs.proofs.StepLaws.{made_append, made_keeps, made_run}
 use Rattle.schedule.specs.declared.orders.Order.TheVariants as order
 use Rattle.lab_runs.specs.declared.following.Astray.TheVariants as astray
-use Rattle.lab_runs.proofs.StepLaws.{made_append}
-use Rattle.draws.proofs.Bounds.{drawn_below}
 
 -- one line more
 followed_on : (p : ℕ) (lines : List Line) (line : Line) (old mid new : Machine) (steps more : List Step)
@@ -37,18 +36,16 @@ pub followed_next : (p : ℕ) (lines : List Line) (line : Line) (old mid new : M
     → i < length lines → line ≡ get_or lines i line → AreFollowed p (take i lines) old mid before
     → FollowsOrder p line.order mid new before after → AreFollowed p (take (i + 1) lines) old new after
 followed_next p lines line old mid new before after i lt at so f =
-    subst (λ (ls : List Line). AreFollowed p ls old new after)
-    (ap (λ (l : Line). take i lines ++ l ∷ []) at ∙ sym (take_more lines i line lt))
-    (subst (AreFollowed p (take i lines ++ line ∷ []) old new) (sym f.added)
-    (followed_on p (take i lines) line old mid new before f.steps so f.followed))
+    subst (λ (ls : List Line). AreFollowed p ls old new after) (ap (λ (l : Line). take i lines ++ l ∷ []) at ∙ sym
+    (take_more lines i line lt)) (subst (AreFollowed p (take i lines ++ line ∷ []) old new)
+    (sym f.added) (followed_on p (take i lines) line old mid new before f.steps so f.followed))
 
 split_at : (lines : List Line) (line : Line) (i : ℕ) → i < length lines → line ≡ get_or lines i line
     → lines ≡ take i lines ++ line ∷ drop (i + 1) lines
 split_at lines line i lt at =
     let all : lines ≡ take (i + 1) lines ++ drop (i + 1) lines = grind (arith, common_steps) in
-    all ∙ ap (λ (t : List Line). t ++ drop (i + 1) lines)
-    (take_more lines i line lt ∙ ap (λ (l : Line). take i lines ++ l ∷ []) (sym at))
-    ∙ append_assoc (take i lines) (line ∷ []) (drop (i + 1) lines)
+    all ∙ ap (λ (t : List Line). t ++ drop (i + 1) lines) (take_more lines i line lt
+    ∙ ap (λ (l : Line). take i lines ++ l ∷ []) (sym at)) ∙ append_assoc (take i lines) (line ∷ []) (drop (i + 1) lines)
 
 -- a line can't be followed
 pub strays_next : (p : ℕ) (lines : List Line) (line : Line) (old mid : Machine) (steps : List Step) (i : ℕ)

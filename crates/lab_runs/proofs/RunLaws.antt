@@ -1,12 +1,10 @@
 -- Laws of a machine that follows a schedule from its boot on.
-use Rattle.lab_runs.proofs.Prelude.{◌≡◌, List, sym, subst, ◌∙◌, any_places, counted_on, HaveCounted, KeepsParts, told_still, AreTold, faults_in, plan_of, IsBooted, Machine, Line, Plan, AreFollowed, StraysIn, EndsRan, HasRunBy, RunsAstray, AreMade, Astray, Ran, Step}
+pub use Rattle.lab_runs.proofs.Prelude.{AreFollowed, AreMade, AreTold, Astray, EndsRan, HasRunBy, HaveCounted, IsBooted, KeepsParts, Line, List, Machine, Plan, Ran, RunsAstray, Step, StraysIn, any_places, counted_on, faults_in, plan_of, refl, subst, sym, told_still, ◌∙◌, ◌≡◌}
+use Rattle.lab_runs.proofs.FollowLaws.{followed_made, made_keeps, made_run}
 use Rattle.lab_runs.specs.declared.following.Astray.TheVariants as astray
-use Rattle.lab_runs.proofs.FollowLaws.{followed_made}
-use Rattle.lab_runs.proofs.StepLaws.{made_keeps, made_run}
 
-module _ (p : Plan) (lines : List Line) (booted stepped : Machine) (steps : List Step)
-    (boot : IsBooted p booted) (script : booted.state.plan ≡ p)
-    (followed : AreFollowed booted.state.plan.processors lines booted stepped steps)
+module _ (p : Plan) (lines : List Line) (booted stepped : Machine) (steps : List Step) (boot : IsBooted p booted)
+    (script : booted.state.plan ≡ p) (followed : AreFollowed booted.state.plan.processors lines booted stepped steps)
   where
     made : AreMade booted stepped steps
     made = followed_made booted.state.plan.processors lines booted stepped steps followed

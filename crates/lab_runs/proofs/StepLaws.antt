@@ -1,5 +1,5 @@
 -- Laws of steps that are made one after the other.
-use Rattle.lab_runs.proofs.Prelude.{◌≡◌, ◌+◌, ◌-◌, ◌<◌, ◌++◌, ◌∷◌, ℕ, List, [], length, map, take, get_or, refl, sym, ap, subst, ◌∙◌, arith, sum_by, append_assoc, length-append, map-append, take_more, sum_by-cons, any_places, process_at, Grows, is_moved, tally, with_room, Appends, IsTurn, KeepsParts, TellsFaults, Turn, round_made, run_grows, run_keeps, faults_in, plan_of, Machine, AreMade, IsMade, MakesAll, Runs, entries_in, moves_of, processor_of, Step}
+pub use Rattle.lab_runs.proofs.Prelude.{Appends, AreMade, Grows, IsMade, IsTurn, KeepsParts, List, Machine, MakesAll, Runs, Step, TellsFaults, Turn, [], any_places, ap, append_assoc, arith, entries_in, faults_in, get_or, is_moved, length, length-append, map, map-append, moves_of, plan_of, process_at, processor_of, refl, round_made, rules, run_grows, run_keeps, subst, sum_by, sum_by-cons, sym, take, take_more, tally, with_room, ℕ, ◌++◌, ◌+◌, ◌-◌, ◌<◌, ◌∙◌, ◌∷◌, ◌≡◌}
 
 -- room was made for a step, and it was made
 pub step_made : (old mid new : Machine) (c n before : ℕ) (answer : Turn) → mid ≡ with_room old mid.state.spare

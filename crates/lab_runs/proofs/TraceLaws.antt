@@ -1,5 +1,5 @@
 -- Laws of a trace.
-use Rattle.lab_runs.proofs.Prelude.{◌≡◌, ◌+◌, ◌<◌, ◌≤◌, ◌++◌, ◌∷◌, ℕ, List, [], length, take, drop, get_or, refl, sym, ap, ◌∙◌, arith, drop-cons, add-one, common_steps, append_assoc, append-nil, length-append, sum_by-cons, Entry, any_places, run_grows, faults_in, plan_of, Line, Plan, HasRunBy, IsTraceable, entries_in, entry_lines, step_line, steps_text, Ran, Step}
+use Rattle.lab_runs.proofs.Prelude.{Entry, HasRunBy, IsTraceable, Line, List, Plan, Ran, Step, [], add-one, any_places, ap, append-nil, append_assoc, arith, common_steps, drop, drop-cons, entries_in, entry_lines, faults_in, get_or, length, length-append, plan_of, refl, run_grows, step_line, steps_text, sum_by-cons, sym, take, ℕ, ◌++◌, ◌+◌, ◌<◌, ◌∙◌, ◌∷◌, ◌≡◌, ◌≤◌}
 use Rattle.lab_runs.proofs.StepLaws.{made_count}
 
 one_left : (steps : List Step) (i : ℕ) (d : Step) → i < length steps
@@ -11,22 +11,18 @@ first_left : (steps : List Step) (i : ℕ) (step : Step) → i < length steps �
 first_left steps i step lt at = one_left steps i step lt ∙ ap (λ (s : Step). s ∷ drop (i + 1) steps) (sym at)
 
 -- a step more, with its entries
-pub steps_more : (all : List ℕ) (steps : List Step) (i : ℕ) (step : Step) (now one two : List ℕ)
-    (rest its after : List Entry) → i < length steps → step ≡ get_or steps i step
+pub steps_more : (all : List ℕ) (steps : List Step) (i : ℕ)
+    (step : Step) (now one two : List ℕ) (rest its after : List Entry) → i < length steps → step ≡ get_or steps i step
     → now ++ steps_text (drop i steps) rest ≡ all → its ≡ take step.entries rest → after ≡ drop step.entries rest
-    → one ≡ now ++ step_line step → two ≡ one ++ entry_lines its
-    → two ++ steps_text (drop (i + 1) steps) after ≡ all
+    → one ≡ now ++ step_line step → two ≡ one ++ entry_lines its → two ++ steps_text (drop (i + 1) steps) after ≡ all
 steps_more all steps i step now one two rest its after lt at so front back first second =
     let tail : List ℕ = steps_text (drop (i + 1) steps) (drop step.entries rest) in
     let lines : List ℕ = entry_lines (take step.entries rest) in
-    ap (λ (t : List ℕ). t ++ steps_text (drop (i + 1) steps) after)
-    (second ∙ ap (λ (t : List ℕ). t ++ entry_lines its) first
-    ∙ ap (λ (es : List Entry). (now ++ step_line step) ++ entry_lines es) front)
+    ap (λ (t : List ℕ). t ++ steps_text (drop (i + 1) steps) after) (second ∙ ap (λ (t : List ℕ). t ++ entry_lines its)
+    first ∙ ap (λ (es : List Entry). (now ++ step_line step) ++ entry_lines es) front)
     ∙ ap (λ (es : List Entry). ((now ++ step_line step) ++ lines) ++ steps_text (drop (i + 1) steps) es) back
-    ∙ append_assoc (now ++ step_line step) lines tail
-    ∙ append_assoc now (step_line step) (lines ++ tail)
-    ∙ sym (ap (λ (ss : List Step). now ++ steps_text ss rest) (first_left steps i step lt at))
-    ∙ so
+    ∙ append_assoc (now ++ step_line step) lines tail ∙ append_assoc now (step_line step) (lines ++ tail)
+    ∙ sym (ap (λ (ss : List Step). now ++ steps_text ss rest) (first_left steps i step lt at)) ∙ so
 
 pub few_more : (steps : List Step) (i : ℕ) (step : Step) (rest : List Entry) → i < length steps
     → step ≡ get_or steps i step → entries_in (drop i steps) ≤ length rest → step.entries ≤ length rest

@@ -1,9 +1,8 @@
 -- Laws of steps that are made until an entry begins so.
-use Rattle.lab_runs.proofs.Prelude.{◌≡◌, ◌≤◌, ◌+◌, ◌++◌, ◌∷◌, ℕ, Bool, true, false, List, [], drop, length, refl, sym, ap, ◌∙◌, arith, inl, inr, replicate, list_any, common_steps, append_assoc, append-nil, length-append, map-append, replicate_more, list_any-append, Entry, Grows, Machine, Adds, Tries, TriesOne, appends, entry_begins, AreMade, IsMade, processor_of, Step, front_dropped}
+pub use Rattle.lab_runs.proofs.Prelude.{Adds, AreMade, Bool, CameTo, Entry, Grows, IsMade, List, Machine, Step, Tries, TriesOne, [], ap, append-nil, append_assoc, appends, arith, common_steps, drop, entry_begins, false, front_dropped, inl, inr, length, length-append, list_any, list_any-append, map-append, processor_of, refl, replicate, replicate_more, rules, subst, sym, true, ℕ, ◌++◌, ◌+◌, ◌∙◌, ◌∷◌, ◌≡◌, ◌≤◌}
+use Rattle.lab_runs.proofs.DrawLaws.{added, made_grows, made_on}
 use Rattle.machine.specs.declared.turn.Turn.TheVariants as turn
 use Rattle.lab_runs.specs.declared.following.Trial.TheVariants as trial
-use Rattle.lab_runs.proofs.StepLaws.{made_grows, made_on}
-use Rattle.lab_runs.proofs.DrawLaws.{added}
 
 -- so many steps were made, and no entry that they appended begins so
 pub record IsTrying (c : ℕ) (text : List (List ℕ)) (old new : Machine) (before after : List Step) (tried : ℕ) : Type 0
@@ -24,8 +23,7 @@ quiet_on text old mid new g h one two =
     ap (λ (es : List Entry). list_any (entry_begins text) (drop (length old.state.entries) es))
     (h.entries ∙ ap (λ (es : List Entry). es ++ h.more) g.entries ∙ append_assoc old.state.entries g.more h.more)
     ∙ ap (list_any (entry_begins text)) (front_dropped old.state.entries (g.more ++ h.more))
-    ∙ list_any-append (entry_begins text) g.more h.more
-    ∙ rw (first, second) refl
+    ∙ list_any-append (entry_begins text) g.more h.more ∙ rw (first, second) refl
 
 pub trying_start : (c : ℕ) (text : List (List ℕ)) (old : Machine) (before : List Step)
     → IsTrying c text old old before before 0
@@ -54,11 +52,9 @@ module _ (c : ℕ) (text : List (List ℕ)) (old mid new : Machine) (before midd
       made = made_on old mid new was.adds.steps step was.adds.made made;
       added = pushed ∙ ap (λ (t : List Step). t ++ step ∷ []) was.adds.added
           ∙ append_assoc before was.adds.steps (step ∷ []);
-      cpus_are = map-append processor_of was.adds.steps (step ∷ [])
-          ∙ ap (λ (t : List ℕ). t ++ step.processor ∷ []) was.adds.cpus_are
-          ∙ ap (λ (x : ℕ). replicate (length was.adds.steps) c ++ x ∷ []) its
-          ∙ replicate_more (length was.adds.steps) c
-          ∙ ap (λ (n : ℕ). replicate n c) (sym (length-append was.adds.steps (step ∷ [])));
+      cpus_are = map-append processor_of was.adds.steps (step ∷ []) ∙ ap (λ (t : List ℕ). t ++ step.processor ∷ [])
+          was.adds.cpus_are ∙ ap (λ (x : ℕ). replicate (length was.adds.steps) c ++ x ∷ []) its ∙ replicate_more
+          (length was.adds.steps) c ∙ ap (λ (n : ℕ). replicate n c) (sym (length-append was.adds.steps (step ∷ [])));
     }
 
     module _ (quiet : appends text mid new ≡ false) where

@@ -1,5 +1,4 @@
-use Rattle.lab_runs.proofs.Prelude.{◌∙◌, refl}
-use Rattle.lab_runs.proofs.DrawLaws.{have_none, have_on, out_ended, out_idle, seen_smaller}
+use Rattle.lab_runs.proofs.DrawLaws.{have_none, have_on, out_ended, out_idle, refl, seen_smaller, ◌∙◌}
 use Rattle.lab_runs.proofs.drawing.draw_out.Goals as goal
 
 pub loop-trial-init : goal.loop-trial-init

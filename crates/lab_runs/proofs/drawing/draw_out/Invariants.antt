@@ -1,5 +1,4 @@
-use Rattle.lab_runs.proofs.Prelude.{◌≡◌, ◌-◌, ◌^◌, length}
-use Rattle.lab_runs.proofs.DrawLaws.{HaveDrawn}
+use Rattle.lab_runs.proofs.DrawLaws.{HaveDrawn, length, ◌-◌, ◌^◌, ◌≡◌}
 use Rattle.lab_runs.proofs.drawing.draw_out.Given as goal
 
 -- drawn processors made steps

@@ -1,5 +1,4 @@
-use Rattle.lab_runs.proofs.Prelude.{Bool, rules, subst, ◌∙◌, CameTo}
-use Rattle.lab_runs.proofs.DrawLaws.{answered_is}
+use Rattle.lab_runs.proofs.DrawLaws.{Bool, CameTo, answered_is, rules, subst, ◌∙◌}
 use Rattle.lab_runs.proofs.drawing.draw_step.Goals as goal
 
 pub returns-clause-drawn : goal.returns-clause-drawn

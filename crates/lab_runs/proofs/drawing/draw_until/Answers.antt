@@ -1,5 +1,4 @@
-use Rattle.lab_runs.proofs.Prelude.{◌∙◌, arith, refl}
-use Rattle.lab_runs.proofs.DrawLaws.{drawing_ended, drawing_missed, drawing_on, drawing_seen, drawing_start}
+use Rattle.lab_runs.proofs.DrawLaws.{arith, drawing_ended, drawing_missed, drawing_on, drawing_seen, drawing_start, refl, ◌∙◌}
 use Rattle.lab_runs.proofs.drawing.draw_until.Goals as goal
 
 pub returns-in-Seen-clause-drawn : goal.returns-in-Seen-clause-drawn
@@ -9,13 +8,6 @@ returns-in-Seen-clause-drawn c = drawing_seen _ _ _ _ _ _ _ _ c.loop-step.invari
 pub returns-in-Ended-clause-drawn : goal.returns-in-Ended-clause-drawn
 returns-in-Ended-clause-drawn c = drawing_ended _ _ _ _ _ _ _ _ c.loop-step.invariant.drawing (omega arith)
     (rw (← c.in-Ended.is, ← c.loop-step.invariant.script) c.in_ok-trial.ensures.drawn)
-
-pub loop-step-init : goal.loop-step-init
-loop-step-init c = record {
-  drawing = drawing_start _ _ _;
-  script = refl;
-  few = rw (← c.book.ensures.entries) c.book.ensures.few;
-}
 
 pub loop-step-preserved : goal.loop-step-preserved
 loop-step-preserved c = record {

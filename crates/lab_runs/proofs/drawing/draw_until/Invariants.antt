@@ -1,5 +1,4 @@
-use Rattle.lab_runs.proofs.Prelude.{◌≡◌, ◌<◌, ◌^◌, length}
-use Rattle.lab_runs.proofs.DrawLaws.{IsDrawing}
+use Rattle.lab_runs.proofs.DrawLaws.{IsDrawing, length, ◌<◌, ◌^◌, ◌≡◌}
 use Rattle.lab_runs.proofs.drawing.draw_until.Given as goal
 
 -- so many steps were made, and answered no command

@@ -1,4 +1,4 @@
-use Rattle.lab_runs.proofs.Prelude.{◌≡◌, drawn_cpus, state_after}
+use Rattle.lab_runs.proofs.Prelude.{drawn_cpus, state_after, ◌≡◌}
 use Rattle.lab_runs.proofs.following.drawn.Given as goal
 
 abbrev pub invariant-loop-draw : goal.invariant-loop-draw

@@ -1,4 +1,4 @@
-use Rattle.lab_runs.proofs.Prelude.{◌≡◌, take, AreFollowed}
+use Rattle.lab_runs.proofs.Prelude.{AreFollowed, take, ◌≡◌}
 use Rattle.lab_runs.proofs.following.follow.Given as goal
 
 -- the lines so far were followed

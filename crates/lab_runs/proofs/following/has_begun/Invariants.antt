@@ -1,4 +1,4 @@
-use Rattle.lab_runs.proofs.Prelude.{◌≡◌, false, take, list_any, entry_begins}
+use Rattle.lab_runs.proofs.Prelude.{entry_begins, false, list_any, take, ◌≡◌}
 use Rattle.lab_runs.proofs.following.has_begun.Given as goal
 
 -- none of those so far begins so

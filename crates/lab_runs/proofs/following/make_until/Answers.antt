@@ -1,5 +1,4 @@
-use Rattle.lab_runs.proofs.Prelude.{◌∙◌, arith, refl}
-use Rattle.lab_runs.proofs.UntilLaws.{go_on, missed_all, stop_ended, stop_seen, trying_start}
+use Rattle.lab_runs.proofs.UntilLaws.{arith, go_on, missed_all, refl, stop_ended, stop_seen, trying_start, ◌∙◌}
 use Rattle.lab_runs.proofs.following.make_until.Goals as goal
 
 pub loop-tries-init : goal.loop-tries-init

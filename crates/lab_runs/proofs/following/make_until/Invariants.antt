@@ -1,5 +1,4 @@
-use Rattle.lab_runs.proofs.Prelude.{◌≡◌}
-use Rattle.lab_runs.proofs.UntilLaws.{IsTrying}
+use Rattle.lab_runs.proofs.UntilLaws.{IsTrying, ◌≡◌}
 use Rattle.lab_runs.proofs.following.make_until.Given as goal
 
 -- so many steps were made, and no entry that they appended begins so

@@ -1,4 +1,4 @@
-use Rattle.lab_runs.proofs.Prelude.{◌≡◌, rounds}
+use Rattle.lab_runs.proofs.Prelude.{rounds, ◌≡◌}
 use Rattle.lab_runs.proofs.following.rounds.Given as goal
 
 abbrev pub invariant-loop-round : goal.invariant-loop-round

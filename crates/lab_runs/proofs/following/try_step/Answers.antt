@@ -1,5 +1,4 @@
-use Rattle.lab_runs.proofs.Prelude.{Bool, rules, subst, CameTo}
-use Rattle.lab_runs.proofs.UntilLaws.{seen_is}
+use Rattle.lab_runs.proofs.UntilLaws.{Bool, CameTo, rules, seen_is, subst}
 use Rattle.lab_runs.proofs.following.try_step.Goals as goal
 
 pub returns-clause-tried : goal.returns-clause-tried

@@ -1,4 +1,4 @@
-use Rattle.lab_runs.proofs.Prelude.{sym, subst, rules, ◌∙◌, Plan, any_places, counted_on, keeps_on, AreTold, faults_in, plan_of, told_still}
+use Rattle.lab_runs.proofs.Prelude.{AreTold, Plan, any_places, counted_on, faults_in, keeps_on, plan_of, rules, subst, sym, told_still, ◌∙◌}
 use Rattle.lab_runs.proofs.running.finish.Goals as goal
 
 pub promise-requires-clause-told : goal.promise-requires-clause-told

@@ -11,6 +11,5 @@ returns c =
       drives = record { told = c.requires.told; sizes = c.volumes.ensures.sizes };
       faults = told_faults machine.state.plan machine.drives c.requires.told
           (rw (← c.volumes.ensures.drives) c.promise.ensures.few) machine.state.entries
-          (all_counted machine.state.entries machine.drives (rw (← book.entries) book.few)
-          c.requires.counted.drives);
+          (all_counted machine.state.entries machine.drives (rw (← book.entries) book.few) c.requires.counted.drives);
     }

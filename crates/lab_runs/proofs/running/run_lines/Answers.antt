@@ -1,5 +1,4 @@
-use Rattle.lab_runs.proofs.Prelude.{refl}
-use Rattle.lab_runs.proofs.RunLaws.{ran_by, ran_counted, ran_told, went_astray}
+use Rattle.lab_runs.proofs.RunLaws.{ran_by, ran_counted, ran_told, refl, went_astray}
 use Rattle.lab_runs.proofs.running.run_lines.Goals as goal
 
 pub end-requires-clause-told : goal.end-requires-clause-told

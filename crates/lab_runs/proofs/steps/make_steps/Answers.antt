@@ -1,5 +1,4 @@
-use Rattle.lab_runs.proofs.Prelude.{◌∙◌}
-use Rattle.lab_runs.proofs.StepLaws.{all_more}
+use Rattle.lab_runs.proofs.StepLaws.{all_more, ◌∙◌}
 use Rattle.lab_runs.proofs.steps.make_steps.Goals as goal
 
 pub loop-c-preserved : goal.loop-c-preserved

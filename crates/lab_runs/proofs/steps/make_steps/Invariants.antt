@@ -1,4 +1,4 @@
-use Rattle.lab_runs.proofs.Prelude.{◌≡◌, take, MakesAll}
+use Rattle.lab_runs.proofs.Prelude.{MakesAll, take, ◌≡◌}
 use Rattle.lab_runs.proofs.steps.make_steps.Given as goal
 
 -- those of the list so far have made their steps

@@ -1,4 +1,4 @@
-use Rattle.lab_runs.proofs.Prelude.{take, string_bytes, HasEach, entry_line}
+use Rattle.lab_runs.proofs.Prelude.{HasEach, entry_line, string_bytes, take}
 use Rattle.lab_runs.proofs.tracing.push_entries.Given as goal
 
 -- the lines of the entries so far

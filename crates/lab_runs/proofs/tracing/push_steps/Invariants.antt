@@ -1,4 +1,4 @@
-use Rattle.lab_runs.proofs.Prelude.{◌≡◌, ◌≤◌, ◌++◌, drop, length, string_bytes, entries_in, steps_text}
+use Rattle.lab_runs.proofs.Prelude.{drop, entries_in, length, steps_text, string_bytes, ◌++◌, ◌≡◌, ◌≤◌}
 use Rattle.lab_runs.proofs.tracing.push_steps.Given as goal
 
 -- the text so far, and that of the steps that are left with the entries that are left
