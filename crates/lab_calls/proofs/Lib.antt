@@ -1,3 +1,3 @@
-pub mod CountLaws
+mod Prelude
 pub mod EndLaws
 pub mod JudgeLaws

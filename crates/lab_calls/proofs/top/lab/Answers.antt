@@ -1,6 +1,4 @@
-use Rattle.std.proofs.Common.{sym, ◌∙◌}
-use Rattle.runner.proofs.Ends.{reads_nothing}
-use Rattle.lab_calls.proofs.EndLaws.{asked_none, asks}
+use Rattle.lab_calls.proofs.EndLaws.{asked_none, asks, reads_nothing, sym, ◌∙◌}
 use Rattle.lab_calls.proofs.top.lab.Goals as goal
 
 pub returns-in-None-clause-ends : goal.returns-in-None-clause-ends

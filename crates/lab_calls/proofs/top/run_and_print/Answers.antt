@@ -1,5 +1,4 @@
-use Rattle.lab_calls.proofs.EndLaws.{astray_ends, run_ends}
-use Rattle.lab_runs.proofs.TraceLaws.{traceable}
+use Rattle.lab_calls.proofs.EndLaws.{run_ends, traceable}
 use Rattle.lab_calls.proofs.top.run_and_print.Goals as goal
 
 pub print_run-status-requires : goal.print_run-status-requires
@@ -7,6 +6,3 @@ print_run-status-requires g c = traceable _ _ _ c.in-Ok.ensures.run
 
 pub returns-in-Ok : goal.returns-in-Ok
 returns-in-Ok g c = run_ends _ _ _ _ _ _ c.in-Ok.ensures.run c.print_run-status.ensures.printed
-
-pub returns-in-Err : goal.returns-in-Err
-returns-in-Err g c = rw c.without_run.ensures (astray_ends _ _ _ _ _ _ c.in-Err.ensures.astray c.end_astray.ensures)
