@@ -35,9 +35,9 @@ gone_refiled : (s : Plain) {uid : ℕ} (home : Home) {n q : ℕ} → uid_at s.vt
     → (q ≢ n → filed s home q ≡ None) → get_or (map_at (refile s.vtocs home n None) home) q None ≡ None
 gone_refiled s {uid = uid} home {n = n} {q = q} h before = rw
     (map_refiled s.vtocs uid n None home h) (elim (cases_eq q n) [
-  | inl same ↦ rw same (none_put (file_map_of s home) n)
-  | inr other ↦ get_or-set_other (file_map_of s home) n q None None other ∙ before other
-])
+      | inl same ↦ rw same (none_put (file_map_of s home) n)
+      | inr other ↦ get_or-set_other (file_map_of s home) n q None None other ∙ before other
+    ])
 
 -- a record less is in use, and one less is named
 count_some : (old s : Plain) {uid : ℕ} (home : Home) (n : ℕ) {r : ℕ} → uid_at s.vtocs home ≡ Some uid → filed s home n ≡

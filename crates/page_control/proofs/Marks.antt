@@ -41,12 +41,12 @@ pub tie_mapped : {s : Plain} {now : Plain} {u : ℕ} {h : Home} {t : List Ptw} �
     → AreFiled now.records now.vtocs → IsTied s u h t → IsTied now u h t
 tie_mapped {s} {now = now} {u} {h} {t} core frames disks used map filed tie = tie_of_home s now u h t core frames
     (record {
-  uid = cc;
-  map = map;
-  words = λ p. out_by s now h p disks map;
-  volumes = ap length disks;
-  records = filed;
-}) tie
+      uid = cc;
+      map = map;
+      words = λ p. out_by s now h p disks map;
+      volumes = ap length disks;
+      records = filed;
+    }) tie
 
 -- marks and words in frames change: a frame whose modified mark is off had it off, and has the words that it had
 pub record Marks (s now : Plain) : Type 0 where

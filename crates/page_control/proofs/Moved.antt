@@ -95,7 +95,7 @@ words_moved : {s : Plain} {uid : ℕ} {from to : Home} {t : List Ptw} (p : ℕ) 
 unfolding words_of_page
 words_moved {s = s} {uid = uid} {from = from} {to = to} {t = t} p tie home copied =
     held_same s.frames (disk_of s from.volume)
-        (disk_of s to.volume) (filed s from p) (filed s to p) (λ none. out_same p tie home copied (λ f named.
+    (disk_of s to.volume) (filed s from p) (filed s to p) (λ none. out_same p tie home copied (λ f named.
     not_none (position (is_binding uid p) (bindings s.core)) f none (bound_at f (tie.table.back f p named))))
   where
     bound_at : (f : ℕ) → binding_at (bindings s.core) f ≡ Some (uid, p)

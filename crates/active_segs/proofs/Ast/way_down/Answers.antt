@@ -12,7 +12,7 @@ returns c =
     let same = c.deref.ensures.value ∙ ap (λ (v : ActiveSegs). v.entries) c.self.view_is in
     let first = c.found-found.ensures.first in
     let victim = is_victim c.args.self.now c.args.pool c.args.chain.now first
-        (rw same at c.leaf_below.ensures.stands) in
+    (rw same at c.leaf_below.ensures.stands) in
     record {
       first = first;
       in_pool = search rules;
