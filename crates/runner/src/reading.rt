@@ -30,7 +30,9 @@ pub(crate) fn end_unread<K: Sink>(unread: Unread, out: &mut K) -> Finished
     }
 }
 
-/// Reads a script from the source to its end, runs it, and writes its listing. The text is given back before the run.
+/// Reads a script from the source to its end, runs it, and writes its listing. The text is given back before the run,
+/// by shrinking it: after a large block is freed, the C library takes others from its heap, where lists that grow leave
+/// holes.
 pub(crate) fn read_and_run<R: Threads + Wait + Sync, S: Source, K: Sink, G: Gate + Sync>(
     rt: &R,
     alloc: Global,
@@ -42,13 +44,14 @@ pub(crate) fn read_and_run<R: Threads + Wait + Sync, S: Source, K: Sink, G: Gate
         (change (S.left src.old) (S.left src.new) (S.faults src.old) (S.faults src.new))
         (change (K.held out.old) (K.held out.new) (K.faults out.old) (K.faults out.new)) result }
 {
-    let bytes = match read_all(alloc, src, SCRIPT_BYTES) {
+    let mut bytes = match read_all(alloc, src, SCRIPT_BYTES) {
         Ok(bytes) => bytes,
         Err(unread) => return end_unread(unread, out),
     };
     match read_script(alloc, &bytes) {
         Ok(script) => {
-            drop(bytes);
+            bytes.clear();
+            bytes.shrink_to(1);
             run_script(rt, alloc, script, out, gate)
         }
         Err(ScriptFault::Refused(refusal)) => write_refusal(alloc, refusal, out),
