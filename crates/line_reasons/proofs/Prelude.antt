@@ -19,7 +19,7 @@ pub use Rattle.flat_model.specs.Store.{Store, entries_in, records_in}
 pub use Rattle.line_reasons.specs.DueLines.{IsAccountDue, IsVolumeDue, account_still}
 unfoldable pub use Rattle.line_reasons.specs.DueLines.{IsDue, IsSoSum, account_reason, is_still_so, reason_of_end, reason_of_line, volume_reason}
 pub use Rattle.line_reasons.specs.Fronts.{one_more, same_front}
-pub use Rattle.line_reasons.specs.Grammar.{behind, pieces}
+pub use Rattle.line_reasons.specs.Grammar.{due_after, pieces}
 pub use Rattle.line_reasons.specs.Reasons.{fault_at, or_later}
 unfoldable pub use Rattle.line_reasons.specs.Reasons.{entry_reason_text, last_fault, reason_from}
 pub use Rattle.line_reasons.specs.declared.due_lines.AccountDue.{AccountDue}

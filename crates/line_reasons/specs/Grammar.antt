@@ -13,9 +13,9 @@ use Rattle.line_reasons.specs.declared.grammar.Due.TheVariants as due
 abbrev pub pieces : List ℕ → List (List ℕ)
 pieces line = slice_split is_space line
 
--- how many numbers an entry of numbers alone has behind its first word
-unfoldable pub numbers_behind : List ℕ → Option ℕ
-numbers_behind w =
+-- how many numbers an entry of numbers alone has after its first word
+unfoldable pub numbers_after : List ℕ → Option ℕ
+numbers_after w =
     if bytes_eq w (codes "online") || (bytes_eq w (codes "leave") || (bytes_eq w (codes "activate")
     || (bytes_eq w (codes "deactivate") || (bytes_eq w (codes "lose") || bytes_eq w (codes "take"))))) then Some 1
     else if bytes_eq w (codes "load") || (bytes_eq w (codes "release") || bytes_eq w (codes "cut")) then Some 2
@@ -24,18 +24,18 @@ numbers_behind w =
     else None
 
 -- what follows the first word of an entry
-unfoldable pub behind_first : List ℕ → Option Due
-behind_first w =
+unfoldable pub after_first : List ℕ → Option Due
+after_first w =
     if bytes_eq w (codes "do") then Some due.Command
     else if bytes_eq w (codes "fill") then Some due.Filler
     else if bytes_eq w (codes "signal") || bytes_eq w (codes "clear") then Some due.Dropper
     else if bytes_eq w (codes "gone") || bytes_eq w (codes "back") then Some due.Taken
     else if bytes_eq w (codes "fault") then Some due.Process
-    else option_map (λ n. due.Numbers n) (numbers_behind w)
+    else option_map (λ n. due.Numbers n) (numbers_after w)
 
 -- what follows the first word of a reply
-unfoldable pub behind_reply : List ℕ → Option Due
-behind_reply w =
+unfoldable pub after_reply : List ℕ → Option Due
+after_reply w =
     if bytes_eq w (codes "word") then Some due.Word
     else if bytes_eq w (codes "made") || (bytes_eq w (codes "known") || bytes_eq w (codes "over"))
     then Some (due.Numbers 1)
@@ -60,10 +60,10 @@ is_frame f = bytes_eq f (codes "-") || is_some (number_of f)
 
 -- a field is what is due
 unfoldable pub is_fit : Due → List ℕ → Bool
-is_fit due.First f = is_some (behind_first f)
+is_fit due.First f = is_some (after_first f)
 is_fit due.Command f = is_some (dotted_of f)
 is_fit due.Frame f = is_frame f
-is_fit due.Reply f = is_some (behind_reply f)
+is_fit due.Reply f = is_some (after_reply f)
 is_fit due.Word f = is_some (word_of f)
 is_fit (due.Two a b) f = reads a f
 is_fit (due.One a) f = reads a f
@@ -77,22 +77,22 @@ unfoldable pub or_end : Option Due → Due
 or_end None = due.Numbers 0
 or_end (Some d) = d
 
--- what is due behind a field that was due
-unfoldable pub behind : Due → List ℕ → Due
-behind due.First f = or_end (behind_first f)
-behind (due.Numbers n) f = due.Numbers (n - 1)
-behind due.Command f = due.Processor
-behind due.Processor f = due.Frame
-behind due.Frame f = due.Reply
-behind due.Reply f = or_end (behind_reply f)
-behind due.Word f = due.Numbers 0
-behind (due.Uid a b) f = due.Two a b
-behind (due.Two a b) f = due.Count b
-behind (due.Count a) f = due.One a
-behind (due.One a) f = due.Numbers 1
-behind due.Process f = due.Numbers 0
-behind due.Taken f = if bytes_eq f (codes "page") then due.Numbers 1 else due.Numbers 2
-behind due.Filler f = due.Filled
-behind due.Filled f = due.Numbers 1
-behind due.Dropper f = due.Dropped
-behind due.Dropped f = if bytes_eq f (codes "all") then due.Numbers 0 else due.Numbers 1
+-- what is due after a field that was due
+unfoldable pub due_after : Due → List ℕ → Due
+due_after due.First f = or_end (after_first f)
+due_after (due.Numbers n) f = due.Numbers (n - 1)
+due_after due.Command f = due.Processor
+due_after due.Processor f = due.Frame
+due_after due.Frame f = due.Reply
+due_after due.Reply f = or_end (after_reply f)
+due_after due.Word f = due.Numbers 0
+due_after (due.Uid a b) f = due.Two a b
+due_after (due.Two a b) f = due.Count b
+due_after (due.Count a) f = due.One a
+due_after (due.One a) f = due.Numbers 1
+due_after due.Process f = due.Numbers 0
+due_after due.Taken f = if bytes_eq f (codes "page") then due.Numbers 1 else due.Numbers 2
+due_after due.Filler f = due.Filled
+due_after due.Filled f = due.Numbers 1
+due_after due.Dropper f = due.Dropped
+due_after due.Dropped f = if bytes_eq f (codes "all") then due.Numbers 0 else due.Numbers 1

@@ -8,7 +8,7 @@ use Rattle.line_reasons.specs.declared.grammar.Due.{Due}
 use Rattle.line_reasons.specs.declared.grammar.Due.TheVariants as due
 use Rattle.line_reasons.specs.declared.entry_reasons.EntryReason.{EntryReason}
 use Rattle.line_reasons.specs.declared.entry_reasons.EntryReason.TheVariants as reason
-use Rattle.line_reasons.specs.Grammar.{pieces, is_fit, behind}
+use Rattle.line_reasons.specs.Grammar.{pieces, is_fit, due_after}
 
 -- ---- texts
 
@@ -78,10 +78,10 @@ or_later (Some r) later = Some r
 -- the first fault of the fields from number n on
 unfoldable pub reason_from : ℕ → Due → List (List ℕ) → Option EntryReason
 reason_from n d [] = missing n d
-reason_from n d (f ∷ fs) = or_later (fault_at n d f) (reason_from (n + 1) (behind d f) fs)
+reason_from n d (f ∷ fs) = or_later (fault_at n d f) (reason_from (n + 1) (due_after d f) fs)
 
 unfoldable pub last_fault : ℕ → Due → List ℕ → Option EntryReason
-last_fault n d f = or_later (fault_at n d f) (missing (n + 1) (behind d f))
+last_fault n d f = or_later (fault_at n d f) (missing (n + 1) (due_after d f))
 
 -- why a line is no entry's text: by its bytes, and then by its fields
 unfoldable pub reason_of : List ℕ → Option EntryReason

@@ -89,7 +89,7 @@ fn volume_at(script: &Script, store: &FlatStore, volume: u32) -> DueLine
     }
 }
 
-/// Whose line is due behind so many: the accounts come in order of uid, and then the volumes.
+/// Whose line is due after so many: the accounts come in order of uid, and then the volumes.
 #[tactic(auto, using(crate::proofs::DueLaws::due_steps))]
 fn due_line(script: &Script, store: &FlatStore, before: u32) -> DueLine
     ensures { (s : Store) → Shows script.now store.now s → IsDue script.now s result }

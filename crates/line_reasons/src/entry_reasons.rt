@@ -5,7 +5,7 @@ ghost use Rattle.line_reasons.specs.Reasons.{entry_reason_text, fixed_text};
 ghost use Rattle.line_reasons.specs.declared.grammar.Due.TheVariants as due;
 
 use crate::fields::{is_printable, split_piece};
-use crate::grammar::{Due, FixedWord, behind, is_fit};
+use crate::grammar::{Due, FixedWord, due_after, is_fit};
 use std::fmt;
 
 /// Why a line is no entry's text. Fields are counted from 1, with a single space between each two.
@@ -152,7 +152,7 @@ fn missing(n: u32, due: Due) -> Option<EntryReason>
     }
 }
 
-/// What is wrong with the last field of a line, which has number n, or with the end behind it.
+/// What is wrong with the last field of a line, which has number n, or with the end after it.
 #[tactic(auto, unfolding(crate::specs::Reasons::last_fault))]
 fn last_fault(n: u32, due: Due, field: &[u8]) -> Option<EntryReason>
     requires { n < 2 ^ 32 - 1 }
@@ -160,7 +160,7 @@ fn last_fault(n: u32, due: Due, field: &[u8]) -> Option<EntryReason>
 {
     match fault_at(n, due, field) {
         Some(reason) => Some(reason),
-        None => missing(n + 1, behind(due, field)),
+        None => missing(n + 1, due_after(due, field)),
     }
 }
 
@@ -177,7 +177,7 @@ fn field_fault(line: &[u8]) -> Option<EntryReason>
         if let Some(reason) = fault_at(n, due, field) {
             return Some(reason);
         }
-        due = behind(due, field);
+        due = due_after(due, field);
         n += 1;
         rest = more;
     }

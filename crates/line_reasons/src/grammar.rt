@@ -1,7 +1,7 @@
 ghost use Rattle.std.specs.Prelude.{◌≡◌, is_some};
-ghost use Rattle.line_reasons.specs.Grammar.{numbers_behind};
-ghost use Rattle.line_reasons.specs.Grammar.{behind_first, is_page_or_seg};
-ghost use Rattle.line_reasons.specs.Grammar.{behind_reply, reads, is_fit, behind, or_end};
+ghost use Rattle.line_reasons.specs.Grammar.{numbers_after};
+ghost use Rattle.line_reasons.specs.Grammar.{after_first, is_page_or_seg};
+ghost use Rattle.line_reasons.specs.Grammar.{after_reply, reads, is_fit, due_after, or_end};
 ghost use Rattle.book.specs.Reading.{bare_reply};
 
 use crate::fields::{is_command, is_number, is_number_or_none, is_word};
@@ -37,13 +37,13 @@ pub(crate) enum Due {
     Reply,
     /// A word of twelve octal digits, at the end.
     Word,
-    /// A uid; then these two words, with a number behind each.
+    /// A uid; then these two words, with a number after each.
     Uid(FixedWord, FixedWord),
-    /// The first of two words, with a number behind each.
+    /// The first of two words, with a number after each.
     Two(FixedWord, FixedWord),
-    /// A number; then this word, with a number behind it.
+    /// A number; then this word, with a number after it.
     Count(FixedWord),
-    /// This word, with a number behind it, at the end.
+    /// This word, with a number after it, at the end.
     One(FixedWord),
     /// A process or none, at the end.
     Process,
@@ -59,10 +59,10 @@ pub(crate) enum Due {
     Dropped,
 }
 
-/// How many numbers an entry has behind its first word. `None` where no entry begins so and has only numbers.
-#[tactic(auto, unfolding(crate::specs::Grammar::numbers_behind))]
-fn numbers_behind(word: &[u8]) -> Option<u32>
-    ensures { result ≡ numbers_behind word.now }
+/// How many numbers an entry has after its first word. `None` where no entry begins so and has only numbers.
+#[tactic(auto, unfolding(crate::specs::Grammar::numbers_after))]
+fn numbers_after(word: &[u8]) -> Option<u32>
+    ensures { result ≡ numbers_after word.now }
 {
     if word == b"online".as_slice()
         || word == b"leave".as_slice()
@@ -89,9 +89,9 @@ fn numbers_behind(word: &[u8]) -> Option<u32>
 }
 
 /// What follows the first word of an entry. `None` exactly where no entry begins so.
-#[tactic(auto, unfolding(crate::specs::Grammar::behind_first))]
-fn behind_first(word: &[u8]) -> Option<Due>
-    ensures { result ≡ behind_first word.now }
+#[tactic(auto, unfolding(crate::specs::Grammar::after_first))]
+fn after_first(word: &[u8]) -> Option<Due>
+    ensures { result ≡ after_first word.now }
 {
     if word == b"do".as_slice() {
         Some(Due::Command)
@@ -104,7 +104,7 @@ fn behind_first(word: &[u8]) -> Option<Due>
     } else if word == b"fault".as_slice() {
         Some(Due::Process)
     } else {
-        match numbers_behind(word) {
+        match numbers_after(word) {
             Some(count) => Some(Due::Numbers(count)),
             None => None,
         }
@@ -112,9 +112,9 @@ fn behind_first(word: &[u8]) -> Option<Due>
 }
 
 /// What follows the first word of a reply. `None` exactly where no reply begins so.
-#[tactic(auto, unfolding(crate::specs::Grammar::behind_reply))]
-fn behind_reply(word: &[u8]) -> Option<Due>
-    ensures { result ≡ behind_reply word.now }
+#[tactic(auto, unfolding(crate::specs::Grammar::after_reply))]
+fn after_reply(word: &[u8]) -> Option<Due>
+    ensures { result ≡ after_reply word.now }
 {
     if word == b"word".as_slice() {
         Some(Due::Word)
@@ -161,10 +161,10 @@ pub(crate) fn is_fit(due: Due, field: &[u8]) -> bool
     ensures { result ≡ is_fit due field.now }
 {
     match due {
-        Due::First => behind_first(field).is_some(),
+        Due::First => after_first(field).is_some(),
         Due::Command => is_command(field),
         Due::Frame => is_number_or_none(field),
-        Due::Reply => behind_reply(field).is_some(),
+        Due::Reply => after_reply(field).is_some(),
         Due::Word => is_word(field),
         Due::Two(word, _) => reads(word, field),
         Due::One(word) => reads(word, field),
@@ -176,18 +176,18 @@ pub(crate) fn is_fit(due: Due, field: &[u8]) -> bool
     }
 }
 
-/// What is due behind a field that is what was due.
-#[tactic(auto, unfolding(crate::specs::Grammar::behind))]
-pub(crate) fn behind(due: Due, field: &[u8]) -> Due
-    ensures { result ≡ behind due field.now }
+/// What is due after a field that is what was due.
+#[tactic(auto, unfolding(crate::specs::Grammar::due_after))]
+pub(crate) fn due_after(due: Due, field: &[u8]) -> Due
+    ensures { result ≡ due_after due field.now }
 {
     match due {
-        Due::First => or_end(behind_first(field)),
+        Due::First => or_end(after_first(field)),
         Due::Numbers(count) => Due::Numbers(count.saturating_sub(1)),
         Due::Command => Due::Processor,
         Due::Processor => Due::Frame,
         Due::Frame => Due::Reply,
-        Due::Reply => or_end(behind_reply(field)),
+        Due::Reply => or_end(after_reply(field)),
         Due::Word => Due::Numbers(0),
         Due::Uid(first, second) => Due::Two(first, second),
         Due::Two(_, second) => Due::Count(second),
