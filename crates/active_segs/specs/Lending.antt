@@ -6,6 +6,6 @@ use Rattle.page_table.specs.contracts.PageTable.{the_row as page_table_row}
 use Rattle.active_segs.specs.Active.{ActiveSegs, with_table}
 use Rattle.active_segs.specs.contracts.Ast.{the_row}
 
--- the table of segments ends with the last page table that was left behind the reference
+-- the table of segments ends with the last page table that was left after the reference
 abbrev pub LendsTable : MutBor ActiveSegs → ℕ → MutBor (List Ptw) → Fml
 LendsTable s place table = Lends the_row page_table_row s table (with_table s.now place)

@@ -148,7 +148,7 @@ slice_split-join w [] h = slice_split_none is_space w (lacks_all is_space w h.0)
 slice_split-join w (v ∷ ws) h = slice_split_at is_space w 32 (join_with_byte 32 (v ∷ ws)) (lacks_all is_space w h.0)
     refl ∙ ap (λ (t : List (List ℕ)). w ∷ t) (slice_split-join v ws h.1)
 
--- the first dot stands behind a word without one
+-- the first dot comes after a word without one
 pub dot_at : (xs ys : List ℕ) → lacks is_dot xs ≡ true → position_or_len is_dot (xs ++ (46 ∷ ys)) ≡ length xs
 dot_at [] ys h = refl
 dot_at (x ∷ xs) ys h =
@@ -162,7 +162,7 @@ before_dot xs ys h = ap (λ (n : ℕ). take n (xs ++ (46 ∷ ys))) (dot_at xs ys
 pub after_dot : (xs ys : List ℕ) → lacks is_dot xs ≡ true → after_first is_dot (xs ++ (46 ∷ ys)) ≡ ys
 after_dot xs ys h = ap (λ (n : ℕ). drop (n + 1) (xs ++ (46 ∷ ys))) (dot_at xs ys h) ∙ drop-append-add xs (46 ∷ ys) 1
 
--- where there is a number behind the first dot, there is a dot
+-- where there is a number after the first dot, there is a dot
 pub dot_within : (t : List ℕ) (n : ℕ) → number_of (after_first is_dot t) ≡ Some n → position_or_len is_dot t < length t
 dot_within t n h = by_test (ltb (position_or_len is_dot t) (length t)) refl
   where

@@ -38,7 +38,7 @@ numbers_text (numbers.One a) = decimal a
 numbers_text (numbers.Two a b) = two_text a b
 numbers_text (numbers.Three a b c) = three_text a b c
 
--- an entry that has only numbers behind its first words; of any other nothing
+-- an entry that has only numbers after its first words; of any other nothing
 unfoldable pub counted_text : Entry → List ℕ
 counted_text (entry.Release uid page) = codes "release " ++ two_text uid page
 counted_text (entry.Online cpu) = codes "online " ++ decimal cpu

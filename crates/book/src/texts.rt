@@ -40,7 +40,7 @@ impl fmt::Display for WhatText {
     }
 }
 
-/// The numbers behind the first words of an entry.
+/// The numbers after the first words of an entry.
 #[derive(Clone, Copy)]
 enum Numbers {
     Nothing,
@@ -63,7 +63,7 @@ impl fmt::Display for Numbers {
     }
 }
 
-/// The first words of an entry that has only numbers behind them, and these; of any other nothing.
+/// The first words of an entry that has only numbers after them, and these; of any other nothing.
 #[tactic(auto, unfolding(crate::specs::Entries::counted_text, crate::specs::Entries::numbers_text))]
 fn counted(entry: &Entry) -> (&'static str, Numbers)
     ensures { result.0.now ++ numbers_text result.1 ≡ counted_text entry.now }

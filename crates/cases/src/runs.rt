@@ -17,7 +17,7 @@
 //! - `times N` runs the program N times, and each run must give the same.
 //!
 //! Without `times` and `reads` the program runs with the input in one piece, in pieces of 1 byte and in pieces of 7.
-//! Behind what a run wrote stands what is told of its book: the pages that the root is charged for, which `times`
+//! After what a run wrote comes what is told of its book: the pages that the root is charged for, which `times`
 //! leaves out, and `accepted and listed` where the flat store and custody accept each entry, each process has ended, no
 //! stored page is all zeros, and the text is the listing of the book. Each processor must have passed the gate after
 //! each of its steps that the book tells: once where it came online, loaded a process, had a reference answered through

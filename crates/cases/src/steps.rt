@@ -2,8 +2,8 @@
 //! book.
 //!
 //! Such a case is a script, a line `steps`, and a line for each thing that is done, which `instructions` names. Each of
-//! these lines is printed behind `>`, and below it the entries that were appended: those of books that were worked out
-//! by hand from the rules. Behind `judge` the book is judged by the flat store and by custody, entry by entry.
+//! these lines is printed after `>`, and below it the entries that were appended: those of books that were worked out
+//! by hand from the rules. After `judge` the book is judged by the flat store and by custody, entry by entry.
 
 mod booting;
 mod case;

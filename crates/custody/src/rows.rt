@@ -71,7 +71,7 @@ fn take_front(ready: &mut Vec<u32>)
     }
 }
 
-/// Puts so many processes behind those that are ready, in order from the second of the script on.
+/// Puts so many processes after those that are ready, in order from the second of the script on.
 fn release_others(ready: &mut Vec<u32>, count: u32) -> Result<(), NoMemory>
     ensures ok { OnOk result (ready.new.items ≡ ready.old.items ++ range 1 count) }
     ensures err { OnErr result (ready.new.items ≡ ready.old.items) }
@@ -86,7 +86,7 @@ fn release_others(ready: &mut Vec<u32>, count: u32) -> Result<(), NoMemory>
     Ok(())
 }
 
-/// Puts a process behind those that are ready, unless it has ended.
+/// Puts a process after those that are ready, unless it has ended.
 fn queue(ready: &mut Vec<u32>, store: &FlatStore, process: Option<u32>) -> Result<(), NoMemory>
     ensures ok { OnOk result ((p : Plan) (s : Store) → Shows p store.now s
         → ready.new.items ≡ queued s ready.old.items process) }

@@ -212,7 +212,7 @@ impl SeatRow {
     }
 }
 
-/// Puts a number behind those that are held; of sixteen the oldest goes.
+/// Puts a number after those that are held; of sixteen the oldest goes.
 fn fill(held: &mut ArrayVec<u32, 16>, number: u32)
     ensures { held.new.items ≡ filled held.old.items number }
 {

@@ -5,7 +5,7 @@ use Rattle.dir_tree.proofs.NewestLemmas.{node_of_entry, newest_same, newest_push
 use Rattle.dir_tree.proofs.KeptLemmas.{MayAdd, no_fault, below_newest, no_place, places_within}
 use Rattle.dir_tree.proofs.IndexLemmas.{key_branch}
 
--- where a new node stands: behind all others, or in the last free place
+-- where a new node stands: after all others, or in the last free place
 data Placed (nodes : List Node) (free : List ℕ) (place : ℕ) : Type 0 where
   Behind : length free ≡ 0 → place ≡ length nodes → Placed nodes free place
   Reused : 0 < length free → place ≡ get_or free (length free - 1) 0 → Placed nodes free place

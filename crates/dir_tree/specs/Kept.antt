@@ -51,7 +51,7 @@ recount uid change e = record e { inferiors = if e.uid == uid then change e.infe
 abbrev pub recounted : ℕ → (ℕ → ℕ) → List Entry → List Entry
 recounted uid change entries = map (recount uid change) entries
 
--- the place that the next node gets: the last free one, else behind all others
+-- the place that the next node gets: the last free one, else after all others
 abbrev pub place_for : List Node → List ℕ → ℕ
 place_for nodes free = if length free == 0 then length nodes else slice_index free (length free - 1)
 

@@ -199,7 +199,7 @@ impl Entries {
     }
 }
 
-/// Puts the node of a new branch into a free place, or behind all others. It is written in its place.
+/// Puts the node of a new branch into a free place, or after all others. It is written in its place.
 pub(crate) fn store(
     nodes: &mut Vec<Node>,
     free: &mut Vec<u16>,

@@ -102,7 +102,7 @@ pub record IsEnd (cpus frames adds seed all bound made : ℕ) (shown : Holder) (
 abbrev pub IsUnbound : ℕ → Watch → Type 0
 IsUnbound frames w = (w.request ≡ 0) × ((f : ℕ) → f < frames → slice_index w.doors f ≡ 1)
 
--- At place i before the run: the worker of processor cpus - 1 - i, and behind all workers the keeper.
+-- At place i before the run: the worker of processor cpus - 1 - i, and after all workers the keeper.
 abbrev pub RoleFresh : PagesModel → ℕ → ℕ → Role → Type 0
 RoleFresh pages cpus place (Works w) = IsFresh pages w × (w.cpu + place + 1 ≡ cpus)
 RoleFresh pages cpus place (Keeps k) = IsKept pages k × (k.keeper.holder.watch.request ≡ 0) × (place ≡ cpus)

@@ -24,7 +24,7 @@ pub(crate) enum Role {
     Keeps(Kept),
 }
 
-/// Seats all processors, the last one first, and behind them the keeper.
+/// Seats all processors, the last one first, and after them the keeper.
 pub(crate) fn seat(
     alloc: Global,
     pages: &LivePages,

@@ -18,7 +18,7 @@ as_list (Some a) = a ∷ []
 abbrev pub volume_of : Store → ℕ → VolumeLine → VolumeCount
 volume_of s v x = record { volume = x; taken = taken_on s.nodes s.stored v; used = entries_on s.nodes v }
 
--- what stands behind the first
+-- what comes after the first
 abbrev pub rest_of : List ℕ → List ℕ
 rest_of [] = []
 rest_of (x ∷ xs) = xs

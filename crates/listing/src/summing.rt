@@ -19,7 +19,7 @@ use std::alloc::{AllocError, Global};
 /// The uid of the root.
 const ROOT: u32 = 1;
 
-/// What stands behind the first.
+/// What comes after the first.
 fn below_root(chain: &[u32]) -> &[u32]
     ensures { result.now ≡ rest_of chain.now }
 {

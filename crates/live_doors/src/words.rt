@@ -1,5 +1,5 @@
 //! Where the words of the table stand: the request first, then a door for each frame, then an acknowledgement for each
-//! processor. `live_pages` has the same words, and more behind them.
+//! processor. `live_pages` has the same words, and more after them.
 ghost use Rattle.std.specs.Prelude.{◌≡◌};
 ghost use Rattle.live_doors.specs.Steps.{door_at, ack_at};
 

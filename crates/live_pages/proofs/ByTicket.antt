@@ -6,7 +6,7 @@ use native.Mathlib.Decide.{ℕ_discrete}
 reverse_more : (e : Made) (es : List Made) → reverse (e ∷ es) ≡ reverse es ++ e ∷ []
 reverse_more e es = reverse-append (e ∷ []) es
 
--- one touch behind all others
+-- one touch after all others
 after_all_more : (es : List Made) (e : Made) (pages : Given) (f b : ℕ) → after_all (es ++ e ∷ []) pages f b
     ≡ touched_if (is_of f b e) e.touch (after_all es pages f b)
 after_all_more [] e pages f b = refl

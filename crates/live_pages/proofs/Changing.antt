@@ -5,7 +5,7 @@ use mathlib.Core.Logic.{dite}
 use mathlib.Core.Option as M
 use native.Mathlib.Decide.{ℕ_discrete}
 
--- the touch of the pass in hand goes behind all others
+-- the touch of the pass in hand goes after all others
 book_touched : {z : Size} {words : List ℕ} {homes : List (M.Option (Option Held))} {views : List View} {n : Known}
     → KeptBy z words homes views n → (e : Made) → z.cpus ≤ MOST_CPUS → e.ticket ≡ get_or words (ticket_at z.frames
     z.cpus) 0 → e.cpu < n.plan.watch.made → e.binding ≡ current n.plan.watch e.frame → e.word ≡ answer e.touch (after

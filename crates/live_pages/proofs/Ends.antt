@@ -149,7 +149,7 @@ shows z id {m} {k} is = rw is (λ s h at. rw (set_again s.views id (Keeping k) a
   seats_ok = seats_longer (Stands z s.words h.known) s.views (Spent k) tt h.seats_ok;
 })
 
--- the words at the start, where `n` of them are 0 behind those of the doors
+-- the words at the start, where `n` of them are 0 after those of the doors
 module _ (frames n : ℕ) where
   abbrev first_row : List ℕ
   first_row = 0 ∷ (replicate frames 1 ++ replicate n 0)

@@ -106,7 +106,7 @@ fn run_after(run: Run, answered: Answered) -> Run
     }
 }
 
-/// Puts so many processes behind those that are ready, in order from the second of the script on.
+/// Puts so many processes after those that are ready, in order from the second of the script on.
 fn release(ready: &mut Ready, count: u32)
     requires { length ready.old.waiting + count ≤ ready.old.room }
     ensures { ready.new ≡ record ready.old { waiting = ready.old.waiting ++ range 1 count } }

@@ -33,7 +33,7 @@ fn dot_in(text: &[u8]) -> Option<usize>
     text.iter().position(|byte| *byte == b'.')
 }
 
-/// The text before the first dot and the text behind it. `None` exactly where there is no dot.
+/// The text before the first dot and the text after it. `None` exactly where there is no dot.
 #[tactic(auto, using(crate::proofs::PrincipalTexts::dot_sought, std::proofs::lemmas::Grind::common_steps))]
 pub(crate) fn around_dot(text: &[u8]) -> Option<(&[u8], &[u8])>
     ensures before { IfSome result (λ t. t.0.now ≡ before_dot text.now) }

@@ -3,7 +3,7 @@ use Rattle.runner.proofs.Prelude.{◌≡◌, ◌≢◌, ℕ, suc, ◌+◌, ◌-�
 
 -- ---- each of a list, at its place
 
--- what holds of each of a list, and of one more behind them
+-- what holds of each of a list, and of one more after them
 pub each_more : {A : Type 0} (P : ℕ → A → Type 0) (xs : List A) (x : A)
     → ((i : ℕ) (y : A) → slice_get xs i ≡ Some y → P i y) → P (length xs) x
     → (i : ℕ) (y : A) → slice_get (xs ++ x ∷ []) i ≡ Some y → P i y

@@ -14,7 +14,7 @@ pub(crate) enum Until<'a> {
 /// What a line of a case asks.
 #[derive(Clone, Copy)]
 pub(crate) enum Instruction<'a> {
-    /// `step C until TEXT`, or `step C` for one step, whose answer is printed too. Behind `step C with E` processor E
+    /// `step C until TEXT`, or `step C` for one step, whose answer is printed too. After `step C with E` processor E
     /// makes one step each time C waits for what E is to drop.
     Step {
         /// The processor.
@@ -24,7 +24,7 @@ pub(crate) enum Instruction<'a> {
         /// When it ends.
         until: Until<'a>,
     },
-    /// `only WORDS`: from here on only entries whose first word is one of these are printed, and none behind
+    /// `only WORDS`: from here on only entries whose first word is one of these are printed, and none after
     /// `only nothing`.
     Only(&'a str),
     /// `count TEXT`: how many entries of the book are this.
@@ -58,7 +58,7 @@ fn number(text: &str) -> Result<u32, Stuck> {
 }
 
 impl<'a> Instruction<'a> {
-    /// What a line behind `step` asks.
+    /// What a line asks after `step`.
     fn step(rest: &'a str) -> Result<Instruction<'a>, Stuck> {
         let (who, until) = match rest.split_once(" until ") {
             Some((who, text)) => (who, Until::Seen(text)),
@@ -76,7 +76,7 @@ impl<'a> Instruction<'a> {
         })
     }
 
-    /// What a line behind `schedule` asks.
+    /// What a line asks after `schedule`.
     fn schedule(rest: &'a str) -> Result<Instruction<'a>, Stuck> {
         let (times, processor) = rest.split_once(" times ").ok_or(Stuck)?;
         Ok(Instruction::Schedule(number(times)?, number(processor)?))
