@@ -74,6 +74,7 @@ impl Pause {
     }
 
     /// Rests until there was another signal, and then tells who signalled that this worker goes on.
+    #[inline(never)]
     pub(crate) fn rest_until_signal(&mut self, bells: &Bells, heard: u32, most: u32) {
         if self.rest(&bells.signals, heard, most) {
             bells.drops.ring();
@@ -81,6 +82,7 @@ impl Pause {
     }
 
     /// Rests until another worker goes on after a signal.
+    #[inline(never)]
     pub(crate) fn rest_until_drop(&mut self, bells: &Bells, most: u32) {
         let heard = bells.drops.rings();
         self.rest(&bells.drops, heard, most);
