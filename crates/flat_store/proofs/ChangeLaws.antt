@@ -1,4 +1,5 @@
 -- Nodes are changed, but for where they lie and what they are.
+use Rattle.std.proofs.lemmas.Grind.{common_steps}
 use Rattle.flat_store.proofs.Prelude.{ap, ◌≡◌, ◌≢◌, ◌<◌, ℕ, true, false, cond, eqb, List, [], ◌∷◌, map, refl, sym, ◌∙◌, arith, inl, inr, nat_le, cases_Bool, cases_eq, nat_tests, AccountMaps, Changes, Plan, Node, entries_on, has_directory, taken_on, volume_in, with_node, has_segment, is_stored, is_stored_from, stored_from, Store, entries_mapped, no_directory, Keeps, directory_map, segment_map, volume_map, keeps_length, keeps_one, AreFlat, AreInside, Held, Holds, pages_in}
 use Rattle.laws.proofs.Bools.{not_both}
 
@@ -37,12 +38,16 @@ pub record AreAlike (ns ms : List Node) : Type 0 where
 
 module _ (f : Node → Node) (keeps : Keeps f) where
   pub alike_map : (ns : List Node) → AreAlike ns (map f ns)
-  alike_map ns = record {
-    volume = volume_map f keeps ns;
-    segment = segment_map f keeps ns;
-    directory = directory_map f keeps ns;
-    entries = entries_mapped f keeps.volume ns;
-  }
+  alike_map ns =
+      grind (
+        arith,
+        nat_tests,
+        common_steps,
+        volume_map f keeps ns,
+        segment_map f keeps ns,
+        directory_map f keeps ns,
+        entries_mapped f keeps.volume ns,
+      )
 
 -- the holdings once the nodes are changed
 pub changed_shown : {p : Plan} {s : Store} {h : Held} {accounts : AccountMaps} {ms : List Node} → Holds p h s
@@ -103,8 +108,4 @@ length_inside ns xs u pages is none inside v q on = (
 pub length_flat : (ns : List Node) (u pages : ℕ) → has_segment ns u ≡ true → AreFlat ns
     → AreFlat (with_length ns u pages)
 length_flat ns u pages is flat v dir =
-    let was = sym ((length_alike ns u pages).directory v) ∙ dir in
-    elim (cases_eq v u) [
-      | inl same ↦ absurd (not_both (rw same at was) (no_directory ns u is))
-      | inr apart ↦ length_other ns u pages v apart ∙ flat v was
-    ]
+    grind (arith, nat_tests, common_steps, length_alike ns u pages, not_both, no_directory ns u is, length_other)

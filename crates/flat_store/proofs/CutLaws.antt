@@ -1,5 +1,6 @@
 -- A segment is truncated.
-use Rattle.flat_store.proofs.Prelude.{◌≡◌, ◌≤◌, ℕ, ◌-◌, ◌/◌, ◌%◌, Bool, false, eqb, ◌&&◌, ◌||◌, List, get_or, Option, Some, None, IsTrue, ◌↔◌, refl, arith, inl, inr, nat_le, cases_Bool, nat_tests, AreZero, Plan, Words, is_page, is_stored, is_zero_page, Store, zero_words_told, cleared, cleared_absent, cut_at, cut_size, get_cut, has_cleared, Paged, Cuts, page_at, Held, HoldPages, Holds}
+use Rattle.std.proofs.lemmas.Grind.{common_steps}
+use Rattle.flat_store.proofs.Prelude.{◌≡◌, ◌≤◌, ℕ, ◌-◌, ◌/◌, ◌%◌, Bool, false, eqb, ◌&&◌, ◌||◌, List, get_or, Option, Some, None, IsTrue, ◌↔◌, refl, arith, nat_le, nat_tests, AreZero, Plan, Words, is_page, is_stored, is_zero_page, Store, zero_words_told, cleared, cleared_absent, cut_at, cut_size, get_cut, has_cleared, Paged, Cuts, page_at, Held, HoldPages, Holds}
 use Rattle.laws.proofs.Numbers.{and_both, eqb_self}
 use Rattle.flat_store.proofs.DropLaws.{no_word, word_at}
 use Rattle.flat_store.proofs.PutLaws.{pages_put}
@@ -12,10 +13,7 @@ pages_cut {old} s u q at {ws} h found le cut =
     pages_put h cut (cut_size at ws (h.sizes u q ws found) le) there h.once own (λ v o off. rw (elsewhere v o off) refl)
   where
     there : (v r : ℕ) → is_stored s.stored v r ≡ (is_page v r (u, q) || is_stored s.stored v r)
-    there v r = elim (cases_Bool (is_page v r (u, q))) [
-      | inl is ↦ (let same = and_both u q v r is in rw (is, ← same.0, ← same.1, h.there u q, found) refl)
-      | inr off ↦ rw off refl
-    ]
+    there v r = grind (arith, nat_tests, common_steps, and_both)
 
     own : (o : ℕ) → q ≡ o / 1024 → (cleared s u q at).words u o ≡ get_or (cut_at at ws) (o % 1024) 0
     own o page = rw (get_cut at (o % 1024) (1024 - at) ws, h.values u o, ← page, found, eqb_self u, eqb_self q) refl

@@ -1,5 +1,6 @@
 -- Holdings as a function has them inside, and pages that aren't stored.
-use Rattle.flat_store.proofs.Prelude.{◌≡◌, ◌<◌, ℕ, ◌+◌, ◌*◌, ◌/◌, ◌%◌, Bool, false, not, eqb, leb, ltb, ◌&&◌, List, get_or, Option, Some, None, is_some, refl, sym, ap, subst, ◌∙◌, arith, Plan, Node, without_pages, Words, is_stored, without_stored, Store, is_stored-without, IsBlank, all_between, none_missing, ShowsTree, Paged, page_at, pages_in, word_in, Held, HoldPages, Holds, AreInside, and_right}
+use Rattle.std.proofs.lemmas.Grind.{common_steps}
+use Rattle.flat_store.proofs.Prelude.{nat_tests, ◌≡◌, ◌<◌, ℕ, ◌+◌, ◌*◌, ◌/◌, Bool, false, not, eqb, leb, ltb, ◌&&◌, List, get_or, Some, is_some, sym, ap, subst, ◌∙◌, arith, Plan, Node, without_pages, Words, is_stored, without_stored, Store, is_stored-without, IsBlank, all_between, none_missing, ShowsTree, Paged, page_at, pages_in, Held, HoldPages, Holds, AreInside, and_right}
 
 -- the same holdings, as a function has them inside
 pub held_inside : {p : Plan} {s : Store} {inside now : Held} → inside ≡ now → Holds p now s → Holds p inside s
@@ -13,20 +14,13 @@ tree_inside is h = let holds = held_inside is h in assumption
 -- where no page is stored each word is 0
 pub no_word : {pages : Paged} {words : Words} {stored : List (ℕ × ℕ)} → HoldPages pages words stored → (u o : ℕ)
     → is_some (page_at pages u (o / 1024)) ≡ false → words u o ≡ 0
-no_word {pages} h u o off = h.values u o ∙ none (page_at pages u (o / 1024)) off
-  where
-    none : (x : Option (List ℕ)) → is_some x ≡ false → word_in x (o % 1024) ≡ 0
-    none None e = refl
-    none (Some ws) e = cc
+no_word {pages} h u o off = grind (arith, nat_tests, common_steps)
 
 -- the words of a stored page
 pub word_at : {pages : Paged} {words : Words} {stored : List (ℕ × ℕ)} (u q : ℕ) {ws : List ℕ}
     → HoldPages pages words stored → page_at pages u q ≡ Some ws → (i : ℕ) → i < 1024
     → words u (1024 * q + i) ≡ get_or ws i 0
-word_at u q h found i lt =
-    let page : (1024 * q + i) / 1024 ≡ q = omega arith in
-    let place : (1024 * q + i) % 1024 ≡ i = omega arith in
-    rw (h.values u (1024 * q + i), page, place, found) refl
+word_at u q h found i lt = grind (arith, nat_tests, common_steps)
 
 blank_held : {p : Plan} {s : Store} {h : Held} → Holds p h s → IsBlank s
 blank_held holds u o off = no_word holds.pages u o (sym (holds.pages.there u (o / 1024)) ∙ off)

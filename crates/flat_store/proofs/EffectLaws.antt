@@ -1,5 +1,6 @@
 -- What a tree command does to the holdings that isn't refused.
-use Rattle.flat_store.proofs.Prelude.{◌≡◌, ℕ, ℤ, true, false, cond, eqb, List, Ok, refl, inl, inr, cases_Bool, is_positive, unsigned_abs, Mode, Named, AccountMaps, Changes, Plan, Reply, with_row, giver_of, getter_of, Node, above, has_segment, directory_at, segment_at, takes_effect, is_stored_from, after_acl, after_move, row_with, length_reply, Store, HasMoved, HasRowSet, field_kept, field_mapped, keeps_moved, moved_else, quota_moved, keeps_one, keeps_rows, not_first, Held, Holds, pages_in}
+use Rattle.std.proofs.lemmas.Grind.{common_steps}
+use Rattle.flat_store.proofs.Prelude.{arith, nat_tests, ◌≡◌, ℕ, ℤ, true, false, cond, eqb, List, Ok, refl, is_positive, unsigned_abs, Mode, Named, AccountMaps, Changes, Plan, Reply, with_row, giver_of, getter_of, Node, above, has_segment, directory_at, segment_at, takes_effect, is_stored_from, after_acl, after_move, row_with, length_reply, Store, HasMoved, HasRowSet, field_kept, field_mapped, keeps_moved, moved_else, quota_moved, keeps_one, keeps_rows, not_first, Held, Holds, pages_in}
 use Rattle.book.specs.declared.replies.Reply.TheVariants as reply
 use Rattle.flat_store.proofs.ChangeLaws.{alike_map, alike_shown, changed_shown, length_alike, length_flat, length_inside, with_length}
 
@@ -8,10 +9,7 @@ by_effect : {p : Plan} {s t : Store} {h : Held} {accounts : AccountMaps} (r : Re
     → (takes_effect r ≡ true → Holds p (record h { accounts = accounts }) t)
     → (takes_effect r ≡ false → accounts ≡ h.accounts)
     → Holds p (record h { accounts = accounts }) (cond (takes_effect r) t s)
-by_effect r holds done refused = elim (cases_Bool (takes_effect r)) [
-  | inr off ↦ rw (off, refused off) holds
-  | inl on ↦ rw on (done on)
-]
+by_effect r holds done refused = grind (arith, nat_tests, common_steps)
 
 -- a row is set, unless that is refused
 pub row_shown : {p : Plan} {s : Store} {h : Held} {accounts : AccountMaps} (path : List (List ℕ)) (row : Named)

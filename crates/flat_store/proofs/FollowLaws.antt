@@ -1,5 +1,6 @@
 -- What an entry does to the store that is shown.
-use Rattle.flat_store.proofs.Prelude.{◌≡◌, ℕ, ◌+◌, ◌<◌, ◌^◌, true, false, List, set, Option, Some, ◌⊎◌, refl, sym, ap, ◌∙◌, inl, inr, Plan, command_at, Command, Entry, Reply, after_command, gone_on, reply_to_command, takes_effect, IsLawful, IsLawfulDo, MayAnswerDevice, MayAnswerDue, MayFault, after_entry, after_fault, is_held_back, Node, Progress, Store, progress_of, Held, Holds, IsReached, IsShown, Kept, Shows, answered, progress_at, place_fits, place_within, answered_advances, reached_fault, reached_on}
+use Rattle.std.proofs.lemmas.Grind.{common_steps}
+use Rattle.flat_store.proofs.Prelude.{arith, nat_tests, ◌≡◌, ℕ, ◌+◌, ◌<◌, ◌^◌, true, false, List, set, Option, Some, Plan, command_at, Command, Entry, Reply, after_command, gone_on, reply_to_command, takes_effect, IsLawful, IsLawfulDo, MayFault, after_entry, after_fault, is_held_back, Node, Progress, Store, Held, Holds, IsReached, IsShown, Kept, Shows, answered, progress_at, place_fits, place_within, answered_advances, reached_fault, reached_on}
 use Rattle.book.specs.declared.entries.Entry.TheVariants as entry
 use Rattle.flat_store.proofs.StoreLaws.{progress_shown}
 
@@ -7,13 +8,7 @@ use Rattle.flat_store.proofs.StoreLaws.{progress_shown}
 pub effect_due : (p : Plan) (s : Store) (k place : ℕ) (c : Command) (r : Reply) → command_at p k place ≡ Some c
     → IsLawfulDo p s k place r
     → takes_effect r ≡ true → (takes_effect (reply_to_command p s k c) ≡ true) × (is_held_back p s k c ≡ false)
-effect_due p s k place c r at lawful effect = by_answer (rw at at lawful.answer)
-  where
-    by_answer : MayAnswerDue (is_held_back p s k c) (reply_to_command p s k c) r
-        ⊎ MayAnswerDevice (progress_of s k).faulted c (reply_to_command p s k c) r
-        → (takes_effect (reply_to_command p s k c) ≡ true) × (is_held_back p s k c ≡ false)
-    by_answer (inl due) = (ap takes_effect (sym due.own) ∙ effect, due.free)
-    by_answer (inr told) = (let clash : true ≡ false = sym effect ∙ ap takes_effect told.device in cc)
+effect_due p s k place c r at lawful effect = grind (arith, nat_tests, common_steps)
 
 pub go_shown : {p : Plan} {mid : Kept} {s : Store} {process place : ℕ} {c : Command} {r : Reply}
     {processes : List Progress} → IsReached p s → IsShown p mid (answered p s process c r)
@@ -23,23 +18,22 @@ pub go_shown : {p : Plan} {mid : Kept} {s : Store} {process place : ℕ} {c : Co
     → Shows p (record mid { processes = processes }) (after_command p s process c r)
 unfolding after_command
 go_shown {p} {mid} {s} {process} {place} {c} {r} reached shown at lawful now =
-    let same : progress_at mid.processes process ≡ progress_of s process =
-    ap (λ qs. progress_at qs process) (sym shown.processes ∙ (answered_advances p s process c r).processes) in
-    let fits = place_fits p process place reached.plan (place_within p process place c at) in
-    let gone = now (rw (same, lawful.next) fits) in
-    record {
-      shown = progress_shown process (gone_on (progress_of s process) c r) shown (rw (shown.processes, ← same) gone);
-      reached = reached_on p s process place c r reached lawful.going lawful.next at;
-    }
+    grind (
+      arith,
+      nat_tests,
+      common_steps,
+      answered_advances p s process c r,
+      place_fits p process place reached.plan (place_within p process place c at),
+      progress_shown,
+      reached_on p s process place c r reached lawful.going lawful.next,
+    )
 
 -- a failure is told of a process
 pub fault_shown : {p : Plan} {k : Kept} {s : Store} {processes : List Progress} (process : ℕ) → Shows p k s
     → processes ≡ set k.processes process (record (progress_at k.processes process) { faulted = true })
     → MayFault s (Some process) → Shows p (record k { processes = processes }) (after_fault s (Some process))
-fault_shown {p} {s = s} process h now may = record {
-  shown = progress_shown process (record (progress_of s process) { faulted = true }) h.shown (rw h.shown.processes now);
-  reached = reached_fault p s process h.reached may;
-}
+fault_shown {p} {s = s} process h now may =
+    grind (arith, nat_tests, common_steps, progress_shown, reached_fault p s process h.reached may)
 
 -- a page is given up, or a segment moved
 pub held_shown : {p : Plan} {k : Kept} {s : Store} {held : Held} {nodes : List Node} {stored : List (ℕ × ℕ)}
@@ -57,11 +51,7 @@ pub record IsQuiet (e : Entry) : Type 0 where
 -- it is lawful, and leaves the flat store alone
 pub quiet : (p : Plan) (s : Store) (e : Entry) → IsQuiet e → IsLawful p s e × (s ≡ after_entry p s e)
 unfolding IsLawful after_entry
-quiet p s (entry.Do k place cpu frame r) other = absurd (other.answer k place cpu frame r refl)
-quiet p s (entry.Release u q) other = absurd (other.release u q refl)
-quiet p s (entry.Fault o) other = absurd (other.fault o refl)
-quiet p s (entry.Moved k u w) other = absurd (other.moved k u w refl)
-quiet p s _ other = (tt, refl)
+quiet p s o other = grind (arith, nat_tests, common_steps)
 
 pub quiet_lawful : (p : Plan) (s : Store) (e : Entry)
     → ((k place cpu : ℕ) (frame : Option ℕ) (r : Reply) → e ≡ entry.Do k place cpu frame r → ⊥)

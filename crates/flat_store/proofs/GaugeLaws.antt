@@ -1,5 +1,6 @@
 -- Gauges by their number.
-use Rattle.flat_store.proofs.Prelude.{◌≡◌, ◌≢◌, ℕ, suc, zero, ◌+◌, false, cond, eqb, List, [], ◌∷◌, set, get_or, refl, sym, ap, ◌∙◌, arith, inl, inr, cases_eq, nat_tests, get_or-set_other, Gauge, gauge_at, filled, drained}
+use Rattle.std.proofs.lemmas.Grind.{common_steps}
+use Rattle.flat_store.proofs.Prelude.{◌≡◌, ◌≢◌, ℕ, suc, zero, ◌+◌, false, cond, eqb, List, [], ◌∷◌, set, get_or, refl, sym, arith, nat_tests, get_or-set_other, Gauge, gauge_at, filled, drained}
 
 abbrev pub gauge : ℕ → ℕ → Gauge
 gauge used most = record { used = used; most = most }
@@ -16,25 +17,17 @@ pub counts_changed : (f : Gauge → Gauge) (gauges : List Gauge) (old new most :
     → f (gauge 0 0) ≡ gauge 0 0 → ((v : ℕ) → gauge_at gauges v ≡ gauge (old v) (most v))
     → f (gauge (old i) (most i)) ≡ gauge (new i) (most i) → ((v : ℕ) → v ≢ i → old v ≡ new v)
     → (v : ℕ) → gauge_at (set gauges i (f (gauge_at gauges i))) v ≡ gauge (new v) (most v)
-counts_changed f gauges old new most i none are here other v = elim (cases_eq v i) [
-  | inl same ↦ rw same (set_here f (gauge 0 0) gauges i none ∙ ap f (are i) ∙ here)
-  | inr apart ↦ get_or-set_other gauges i v (f (gauge_at gauges i)) (gauge 0 0) apart ∙ are v
-      ∙ ap (λ n. gauge n (most v)) (other v apart)
-]
+counts_changed f gauges old new most i none are here other v =
+    grind (arith, nat_tests, common_steps, set_here f (gauge 0 0) gauges i none, get_or-set_other)
 
 -- so where one says so much less, or one more
 pub counts_less : (gauges : List Gauge) (old new most : ℕ → ℕ) (n i : ℕ)
     → ((v : ℕ) → gauge_at gauges v ≡ gauge (old v) (most v)) → ((v : ℕ) → new v + cond {A = ℕ} (eqb i v) n 0 ≡ old v)
     → (v : ℕ) → gauge_at (set gauges i (drained n (gauge_at gauges i))) v ≡ gauge (new v) (most v)
-counts_less gauges old new most n i are less =
-    counts_changed (drained n) gauges old new most i (ap (λ m. gauge m 0) (omega arith)) are
-    (ap (λ m. gauge m (most i)) (let down = less i in grind (arith, nat_tests)))
-    (λ v apart. let down = less v in grind (arith, nat_tests))
+counts_less gauges old new most n i are less = grind (arith, nat_tests, common_steps, counts_changed)
 
 pub counts_more : (gauges : List Gauge) (old new most : ℕ → ℕ) (i : ℕ)
     → ((v : ℕ) → gauge_at gauges v ≡ gauge (old v) (most v)) → eqb (old i) (most i) ≡ false
     → ((v : ℕ) → new v ≡ old v + cond {A = ℕ} (eqb i v) 1 0) → (v : ℕ)
     → gauge_at (set gauges i (filled (gauge_at gauges i))) v ≡ gauge (new v) (most v)
-counts_more gauges old new most i are room more = counts_changed filled gauges old new most i refl are
-    (rw room (ap (λ m. gauge m (most i)) (let up = more i in grind (arith, nat_tests))))
-    (λ v apart. let up = more v in grind (arith, nat_tests))
+counts_more gauges old new most i are room more = grind (arith, nat_tests, common_steps, counts_changed)

@@ -1,5 +1,6 @@
 -- A segment moves to another volume.
-use Rattle.flat_store.proofs.Prelude.{nat_lt, ◌≡◌, ◌≢◌, ◌<◌, ◌≤◌, ℕ, ◌+◌, ◌-◌, ◌*◌, ◌/◌, Bool, true, false, not, cond, eqb, ◌&&◌, List, [], ◌∷◌, length, Option, Some, None, Result, Ok, Err, is_ok, is_some, refl, sym, ap, ◌∙◌, arith, inl, inr, count_by, nat_le, cases_Bool, cases_eq, nat_tests, AccountMaps, Rehomes, count_of, Full, charge_answer, Plan, command_at, who_of, permits, reference_of, Command, Reference, RefKind, access_of, Node, account_of, entries_on, has_directory, node_in, taken_on, volume_in, with_node, AreBelow, IsTree, has_segment, MayMove, awaits_by, awaits_in, awaits_move, is_held_at, is_uid, lacks_at, moved, is_used_up, is_volume_full, stores_page, room_for, Store, entries_of, known_uid, progress_of, records_of, field_kept, field_mapped, is_roomy, shifted, AreFlat, Gauge, gauge_at, filled, is_full, Held, Holds, pages_in, older, found_uid, room_parts, and_right}
+use Rattle.std.proofs.lemmas.Grind.{common_steps}
+use Rattle.flat_store.proofs.Prelude.{nat_lt, ◌≡◌, ◌≢◌, ◌<◌, ◌≤◌, ℕ, ◌+◌, ◌-◌, ◌*◌, ◌/◌, Bool, true, false, not, cond, eqb, ◌&&◌, List, [], ◌∷◌, length, Option, Some, None, Result, is_ok, is_some, refl, sym, ap, ◌∙◌, arith, inl, inr, count_by, nat_le, cases_Bool, nat_tests, AccountMaps, Rehomes, count_of, Full, charge_answer, Plan, command_at, who_of, permits, reference_of, Command, Reference, RefKind, access_of, Node, entries_on, has_directory, node_in, taken_on, volume_in, with_node, AreBelow, IsTree, has_segment, MayMove, awaits_by, awaits_in, awaits_move, is_held_at, is_uid, lacks_at, moved, is_used_up, is_volume_full, stores_page, room_for, Store, entries_of, known_uid, progress_of, records_of, field_kept, field_mapped, is_roomy, shifted, AreFlat, Gauge, gauge_at, filled, is_full, Held, Holds, pages_in, older, found_uid, room_parts, and_right}
 use Rattle.laws.proofs.Bools.{and_false, and_first, not_true}
 use Rattle.flat_model.specs.Rooms.{has_room}
 use Rattle.flat_store.proofs.ChangeLaws.{field_other, field_set}
@@ -33,13 +34,7 @@ count_moved : (c d : ℕ → Bool) (u : ℕ) → ((v : ℕ) → v ≢ u → d v 
     → count_by (λ x. d x.0) xs + cond {A = ℕ} (c u) (count_by (λ x. eqb x.0 u) xs) 0
     ≡ count_by (λ x. c x.0) xs + cond {A = ℕ} (d u) (count_by (λ x. eqb x.0 u) xs) 0
 count_moved c d u kept [] = grind arith
-count_moved c d u kept (x ∷ xs) =
-    let ih = count_moved c d u kept xs in
-    rw (count-cons (λ y. d y.0) x xs, count-cons (λ y. c y.0) x xs, count-cons (λ y. eqb y.0 u) x xs)
-    (elim (cases_eq x.0 u) [
-      | inl same ↦ rw same (grind (arith, nat_tests))
-      | inr other ↦ (let as_it_was = kept x.0 other in grind (arith, nat_tests))
-    ])
+count_moved c d u kept (x ∷ xs) = grind (arith, nat_tests, common_steps, count_moved c d u kept xs, count-cons)
 
 -- the records of the segment go from its old volume to its new one
 taken_moved : (ns : List Node) (xs : List (ℕ × ℕ)) (u w v : ℕ) → has_segment ns u ≡ true
@@ -59,9 +54,7 @@ taken_moved ns xs u w v there = rw volume_set at
 
 none_moved : (ns : List Node) (u w : ℕ) → AreBelow u ns → with_volume ns u w ≡ ns
 none_moved [] u w b = refl
-none_moved (n ∷ ns) u w b =
-    let apart : eqb n.uid u ≡ false = (let lt : n.uid < u = b.0 in grind (arith, nat_tests)) in
-    rw apart (ap (λ l. n ∷ l) (none_moved ns u w b.1))
+none_moved (n ∷ ns) u w b = grind (arith, nat_tests, common_steps, none_moved ns u w b.1)
 
 -- the VTOC entry too
 entries_moved : (ns : List Node) (u w v : ℕ) → IsTree ns → has_segment ns u ≡ true
@@ -128,14 +121,7 @@ pub lacks_told : {p : Plan} {s : Store} {h : Held} (u v o : ℕ) (how : RefKind)
     {r : Result (Unit {0}) Full} → Holds p h s → stores ≡ stores_page s u o how → stores ≡ true
     → r ≡ charge_answer h.accounts.nodes s.stored u → is_ok r ≡ true → full ≡ is_full (gauge_at h.records v)
     → full ≡ (stores_page s u o how && (not (is_used_up s u) && is_volume_full p s v))
-lacks_told {s = s} u v o how holds is on answer charged filled =
-    let free = free_told (is_used_up s u) (record { account = account_of s.nodes u })
-    (rw (answer, ← holds.nodes) at charged) in
-    rw (← is, on, free, filled, holds.records v) refl
-  where
-    free_told : (z : Bool) (f : Full) → is_ok {T = Unit {0}} {E = Full} (cond z (Err f) (Ok tt)) ≡ true → z ≡ false
-    free_told true f e = cc
-    free_told false f e = refl
+lacks_told {s = s} u v o how holds is on answer charged filled = grind (arith, nat_tests, common_steps, is_ok)
 
 -- a reference to a segment whose volume isn't full
 pub lacks_nothing : (p : Plan) (s : Store) (k u o : ℕ) (how : RefKind) {n : Node} {full : Bool}
@@ -194,8 +180,4 @@ room_there {p} {s} {k} {u} {w} may = (first_told (has_room p s u) (length p.volu
 -- a reference that stores no page anew lacks no record
 pub lacks_none : (p : Plan) (s : Store) (k u o : ℕ) (how : RefKind) → stores_page s u o how ≡ false
     → false ≡ lacks_at p s k o how (node_in s.nodes u)
-lacks_none p s k u o how none = each (node_in s.nodes u) refl
-  where
-    each : (x : Option Node) → node_in s.nodes u ≡ x → false ≡ lacks_at p s k o how x
-    each None is = refl
-    each (Some n) is = rw (found_uid s.nodes u n is, none) (sym (simp and_false))
+lacks_none p s k u o how none = grind (arith, nat_tests, common_steps, found_uid, and_false)

@@ -1,5 +1,6 @@
 -- Keys of two numbers in the order of a map: which lie in a range, and what the first one from a key on tells.
-use Rattle.flat_store.proofs.Prelude.{◌≡◌, ◌≤◌, ℕ, Bool, true, false, not, cond, eqb, leb, ltb, ◌&&◌, ◌||◌, List, [], ◌∷◌, Option, Some, None, is_some, refl, sym, ap, subst, ◌∙◌, arith, inl, inr, IsSome, Decides, BTreeMap, get, IsLeBy, IsRangeOf, range_contains, AllByRecursion, slice_get, IsStrictlySortedBy, keys_of, lookup, IfSome, is_eq, is_le, nat_cmp, ordering_then, Less, Included, Excluded, Unbounded, Decides-eqb, nat_tests, sorted_head, sorted_tail, flip_page, key_is, by_both, compare, first_le, same_le, second_le, is_page, is_stored, IsOnce, Paged, is_key, page_at}
+use Rattle.std.proofs.lemmas.Grind.{common_steps}
+use Rattle.flat_store.proofs.Prelude.{◌≡◌, ◌≤◌, ℕ, Bool, true, false, not, cond, eqb, leb, ltb, ◌&&◌, ◌||◌, List, [], ◌∷◌, Option, Some, None, is_some, refl, sym, ap, subst, ◌∙◌, arith, inl, inr, IsSome, Decides, BTreeMap, get, IsLeBy, IsRangeOf, range_contains, AllByRecursion, slice_get, IsStrictlySortedBy, keys_of, lookup, IfSome, is_le, nat_cmp, ordering_then, Less, Included, Excluded, Unbounded, Decides-eqb, nat_tests, sorted_head, sorted_tail, flip_page, key_is, by_both, compare, first_le, same_le, second_le, is_page, is_stored, IsOnce, Paged, is_key, page_at}
 
 -- ---- a range of pages of one segment
 
@@ -39,12 +40,8 @@ in_range u from end k = elim (compare u k.0) [
 
 apart : (k : ℕ × ℕ) (ks : List (ℕ × ℕ)) → AllByRecursion (λ y. by_both k y ≡ Less) ks → is_stored ks k.0 k.1 ≡ false
 apart k [] h = refl
-apart k (y ∷ ys) h = here (is_page k.0 k.1 y) (flip_page y.0 y.1 k.0 k.1 ∙ sym (key_is k.0 k.1 y.0 y.1) ∙ ap is_eq h.0)
-    (apart k ys h.1)
-  where
-    here : (z : Bool) → z ≡ false → is_stored ys k.0 k.1 ≡ false → (z || is_stored ys k.0 k.1) ≡ false
-    here true e ih = cc
-    here false e ih = ih
+apart k (y ∷ ys) h =
+    grind (arith, nat_tests, common_steps, flip_page y.0 y.1 k.0 k.1, key_is k.0 k.1 y.0 y.1, apart k ys h.1)
 
 pub keys_once : (ks : List (ℕ × ℕ)) → IsStrictlySortedBy by_both ks → IsOnce ks
 keys_once [] h = tt

@@ -1,5 +1,6 @@
 -- Pages in a map by uid and number.
-use Rattle.flat_store.proofs.Prelude.{subst, MutBor, replicate, option_copied_mut, ◌≡◌, ℕ, Bool, cond, List, Option, Some, None, IfSome, IsSome, IsTrue, set, ◌↔◌, Bor, refl, sym, ap, ◌∙◌, option_copied, lookup, AreZero, cut_at, key_is, Paged, is_key, page_at, words_in, Puts, Cuts}
+use Rattle.std.proofs.lemmas.Grind.{common_steps}
+use Rattle.flat_store.proofs.Prelude.{arith, nat_tests, subst, MutBor, replicate, option_copied_mut, ◌≡◌, ℕ, Bool, cond, List, Option, Some, None, IfSome, IsSome, IsTrue, set, ◌↔◌, Bor, refl, sym, ap, ◌∙◌, option_copied, lookup, AreZero, cut_at, key_is, Paged, is_key, page_at, words_in, Puts, Cuts}
 
 -- a map that reads as one where a key was put
 pub puts_from : {old now new : Paged} {u q : ℕ} {w : Option (List ℕ)} → old ≡ now
@@ -39,5 +40,4 @@ pub cut_through : {old now new : Paged} {u q : ℕ} (at : ℕ) {before after wor
     → (IsTrue zero ↔ AreZero after) → result ≡ zero → page_at now u q ≡ Some words
     → Cuts now new u q at words × (IsTrue result ↔ AreZero (cut_at at words))
 cut_through at {before} {words = words} is there change each zeros told found =
-    let same : before ≡ words = cc (is, there, found) in
-    rw (← same, ← change, told) (puts_from is (each (rw there refl)), zeros)
+    grind (arith, nat_tests, common_steps, puts_from)

@@ -1,5 +1,6 @@
 -- A page has other words: a word is written.
-use Rattle.flat_store.proofs.Prelude.{◌≡◌, ◌≢◌, ◌<◌, ℕ, ◌+◌, ◌/◌, ◌%◌, Bool, true, false, not, cond, eqb, ◌&&◌, ◌||◌, List, length, set, get_or, Option, Some, None, Ok, Err, is_some, refl, sym, ◌∙◌, arith, inl, inr, cases_Bool, cases_eq, nat_tests, get_or-set_same, get_or-set_other, length-set, zeros_read, AccountMaps, count_of, Recounts, Full, charge_answer, Plan, new_word, RefKind, Node, volume_in, taken_on, has_segment, Words, is_page, is_stored, with_stored, with_word, is_used_up, is_volume_full, written, Store, records_of, is_stored-with, once_with, with_old, count_with, Gauge, gauge_at, filled, Paged, Puts, page_at, word_in, words_in, Held, pages_in, HoldPages, AreInside, Holds, IsHeld, has_room, IsOnce}
+use Rattle.std.proofs.lemmas.Grind.{common_steps}
+use Rattle.flat_store.proofs.Prelude.{◌≡◌, ◌≢◌, ◌<◌, ℕ, ◌+◌, ◌/◌, ◌%◌, Bool, true, false, not, cond, eqb, ◌&&◌, ◌||◌, List, length, set, get_or, Option, Some, None, Err, is_some, refl, sym, ◌∙◌, arith, inl, inr, cases_eq, nat_tests, get_or-set_same, get_or-set_other, length-set, zeros_read, AccountMaps, count_of, Recounts, Full, charge_answer, Plan, new_word, RefKind, Node, volume_in, taken_on, has_segment, Words, is_page, is_stored, with_stored, with_word, is_used_up, is_volume_full, written, Store, records_of, is_stored-with, once_with, with_old, count_with, Gauge, gauge_at, filled, Paged, Puts, page_at, word_in, words_in, Held, pages_in, HoldPages, AreInside, Holds, IsHeld, has_room, IsOnce}
 use Rattle.laws.proofs.Numbers.{and_both, eqb_self}
 use Rattle.flat_store.proofs.GaugeLaws.{counts_more}
 
@@ -13,24 +14,7 @@ pub pages_put : {old new : Paged} {words told : Words} {xs ys : List (ℕ × ℕ
     → ((v r : ℕ) → is_stored ys v r ≡ (is_page v r (u, q) || is_stored xs v r)) → IsOnce ys
     → ((o : ℕ) → q ≡ o / 1024 → told u o ≡ get_or page (o % 1024) 0)
     → ((v o : ℕ) → is_page v (o / 1024) (u, q) ≡ false → told v o ≡ words v o) → HoldPages new told ys
-pages_put {old} {u = u} {q} {page} h put size there once own other = record {
-  there = λ v r. rw (put.at v r, there v r, h.there v r) (kept (is_page v r (u, q)) (page_at old v r));
-  once = once;
-  values = λ v o. rw (put.at v (o / 1024)) (elim (cases_Bool (is_page v (o / 1024) (u, q))) [
-    | inl is ↦ (let same = and_both u q v (o / 1024) is in rw (is, ← same.0) (own o same.1))
-    | inr off ↦ rw off (other v o off ∙ h.values v o)
-  ]);
-  sizes = λ v r ws is. sized (is_page v r (u, q)) (page_at old v r) ws (h.sizes v r ws) (sym (put.at v r) ∙ is);
-}
-  where
-    kept : (z : Bool) (o : Option (List ℕ)) → (z || is_some o) ≡ is_some (cond z (Some page) o)
-    kept true o = refl
-    kept false o = refl
-
-    sized : (z : Bool) (o : Option (List ℕ)) (ws : List ℕ) → (o ≡ Some ws → length ws ≡ 1024)
-        → cond z (Some page) o ≡ Some ws → length ws ≡ 1024
-    sized true o ws was is = let same : page ≡ ws = cc in rw (← same) size
-    sized false o ws was is = was is
+pages_put {old} {u = u} {q} {page} h put size there once own other = grind (arith, nat_tests, common_steps, and_both)
 
 -- the words of a page, and with one written
 abbrev page_of : Paged → ℕ → ℕ → List ℕ
@@ -46,11 +30,7 @@ word_put {old} {words = words} {xs} u o w h put = pages_put h put (length-set (p
     (is_stored-with xs u (o / 1024)) (once_with xs u (o / 1024) h.once) own (λ v x off. rw (elsewhere v x off) refl)
   where
     size : length (page_of old u o) ≡ 1024
-    size = each (page_at old u (o / 1024)) refl
-      where
-        each : (p : Option (List ℕ)) → page_at old u (o / 1024) ≡ p → length (words_in p) ≡ 1024
-        each None e = refl
-        each (Some ws) e = h.sizes u (o / 1024) ws e
+    size = grind (arith, nat_tests, common_steps)
 
     own : (x : ℕ) → o / 1024 ≡ x / 1024
         → cond (eqb u u && eqb x o) w (words u x) ≡ get_or (with_one old u o w) (x % 1024) 0
@@ -72,13 +52,13 @@ pub put_shown : {p : Plan} {s : Store} {h : Held} {new : Paged} (u o w : ℕ) �
     → is_some (page_at h.pages u (o / 1024)) ≡ true → Puts h.pages new u (o / 1024) (Some (with_one h.pages u o w))
     → Holds p (record h { pages = new }) (written s u o w)
 put_shown {p} {s} {h} {new} u o w holds there put =
-    let old = with_old s.stored u (o / 1024) (holds.pages.there u (o / 1024) ∙ there) in
-    let pages = rw old at (word_put u o w holds.pages put) in
-    rw (old, either (eqb w 0)) assumption
-  where
-    either : (z : Bool) → cond z s.stored s.stored ≡ s.stored
-    either true = refl
-    either false = refl
+    grind (
+      arith,
+      nat_tests,
+      common_steps,
+      with_old s.stored u (o / 1024) (holds.pages.there u (o / 1024) ∙ there),
+      word_put u o w holds.pages put,
+    )
 
 -- a reference alters a word of a page that is stored
 pub alter_shown : {p : Plan} {s : Store} {h : Held} {new : Paged} (u o : ℕ) (how : RefKind) → Holds p h s
@@ -99,10 +79,8 @@ held_altered u o how false held there put kept = rw (kept refl) held
 
 inside_with : (nodes : List Node) (xs : List (ℕ × ℕ)) (u q : ℕ) → AreInside nodes xs → has_segment nodes u ≡ true
     → q < pages_in nodes u → AreInside nodes (with_stored xs u q)
-inside_with nodes xs u q inside segment lt v r on = elim (cases_Bool (is_page v r (u, q))) [
-  | inl is ↦ (let same = and_both u q v r is in rw (← same.0, ← same.1) (segment, lt))
-  | inr off ↦ inside v r (rw (is_stored-with xs u q v r, off) at on)
-]
+inside_with nodes xs u q inside segment lt v r on =
+    grind (arith, nat_tests, common_steps, and_both, is_stored-with xs u q v r)
 
 both_not : (a b : Bool) → (not a && not b) ≡ true → (a ≡ false) × (b ≡ false)
 both_not true b e = cc
@@ -140,6 +118,4 @@ store_shown {p} {s} {h} u o w holds segment lt none other room up put v at fille
 pub never_full : {p : Plan} {s : Store} {h : Held} (u : ℕ) (e : Full) → Holds p h s → has_room p s u ≡ true
     → Err e ≡ charge_answer h.accounts.nodes s.stored u → ⊥
 never_full {p} {s} u e holds room answer =
-    let free = (both_not (is_used_up s u) (is_volume_full p s (volume_in s.nodes u)) room).0 in
-    let clash : Err e ≡ Ok tt = rw (← holds.nodes, free) at answer in
-    cc
+    grind (arith, nat_tests, common_steps, both_not (is_used_up s u) (is_volume_full p s (volume_in s.nodes u)) room)

@@ -1,4 +1,5 @@
 -- A page of zeros is given up; the zeros of a page that is cut.
+use Rattle.std.proofs.lemmas.Grind.{common_steps}
 use Rattle.flat_store.proofs.Prelude.{◌≡◌, ◌<◌, ◌≤◌, ℕ, ◌+◌, ◌*◌, ◌/◌, ◌%◌, Bool, true, false, cond, eqb, ◌&&◌, List, Some, None, IsTrue, ◌↔◌, refl, sym, ap, ◌∙◌, arith, inl, inr, nat_le, Decides, slice_index, cases_Bool, nat_tests, AreZero, Plan, Words, is_zero_page, without_stored, without_words, Store, without_pages, MayRelease, words_zero, zero_words, page_at, Held, Holds}
 use Rattle.laws.proofs.Numbers.{and_both, eqb_self}
 use Rattle.flat_store.proofs.CutLaws.{zero_told}
@@ -6,9 +7,7 @@ use Rattle.flat_store.proofs.DropLaws.{no_word, word_at}
 
 pub may_release : {p : Plan} {s : Store} {h : Held} (u q : ℕ) {ws : List ℕ} (r : Bool) → Holds p h s
     → page_at h.pages u q ≡ Some ws → (IsTrue r ↔ AreZero ws) → IsTrue r ↔ MayRelease s u q
-may_release u q r holds found told =
-    let same = zero_told u q r holds.pages found told in
-    (λ is. record { there = rw (holds.pages.there u q, found) refl; zeros = sym same ∙ is }, λ may. same ∙ may.zeros)
+may_release u q r holds found told = grind (arith, nat_tests, common_steps, zero_told u q r holds.pages found told)
 
 pub not_there : {p : Plan} {s : Store} {h : Held} (u q : ℕ) → Holds p h s → page_at h.pages u q ≡ None
     → IsTrue false ↔ MayRelease s u q
@@ -54,9 +53,17 @@ cut_told {s = s} u from {ws} r holds found told = by r told
     zeros : ((i : ℕ) → i < from % 1024 → slice_index ws i ≡ 0) → (o : ℕ) → from / 1024 * 1024 ≤ o → o < from
         → s.words u o ≡ 0
     zeros each o le lt =
-        let at : 1024 * (from / 1024) + o % 1024 ≡ o = omega (arith, le, lt) in
-        let below : o % 1024 < from % 1024 = omega (arith, le, lt) in
-        rw at at (word (o % 1024) below ∙ each (o % 1024) below)
+        grind (
+          arith,
+          nat_tests,
+          common_steps,
+          word (o % 1024) (omega (arith, le, lt)),
+          each (o % 1024) (omega (
+            arith,
+            le,
+            lt,
+          )),
+        )
 
     stays : is_zero_page (without_words s.words u from) u (from / 1024) ≡ true → (i : ℕ) → i < from % 1024
         → slice_index ws i ≡ 0

@@ -1,5 +1,6 @@
 -- A directory or a segment is deleted.
-use Rattle.flat_store.proofs.Prelude.{◌≡◌, ◌≢◌, ℕ, true, false, List, set, Some, is_some, refl, sym, ◌∙◌, arith, inl, inr, nat_le, cases_eq, nat_tests, AccountMaps, Loses, count_of, Plan, Node, entries_on, node_in, volume_in, without_node, IsTree, is_stored, is_stored-without, without_pages, Store, entries_of, field_left, volume_found, directory_gone, directory_left, none_counted, segment_left, taken_left, entries_less, some_there, AreFlat, AreInside, Gauge, gauge_at, drained, Held, Holds, page_at, pages_in}
+use Rattle.std.proofs.lemmas.Grind.{common_steps}
+use Rattle.flat_store.proofs.Prelude.{◌≡◌, ◌≢◌, ℕ, true, false, List, set, Some, is_some, refl, sym, ◌∙◌, arith, nat_le, nat_tests, AccountMaps, Loses, count_of, Plan, Node, entries_on, node_in, volume_in, without_node, IsTree, is_stored, is_stored-without, without_pages, Store, entries_of, field_left, volume_found, directory_gone, directory_left, none_counted, segment_left, taken_left, entries_less, some_there, AreFlat, AreInside, Gauge, gauge_at, drained, Held, Holds, page_at, pages_in}
 use Rattle.laws.proofs.Bools.{not_both}
 use Rattle.laws.proofs.Numbers.{eqb_self}
 use Rattle.flat_store.proofs.GaugeLaws.{counts_less}
@@ -9,15 +10,11 @@ pages_left ns u v = field_left (λ xs. pages_in xs v) (λ n. n.pages) v (λ m xs
 
 inside_left : (ns : List Node) (xs : List (ℕ × ℕ)) (u : ℕ) → ((page : ℕ) → is_stored xs u page ≡ false)
     → AreInside ns xs → AreInside (without_node ns u) xs
-inside_left ns xs u none inside v q on =
-    let apart : v ≢ u = λ same. not_both (rw same at on) (none q) in
-    rw (segment_left ns u v apart, pages_left ns u v apart) (inside v q on)
+inside_left ns xs u none inside v q on = grind (arith, nat_tests, common_steps, not_both, segment_left, pages_left)
 
 flat_left : (ns : List Node) (u : ℕ) → AreFlat ns → AreFlat (without_node ns u)
-flat_left ns u flat v is = elim (cases_eq v u) [
-  | inl same ↦ absurd (not_both (rw same at is) (directory_gone ns u))
-  | inr apart ↦ pages_left ns u v apart ∙ flat v (sym (directory_left ns u v apart) ∙ is)
-]
+flat_left ns u flat v is =
+    grind (arith, nat_tests, common_steps, not_both, directory_gone ns u, pages_left, directory_left)
 
 none_stored : {p : Plan} {s : Store} {h : Held} (u : ℕ) → Holds p h s
     → ((page : ℕ) → is_some (page_at h.pages u page) ≡ false) → (page : ℕ) → is_stored s.stored u page ≡ false

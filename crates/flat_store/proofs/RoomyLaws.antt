@@ -1,4 +1,5 @@
 -- Gauges from one of which so much goes over to another, and which volume is the first with room.
+use Rattle.std.proofs.lemmas.Grind.{common_steps}
 use Rattle.flat_store.proofs.Prelude.{◌≡◌, ◌≢◌, ℕ, suc, zero, ◌+◌, ◌-◌, ◌<◌, ◌≤◌, Bool, true, false, cond, eqb, List, length, Option, Some, None, refl, sym, ap, ◌∙◌, arith, inl, inr, IfNone, IfSome, nat_le, nat_lt, cases_eq, cases_Bool, nat_tests, get_or_past, AccountMaps, HasColumns, count_of, look_absent, Plan, volume_in, has_segment, first_below, room_for, Store, records_of, room_is, room_none, IsLeast, filled_by, is_roomy, shifted, with_drained, Gauge, Held, Holds, gauge_at}
 use Rattle.flat_model.specs.Rooms.{has_room}
 use Rattle.flat_store.proofs.GaugeLaws.{counts_changed, counts_less, gauge}
@@ -24,10 +25,7 @@ counts_shifted gauges old new most from to count are apart room moves =
     between v = cond (eqb to v) (old v) (new v)
 
     left : (v : ℕ) → cond (eqb to v) (old v) (new v) + cond {A = ℕ} (eqb from v) count 0 ≡ old v
-    left v = let both = moves v in elim (cases_eq to v) [
-      | inl here ↦ (let ne : from ≢ v = omega (arith, here, apart) in grind (arith, nat_tests))
-      | inr away ↦ grind (arith, nat_tests)
-    ]
+    left v = grind (arith, nat_tests, common_steps)
 
     own : eqb to to ≡ true
     own = grind (arith, nat_tests)

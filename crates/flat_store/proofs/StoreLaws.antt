@@ -1,6 +1,6 @@
 -- What is kept once a part of it is changed.
-use Rattle.flat_store.proofs.Prelude.{◌≡◌, ℕ, ◌≤◌, Bool, true, false, cond, List, [], length, set, get_or_past, Option, None, is_some, refl, sym, ap, ◌∙◌, length-set, Plan, Command, takes_effect, AccountMaps, ShowsTree, uid_of, numbers_of, known_uid, with_numbers, terminate_reply, effect_of_tree_command, reply_to_tree_command, KeepsOthers, Progress, Store, with_progress, Held, Holds, IsShown, Kept}
-use Rattle.book.specs.declared.replies.Reply.TheVariants as reply
+use Rattle.std.proofs.lemmas.Grind.{common_steps}
+use Rattle.flat_store.proofs.Prelude.{arith, nat_tests, ◌≡◌, ℕ, ◌≤◌, true, List, [], length, set, get_or_past, Option, None, is_some, refl, length-set, Plan, Command, takes_effect, AccountMaps, ShowsTree, uid_of, numbers_of, known_uid, with_numbers, terminate_reply, effect_of_tree_command, reply_to_tree_command, KeepsOthers, Progress, Store, with_progress, Held, Holds, IsShown, Kept}
 
 -- the tree that is held
 pub tree_shown : {p : Plan} {k : Kept} {s : Store} {tree : AccountMaps} → IsShown p k s → tree ≡ k.held.accounts
@@ -20,13 +20,7 @@ holds_beside h = assumption
 -- the holdings alone are changed
 pub effect_shown : {p : Plan} {k : Kept} {s t : Store} {held : Held} → IsShown p k s → Holds p held t → KeepsOthers s t
     → IsShown p (record k { held = held }) t
-effect_shown h holds keeps = record {
-  holds = holds;
-  known = keeps.known ∙ h.known;
-  processes = keeps.processes ∙ h.processes;
-  knowers = ap length keeps.known ∙ h.knowers;
-  runners = ap length keeps.processes ∙ h.runners;
-}
+effect_shown h holds keeps = grind (arith, nat_tests, common_steps)
 
 -- so by the effect of a command, once it is known which it is
 pub effect_done : {p : Plan} {s : Store} {inside told : Kept} {held : Held} → inside ≡ told → (process : ℕ)
@@ -36,39 +30,21 @@ pub effect_done : {p : Plan} {s : Store} {inside told : Kept} {held : Held} → 
     → Holds p held (effect_of_tree_command p s process known))
     → KeepsOthers s (effect_of_tree_command p s process known)
     → IsShown p (record inside { held = held }) (effect_of_tree_command p s process command)
-effect_done same process is h effect done keeps =
-    let shown = rw (← same) at h in
-    rw is (effect_shown shown (done shown.holds (rw is at effect)) keeps)
+effect_done same process is h effect done keeps = grind (arith, nat_tests, common_steps, effect_shown)
 
 -- what the numbers of a process stand for is changed alone
 pub numbers_shown : {p : Plan} {k : Kept} {s : Store} {known : List (List (Option ℕ))} (process : ℕ)
     (numbers : List (Option ℕ)) → IsShown p k s → known ≡ set s.known process numbers
     → IsShown p (record k { known = known }) (with_numbers s process numbers)
-numbers_shown {s = s} process numbers h now = record {
-  holds = holds_beside h.holds;
-  known = sym now;
-  processes = h.processes;
-  knowers = length-set s.known process numbers ∙ h.knowers;
-  runners = h.runners;
-}
+numbers_shown {s = s} process numbers h now = grind (arith, nat_tests, common_steps, holds_beside, length-set)
 
 -- how far a process has come is changed alone
 pub progress_shown : {p : Plan} {k : Kept} {s : Store} {processes : List Progress} (process : ℕ) (q : Progress)
     → IsShown p k s → processes ≡ set s.processes process q
     → IsShown p (record k { processes = processes }) (with_progress s process q)
-progress_shown {s = s} process q h now = record {
-  holds = holds_beside h.holds;
-  known = h.known;
-  processes = sym now;
-  knowers = h.knowers;
-  runners = length-set s.processes process q ∙ h.runners;
-}
+progress_shown {s = s} process q h now = grind (arith, nat_tests, common_steps, holds_beside, length-set)
 
 pub terminate_asked : (s : Store) (process number : ℕ) → takes_effect (terminate_reply s process number) ≡ true
     → is_some (known_uid s process number) ≡ true
 unfolding terminate_reply
-terminate_asked s process number = here (is_some (known_uid s process number))
-  where
-    here : (z : Bool) → takes_effect (cond z reply.Done reply.Unknown) ≡ true → z ≡ true
-    here true is = refl
-    here false is = cc
+terminate_asked s process number = grind (arith, nat_tests, common_steps, is_some (known_uid s process number))

@@ -1,5 +1,6 @@
 -- Whether a stored page is all zeros.
-use Rattle.flat_store.proofs.Prelude.{◌≡◌, ℕ, suc, zero, ◌<◌, arith, Bool, true, false, cond, List, [], ◌∷◌, Option, Some, None, IsTrue, ◌↔◌, is_some, All, refl, sym, ap, subst, ◌∙◌, IfNone, IfSome, IsSomeAnd, slice_get, Decides, AreZero, Plan, MayRelease, Store, Held, Holds, Paged, is_key, page_at, HasZeroPage, KeepsZeroPage, zero_words}
+use Rattle.std.proofs.lemmas.Grind.{common_steps}
+use Rattle.flat_store.proofs.Prelude.{nat_tests, ◌≡◌, ℕ, suc, zero, ◌<◌, arith, Bool, true, false, cond, List, [], ◌∷◌, Option, Some, None, IsTrue, ◌↔◌, is_some, All, refl, sym, ap, subst, ◌∙◌, IfNone, IfSome, IsSomeAnd, slice_get, Decides, AreZero, Plan, MayRelease, Store, Held, Holds, Paged, is_key, page_at, HasZeroPage, KeepsZeroPage, zero_words}
 use Rattle.laws.proofs.Lists.{get_or_any}
 use Rattle.flat_store.proofs.DropLaws.{held_inside, word_at}
 use Rattle.flat_store.proofs.ReleaseLaws.{may_release}
@@ -23,11 +24,7 @@ passed_over pages rest left k w is other h u q ws found zeros =
 
 pub none_left : (pages : Paged) → StillToCome pages [] → KeepsZeroPage pages → ⊥
 unfolding KeepsZeroPage
-none_left pages h (u, q, there) = each (page_at pages u q) refl there
-  where
-    each : (x : Option (List ℕ)) → page_at pages u q ≡ x → IsSomeAnd x AreZero → ⊥
-    each None e z = absurd z
-    each (Some ws) e z = let none : None ≡ Some ws = h u q ws e z in cc
+none_left pages h (u, q, there) = grind (arith, nat_tests, common_steps)
 
 -- an element that stands at a place
 pub all_at : {A : Type 0} (P : A → Type 0) (xs : List A) (i : ℕ) (x : A) → slice_get xs i ≡ Some x → All P xs → P x

@@ -1,4 +1,5 @@
-use Rattle.flat_store.proofs.Prelude.{boot, Holds}
+use Rattle.std.proofs.lemmas.Grind.{common_steps}
+use Rattle.flat_store.proofs.Prelude.{arith, nat_tests, boot, Holds}
 use Rattle.flat_store.proofs.BootLaws.{holds_first}
 use Rattle.flat_store.proofs.holdings.Holdings.boot.Goals.{After-new-pages}
 use Rattle.flat_store.proofs.holdings.Holdings.boot.Goals as goal
@@ -10,15 +11,7 @@ holds : (c : After-new-pages) → Holds c.args.script.now (record {
   records = c.in_ok-records.records.items;
   entries = c.fill_at.new.gauges.items;
 }) (boot c.args.script.now)
-holds c = rw (
-  c.fill_at.ensures,
-  c.in_ok-accounts.ensures,
-  c.quota.ensures,
-  c.new-pages.ensures,
-  c.in_ok-records.ensures.records,
-  c.in_ok-records.ensures.entries,
-  c.volumes.ensures,
-) (holds_first c.args.script.now c.promise.ensures)
+holds c = grind (arith, nat_tests, common_steps, holds_first c.args.script.now c.promise.ensures)
 
 pub invariant_of-result : goal.invariant_of-result
 invariant_of-result c = (c.args.script.now, boot c.args.script.now, holds c)

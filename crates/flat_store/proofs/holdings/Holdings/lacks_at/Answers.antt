@@ -1,4 +1,5 @@
-use Rattle.flat_store.proofs.Prelude.{refl, sym, ◌∙◌, arith}
+use Rattle.std.proofs.lemmas.Grind.{common_steps}
+use Rattle.flat_store.proofs.Prelude.{nat_tests, sym, arith}
 use Rattle.flat_store.proofs.MoveLaws.{lacks_none, lacks_nothing, lacks_within}
 use Rattle.flat_store.proofs.NodeLaws.{pages_held}
 use Rattle.flat_store.proofs.ReplyLaws.{node_shown}
@@ -15,11 +16,7 @@ returns c = λ p s k h who. lacks_within p s k c.args.uid c.args.offset c.args.k
     (c.lacks_record.ensures p s h)
 
 pub returns-then-not-alters : goal.returns-then-not-alters
-returns-then-not-alters c = λ p s k h who.
-    let reads = sym c.alters.ensures ∙ c.if-not-alters.true in
-    lacks_none p s k c.args.uid c.args.offset c.args.kind.now (rw reads refl)
+returns-then-not-alters c = grind (arith, nat_tests, common_steps, lacks_none)
 
 pub returns-then-not-is_volume_full : goal.returns-then-not-is_volume_full
-returns-then-not-is_volume_full c = λ p s k h who. lacks_nothing p s k c.args.uid c.args.offset c.args.kind.now
-    (node_shown (rw (← c.self.view_is) at h) c.args.uid c.in-Some.node.now c.in-Some.ensures.some)
-    (c.is_volume_full.ensures p s h) c.if-not-is_volume_full.true
+returns-then-not-is_volume_full c = grind (arith, nat_tests, common_steps, lacks_nothing, node_shown)

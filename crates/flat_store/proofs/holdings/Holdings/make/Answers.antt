@@ -1,4 +1,5 @@
-use Rattle.flat_store.proofs.Prelude.{◌≡◌, Ok, Err, refl, Node, quota_in, as_term, node_at, after_make, parts_are}
+use Rattle.std.proofs.lemmas.Grind.{common_steps}
+use Rattle.flat_store.proofs.Prelude.{arith, nat_tests, ◌≡◌, Ok, refl, Node, quota_in, as_term, node_at, after_make, parts_are}
 use Rattle.flat_store.proofs.MakeLaws.{make_asked}
 use Rattle.laws.proofs.Bools.{not_both}
 use Rattle.flat_store.proofs.holdings.Holdings.make.Goals as goal
@@ -9,10 +10,7 @@ returns-in_default c = λ p s h few effect. rw c.in_default.ensures.root h
 
 pub returns-in-Err : goal.returns-in-Err
 unfolding after_make
-returns-in-Err c = λ p s h few effect.
-    let holds = rw (← c.self.view_is) at h in
-    let found : node_at s.nodes c.in-Some.above.now ≡ Err c.in-Err.field-0 = rw holds.nodes c.in-Err.ensures.err in
-    rw (parts_are _ _ _ c.in-Some.ensures.parts, found) h
+returns-in-Err c = grind (arith, nat_tests, common_steps, parts_are _ _ _ c.in-Some.ensures.parts)
 
 pub returns-then-is_directory : goal.returns-then-is_directory
 unfolding after_make

@@ -1,4 +1,5 @@
-use Rattle.flat_store.proofs.Prelude.{◌≡◌, sym, ◌∙◌, arith, new_word, on_ok}
+use Rattle.std.proofs.lemmas.Grind.{common_steps}
+use Rattle.flat_store.proofs.Prelude.{nat_tests, ◌≡◌, sym, ◌∙◌, arith, new_word, on_ok}
 use Rattle.flat_store.proofs.DropLaws.{no_word}
 use Rattle.flat_store.proofs.NodeLaws.{pages_held, pages_found}
 use Rattle.flat_store.proofs.ReferLaws.{may_refer}
@@ -14,9 +15,7 @@ write-requires-clause-segment c = rw (c.alter.ensures.no c.if-alter.false)
     (omega (arith, c.if-offset-node.false)))
 
 pub write-requires-clause-within : goal.write-requires-clause-within
-write-requires-clause-within c =
-    let size = pages_found c.self.inside.accounts.nodes c.args.uid _ c.in-Some.ensures.some in
-    rw (c.alter.ensures.no c.if-alter.false, ← c.self.view_is) (omega (arith, size, c.if-offset-node.false))
+write-requires-clause-within c = grind (arith, nat_tests, common_steps, pages_found)
 
 pub returns-then-alter-clause-ok : goal.returns-then-alter-clause-ok
 returns-then-alter-clause-ok c = λ p s k h effect held.

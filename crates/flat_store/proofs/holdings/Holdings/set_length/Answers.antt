@@ -1,4 +1,5 @@
-use Rattle.flat_store.proofs.Prelude.{ap, ◌≡◌, false, Ok, Err, sym, ◌∙◌, Plan, quota_in, as_term, segment_at, after_length, is_stored_from, Store, Holds}
+use Rattle.std.proofs.lemmas.Grind.{common_steps}
+use Rattle.flat_store.proofs.Prelude.{arith, nat_tests, ap, ◌≡◌, false, Ok, sym, ◌∙◌, Plan, quota_in, as_term, segment_at, after_length, is_stored_from, Store, Holds}
 use Rattle.flat_store.specs.contracts.holdings.Holdings.{the_view}
 use Rattle.flat_store.proofs.ChangeLaws.{with_length}
 use Rattle.flat_store.proofs.EffectLaws.{length_asked, length_shown}
@@ -8,10 +9,7 @@ use Rattle.flat_store.proofs.holdings.Holdings.set_length.Goals as goal
 
 pub returns-in-Err : goal.returns-in-Err
 unfolding after_length
-returns-in-Err c = λ p s h effect.
-    let holds = rw (← c.self.view_is) at h in
-    let refused : segment_at s.nodes c.args.path.now ≡ Err c.in-Err.field-0 = rw holds.nodes c.in-Err.ensures.err in
-    rw refused h
+returns-in-Err c = grind (arith, nat_tests, common_steps)
 
 shown : (c : After-set_length) {p : Plan} {s : Store} → Holds p (the_view c.self.inside) s
     → is_stored_from s.stored c.in-Ok.node.now.uid c.args.pages ≡ false

@@ -1,4 +1,5 @@
-use Rattle.flat_store.proofs.Prelude.{refl, IsLawful}
+use Rattle.std.proofs.lemmas.Grind.{common_steps}
+use Rattle.flat_store.proofs.Prelude.{arith, nat_tests, IsLawful}
 use Rattle.flat_store.proofs.FollowLaws.{quiet_lawful}
 use Rattle.flat_store.proofs.store.FlatStore.allows.Goals as goal
 
@@ -20,8 +21,4 @@ unfolding IsLawful
 returns-in-Moved c = λ s h. rw c.in-Moved.is (c.allows_moved.ensures s h)
 
 pub returns-in_default : goal.returns-in_default
-returns-in_default c = λ s h. (
-  λ is. quiet_lawful c.args.script.now s c.args.e c.in_default.not-Do c.in_default.not-Release
-      c.in_default.not-Fault c.in_default.not-Moved,
-  λ lawful. refl,
-)
+returns-in_default c = grind (arith, nat_tests, common_steps, quiet_lawful)

@@ -1,4 +1,5 @@
-use Rattle.flat_store.proofs.Prelude.{◌≡◌, refl, sym, awaits_move, Store, progress_of, IsShown}
+use Rattle.std.proofs.lemmas.Grind.{common_steps}
+use Rattle.flat_store.proofs.Prelude.{arith, nat_tests, ◌≡◌, refl, sym, awaits_move, Store, progress_of, IsShown}
 use Rattle.flat_store.proofs.store.FlatStore.awaits_move.Goals.{After-place_of-place}
 use Rattle.flat_store.proofs.store.FlatStore.awaits_move.Goals as goal
 
@@ -14,18 +15,8 @@ returns-in_default c = λ s h.
 
 pub returns-in-Some-reference : goal.returns-in-Some-reference
 unfolding awaits_move
-returns-in-Some-reference c = λ s h. rw (
-  place (goal.at.returns-in-Some-reference c).After-place_of-place s h,
-  c.in-Some.ensures.some,
-  ← c.reference.ensures,
-  c.in-Some-reference.is,
-) (c.awaits_by.ensures s h)
+returns-in-Some-reference c = grind (arith, nat_tests, common_steps, place)
 
 pub returns-in-None : goal.returns-in-None
 unfolding awaits_move
-returns-in-None c = λ s h. rw (
-  place (goal.at.returns-in-None c).After-place_of-place s h,
-  c.in-Some.ensures.some,
-  ← c.reference.ensures,
-  c.in-None.is,
-) refl
+returns-in-None c = grind (arith, nat_tests, common_steps, place)

@@ -1,4 +1,5 @@
-use Rattle.flat_store.proofs.Prelude.{on_ok, IsLawful, after_entry}
+use Rattle.std.proofs.lemmas.Grind.{common_steps}
+use Rattle.flat_store.proofs.Prelude.{arith, nat_tests, on_ok, IsLawful, after_entry}
 use Rattle.flat_store.proofs.FollowLaws.{quiet}
 use Rattle.flat_store.proofs.store.FlatStore.follow.Goals as goal
 
@@ -27,12 +28,4 @@ returns-in-Moved-clause-ok c = λ s h lawful. rw c.in-Moved.is
     (c.follow_moved.ensures c.args.script.now s c.in-Moved.process h (rw c.in-Moved.is at lawful))
 
 pub returns-in_default : goal.returns-in_default
-returns-in_default c = record {
-  ok = λ s h lawful. rw (← (quiet c.args.script.now s c.args.e (record {
-    answer = c.in_default.not-Do;
-    release = c.in_default.not-Release;
-    fault = c.in_default.not-Fault;
-    moved = c.in_default.not-Moved;
-  })).1) h;
-  err = tt;
-}
+returns-in_default c = grind (arith, nat_tests, common_steps, quiet)

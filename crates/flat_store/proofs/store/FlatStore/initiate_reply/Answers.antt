@@ -1,4 +1,5 @@
-use Rattle.flat_store.proofs.Prelude.{◌≡◌, ℕ, Option, Ok, Err, refl, sym, ap, Plan, Node, quota_in, as_term, number_for, segment_at, initiate_reply, known_or_full, Store, IsShown, numbers_at}
+use Rattle.std.proofs.lemmas.Grind.{common_steps}
+use Rattle.flat_store.proofs.Prelude.{arith, nat_tests, ◌≡◌, ℕ, Option, Plan, number_for, initiate_reply, known_or_full, Store, IsShown, numbers_at}
 use Rattle.flat_store.proofs.store.FlatStore.initiate_reply.Goals.{After-deref}
 use Rattle.flat_store.proofs.store.FlatStore.initiate_reply.Goals as goal
 
@@ -7,12 +8,7 @@ told : (c : After-deref) (s : Store) {p : Plan} → IsShown p c.args.self.now s 
     → number ≡ number_for (numbers_at c.deref.result.now c.args.process) c.in-Ok.node.now.uid
     → known_or_full number ≡ initiate_reply s c.args.process c.args.path.now
 unfolding initiate_reply
-told c s h is =
-    let shown = rw (← c.self.view_is) at h in
-    let n : Node = as_term (quota_in c.tree.result.now.nodes) c.in-Ok.node.now in
-    let found : segment_at s.nodes c.args.path.now ≡ Ok n =
-    rw (shown.holds.nodes, ap (λ a. a.nodes) (sym c.tree.ensures)) c.in-Ok.ensures.ok in
-    rw (found, shown.known, ← c.deref.ensures.value, ← is) refl
+told c s h is = grind (arith, nat_tests, common_steps)
 
 pub returns-in-Some : goal.returns-in-Some
 returns-in-Some c = λ p s h. told (goal.at.returns-in-Some c).After-deref s h c.in-Some.ensures
@@ -22,8 +18,4 @@ returns-in-None c = λ p s h. told (goal.at.returns-in-None c).After-deref s h c
 
 pub returns-in-Err : goal.returns-in-Err
 unfolding initiate_reply
-returns-in-Err c = λ p s h.
-    let shown = rw (← c.self.view_is) at h in
-    let found : segment_at s.nodes c.args.path.now ≡ Err c.in-Err.reply =
-    rw (shown.holds.nodes, ap (λ a. a.nodes) (sym c.tree.ensures)) c.in-Err.ensures.err in
-    rw found refl
+returns-in-Err c = grind (arith, nat_tests, common_steps)

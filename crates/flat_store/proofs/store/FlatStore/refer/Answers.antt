@@ -1,4 +1,5 @@
-use Rattle.flat_store.proofs.Prelude.{◌≡◌, ℕ, Option, Some, sym, Plan, numbers_of, uid_of, reply_to_reference, after_reference, written_keeps, Store, IsShown, numbers_at}
+use Rattle.std.proofs.lemmas.Grind.{common_steps}
+use Rattle.flat_store.proofs.Prelude.{arith, nat_tests, ◌≡◌, ℕ, Option, sym, Plan, numbers_of, uid_of, reply_to_reference, after_reference, written_keeps, Store, IsShown, numbers_at}
 use Rattle.flat_store.proofs.StoreLaws.{effect_shown}
 use Rattle.flat_store.proofs.store.FlatStore.refer.Goals.{After-deref}
 use Rattle.flat_store.proofs.store.FlatStore.refer.Goals as goal
@@ -11,11 +12,7 @@ uid c s h is = rw (h.known, ← c.self.view_is, ← c.deref.ensures.value) (sym 
 
 pub returns-in_ok-refer-clause-ok : goal.returns-in_ok-refer-clause-ok
 unfolding after_reference reply_to_reference
-returns-in_ok-refer-clause-ok c = λ p s h effect held.
-    let shown = rw (← c.self.view_is) at h in
-    let is = uid (goal.at.returns-in_ok-refer-clause-ok c).After-deref s h c.in-Some.ensures.uid in
-    rw is (effect_shown shown (c.in_ok-refer.ensures.ok p s c.args.process shown.holds (rw is at effect)
-    (rw is at held)) (written_keeps s c.args.reference.now.offset c.args.reference.now.kind (Some c.in-Some.uid)))
+returns-in_ok-refer-clause-ok c = grind (arith, nat_tests, common_steps, uid, effect_shown, written_keeps)
 
 pub returns-in_default-clause-ok : goal.returns-in_default-clause-ok
 unfolding after_reference

@@ -1,18 +1,13 @@
-use Rattle.flat_store.proofs.Prelude.{true, false, [], ◌∷◌, who_of, owner_row, make_keeps, acl_keeps, length_keeps, truncate_keeps, delete_keeps}
+use Rattle.std.proofs.lemmas.Grind.{common_steps}
+use Rattle.flat_store.proofs.Prelude.{arith, nat_tests, make_keeps, acl_keeps, length_keeps, truncate_keeps, delete_keeps}
 use Rattle.flat_store.proofs.StoreLaws.{effect_done}
 use Rattle.flat_store.proofs.store.FlatStore.tree_effect.Goals as goal
 
 pub returns-in-MkDir : goal.returns-in-MkDir
-returns-in-MkDir c = λ s h few effect. effect_done c.self.view_is c.args.process c.in-MkDir.is h effect
-    (λ holds asked. rw (← c.none.ensures) (c.make.ensures c.args.script.now s holds few asked))
-    (make_keeps s c.in-MkDir.path c.in-MkDir.volume true 0 [])
+returns-in-MkDir c = grind (arith, nat_tests, common_steps, effect_done, make_keeps)
 
 pub returns-in-MkSeg : goal.returns-in-MkSeg
-returns-in-MkSeg c = λ s h few effect. effect_done c.self-in-MkSeg.view_is c.args.process c.in-MkSeg.is h effect
-    (λ holds asked. rw (← c.who.ensures, ← c.copied.ensures, ← c.of-acl.ensures)
-    (c.make-in-MkSeg.ensures c.args.script.now s holds few asked))
-    (make_keeps s c.in-MkSeg.path c.in-MkSeg.volume false c.in-MkSeg.pages
-    (owner_row (who_of c.args.script.now c.args.process) ∷ []))
+returns-in-MkSeg c = grind (arith, nat_tests, common_steps, effect_done, make_keeps)
 
 pub returns-in-Acl : goal.returns-in-Acl
 returns-in-Acl c = λ s h few effect.
