@@ -1,5 +1,6 @@
 -- What each entry makes of the tables is what it makes of custody.
-use Rattle.custody.proofs.Prelude.{◌≡◌, ◌<◌, ◌+◌, ◌-◌, ℕ, suc, zero, Bool, true, false, not, cond, eqb, ◌&&◌, List, [], ◌∷◌, Option, Some, None, get_or, length, set, refl, sym, ap, ◌∙◌, inl, inr, arith, is_some, filter, Decides-eqb, eqb_tells, get_or-set_same, get_or-set_other, What, Seat, cleared, names_frame, names_descriptor, names_number, offline, told, with_active, with_descriptor, with_frame, with_seat, signalled, FrameUse, DescriptorUse, frame_at, descriptor_at, Tables, active_at, custody_of, row_at, seat_at, drop_at, dropped, names_held, names_lead, names_use, put_active, put_descriptor, put_frame, put_seat, put_use, warn_from, warn_others, warned, with_place, ActiveUse}
+use Rattle.std.proofs.lemmas.Grind.{common_steps}
+use Rattle.custody.proofs.Prelude.{nat_tests, ◌≡◌, ◌<◌, ◌+◌, ◌-◌, ℕ, suc, zero, Bool, true, false, cond, eqb, ◌&&◌, List, [], ◌∷◌, Option, Some, None, get_or, length, set, refl, sym, ap, ◌∙◌, inl, inr, arith, is_some, Decides-eqb, eqb_tells, get_or-set_same, get_or-set_other, What, Seat, cleared, names_frame, names_descriptor, names_number, offline, told, with_active, with_descriptor, with_frame, with_seat, signalled, FrameUse, DescriptorUse, frame_at, descriptor_at, Tables, active_at, custody_of, row_at, seat_at, drop_at, dropped, names_held, names_lead, names_use, put_active, put_descriptor, put_frame, put_seat, put_use, warn_from, warn_others, warned, with_place, ActiveUse}
 use Rattle.assoc_mem.specs.declared.What.TheVariants as what
 use Rattle.custody_model.specs.declared.FrameUse.TheVariants as frame
 use Rattle.custody_model.specs.declared.DescriptorUse.TheVariants as descriptor
@@ -18,10 +19,8 @@ there test d e (x ∷ xs) (suc i) h = omega (arith, there test d e xs i h)
 
 put_cases : {X : Type 0} (xs : List X) (i j : ℕ) (x d : X) → i < length xs → get_or (set xs i x) j d
     ≡ cond (eqb j i) x (get_or xs j d)
-put_cases xs i j x d l = elim (eqb_tells j i) [
-  | inl e ↦ rw e.0 (rw e.1 (get_or-set_same xs i x d l))
-  | inr e ↦ rw e.0 (get_or-set_other xs i j x d e.1)
-]
+put_cases xs i j x d l =
+    grind (arith, nat_tests, common_steps, eqb_tells j i, get_or-set_same xs i x d l, get_or-set_other)
 
 pub frame_put : (t : Tables) (f : ℕ) (x : FrameUse) → f < length t.frames → custody_of (put_frame t f x)
     ≡ with_frame (custody_of t) f x
@@ -34,13 +33,16 @@ seat_put t d s l = λ i. record (custody_of t) { seat = λ e. put_cases t.seats 
 row_put : (rows : List (List DescriptorUse)) (k n j m : ℕ) (x : DescriptorUse) → k < length rows
     → n < length (row_at rows k) → descriptor_at (row_at (set rows k (set (row_at rows k) n x)) j) m
     ≡ cond (eqb j k && eqb m n) x (descriptor_at (row_at rows j) m)
-row_put rows k n j m x kl nl = elim (eqb_tells j k) [
-  | inl e ↦ rw e.0 (rw e.1
-      (ap (λ (row : List DescriptorUse). descriptor_at row m) (get_or-set_same rows k (set (row_at rows k) n x) [] kl)
-      ∙ put_cases (row_at rows k) n m x descriptor.Free nl))
-  | inr e ↦ rw e.0 (ap (λ (row : List DescriptorUse). descriptor_at row m)
-      (get_or-set_other rows k j (set (row_at rows k) n x) [] e.1))
-]
+row_put rows k n j m x kl nl =
+    grind (
+      arith,
+      nat_tests,
+      common_steps,
+      eqb_tells j k,
+      get_or-set_same rows k (set (row_at rows k) n x) [] kl,
+      put_cases (row_at rows k) n m x descriptor.Free nl,
+      get_or-set_other,
+    )
 
 pub descriptor_put : (t : Tables) (k n : ℕ) (x : DescriptorUse) → k < length t.descriptors
     → n < length (row_at t.descriptors k) → custody_of (put_descriptor t k n x) ≡ with_descriptor (custody_of t) k n x
@@ -60,10 +62,7 @@ some_cond false a o = refl
 
 pub use_put : (t : Tables) (u : ℕ) (a : Option ActiveUse) → custody_of (put_use t u a)
     ≡ with_active (custody_of t) u (is_some a)
-use_put t u a = λ i. record (custody_of t) {
-  active = λ v. (ap (λ (o : Option ActiveUse). is_some o) (active_put_at t.active u v a)
-      ∙ some_cond (eqb v u) a (active_at t.active v)) i;
-}
+use_put t u a = grind (arith, nat_tests, common_steps, active_put_at, some_cond)
 
 -- ---- what is dropped
 
@@ -84,20 +83,13 @@ number_named t w None n = refl
 number_named t w (Some k) n = descriptor_named t w k n
 
 pub dropped_is : (t : Tables) (w : What) (s : Seat) → dropped t.frames t.descriptors w s ≡ cleared (custody_of t) w s
-dropped_is t w s = λ i. record s {
-  segs = filter (λ n. not (number_named t w s.process n i)) s.segs;
-  pages = filter (λ f. not (frame_named t w f i)) s.pages;
-}
+dropped_is t w s = grind (arith, nat_tests, common_steps, number_named, frame_named)
 
 -- ---- signals
 
 pub warn_at : (d e i : ℕ) (w : What) (seats : List Seat) → seat_at (warn_from d w e seats) i
     ≡ cond (eqb (e + i) d) (seat_at seats i) (warned w (seat_at seats i))
-warn_at d e i w [] = same (eqb (e + i) d)
-  where
-    same : (b : Bool) → offline ≡ cond b offline offline
-    same true = refl
-    same false = refl
+warn_at d e i w [] = grind (arith, nat_tests, common_steps)
 warn_at d e zero w (s ∷ ss) = let z : e + 0 ≡ e = omega arith in ap (λ (n : ℕ). cond (eqb n d) s (warned w s)) (sym z)
 warn_at d e (suc i) w (s ∷ ss) =
     let z : e + 1 + i ≡ e + suc i = omega arith in
@@ -134,6 +126,5 @@ signal_is t d w l =
         by e = elim (eqb_tells e d) [
           | inl h ↦ rw h.0 (rw h.1 (ap (λ (s : Seat). dropped t.frames t.descriptors w s) here
               ∙ dropped_is t w (seat_at t.seats d)))
-          | inr h ↦ rw h.0 (warn_at d 0 e w t.seats ∙ ap (λ (n : ℕ). cond (eqb n d) (seat_at t.seats e)
-              (warned w (seat_at t.seats e))) (zero_plus e) ∙ rw h.0 refl)
+          | inr h ↦ grind (arith, nat_tests, common_steps, warn_at, zero_plus)
         ]

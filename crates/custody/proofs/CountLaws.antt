@@ -1,5 +1,6 @@
 -- Counts in a table by numbers.
-use Rattle.custody.proofs.Prelude.{◌≡◌, ◌≢◌, ◌<◌, ◌≤◌, ◌-◌, ◌+◌, ℕ, suc, zero, [], ◌∷◌, ◌++◌, Option, Some, None, length, set, replicate, refl, sym, inl, inr, arith, eqb_tells, get_or-set_same, get_or-set_other, Counted, Keeps, Shifts, count_at, key_bit}
+use Rattle.std.proofs.lemmas.Grind.{common_steps}
+use Rattle.custody.proofs.Prelude.{nat_tests, ◌≡◌, ◌≢◌, ◌<◌, ◌≤◌, ◌-◌, ◌+◌, ℕ, suc, zero, [], ◌∷◌, ◌++◌, Option, Some, None, length, set, replicate, refl, arith, eqb_tells, get_or-set_same, get_or-set_other, Counted, Keeps, Shifts, count_at, key_bit}
 
 -- ---- more places
 
@@ -24,32 +25,36 @@ pub stays : (c : Counted) → Shifts c c None None
 stays c = λ x. omega arith
 
 bit_same : (k : ℕ) → key_bit (Some k) k ≡ 1
-bit_same k = elim (eqb_tells k k) [
-  | inl e ↦ rw e.0 refl
-  | inr e ↦ absurd (e.1 refl)
-]
+bit_same k = grind (arith, nat_tests, common_steps, eqb_tells k k)
 
 bit_other : (k x : ℕ) → x ≢ k → key_bit (Some k) x ≡ 0
-bit_other k x apart = elim (eqb_tells k x) [
-  | inl e ↦ absurd (apart (sym e.1))
-  | inr e ↦ rw e.0 refl
-]
+bit_other k x apart = grind (arith, nat_tests, common_steps, eqb_tells k x)
 
 pub entered : (c : Counted) (k n : ℕ) → k < length c → n ≡ count_at c k → Shifts c (set c k (n + 1)) None (Some k)
-entered c k n l is x = elim (eqb_tells x k) [
-  | inl e ↦ rw e.1 (let s : count_at (set c k (n + 1)) k ≡ n + 1 = get_or-set_same c k (n + 1) 0 l in
-      let b = bit_same k in omega (arith, s, b, is))
-  | inr e ↦ let s : count_at (set c k (n + 1)) x ≡ count_at c x = get_or-set_other c k x (n + 1) 0 e.1 in
-      let b = bit_other k x e.1 in omega (arith, s, b)
-]
+entered c k n l is x =
+    grind (
+      arith,
+      nat_tests,
+      common_steps,
+      eqb_tells x k,
+      get_or-set_same c k (n + 1) 0 l,
+      bit_same k,
+      get_or-set_other,
+      bit_other,
+    )
 
 pub left : (c : Counted) (k n : ℕ) → k < length c → n ≡ count_at c k → Shifts c (set c k (n - 1)) (Some k) None
-left c k n l is x = elim (eqb_tells x k) [
-  | inl e ↦ rw e.1 (let s : count_at (set c k (n - 1)) k ≡ n - 1 = get_or-set_same c k (n - 1) 0 l in
-      let b = bit_same k in omega (arith, s, b, is))
-  | inr e ↦ let s : count_at (set c k (n - 1)) x ≡ count_at c x = get_or-set_other c k x (n - 1) 0 e.1 in
-      let b = bit_other k x e.1 in omega (arith, s, b)
-]
+left c k n l is x =
+    grind (
+      arith,
+      nat_tests,
+      common_steps,
+      eqb_tells x k,
+      get_or-set_same c k (n - 1) 0 l,
+      bit_same k,
+      get_or-set_other,
+      bit_other,
+    )
 
 past : (c : Counted) (x : ℕ) → length c ≤ x → count_at c x ≡ 0
 past [] x l = refl
@@ -57,10 +62,7 @@ past (y ∷ ys) zero l = absurd (omega (arith, l))
 past (y ∷ ys) (suc x) l = past ys x (omega (arith, l))
 
 pub left_past : (c : Counted) (k : ℕ) → length c ≤ k → Shifts c c (Some k) None
-left_past c k l x = elim (eqb_tells x k) [
-  | inl e ↦ rw e.1 (let s = past c k l in let b = bit_same k in omega (arith, s, b))
-  | inr e ↦ let b = bit_other k x e.1 in omega (arith, b)
-]
+left_past c k l x = grind (arith, nat_tests, common_steps, eqb_tells x k, past c k l, bit_same k, bit_other)
 
 pub shifted : (old mid new : Counted) (from to : Option ℕ) → Shifts old mid None to → Shifts mid new from None
     → Shifts old new from to

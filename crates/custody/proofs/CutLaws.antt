@@ -1,19 +1,13 @@
 -- Which pages a truncation takes, and whether one of them is in a frame.
-use Rattle.custody.proofs.Prelude.{◌≡◌, ◌≢◌, ◌<◌, ℕ, Bool, true, not, List, Option, Some, None, refl, ap, inl, inr, arith, Decides, eqb_tells, leb_tells, list_any, unwrap_or, page_of, uid_of_page, FrameUse, without_words, Store, LosesNoPage, Tables, AreKept, custody_of, frame_at, is_page, is_page_from, not_both}
+use Rattle.std.proofs.lemmas.Grind.{common_steps}
+use Rattle.custody.proofs.Prelude.{nat_tests, ◌≡◌, ◌≢◌, ◌<◌, ℕ, Bool, true, not, List, Option, Some, None, refl, ap, inl, inr, arith, Decides, eqb_tells, leb_tells, list_any, unwrap_or, page_of, uid_of_page, FrameUse, without_words, Store, LosesNoPage, Tables, AreKept, custody_of, frame_at, is_page, is_page_from, not_both}
 use Rattle.custody_model.specs.declared.FrameUse.TheVariants as frame
 use Rattle.custody.proofs.ScanLaws.{scan_decides}
 
 -- ---- a page, and pages below a number
 
 page_is : (u q : ℕ) (o : Option (ℕ × ℕ)) → Decides (not (is_page u q o)) (o ≢ Some (u, q))
-page_is u q None = (λ t e. cc, λ n. refl)
-page_is u q (Some p) = elim (eqb_tells p.0 u) [
-  | inl e ↦ elim (eqb_tells p.1 q) [
-    | inl f ↦ rw (e.0, f.0) (λ t. absurd (not_both t refl), λ n. absurd (n (λ i. Some (e.1 i, f.1 i))))
-    | inr f ↦ rw (e.0, f.0) (λ t g. f.1 (ap (λ (o : Option (ℕ × ℕ)). (unwrap_or o (0, 0)).1) g), λ n. refl)
-  ]
-  | inr e ↦ rw e.0 (λ t g. e.1 (ap (λ (o : Option (ℕ × ℕ)). (unwrap_or o (0, 0)).0) g), λ n. refl)
-]
+page_is u q o = grind (arith, nat_tests, common_steps, eqb_tells, not_both)
 
 -- what a look at all frames decides of a page
 pub nowhere_decides : (frames : List FrameUse) (u q : ℕ) (r : Bool) → r ≡ list_any (λ x. is_page u q (page_of x)) frames

@@ -1,6 +1,7 @@
 -- What an entry that is allowed makes of the tables is the custody after it; their sizes stay, and what is active is
+use Rattle.std.proofs.lemmas.Grind.{common_steps}
 -- in the tree.
-use Rattle.custody.proofs.Prelude.{◌≡◌, ◌<◌, ◌+◌, ◌⊎◌, ℕ, Bool, true, false, List, [], ◌++◌, Option, Some, None, length, drop, set, refl, ap, subst, ◌∙◌, inl, inr, arith, length-set, is_some, IsSomeAnd, eqb_tells, get_or-set_same, get_or-set_other, What, Plan, Entry, Node, node_in, uid_of, after_entry, Store, known_uid, IsAllowed, next_command, Seat, offline, is_current_descriptor, is_current_frame, is_going_descriptor, is_going_frame, is_started, custody_next, is_try, queued, released_by, with_active, with_seat, FrameUse, DescriptorUse, frame_at, descriptor_at, AreNodes, AreTablesOf, Tables, active_at, custody_of, row_at, seat_at, use_in, Advances, put_descriptor, put_frame, warn_from, Kept, Shows}
+use Rattle.custody.proofs.Prelude.{nat_tests, ◌≡◌, ◌<◌, ◌+◌, ◌⊎◌, ℕ, Bool, true, false, List, [], ◌++◌, Option, Some, None, length, set, refl, ap, ◌∙◌, inl, inr, arith, length-set, is_some, IsSomeAnd, eqb_tells, get_or-set_same, get_or-set_other, What, Plan, Entry, node_in, uid_of, after_entry, Store, known_uid, IsAllowed, next_command, Seat, offline, is_current_descriptor, is_current_frame, is_going_descriptor, is_going_frame, is_started, custody_next, is_try, released_by, with_seat, FrameUse, DescriptorUse, frame_at, descriptor_at, AreNodes, AreTablesOf, Tables, custody_of, row_at, seat_at, use_in, Advances, put_descriptor, put_frame, warn_from, Kept, Shows}
 use Rattle.book.specs.declared.entries.Entry.TheVariants as entry
 use Rattle.custody_model.specs.declared.FrameUse.TheVariants as frame
 use Rattle.custody_model.specs.declared.DescriptorUse.TheVariants as descriptor
@@ -46,10 +47,8 @@ seat_in p t d of h = let z = of.processors in omega (arith, h, z)
 descriptor_there : (test : DescriptorUse → Bool) → test descriptor.Free ≡ false → (t : Tables) (k n : ℕ)
     → test (descriptor_at (row_at t.descriptors k) n) ≡ true → (k < length t.descriptors)
     × (n < length (row_at t.descriptors k))
-descriptor_there test e t k n h = (
-  there (λ (row : List DescriptorUse). test (descriptor_at row n)) [] e t.descriptors k h,
-  there test descriptor.Free e (row_at t.descriptors k) n h,
-)
+descriptor_there test e t k n h =
+    grind (arith, nat_tests, common_steps, there test descriptor.Free e (row_at t.descriptors k) n h)
 
 known_there : (s : Store) (k n u : ℕ) → known_uid s k n ≡ Some u → k < length s.known
 known_there s k n u h = there (λ (row : List (Option ℕ)). is_some (uid_of row n)) [] refl s.known k
@@ -74,21 +73,11 @@ custody_advanced p kept s t v (entry.Moved k u w) shows of may a = ap custody_of
 custody_advanced p kept s t v (entry.Online d) shows of may a = ap custody_of a
     ∙ seat_put t d _ (seat_in p t d of may.processor)
 custody_advanced p kept s t v (entry.Load d k) shows of may a =
-    let l = online_there t d may.online in
-    let seat : Seat = record (seat_at t.seats d) { process = Some k; count = 0; tried = false; segs = []; pages = [] }
-    in
-    ap custody_of a ∙ (λ i. record (seat_put t d seat l i) { ready = drop 1 t.ready })
+    grind (arith, nat_tests, common_steps, online_there t d may.online, seat_put)
 custody_advanced p kept s t v (entry.Leave d) shows of may a =
-    let l = runs_there t d (some_and (seat_at t.seats d).process _ may) in
-    let seat : Seat = record (seat_at t.seats d) { process = None; segs = []; pages = [] } in
-    ap custody_of a ∙ (λ i. record (seat_put t d seat l i) { ready = queued s t.ready (seat_at t.seats d).process })
+    grind (arith, nat_tests, common_steps, runs_there t d (some_and (seat_at t.seats d).process _ may), seat_put)
 custody_advanced p kept s t v (entry.Activate u) shows of may a =
-    ap custody_of a ∙ use_put t u (use_in (node_in s.nodes u))
-    ∙ ap (λ (b : Bool). with_active (custody_of t) u b) (used (node_in s.nodes u) _ may.node)
-  where
-    used : (o : Option Node) (P : Node → Type 0) → IsSomeAnd o P → is_some (use_in o) ≡ true
-    used None P h = absurd h
-    used (Some n) P h = refl
+    grind (arith, nat_tests, common_steps, use_put t u (use_in (node_in s.nodes u)))
 custody_advanced p kept s t v (entry.Deactivate u) shows of may a = ap custody_of a ∙ use_put t u None
 custody_advanced p kept s t v (entry.Start f u q) shows of may a = ap custody_of a
     ∙ frame_put t f _ (frame_in p t f of may.there)
@@ -138,25 +127,17 @@ of_frame p t f x of = let frames = length-set t.frames f x ∙ of.frames in assu
 
 of_descriptor : (p : Plan) (t : Tables) (k n : ℕ) (x : DescriptorUse) → AreTablesOf p t
     → AreTablesOf p (put_descriptor t k n x)
-of_descriptor p t k n x of = record {
-  frames = of.frames;
-  processes = length-set t.descriptors k (set (row_at t.descriptors k) n x) ∙ of.processes;
-  numbers = λ j l.
-      let within : j < length t.descriptors = subst (λ (m : ℕ). j < m)
-      (length-set t.descriptors k (set (row_at t.descriptors k) n x)) l in
-      elim (eqb_tells j k) [
-        | inl e ↦
-            (let at : k < length t.descriptors = subst (λ (m : ℕ). m < length t.descriptors) e.1 within in
-            ap (λ (m : ℕ). length (row_at (set t.descriptors k (set (row_at t.descriptors k) n x)) m)) e.1
-            ∙ ap (λ (row : List DescriptorUse). length row)
-            (get_or-set_same t.descriptors k (set (row_at t.descriptors k) n x) [] at)
-            ∙ length-set (row_at t.descriptors k) n x ∙ of.numbers k at)
-        | inr e ↦
-            ap (λ (row : List DescriptorUse). length row)
-            (get_or-set_other t.descriptors k j (set (row_at t.descriptors k) n x) [] e.1) ∙ of.numbers j within
-      ];
-  processors = of.processors;
-}
+of_descriptor p t k n x of =
+    grind (
+      arith,
+      nat_tests,
+      common_steps,
+      length-set t.descriptors k (set (row_at t.descriptors k) n x),
+      eqb_tells,
+      get_or-set_same t.descriptors k (set (row_at t.descriptors k) n x) [],
+      length-set (row_at t.descriptors k) n x,
+      get_or-set_other,
+    )
 
 of_seats : (p : Plan) (t : Tables) (seats : List Seat) (ready : List ℕ) → length seats ≡ length t.seats
     → AreTablesOf p t → AreTablesOf p (record t { seats = seats; ready = ready })
@@ -195,12 +176,4 @@ of_advanced p s t v (entry.FillPage d f) of a = rw a (of_seats p t _ _ (length-s
 pub active_advanced : (p : Plan) (s : Store) (t v : Tables) (e : Entry) → Advances p s t v e → AreNodes s.nodes t.active
     → AreNodes (after_entry p s e).nodes t.active → AreNodes (after_entry p s e).nodes v.active
 unfolding after_entry
-active_advanced p s t v (entry.Activate u) a old nodes =
-    nodes_put s.nodes t.active v.active u (use_in (node_in s.nodes u)) old
-    (λ w. ap (λ (x : Tables). active_at x.active w) a ∙ active_put_at t.active u w (use_in (node_in s.nodes u)))
-    (λ x e. use_as (node_in s.nodes u) x e)
-active_advanced p s t v (entry.Deactivate u) a old nodes = nodes_put s.nodes t.active v.active u None old
-    (λ w. ap (λ (x : Tables). active_at x.active w) a ∙ active_put_at t.active u w None)
-    (λ x e. let no : ⊥ = cc in absurd no)
-active_advanced p s t v (entry.Connect k n u) a old nodes = rw a.0 nodes
-active_advanced p s t v _ a old nodes = rw a nodes
+active_advanced p s t v o a old nodes = grind (arith, nat_tests, common_steps, nodes_put, active_put_at, use_as)

@@ -1,4 +1,5 @@
 -- What counts tell of each element of a list, as a scan of it would.
+use Rattle.std.proofs.lemmas.Grind.{common_steps}
 use Rattle.custody.proofs.Prelude.{◌≡◌, ◌≢◌, ℕ, suc, zero, ◌+◌, Bool, true, false, not, cond, eqb, ltb, ◌&&◌, List, [], ◌∷◌, Option, Some, None, get_or, set, refl, sym, ap, ◌∙◌, inl, inr, arith, sum_by, list_any, Decides, is_some, nat_tests, eqb_tells, sum_by-cons, get_or-set_other, page_of, bound_page, uid_of_page, is_uid, is_going_frame, is_going_descriptor, leads_to, FrameUse, DescriptorUse, Counted, count_at, key_bit, AreActive, active_at, is_in_pool, pool_key, superior_of, ActiveUse, UseCounted, AreFrames, AreDescriptors, frame_at, descriptor_at, frame_mark, descriptor_mark, uid_key, going_key, kind_key, page_key, page_number, started_key, not_both}
 use Rattle.std.proofs.lemmas.Bool.{cases_Bool}
 use Rattle.std.specs.Prelude.{count_by}
@@ -29,12 +30,7 @@ none_counted p (x ∷ xs) =
     ]
 
 some_counted : {X : Type 0} (p : X → Bool) (xs : List X) → ltb 0 (count_by p xs) ≡ list_any p xs
-some_counted p xs =
-    let none = none_counted p xs in
-    elim (cases_Bool (list_any p xs)) [
-      | inl is ↦ (let some : eqb (count_by p xs) 0 ≡ false = rw is at none in rw is (grind (arith, nat_tests)))
-      | inr isnt ↦ (let zero_is : eqb (count_by p xs) 0 ≡ true = rw isnt at none in rw isnt (grind (arith, nat_tests)))
-    ]
+some_counted p xs = grind (arith, nat_tests, common_steps, none_counted p xs)
 
 -- as much is counted of two where nothing is that the second has more
 sum_both : {X : Type 0} (f g : X → ℕ) (xs : List X) → sum_by (λ x. f x + g x) xs ≡ sum_by f xs + sum_by g xs
@@ -138,22 +134,14 @@ frame_page (frame.Current v q) = refl
 frame_page (frame.Going v q) = refl
 
 started_is : (u : ℕ) (x : FrameUse) → Decides (not (is_uid u (started_key x))) ((q : ℕ) → x ≢ frame.Started u q)
-started_is u (frame.Started v q) = elim (eqb_tells v u) [
-  | inl e ↦ rw e.0 (λ t p s. cc, λ h. absurd (h q (ap (λ w. frame.Started w q) e.1)))
-  | inr e ↦ rw e.0 (λ t p s. let same : v ≡ u = cc in e.1 same, λ h. refl)
-]
-started_is u _ = (λ t q e. cc, λ h. refl)
+started_is u o = grind (arith, nat_tests, common_steps, eqb_tells)
 
 module _ {uses now : List FrameUse} {c : UseCounted} {p s : Counted} (is : uses ≡ now) (t : AreFrames uses c p s) where
   -- a page under whose number nothing is counted is in no frame
   pub page_nowhere : {n : ℕ} (u q k : ℕ) → k ≡ page_number u q → n ≡ count_at p k → n ≡ 0
       → Decides true ((f : ℕ) → page_of (frame_at now f) ≢ Some (u, q))
   page_nowhere {n} u q k number e z =
-      let none = key_decides page_key frame.Free refl uses k (e ∙ t.pages k) in
-      rw (← is) (
-        λ r f same. none.0 (rw z refl) f (frame_page (frame_at uses f) ∙ ap number_of same ∙ ap Some (sym number)),
-        λ h. refl,
-      )
+      grind (arith, nat_tests, common_steps, key_decides page_key frame.Free refl uses k (e ∙ t.pages k), frame_page)
 
   pub frames_of_decide : {n : ℕ} (u : ℕ) → n ≡ count_at c.uids u
       → Decides (eqb n 0) ((f : ℕ) → uid_of_page (page_of (frame_at now f)) ≢ Some u)

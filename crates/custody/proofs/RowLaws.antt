@@ -1,5 +1,6 @@
 -- Lists of ready processes, of what is held, and of processors, as they are changed in place.
-use Rattle.custody.proofs.Prelude.{◌≡◌, ◌≢◌, ◌<◌, ◌≤◌, ◌+◌, ℕ, suc, Bool, true, false, not, cond, eqb, List, [], ◌∷◌, ◌++◌, Option, None, get_or, length, set, take, refl, sym, ap, ◌∙◌, inl, inr, arith, length-set, append-nil, append_assoc, ext_get_or, filter, eqb_tells, get_or-set_same, get_or-set_other, What, Seat, offline, range, FrameUse, DescriptorUse, frame_at, seat_at, dropped, names_held, names_use, warn_from, warned, range_end}
+use Rattle.std.proofs.lemmas.Grind.{common_steps}
+use Rattle.custody.proofs.Prelude.{nat_tests, ◌≡◌, ◌≢◌, ◌<◌, ◌≤◌, ◌+◌, ℕ, Bool, true, false, not, cond, eqb, List, [], ◌∷◌, ◌++◌, Option, None, get_or, length, set, take, refl, sym, ap, ◌∙◌, arith, length-set, append-nil, append_assoc, ext_get_or, filter, eqb_tells, get_or-set_same, get_or-set_other, What, Seat, offline, range, FrameUse, DescriptorUse, frame_at, seat_at, dropped, names_held, names_use, warn_from, warned, range_end}
 use Rattle.laws.proofs.Lists.{get_or_any}
 use Rattle.custody.proofs.AdvanceLaws.{warn_at, warn_length}
 
@@ -26,12 +27,7 @@ none_released xs = sym (append-nil xs)
 pub one_released : (n : ℕ) (xs before after : List ℕ) → before ≡ xs ++ range 1 n → after ≡ before ++ (n + 1) ∷ []
     → after ≡ xs ++ range 1 (n + 1)
 one_released n xs before after e f =
-    let s : suc n ≡ n + 1 = omega arith in
-    let z : 1 + n ≡ n + 1 = omega arith in
-    let more : range 1 n ++ (n + 1) ∷ [] ≡ range 1 (n + 1) =
-    sym (range_end 1 n ∙ ap (λ (x : ℕ). range 1 n ++ x ∷ []) z) ∙ ap (range 1) s in
-    f ∙ ap (λ (zs : List ℕ). zs ++ (n + 1) ∷ []) e ∙ append_assoc xs (range 1 n) ((n + 1) ∷ [])
-    ∙ ap (λ (zs : List ℕ). xs ++ zs) more
+    grind (arith, nat_tests, common_steps, range_end 1 n, append_assoc xs (range 1 n) ((n + 1) ∷ []))
 
 -- ---- a processor without a process drops no descriptor
 
@@ -58,46 +54,26 @@ pub record WarnedBelow (d : ℕ) (w : What) (n : ℕ) (old new : List Seat) : Ty
   pub rest : (j : ℕ) → n ≤ j → seat_at new j ≡ seat_at old j
 
 pub none_warned : (d : ℕ) (w : What) (old new : List Seat) → new ≡ old → WarnedBelow d w 0 old new
-none_warned d w old new e = record {
-  size = ap length e;
-  below = λ j l. absurd (omega (arith, l));
-  rest = λ j l. rw e refl;
-}
+none_warned d w old new e = grind (arith, nat_tests, common_steps)
 
 pub one_warned : (d : ℕ) (w : What) (n : ℕ) (old mid new : List Seat) (s t : Seat) → n < length mid → n ≢ d
     → WarnedBelow d w n old mid
     → s ≡ get_or mid n s → t ≡ warned w s → new ≡ set mid n t → WarnedBelow d w (n + 1) old new
-one_warned d w n old mid new s t l other h is told made = rw made (record {
-  size = length-set mid n t ∙ h.size;
-  below = λ j lt. elim (eqb_tells j n) [
-    | inl e ↦
-        (let here : seat_at (set mid n t) j ≡ t = ap (λ (i : ℕ). seat_at (set mid n t) i) e.1
-        ∙ get_or-set_same mid n t offline l in
-        let off : eqb j d ≡ false = elim (eqb_tells j d) [ inl g ↦ absurd (other (sym e.1 ∙ g.1)) | inr g ↦ g.0 ] in
-        let old_is : s ≡ seat_at old j = is ∙ get_or_any mid n s offline l ∙ h.rest n (omega arith)
-        ∙ ap (λ (i : ℕ). seat_at old i) (sym e.1) in
-        here ∙ told ∙ ap (λ (x : Seat). warned w x) old_is
-        ∙ ap (λ (b : Bool). cond b (seat_at old j) (warned w (seat_at old j))) (sym off))
-    | inr e ↦
-        (let near : j < n = let ne = e.1 in omega (arith, lt, ne) in
-        get_or-set_other mid n j t offline e.1 ∙ h.below j near)
-  ];
-  rest = λ j le. get_or-set_other mid n j t offline (λ e. omega (arith, le, e)) ∙ h.rest j (omega (arith, le));
-})
+one_warned d w n old mid new s t l other h is told made =
+    grind (
+      arith,
+      nat_tests,
+      common_steps,
+      length-set mid n t,
+      eqb_tells,
+      get_or-set_same mid n t offline l,
+      get_or_any mid n s offline l,
+      get_or-set_other,
+    )
 
 pub one_passed : (d : ℕ) (w : What) (n : ℕ) (old mid new : List Seat) → n ≡ d → WarnedBelow d w n old mid → new ≡ mid
     → WarnedBelow d w (n + 1) old new
-one_passed d w n old mid new this h made = rw made (record {
-  size = h.size;
-  below = λ j lt. elim (eqb_tells j n) [
-    | inl e ↦
-        (let on : eqb j d ≡ true = elim (eqb_tells j d) [ inl g ↦ g.0 | inr g ↦ absurd (g.1 (e.1 ∙ this)) ] in
-        h.rest j (let z = e.1 in omega (arith, z)) ∙ ap
-        (λ (b : Bool). cond b (seat_at old j) (warned w (seat_at old j))) (sym on))
-    | inr e ↦ h.below j (let ne = e.1 in omega (arith, lt, ne))
-  ];
-  rest = λ j le. h.rest j (omega (arith, le));
-})
+one_passed d w n old mid new this h made = grind (arith, nat_tests, common_steps, eqb_tells)
 
 pub all_warned : (d : ℕ) (w : What) (n : ℕ) (old new : List Seat) → length new ≤ n → WarnedBelow d w n old new → new
     ≡ warn_from d w 0 old

@@ -1,5 +1,6 @@
 -- What a scan of a list decides of its elements, and of those past its end.
-use Rattle.custody.proofs.Prelude.{inl, inr, eqb_tells, ◌≡◌, ◌≢◌, ℕ, suc, zero, Bool, true, false, not, ◌&&◌, List, [], ◌∷◌, Option, Some, None, get_or, refl, sym, ap, ◌∙◌, list_any, Decides, is_some, leads_to, is_uid, is_going_descriptor, is_going_frame, HasNoDescriptor, NobodyHoldsPage, NobodyHoldsSeg, DescriptorUse, descriptor_at, Tables, AreNodes, IsAsActivated, DescriptorsAreNamed, IsUnused, active_at, superior_of, custody_of, row_at, ActiveUse, FrameUse, frame_at, GoesPage, GoesDescriptor, MayDeactivate, superior_in, Store, Node, node_in, IsSomeAnd, Seat, has, offline, What, not_both, not_true, or_parts}
+use Rattle.std.proofs.lemmas.Grind.{common_steps}
+use Rattle.custody.proofs.Prelude.{arith, nat_tests, inl, inr, eqb_tells, ◌≡◌, ◌≢◌, ℕ, suc, zero, Bool, true, false, not, ◌&&◌, List, [], ◌∷◌, Option, Some, None, get_or, refl, sym, ap, ◌∙◌, list_any, Decides, is_some, leads_to, is_uid, is_going_descriptor, is_going_frame, HasNoDescriptor, NobodyHoldsPage, NobodyHoldsSeg, DescriptorUse, descriptor_at, Tables, AreNodes, IsAsActivated, DescriptorsAreNamed, IsUnused, active_at, superior_of, custody_of, row_at, ActiveUse, FrameUse, frame_at, GoesPage, GoesDescriptor, MayDeactivate, superior_in, Store, Node, node_in, IsSomeAnd, Seat, has, offline, What, not_both, not_true, or_parts}
 use Rattle.std.proofs.lemmas.Bool.{cases_Bool}
 use Rattle.laws.proofs.Bools.{or_true}
 use Rattle.custody_model.specs.declared.DescriptorUse.TheVariants as descriptor
@@ -41,11 +42,7 @@ find p d (x ∷ xs) (suc i) n e = rw (find p d xs i n e) (or_true (p x))
 -- ---- what is decided of one element
 
 pub uid_decides : (u : ℕ) (o : Option ℕ) → Decides (not (is_uid u o)) (o ≢ Some u)
-uid_decides u None = (λ t e. cc, λ n. refl)
-uid_decides u (Some v) = elim (eqb_tells v u) [
-  | inl e ↦ rw e.0 (λ t s. cc, λ n. absurd (n (ap Some e.1)))
-  | inr e ↦ rw e.0 (λ t s. let same : v ≡ u = cc in e.1 same, λ n. refl)
-]
+uid_decides u o = grind (arith, nat_tests, common_steps, eqb_tells)
 
 pub bool_decides : (b : Bool) → Decides (not b) (b ≡ false)
 bool_decides b = (not_true b, λ f. ap not f)
@@ -94,11 +91,7 @@ nobody_page_decides t f = scan_decides (λ (s : Seat). has s.pages f) (λ (s : S
     (λ s. bool_decides (has s.pages f)) t.seats
 
 seg_decides : (k : ℕ) (o : Option ℕ) (b : Bool) → Decides (not (is_uid k o && b)) (o ≡ Some k → b ≡ false)
-seg_decides k None b = (λ t e. cc, λ h. refl)
-seg_decides k (Some v) b = elim (eqb_tells v k) [
-  | inl e ↦ rw e.0 (λ t s. not_true b t, λ h. ap not (h (ap Some e.1)))
-  | inr e ↦ rw e.0 (λ t s. absurd (let same : v ≡ k = cc in e.1 same), λ h. refl)
-]
+seg_decides k o b = grind (arith, nat_tests, common_steps, eqb_tells, not_true)
 
 pub nobody_seg_decides : (t : Tables) (k n : ℕ) (r : Bool) → r
     ≡ list_any (λ s. is_uid k s.process && has s.segs n) t.seats → Decides (not r) (NobodyHoldsSeg (custody_of t) k n)
@@ -161,15 +154,8 @@ inferiors_decide t s u r is nodes h =
 pub deactivates : (s : Store) (t : Tables) (u : ℕ) (a r : Bool) → Decides a (IsUnused (custody_of t) u) → a ≡ true
     → Decides r ((v : ℕ) → (custody_of t).active v ≡ true → superior_in (node_in s.nodes v) ≢ Some u)
     → Decides r (MayDeactivate s (custody_of t) u)
-deactivates s t u a r d e h =
-    let unused = d.0 e in (
-      λ q. record { active = unused.active; inferiors = h.0 q; pages = unused.pages; descriptors = unused.descriptors },
-      λ m. h.1 m.inferiors,
-    )
+deactivates s t u a r d e h = grind (arith, nat_tests, common_steps)
 
 pub stays_active : (s : Store) (t : Tables) (u : ℕ) (a : Bool) → Decides a (IsUnused (custody_of t) u) → a ≡ false
     → Decides false (MayDeactivate s (custody_of t) u)
-stays_active s t u a d e = (
-  λ q. cc,
-  λ m. absurd (not_both (d.1 (record { active = m.active; pages = m.pages; descriptors = m.descriptors })) e),
-)
+stays_active s t u a d e = grind (arith, nat_tests, common_steps, not_both)

@@ -1,5 +1,6 @@
 -- What is counted of a list, as one element after the other changes.
-use Rattle.custody.proofs.Prelude.{◌≡◌, ◌<◌, ◌≤◌, ◌^◌, ℕ, suc, zero, eqb, List, [], ◌∷◌, Option, Some, None, length, get_or, set, length-set, ◌∙◌, arith, subst, sym, sum_by, sum_by-set, sum_by-cons, FrameUse, DescriptorUse, AreFew, Counted, Keeps, Shifts, key_bit, UseCounted, IsTally, AreFrames, AreDescriptors, KeepUses, ShiftUses, AreFewUses, frame_mark, descriptor_mark, uid_key, going_key, kind_key, page_key, started_key, bit_le}
+use Rattle.std.proofs.lemmas.Grind.{common_steps}
+use Rattle.custody.proofs.Prelude.{nat_tests, ◌≡◌, ◌<◌, ◌≤◌, ◌^◌, ℕ, suc, zero, eqb, List, [], ◌∷◌, Option, Some, None, length, get_or, set, length-set, ◌∙◌, arith, subst, sym, sum_by, sum_by-set, sum_by-cons, FrameUse, DescriptorUse, AreFew, Counted, Keeps, Shifts, key_bit, UseCounted, IsTally, AreFrames, AreDescriptors, KeepUses, ShiftUses, AreFewUses, frame_mark, descriptor_mark, uid_key, going_key, kind_key, page_key, started_key, bit_le}
 
 -- ---- sums
 
@@ -22,13 +23,7 @@ bit_small (Some k) a = bit_le (eqb k a)
 
 pub tally_set : {X : Type 0} (key : X → Option ℕ) (xs : List X) (old new : Counted) (i : ℕ) (x d : X) → i < length xs
     → IsTally key xs old → Shifts old new (key (get_or xs i d)) (key x) → IsTally key (set xs i x) new
-tally_set {X} key xs old new i x d l t s = λ a.
-    let f : X → ℕ = λ y. key_bit (key y) a in
-    let e = sum_by-set f xs i x d l in
-    let p = sum_part f xs i d l in
-    let h = s a in
-    let g = t a in
-    omega (arith, e, p, h, g)
+tally_set {X} key xs old new i x d l t s = grind (arith, nat_tests, common_steps, sum_by-set, sum_part)
 
 pub tally_kept : {X : Type 0} (key : X → Option ℕ) (xs : List X) (old new : Counted) → IsTally key xs old
     → Keeps old new → IsTally key xs new
@@ -36,38 +31,19 @@ tally_kept key xs old new t k = λ a. k a ∙ t a
 
 pub tally_few : {X : Type 0} (key : X → Option ℕ) (xs : List X) (c : Counted) → length xs ≤ 2 ^ 32
     → IsTally key xs c → AreFew c
-tally_few {X} key xs c l t = λ a.
-    let f : X → ℕ = λ y. key_bit (key y) a in
-    let s = sum_small f (λ y. bit_small (key y) a) xs in
-    let g = t a in
-    omega (arith, l, s, g)
+tally_few {X} key xs c l t = grind (arith, nat_tests, common_steps, sum_small, bit_small)
 
 -- ---- frames and descriptors
 
 -- memory was taken to count a use, and perhaps to count it where its page is being read
 pub frames_kept : (uses : List FrameUse) (c e : UseCounted) (p s : Counted) → AreFrames uses c p s → KeepUses c e
     → AreFrames uses e p s
-frames_kept uses c e p s t k = record {
-  few = t.few;
-  uids = tally_kept (λ x. uid_key (frame_mark x)) uses c.uids e.uids t.uids k.uids;
-  going = tally_kept (λ x. going_key (frame_mark x)) uses c.going e.going t.going k.going;
-  kinds = tally_kept (λ x. kind_key (frame_mark x)) uses c.kinds e.kinds t.kinds k.kinds;
-  pages = t.pages;
-  started = t.started;
-}
+frames_kept uses c e p s t k = grind (arith, nat_tests, common_steps, tally_kept)
 
 pub frames_ready : (uses : List FrameUse) (c e : UseCounted) (p s z : Counted) → AreFrames uses c p s → KeepUses c e
     → Keeps s z → AreFrames uses e p z
 frames_ready uses c e p s z t k j =
-    let all = frames_kept uses c e p s t k in
-    record {
-      few = all.few;
-      uids = all.uids;
-      going = all.going;
-      kinds = all.kinds;
-      pages = all.pages;
-      started = tally_kept started_key uses s z t.started j;
-    }
+    grind (arith, nat_tests, common_steps, frames_kept uses c e p s t k, tally_kept started_key uses s z t.started j)
 
 -- memory lacked for its page
 pub frames_lacking : (uses : List FrameUse) (c e : UseCounted) (p q s z : Counted) → AreFrames uses c p s
@@ -103,24 +79,20 @@ pub frames_put : (uses : List FrameUse) (c d e : UseCounted) (p q r s y z : Coun
     → ShiftUses d e (frame_mark (get_or uses f w)) (frame_mark x) → Shifts q r (page_key (get_or uses f w)) (page_key x)
     → Shifts y z (started_key (get_or uses f w)) (started_key x) → AreFrames (set uses f x) e r z
 frames_put uses c d e p q r s y z f x w l t k j more h i g =
-    let all = frames_kept uses c d p s t k in
-    record {
-      few = rw (length-set uses f x) t.few;
-      uids = tally_set (λ x. uid_key (frame_mark x)) uses d.uids e.uids f x w l all.uids h.uids;
-      going = tally_set (λ x. going_key (frame_mark x)) uses d.going e.going f x w l all.going h.going;
-      kinds = tally_set (λ x. kind_key (frame_mark x)) uses d.kinds e.kinds f x w l all.kinds h.kinds;
-      pages = tally_set page_key uses q r f x w l (tally_kept page_key uses p q t.pages j) i;
-      started = tally_set started_key uses y z f x w l (tally_kept started_key uses s y t.started more) g;
-    }
+    grind (
+      arith,
+      nat_tests,
+      common_steps,
+      frames_kept uses c d p s t k,
+      length-set,
+      tally_set,
+      tally_kept page_key uses p q t.pages j,
+      tally_kept started_key uses s y t.started more,
+    )
 
 pub descriptors_kept : (uses : List DescriptorUse) (c e : UseCounted) → AreDescriptors uses c → KeepUses c e
     → AreDescriptors uses e
-descriptors_kept uses c e t k = record {
-  few = t.few;
-  uids = tally_kept (λ x. uid_key (descriptor_mark x)) uses c.uids e.uids t.uids k.uids;
-  going = tally_kept (λ x. going_key (descriptor_mark x)) uses c.going e.going t.going k.going;
-  kinds = tally_kept (λ x. kind_key (descriptor_mark x)) uses c.kinds e.kinds t.kinds k.kinds;
-}
+descriptors_kept uses c e t k = grind (arith, nat_tests, common_steps, tally_kept)
 
 pub descriptors_few : (uses : List DescriptorUse) (c : UseCounted) → AreDescriptors uses c → AreFewUses c
 descriptors_few uses c t =
@@ -134,12 +106,7 @@ descriptors_few uses c t =
 pub descriptors_put : (uses : List DescriptorUse) (c e : UseCounted) (n : ℕ) (x d : DescriptorUse) → n < length uses
     → AreDescriptors uses c
     → ShiftUses c e (descriptor_mark (get_or uses n d)) (descriptor_mark x) → AreDescriptors (set uses n x) e
-descriptors_put uses c e n x d l t s = record {
-  few = rw (length-set uses n x) t.few;
-  uids = tally_set (λ x. uid_key (descriptor_mark x)) uses c.uids e.uids n x d l t.uids s.uids;
-  going = tally_set (λ x. going_key (descriptor_mark x)) uses c.going e.going n x d l t.going s.going;
-  kinds = tally_set (λ x. kind_key (descriptor_mark x)) uses c.kinds e.kinds n x d l t.kinds s.kinds;
-}
+descriptors_put uses c e n x d l t s = grind (arith, nat_tests, common_steps, length-set, tally_set)
 
 pub ruleset frames_counted = (frames_kept, frames_ready, frames_lacking, frames_put, uses_few, pages_few, started_few)
 

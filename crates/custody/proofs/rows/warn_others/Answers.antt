@@ -1,4 +1,5 @@
-use Rattle.custody.proofs.Prelude.{length, drop, sym, ap, ◌∙◌, refl, arith, set-get_or, Seat, warned}
+use Rattle.std.proofs.lemmas.Grind.{common_steps}
+use Rattle.custody.proofs.Prelude.{nat_tests, length, drop, sym, ◌∙◌, refl, arith, set-get_or}
 use Rattle.custody.proofs.RowLaws.{all_warned, cut_back, none_warned, one_passed, one_warned}
 use Rattle.custody.proofs.rows.warn_others.Goals as goal
 use Rattle.custody.proofs.rows.warn_others.Goals.{then-cpu-but, else-cpu-but}
@@ -8,18 +9,15 @@ loop-cpu-init c = none_warned c.args.but c.args.what c.args.seats.now.items c.de
     c.deref_mut-seat-items.ensures.value
 
 pub loop-cpu-preserved : goal.loop-cpu-preserved
-loop-cpu-preserved c = elim c.if-cpu-but.branch [
-  | then-cpu-but w ↦
-      one_warned c.args.but c.args.what c.loop-cpu.cpu c.args.seats.now.items c.loop-cpu.seat-items
-      c.if-cpu-but.seat-items c.seat-item.result w.warn.new.self
-      (let a = c.loop-cpu-test.true in let b = c.loop-cpu.auto.seat-items in omega (arith, a, b)) w.if-cpu-but.true
-      c.loop-cpu.invariant c.seat-item.is
-      (w.warn.ensures ∙ ap (λ (s : Seat). warned c.args.what s) (sym c.seat-item.is)) w.seat-items-is
-  | else-cpu-but w ↦
-      one_passed c.args.but c.args.what c.loop-cpu.cpu c.args.seats.now.items c.loop-cpu.seat-items
-      c.if-cpu-but.seat-items w.if-cpu-but.false
-      c.loop-cpu.invariant (w.seat-items-is ∙ set-get_or c.loop-cpu.seat-items c.loop-cpu.cpu c.seat-item.result)
-]
+loop-cpu-preserved c =
+    grind (
+      arith,
+      nat_tests,
+      common_steps,
+      one_warned,
+      one_passed,
+      set-get_or c.loop-cpu.seat-items c.loop-cpu.cpu c.seat-item.result,
+    )
 
 pub returns : goal.returns
 returns c =
