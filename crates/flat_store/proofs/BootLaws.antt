@@ -1,6 +1,6 @@
 -- What is kept at the boot shows the flat store at the boot.
 use Rattle.std.proofs.lemmas.Grind.{common_steps}
-use Rattle.flat_store.proofs.Prelude.{◌≡◌, ℕ, suc, zero, Bool, true, false, cond, eqb, List, [], ◌∷◌, length, map, set, replicate, Option, None, refl, arith, slice_get, nat_tests, length-replicate, root_alone, IsPlan, Plan, VolumeLine, entries_on, taken_on, Progress, at_first, boot, entries_in, entries_of, records_in, root_of, root_there, gauge_at, filled, entries_gauge, records_gauge, Held, Holds, Kept, Shows, reached_boot}
+use Rattle.flat_store.proofs.Prelude.{◌≡◌, ℕ, suc, zero, Bool, true, false, cond, eqb, List, [], ◌∷◌, length, map, set, replicate, None, refl, arith, slice_get, nat_tests, length-replicate, root_alone, IsPlan, Plan, VolumeLine, entries_on, taken_on, at_first, boot, entries_in, entries_of, records_in, root_of, root_there, gauge_at, filled, entries_gauge, records_gauge, Held, Holds, Kept, Shows, reached_boot}
 use Rattle.flat_store.proofs.GaugeLaws.{counts_more, gauge}
 
 records_here : (vs : List VolumeLine) (v : ℕ)
@@ -49,12 +49,4 @@ pub shown_boot : (p : Plan) (k : Kept) → IsPlan p → Holds p k.held (boot p)
     → k.known ≡ replicate (length p.processes) (replicate 256 None)
     → k.processes ≡ replicate (length p.processes) at_first → Shows p k (boot p)
 unfolding boot
-shown_boot p k plan holds known processes =
-    grind (
-      arith,
-      nat_tests,
-      common_steps,
-      length-replicate {A = List (Option ℕ)} (length p.processes) (replicate 256 None),
-      length-replicate {A = Progress} (length p.processes) at_first,
-      reached_boot p plan,
-    )
+shown_boot p k plan holds known processes = grind (arith, nat_tests, common_steps, length-replicate, reached_boot)

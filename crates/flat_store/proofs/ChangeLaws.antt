@@ -38,16 +38,12 @@ pub record AreAlike (ns ms : List Node) : Type 0 where
 
 module _ (f : Node → Node) (keeps : Keeps f) where
   pub alike_map : (ns : List Node) → AreAlike ns (map f ns)
-  alike_map ns =
-      grind (
-        arith,
-        nat_tests,
-        common_steps,
-        volume_map f keeps ns,
-        segment_map f keeps ns,
-        directory_map f keeps ns,
-        entries_mapped f keeps.volume ns,
-      )
+  alike_map ns = record {
+    volume = volume_map f keeps ns;
+    segment = segment_map f keeps ns;
+    directory = directory_map f keeps ns;
+    entries = entries_mapped f keeps.volume ns;
+  }
 
 -- the holdings once the nodes are changed
 pub changed_shown : {p : Plan} {s : Store} {h : Held} {accounts : AccountMaps} {ms : List Node} → Holds p h s

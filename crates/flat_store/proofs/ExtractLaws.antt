@@ -1,5 +1,6 @@
 -- Entries of a map that lie in a range leave it, one after the other.
-use Rattle.flat_store.proofs.Prelude.{inl, inr, cases_Bool, ◌≡◌, ℕ, suc, ◌+◌, Bool, true, false, not, List, [], ◌∷◌, ◌++◌, length, take, drop, filter, Option, Some, None, Bor, MutBor, All, refl, sym, ap, subst, ◌∙◌, arith, MatchBool, Ordering, Bound, BTreeMap, keys_of, CalledAtPair, RemovesKey, MatchOption, option_to_list, Yields, ExtractsNext, ExtractsIf, extract_if_rest, ExtractIf, take-append-drop, drop-drop, length-append, filter-append, filter_passes, All-head, All-tail}
+use Rattle.std.proofs.lemmas.Grind.{common_steps}
+use Rattle.flat_store.proofs.Prelude.{nat_tests, inl, inr, cases_Bool, ◌≡◌, ℕ, suc, ◌+◌, Bool, true, false, not, List, [], ◌∷◌, ◌++◌, length, take, drop, filter, Option, Some, None, Bor, MutBor, All, refl, sym, ap, subst, ◌∙◌, arith, MatchBool, Ordering, Bound, BTreeMap, keys_of, CalledAtPair, RemovesKey, MatchOption, option_to_list, Yields, ExtractsNext, ExtractsIf, extract_if_rest, ExtractIf, take-append-drop, drop-drop, length-append, filter-append, filter_passes, All-head, All-tail}
 use denote.Param.Members.{Mut}
 
 -- ---- what a closure that picks each entry is asked of
@@ -25,10 +26,7 @@ module _ {P K X : Type 0} (C : P → K × X → Bool → P → K × X → Type 0
 pub length_passing : {K X : Type 0} (p : K → Bool) (es : List (K × X))
     → length (filter (λ e. p e.0) es) ≡ length (filter p (keys_of es))
 length_passing p [] = refl
-length_passing p (e ∷ es) = elim (cases_Bool (p e.0)) [
-  | inl on ↦ rw on (ap suc (length_passing p es))
-  | inr off ↦ rw off (length_passing p es)
-]
+length_passing p (e ∷ es) = grind (arith, nat_tests, common_steps, length_passing p es)
 
 -- one entry that passes a test leaves: the others that pass are one less, and those that don't pass are as they were
 pub record Leaves {K X : Type 0} (p : K → Bool) (old new : List (K × X)) : Type 0 where
@@ -39,34 +37,13 @@ module _ {K X : Type 0} (p : K → Bool) where
   -- a key that passes is gone
   one_less : (old new : List (K × X)) (k : K) → RemovesKey (keys_of old) k (keys_of new) → p k ≡ true
       → length (filter (λ e. p e.0) new) + 1 ≡ length (filter (λ e. p e.0) old)
-  one_less old new k gone passes =
-      let own : length (filter p (k ∷ gone.1)) ≡ suc (length (filter p gone.1)) = rw passes refl in
-      rw (
-        length_passing p old,
-        length_passing p new,
-        gone.2,
-        gone.3,
-        filter-append p gone.0 (k ∷ gone.1),
-        filter-append p gone.0 gone.1,
-        length-append (filter p gone.0) (filter p (k ∷ gone.1)),
-        length-append (filter p gone.0) (filter p gone.1),
-      ) (omega (arith, own))
+  one_less old new k gone passes = grind (arith, nat_tests, common_steps, length_passing, filter-append, length-append)
 
   -- an entry between others that is left out has it
   between : (before after : List (K × X)) (y : K × X)
       → length (filter (λ e. p e.0) (before ++ after)) + 1 ≡ length (filter (λ e. p e.0) (before ++ y ∷ after))
       → filter (λ e. not (p e.0)) (before ++ after) ≡ filter (λ e. not (p e.0)) (before ++ y ∷ after)
-  between before after y fewer = elim (cases_Bool (p y.0)) [
-    | inl on ↦
-        (let one : filter (λ e. not (p e.0)) (y ∷ after) ≡ filter (λ e. not (p e.0)) after = rw on refl in
-        rw (filter-append (λ e. not (p e.0)) before after, filter-append (λ e. not (p e.0)) before (y ∷ after), one)
-        refl)
-    | inr off ↦
-        (let none : filter (λ e. p e.0) (y ∷ after) ≡ filter (λ e. p e.0) after = rw off refl in
-        let same : length (filter (λ e. p e.0) (before ++ after)) ≡ length (filter (λ e. p e.0) (before ++ y ∷ after)) =
-        rw (filter-append (λ e. p e.0) before after, filter-append (λ e. p e.0) before (y ∷ after), none) refl in
-        absurd (omega (arith, fewer, same)))
-  ]
+  between before after y fewer = grind (arith, nat_tests, common_steps, filter-append, fewer)
 
   -- so the entry at the place that is left out has it
   left_out : (old new : List (K × X)) (i : ℕ) → new ≡ take i old ++ drop (i + 1) old
@@ -168,11 +145,7 @@ module _ {K X F R Z : Type 0} (g : Mut F (Bor K × (MutBor X × Unit {0})) (Bool
         → (filter (λ e. not (p e.0)) t.map.now.entries ≡ filter (λ e. not (p e.0)) s.map.now.entries)
         × (length (filter (λ e. p e.0) t.map.now.entries) + length (extract_if_rest cmp end s)
         ≡ length (filter (λ e. p e.0) s.map.now.entries) + length (extract_if_rest cmp end t))
-    so_far [] s t all y = (
-      ap (λ u. filter (λ e. not (p e.0)) u.map.now.entries) (sym y),
-      ap (λ u. length (filter (λ e. p e.0) u.map.now.entries) + length (extract_if_rest cmp end s)) (sym y)
-          ∙ ap (λ u. length (filter (λ e. p e.0) s.map.now.entries) + length (extract_if_rest cmp end u)) y,
-    )
+    so_far [] s t all y = grind (arith, nat_tests, common_steps)
     so_far (x ∷ xs) s t all y =
         let u = y.0 in
         let one = step s u (Some x) y.1 in

@@ -1,6 +1,6 @@
 -- What an entry does to the store that is shown.
 use Rattle.std.proofs.lemmas.Grind.{common_steps}
-use Rattle.flat_store.proofs.Prelude.{arith, nat_tests, ◌≡◌, ℕ, ◌+◌, ◌<◌, ◌^◌, true, false, List, set, Option, Some, Plan, command_at, Command, Entry, Reply, after_command, gone_on, reply_to_command, takes_effect, IsLawful, IsLawfulDo, MayFault, after_entry, after_fault, is_held_back, Node, Progress, Store, Held, Holds, IsReached, IsShown, Kept, Shows, answered, progress_at, place_fits, place_within, answered_advances, reached_fault, reached_on}
+use Rattle.flat_store.proofs.Prelude.{arith, nat_tests, ◌≡◌, ℕ, ◌+◌, ◌<◌, ◌^◌, true, false, List, set, Option, Some, Plan, command_at, Command, Entry, Reply, after_command, gone_on, reply_to_command, takes_effect, IsLawful, IsLawfulDo, MayFault, after_entry, after_fault, is_held_back, Node, Progress, Store, Held, Holds, IsReached, IsShown, Kept, Shows, answered, progress_at, place_fits, place_within, answered_advances, reached_fault, reached_on, sym, ap, ◌∙◌, progress_of}
 use Rattle.book.specs.declared.entries.Entry.TheVariants as entry
 use Rattle.flat_store.proofs.StoreLaws.{progress_shown}
 
@@ -18,15 +18,14 @@ pub go_shown : {p : Plan} {mid : Kept} {s : Store} {process place : ℕ} {c : Co
     → Shows p (record mid { processes = processes }) (after_command p s process c r)
 unfolding after_command
 go_shown {p} {mid} {s} {process} {place} {c} {r} reached shown at lawful now =
-    grind (
-      arith,
-      nat_tests,
-      common_steps,
-      answered_advances p s process c r,
-      place_fits p process place reached.plan (place_within p process place c at),
-      progress_shown,
-      reached_on p s process place c r reached lawful.going lawful.next,
-    )
+    let same : progress_at mid.processes process ≡ progress_of s process =
+    ap (λ qs. progress_at qs process) (sym shown.processes ∙ (answered_advances p s process c r).processes) in
+    let fits = place_fits p process place reached.plan (place_within p process place c at) in
+    let gone = now (rw (same, lawful.next) fits) in
+    record {
+      shown = progress_shown process (gone_on (progress_of s process) c r) shown (rw (shown.processes, ← same) gone);
+      reached = reached_on p s process place c r reached lawful.going lawful.next at;
+    }
 
 -- a failure is told of a process
 pub fault_shown : {p : Plan} {k : Kept} {s : Store} {processes : List Progress} (process : ℕ) → Shows p k s

@@ -38,17 +38,7 @@ pub added_shown : {p : Plan} {s : Store} {h : Held} {accounts : AccountMaps} {en
     (record s { nodes = n ∷ s.nodes; next = s.next + 1 })
 unfolding entries_on
 added_shown {p} {s} {h} {n = n} holds gains filled_are uid fresh room flat =
-    grind (
-      arith,
-      nat_tests,
-      common_steps,
-      inside_new,
-      flat_new n s.nodes flat holds.flat,
-      taken_new,
-      unstored,
-      counts_more,
-      count-cons,
-    )
+    grind (arith, nat_tests, common_steps, inside_new, flat_new, taken_new, unstored, counts_more, count-cons)
 
 -- ---- by its path
 

@@ -143,8 +143,7 @@ awaited_by : (p : Plan) (s : Store) (k u o : ℕ) (how : RefKind) → AreFlat s.
     → node_in s.nodes u ≡ found → lacks_at p s k o how found ≡ true → has_segment s.nodes u ≡ true
 awaited_by p s k u o how flat None e lacks = cc
 awaited_by p s k u o how flat (Some n) e lacks =
-    let below = not_true (nat_le (1024 * n.pages) o) (and_first _ _ (and_right _ _ lacks)) in
-    has_pages s.nodes u e flat (grind (arith, nat_tests))
+    grind (arith, nat_tests, common_steps, not_true, and_first, and_right, has_pages)
 
 pub awaited : (p : Plan) (s : Store) (k u : ℕ) → AreFlat s.nodes → awaits_move p s k u ≡ true
     → has_segment s.nodes u ≡ true

@@ -51,14 +51,7 @@ word_put {old} {words = words} {xs} u o w h put = pages_put h put (length-set (p
 pub put_shown : {p : Plan} {s : Store} {h : Held} {new : Paged} (u o w : ℕ) → Holds p h s
     → is_some (page_at h.pages u (o / 1024)) ≡ true → Puts h.pages new u (o / 1024) (Some (with_one h.pages u o w))
     → Holds p (record h { pages = new }) (written s u o w)
-put_shown {p} {s} {h} {new} u o w holds there put =
-    grind (
-      arith,
-      nat_tests,
-      common_steps,
-      with_old s.stored u (o / 1024) (holds.pages.there u (o / 1024) ∙ there),
-      word_put u o w holds.pages put,
-    )
+put_shown {p} {s} {h} {new} u o w holds there put = grind (arith, nat_tests, common_steps, with_old, word_put)
 
 -- a reference alters a word of a page that is stored
 pub alter_shown : {p : Plan} {s : Store} {h : Held} {new : Paged} (u o : ℕ) (how : RefKind) → Holds p h s

@@ -52,18 +52,7 @@ cut_told {s = s} u from {ws} r holds found told = by r told
 
     zeros : ((i : ℕ) → i < from % 1024 → slice_index ws i ≡ 0) → (o : ℕ) → from / 1024 * 1024 ≤ o → o < from
         → s.words u o ≡ 0
-    zeros each o le lt =
-        grind (
-          arith,
-          nat_tests,
-          common_steps,
-          word (o % 1024) (omega (arith, le, lt)),
-          each (o % 1024) (omega (
-            arith,
-            le,
-            lt,
-          )),
-        )
+    zeros each o le lt = grind (arith, nat_tests, common_steps, word, each)
 
     stays : is_zero_page (without_words s.words u from) u (from / 1024) ≡ true → (i : ℕ) → i < from % 1024
         → slice_index ws i ≡ 0

@@ -1,5 +1,6 @@
 -- The pages of a segment that pass a test are stored no more, all at once.
-use Rattle.flat_store.proofs.Prelude.{◌≡◌, ◌<◌, ◌≤◌, ℕ, ◌+◌, ◌-◌, ◌/◌, ◌%◌, Bool, true, false, not, cond, eqb, leb, ltb, ◌&&◌, List, filter, length, set, Option, Some, None, is_some, refl, sym, ap, ◌∙◌, arith, count_by, range_contains, IsStrictlySortedBy, keys_of, Included, Excluded, nat_tests, filter_agree, length-filter_both, length-filter, lookup-filter-keys, AccountMaps, count_of, Recounts, Plan, volume_in, taken_on, has_segment, without_pages, without_stored, Store, records_of, key_is, flip_page, is_stored-without, once_without, count_without, Gauge, gauge_at, drained, Paged, Puts, is_key, page_at, word_in, Sheds, Held, HoldPages, Holds, by_both}
+use Rattle.std.proofs.lemmas.Grind.{common_steps}
+use Rattle.flat_store.proofs.Prelude.{◌≡◌, ◌<◌, ◌≤◌, ℕ, ◌+◌, ◌-◌, Bool, true, false, not, cond, eqb, leb, ltb, ◌&&◌, List, filter, length, set, Option, None, is_some, refl, sym, ap, ◌∙◌, arith, count_by, range_contains, IsStrictlySortedBy, keys_of, Included, Excluded, nat_tests, filter_agree, length-filter_both, length-filter, lookup-filter-keys, AccountMaps, count_of, Recounts, Plan, volume_in, taken_on, has_segment, without_pages, without_stored, Store, records_of, key_is, flip_page, is_stored-without, once_without, count_without, Gauge, gauge_at, drained, Paged, Puts, is_key, page_at, Sheds, Held, HoldPages, Holds, by_both}
 use Rattle.laws.proofs.Numbers.{and_both}
 use Rattle.flat_store.proofs.DropLaws.{inside_without}
 use Rattle.flat_store.proofs.ExtractLaws.{length_passing}
@@ -68,28 +69,7 @@ page_sheds {old} {new} {u} {q} put there = record {
 module _ {p : Plan} {s : Store} {h : Held} {new : Paged} {u n : ℕ} {t : ℕ → Bool} (holds : Holds p h s)
     (shed : Sheds h.pages new u t n) where
   pages_shed : HoldPages new (without_pages s u t).words (without_stored s.stored u t)
-  pages_shed = record {
-    there = λ v q. rw (is_stored-without s.stored u t v q, shed.at v q, holds.pages.there v q)
-        (kept (eqb v u && t q) (page_at h.pages v q));
-    once = once_without s.stored u t holds.pages.once;
-    values = λ v o. rw (shed.at v (o / 1024), holds.pages.values v o)
-        (valued (eqb v u && t (o / 1024)) (page_at h.pages v (o / 1024)) (o % 1024));
-    sizes = λ v q ws is. sized (eqb v u && t q) (page_at h.pages v q) ws (holds.pages.sizes v q ws)
-        (sym (shed.at v q) ∙ is);
-  }
-    where
-      kept : (z : Bool) (o : Option (List ℕ)) → (not z && is_some o) ≡ is_some (cond z None o)
-      kept true o = refl
-      kept false o = refl
-
-      valued : (z : Bool) (o : Option (List ℕ)) (at : ℕ) → cond z 0 (word_in o at) ≡ word_in (cond z None o) at
-      valued true o at = refl
-      valued false o at = refl
-
-      sized : (z : Bool) (o : Option (List ℕ)) (ws : List ℕ) → (o ≡ Some ws → length ws ≡ 1024)
-          → cond z None o ≡ Some ws → length ws ≡ 1024
-      sized true o ws was is = cc
-      sized false o ws was is = was is
+  pages_shed = grind (arith, nat_tests, common_steps, is_stored-without, once_without s.stored u t holds.pages.once)
 
   -- so many less for each that counts those of the segment
   less : (c : ℕ → Bool) → count_by (λ x. c x.0) (without_stored s.stored u t) + cond {A = ℕ} (c u) n 0
