@@ -3,7 +3,6 @@ use Rattle.std.proofs.lemmas.Grind.{common_steps}
 use Rattle.custody.proofs.Prelude.{nat_tests, ◌≡◌, ◌<◌, ◌+◌, ◌-◌, ℕ, suc, zero, Bool, true, false, cond, eqb, ◌&&◌, List, [], ◌∷◌, Option, Some, None, get_or, length, set, refl, sym, ap, ◌∙◌, inl, inr, arith, is_some, Decides-eqb, eqb_tells, get_or-set_same, get_or-set_other, What, Seat, cleared, names_frame, names_descriptor, names_number, offline, told, with_active, with_descriptor, with_frame, with_seat, signalled, FrameUse, DescriptorUse, frame_at, descriptor_at, Tables, active_at, custody_of, row_at, seat_at, drop_at, dropped, names_held, names_lead, names_use, put_active, put_descriptor, put_frame, put_seat, put_use, warn_from, warn_others, warned, with_place, ActiveUse}
 use Rattle.assoc_mem.specs.declared.What.TheVariants as what
 use Rattle.custody_model.specs.declared.FrameUse.TheVariants as frame
-use Rattle.custody_model.specs.declared.DescriptorUse.TheVariants as descriptor
 use Rattle.custody.proofs.PutLaws.{grown_at, place_there}
 
 -- ---- places that are there
@@ -34,15 +33,7 @@ row_put : (rows : List (List DescriptorUse)) (k n j m : ℕ) (x : DescriptorUse)
     → n < length (row_at rows k) → descriptor_at (row_at (set rows k (set (row_at rows k) n x)) j) m
     ≡ cond (eqb j k && eqb m n) x (descriptor_at (row_at rows j) m)
 row_put rows k n j m x kl nl =
-    grind (
-      arith,
-      nat_tests,
-      common_steps,
-      eqb_tells j k,
-      get_or-set_same rows k (set (row_at rows k) n x) [] kl,
-      put_cases (row_at rows k) n m x descriptor.Free nl,
-      get_or-set_other,
-    )
+    grind (arith, nat_tests, common_steps, eqb_tells, get_or-set_same, put_cases, get_or-set_other)
 
 pub descriptor_put : (t : Tables) (k n : ℕ) (x : DescriptorUse) → k < length t.descriptors
     → n < length (row_at t.descriptors k) → custody_of (put_descriptor t k n x) ≡ with_descriptor (custody_of t) k n x
@@ -91,9 +82,7 @@ pub warn_at : (d e i : ℕ) (w : What) (seats : List Seat) → seat_at (warn_fro
     ≡ cond (eqb (e + i) d) (seat_at seats i) (warned w (seat_at seats i))
 warn_at d e i w [] = grind (arith, nat_tests, common_steps)
 warn_at d e zero w (s ∷ ss) = let z : e + 0 ≡ e = omega arith in ap (λ (n : ℕ). cond (eqb n d) s (warned w s)) (sym z)
-warn_at d e (suc i) w (s ∷ ss) =
-    let z : e + 1 + i ≡ e + suc i = omega arith in
-    warn_at d (e + 1) i w ss ∙ ap (λ (n : ℕ). cond (eqb n d) (seat_at ss i) (warned w (seat_at ss i))) z
+warn_at d e (suc i) w (s ∷ ss) = grind (arith, nat_tests, common_steps, warn_at d (e + 1) i w ss)
 
 zero_plus : (n : ℕ) → 0 + n ≡ n
 zero_plus n = omega arith

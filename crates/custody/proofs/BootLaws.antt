@@ -1,25 +1,17 @@
 -- Custody before the first entry.
 use Rattle.std.proofs.lemmas.Grind.{common_steps}
-use Rattle.custody.proofs.Prelude.{nat_tests, ◌≡◌, ◌<◌, ◌≤◌, length, ◌+◌, ℕ, suc, zero, List, [], ◌∷◌, ◌++◌, replicate, refl, sym, arith, sum_by, length-replicate, sum_by-cons, Plan, nothing_held, offline, range, ready_at_first, FrameUse, Counted, UseCounted, AreDescriptors, AreFrames, descriptor_at, AreTablesOf, Tables, custody_of, row_at, all_same, range_end}
+use Rattle.custody.proofs.Prelude.{nat_tests, ◌≡◌, ◌<◌, ◌≤◌, length, ◌+◌, ℕ, suc, zero, List, [], ◌∷◌, ◌++◌, replicate, refl, arith, sum_by, length-replicate, sum_by-cons, Plan, nothing_held, offline, range, ready_at_first, FrameUse, Counted, UseCounted, AreDescriptors, AreFrames, descriptor_at, AreTablesOf, Tables, custody_of, row_at, all_same, range_end}
 use Rattle.custody_model.specs.declared.FrameUse.TheVariants as frame
 use Rattle.custody_model.specs.declared.DescriptorUse.TheVariants as descriptor
 
 pub none_counted : {X : Type 0} (f : X → ℕ) (d : X) (n : ℕ) → f d ≡ 0 → sum_by f (replicate n d) ≡ 0
 none_counted f d zero e = refl
 none_counted f d (suc n) e =
-    let all : sum_by f (replicate (suc n) d) ≡ f d + sum_by f (replicate n d) = sum_by-cons f d (replicate n d) in
-    omega (arith, all, none_counted f d n e, e)
+    grind (arith, nat_tests, common_steps, sum_by-cons f d (replicate n d), none_counted f d n e)
 
 pub frames_free : (n : ℕ) → n ≤ 1024 → AreFrames (replicate n frame.Free)
     (record { uids = []; going = []; kinds = [] }) [] []
-frames_free n few = record {
-  few = let l = length-replicate n frame.Free in omega (arith, l, few);
-  uids = λ a. sym (none_counted _ frame.Free n refl);
-  going = λ a. sym (none_counted _ frame.Free n refl);
-  kinds = λ a. sym (none_counted _ frame.Free n refl);
-  pages = λ a. sym (none_counted _ frame.Free n refl);
-  started = λ a. sym (none_counted _ frame.Free n refl);
-}
+frames_free n few = grind (arith, nat_tests, common_steps, length-replicate, none_counted)
 
 pub descriptors_free : AreDescriptors (replicate 256 descriptor.Free) (record { uids = []; going = []; kinds = [] })
 descriptors_free = grind (arith, nat_tests, common_steps, length-replicate 256 descriptor.Free, none_counted)
@@ -50,13 +42,4 @@ row_size (suc d) (suc k) l = row_size d k (omega (arith, l))
 pub booted_sizes : (p : Plan) (t : Tables) (f d s : ℕ) → f ≡ p.frames → d ≡ length p.processes → s ≡ p.processors
     → t.frames ≡ replicate f frame.Free
     → t.descriptors ≡ replicate d (replicate 256 descriptor.Free) → t.seats ≡ replicate s offline → AreTablesOf p t
-booted_sizes p t f d s fe de se fs ds ss =
-    grind (
-      arith,
-      nat_tests,
-      common_steps,
-      length-replicate d (replicate 256 descriptor.Free),
-      length-replicate f frame.Free,
-      row_size,
-      length-replicate s offline,
-    )
+booted_sizes p t f d s fe de se fs ds ss = grind (arith, nat_tests, common_steps, length-replicate, row_size)

@@ -32,29 +32,11 @@ bit_other k x apart = grind (arith, nat_tests, common_steps, eqb_tells k x)
 
 pub entered : (c : Counted) (k n : ℕ) → k < length c → n ≡ count_at c k → Shifts c (set c k (n + 1)) None (Some k)
 entered c k n l is x =
-    grind (
-      arith,
-      nat_tests,
-      common_steps,
-      eqb_tells x k,
-      get_or-set_same c k (n + 1) 0 l,
-      bit_same k,
-      get_or-set_other,
-      bit_other,
-    )
+    grind (arith, nat_tests, common_steps, eqb_tells, get_or-set_same, bit_same, get_or-set_other, bit_other)
 
 pub left : (c : Counted) (k n : ℕ) → k < length c → n ≡ count_at c k → Shifts c (set c k (n - 1)) (Some k) None
 left c k n l is x =
-    grind (
-      arith,
-      nat_tests,
-      common_steps,
-      eqb_tells x k,
-      get_or-set_same c k (n - 1) 0 l,
-      bit_same k,
-      get_or-set_other,
-      bit_other,
-    )
+    grind (arith, nat_tests, common_steps, eqb_tells, get_or-set_same, bit_same, get_or-set_other, bit_other)
 
 past : (c : Counted) (x : ℕ) → length c ≤ x → count_at c x ≡ 0
 past [] x l = refl

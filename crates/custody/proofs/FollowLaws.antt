@@ -1,7 +1,7 @@
 -- What an entry that is allowed makes of the tables is the custody after it; their sizes stay, and what is active is
 use Rattle.std.proofs.lemmas.Grind.{common_steps}
 -- in the tree.
-use Rattle.custody.proofs.Prelude.{nat_tests, ◌≡◌, ◌<◌, ◌+◌, ◌⊎◌, ℕ, Bool, true, false, List, [], ◌++◌, Option, Some, None, length, set, refl, ap, ◌∙◌, inl, inr, arith, length-set, is_some, IsSomeAnd, eqb_tells, get_or-set_same, get_or-set_other, What, Plan, Entry, node_in, uid_of, after_entry, Store, known_uid, IsAllowed, next_command, Seat, offline, is_current_descriptor, is_current_frame, is_going_descriptor, is_going_frame, is_started, custody_next, is_try, released_by, with_seat, FrameUse, DescriptorUse, frame_at, descriptor_at, AreNodes, AreTablesOf, Tables, custody_of, row_at, seat_at, use_in, Advances, put_descriptor, put_frame, warn_from, Kept, Shows}
+use Rattle.custody.proofs.Prelude.{nat_tests, ◌≡◌, ◌<◌, ◌+◌, ◌⊎◌, ℕ, Bool, true, false, List, [], ◌++◌, Option, Some, None, length, refl, ap, ◌∙◌, inl, inr, arith, length-set, is_some, IsSomeAnd, eqb_tells, get_or-set_same, get_or-set_other, What, Plan, Entry, node_in, uid_of, after_entry, Store, known_uid, IsAllowed, next_command, Seat, offline, is_current_descriptor, is_current_frame, is_going_descriptor, is_going_frame, is_started, custody_next, is_try, released_by, with_seat, FrameUse, DescriptorUse, frame_at, descriptor_at, AreNodes, AreTablesOf, Tables, custody_of, row_at, seat_at, use_in, Advances, put_descriptor, put_frame, warn_from, Kept, Shows}
 use Rattle.book.specs.declared.entries.Entry.TheVariants as entry
 use Rattle.custody_model.specs.declared.FrameUse.TheVariants as frame
 use Rattle.custody_model.specs.declared.DescriptorUse.TheVariants as descriptor
@@ -128,16 +128,7 @@ of_frame p t f x of = let frames = length-set t.frames f x ∙ of.frames in assu
 of_descriptor : (p : Plan) (t : Tables) (k n : ℕ) (x : DescriptorUse) → AreTablesOf p t
     → AreTablesOf p (put_descriptor t k n x)
 of_descriptor p t k n x of =
-    grind (
-      arith,
-      nat_tests,
-      common_steps,
-      length-set t.descriptors k (set (row_at t.descriptors k) n x),
-      eqb_tells,
-      get_or-set_same t.descriptors k (set (row_at t.descriptors k) n x) [],
-      length-set (row_at t.descriptors k) n x,
-      get_or-set_other,
-    )
+    grind (arith, nat_tests, common_steps, length-set, eqb_tells, get_or-set_same, get_or-set_other)
 
 of_seats : (p : Plan) (t : Tables) (seats : List Seat) (ready : List ℕ) → length seats ≡ length t.seats
     → AreTablesOf p t → AreTablesOf p (record t { seats = seats; ready = ready })

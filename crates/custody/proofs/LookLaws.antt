@@ -35,9 +35,7 @@ some_counted p xs = grind (arith, nat_tests, common_steps, none_counted p xs)
 -- as much is counted of two where nothing is that the second has more
 sum_both : {X : Type 0} (f g : X → ℕ) (xs : List X) → sum_by (λ x. f x + g x) xs ≡ sum_by f xs + sum_by g xs
 sum_both f g [] = refl
-sum_both f g (x ∷ xs) =
-    let rest = sum_both f g xs in
-    omega (arith, sum_by-cons (λ y. f y + g y) x xs, sum_by-cons f x xs, sum_by-cons g x xs)
+sum_both f g (x ∷ xs) = grind (arith, nat_tests, common_steps, sum_both f g xs, sum_by-cons f x xs, sum_by-cons g x xs)
 
 none_more : {X : Type 0} (f g : X → ℕ) (p : X → Bool) → ((x : X) → g x ≡ f x + cond {A = ℕ} (p x) 1 0) → (xs : List X)
     → eqb (sum_by f xs) (sum_by g xs) ≡ not (list_any p xs)

@@ -1,21 +1,13 @@
 -- The list of active segments once it has a place for a uid, and what is counted once one is put there.
 use Rattle.std.proofs.lemmas.Grind.{common_steps}
-use Rattle.custody.proofs.Prelude.{nat_tests, ◌≡◌, ◌<◌, ◌≤◌, ◌+◌, ◌-◌, ◌^◌, ℕ, List, [], ◌∷◌, ◌++◌, Option, None, zero, suc, length, set, replicate, refl, sym, ap, ◌∙◌, arith, length-set, length-append, sum_by, length-replicate, sum_by-cons, Counted, Keeps, Shifts, AreFew, key_bit, IsTally, AreActive, active_at, pool_key, superior_of, with_place, ActiveUse, all_same}
+use Rattle.custody.proofs.Prelude.{nat_tests, ◌≡◌, ◌<◌, ◌≤◌, ◌+◌, ◌-◌, ◌^◌, ℕ, List, [], ◌∷◌, ◌++◌, Option, None, zero, suc, length, set, replicate, refl, sym, ap, ◌∙◌, arith, length-set, length-append, sum_by, length-replicate, sum_by-cons, Counted, Keeps, Shifts, AreFew, key_bit, IsTally, AreActive, active_at, pool_key, superior_of, with_place, ActiveUse, all_same, subst}
 use Rattle.custody.proofs.BootLaws.{none_counted}
 use Rattle.custody.proofs.TallyLaws.{tally_set, tally_kept, tally_few}
 
 grown_sum : {X : Type 0} (f : X → ℕ) (xs : List X) (n : ℕ) (d : X) → f d ≡ 0 → sum_by f (xs ++ replicate n d)
     ≡ sum_by f xs
 grown_sum f [] n d e = none_counted f d n e
-grown_sum f (x ∷ xs) n d e =
-    grind (
-      arith,
-      nat_tests,
-      common_steps,
-      sum_by-cons f x (xs ++ replicate n d),
-      sum_by-cons f x xs,
-      grown_sum f xs n d e,
-    )
+grown_sum f (x ∷ xs) n d e = grind (arith, nat_tests, common_steps, sum_by-cons)
 
 grown_tally : {X : Type 0} (key : X → Option ℕ) (xs : List X) (c : Counted) (n : ℕ) (d : X) → key d ≡ None
     → IsTally key xs c → IsTally key (xs ++ replicate n d) c
@@ -45,26 +37,11 @@ place_few uses u few below = let l = place_length uses u in omega (arith, l, few
 
 pub active_kept : (uses : List (Option ActiveUse)) (p q i j : Counted) → AreActive uses p i → Keeps p q → Keeps i j
     → AreActive uses q j
-active_kept uses p q i j t k l =
-    grind (
-      arith,
-      nat_tests,
-      common_steps,
-      tally_kept pool_key uses p q t.in_pools k,
-      tally_kept superior_of uses i j t.below l,
-    )
+active_kept uses p q i j t k l = grind (arith, nat_tests, common_steps, tally_kept)
 
 pub active_grown : (uses : List (Option ActiveUse)) (p i : Counted) (u : ℕ) → u < 2 ^ 32 → AreActive uses p i
     → AreActive (with_place uses u) p i
-active_grown uses p i u below t =
-    grind (
-      arith,
-      nat_tests,
-      common_steps,
-      place_few uses u t.few below,
-      grown_tally pool_key uses p (u + 1 - length uses) None refl t.in_pools,
-      grown_tally superior_of uses i (u + 1 - length uses) None refl t.below,
-    )
+active_grown uses p i u below t = grind (arith, nat_tests, common_steps, place_few, grown_tally)
 
 pub active_few : (uses : List (Option ActiveUse)) (p i : Counted) → AreActive uses p i → AreFew p × AreFew i
 active_few uses p i t = (tally_few pool_key uses p t.few t.in_pools, tally_few superior_of uses i t.few t.below)
@@ -74,15 +51,15 @@ pub active_put : (uses placed : List (Option ActiveUse)) (p q i j : Counted) (u 
     → Shifts p q (pool_key (active_at uses u)) (pool_key x)
     → Shifts i j (superior_of (active_at uses u)) (superior_of x) → AreActive (set placed u x) q j
 active_put uses placed p q i j u x is below t s r =
-    grind (
-      arith,
-      nat_tests,
-      common_steps,
-      active_grown uses p i u below t,
-      grown_at uses (u + 1 - length uses) u,
-      place_there uses u,
-      length-set (with_place uses u) u x,
-      tally_set,
-    )
+    let grown = active_grown uses p i u below t in
+    let was = grown_at uses (u + 1 - length uses) u in
+    let there = place_there uses u in
+    rw is (record {
+      few = rw (length-set (with_place uses u) u x) grown.few;
+      in_pools = tally_set pool_key (with_place uses u) p q u x None there grown.in_pools
+          (subst (λ (o : Option ActiveUse). Shifts p q (pool_key o) (pool_key x)) (sym was) s);
+      below = tally_set superior_of (with_place uses u) i j u x None there grown.below
+          (subst (λ (o : Option ActiveUse). Shifts i j (superior_of o) (superior_of x)) (sym was) r);
+    })
 
 pub ruleset active_counted = (active_kept, active_grown, active_put, place_there)

@@ -60,16 +60,7 @@ pub one_warned : (d : ℕ) (w : What) (n : ℕ) (old mid new : List Seat) (s t :
     → WarnedBelow d w n old mid
     → s ≡ get_or mid n s → t ≡ warned w s → new ≡ set mid n t → WarnedBelow d w (n + 1) old new
 one_warned d w n old mid new s t l other h is told made =
-    grind (
-      arith,
-      nat_tests,
-      common_steps,
-      length-set mid n t,
-      eqb_tells,
-      get_or-set_same mid n t offline l,
-      get_or_any mid n s offline l,
-      get_or-set_other,
-    )
+    grind (arith, nat_tests, common_steps, length-set, eqb_tells, get_or-set_same, get_or_any, get_or-set_other)
 
 pub one_passed : (d : ℕ) (w : What) (n : ℕ) (old mid new : List Seat) → n ≡ d → WarnedBelow d w n old mid → new ≡ mid
     → WarnedBelow d w (n + 1) old new

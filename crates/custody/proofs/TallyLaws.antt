@@ -79,16 +79,7 @@ pub frames_put : (uses : List FrameUse) (c d e : UseCounted) (p q r s y z : Coun
     → ShiftUses d e (frame_mark (get_or uses f w)) (frame_mark x) → Shifts q r (page_key (get_or uses f w)) (page_key x)
     → Shifts y z (started_key (get_or uses f w)) (started_key x) → AreFrames (set uses f x) e r z
 frames_put uses c d e p q r s y z f x w l t k j more h i g =
-    grind (
-      arith,
-      nat_tests,
-      common_steps,
-      frames_kept uses c d p s t k,
-      length-set,
-      tally_set,
-      tally_kept page_key uses p q t.pages j,
-      tally_kept started_key uses s y t.started more,
-    )
+    grind (arith, nat_tests, common_steps, frames_kept, length-set, tally_set, tally_kept)
 
 pub descriptors_kept : (uses : List DescriptorUse) (c e : UseCounted) → AreDescriptors uses c → KeepUses c e
     → AreDescriptors uses e

@@ -1,7 +1,6 @@
-use Rattle.custody.proofs.Prelude.{rules, not, filter-from_retain, names_lead, row_at, descriptor_at}
+use Rattle.std.proofs.lemmas.Grind.{common_steps}
+use Rattle.custody.proofs.Prelude.{arith, nat_tests, filter-from_retain}
 use Rattle.custody.proofs.naming.drop_segs.Goals as goal
 
 pub returns : goal.returns
-returns c = filter-from_retain _ (λ n. not (names_lead c.args.what
-    (descriptor_at (row_at c.args.rows.now.items c.args.process) n))) _
-    (λ x b f' y called. search rules) _ _ c.retain.ensures.filtered
+returns c = grind (arith, nat_tests, common_steps, filter-from_retain)

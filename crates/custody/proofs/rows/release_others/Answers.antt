@@ -7,14 +7,7 @@ pub loop-process-init : goal.loop-process-init
 loop-process-init c = none_released c.args.ready.now.items
 
 pub returns-then-is_err-clause-err : goal.returns-then-is_err-clause-err
-returns-then-is_err-clause-err c =
-    grind (
-      arith,
-      nat_tests,
-      common_steps,
-      cut_back,
-      unpushed _ c.loop-process.ready.items c.push.new.self.items _ c.push.ensures.items c.if-is_err.ensures.negation,
-    )
+returns-then-is_err-clause-err c = grind (arith, nat_tests, common_steps, cut_back, unpushed)
 
 pub loop-process-preserved : goal.loop-process-preserved
 loop-process-preserved c = grind (arith, nat_tests, common_steps, one_released, pushed)

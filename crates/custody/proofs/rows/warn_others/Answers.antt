@@ -9,15 +9,7 @@ loop-cpu-init c = none_warned c.args.but c.args.what c.args.seats.now.items c.de
     c.deref_mut-seat-items.ensures.value
 
 pub loop-cpu-preserved : goal.loop-cpu-preserved
-loop-cpu-preserved c =
-    grind (
-      arith,
-      nat_tests,
-      common_steps,
-      one_warned,
-      one_passed,
-      set-get_or c.loop-cpu.seat-items c.loop-cpu.cpu c.seat-item.result,
-    )
+loop-cpu-preserved c = grind (arith, nat_tests, common_steps, one_warned, one_passed, set-get_or)
 
 pub returns : goal.returns
 returns c =

@@ -1,4 +1,5 @@
-use Rattle.custody.proofs.Prelude.{Tables}
+use Rattle.std.proofs.lemmas.Grind.{common_steps}
+use Rattle.custody.proofs.Prelude.{arith, nat_tests, Tables}
 use Rattle.custody.proofs.BootLaws.{booted, booted_sizes}
 use Rattle.custody.proofs.tables.Custody.boot.Goals.{After-new-2}
 use Rattle.custody.proofs.tables.Custody.boot.Goals as goal
@@ -19,6 +20,4 @@ returns-clause-custody c = booted c.args.script.now (tables c) c.frames.result c
     c.in_ok-seats.ensures
 
 pub returns-clause-tables : goal.returns-clause-tables
-returns-clause-tables c = booted_sizes c.args.script.now (tables c) c.frames.result c.processes-processes.result
-    c.processors.result c.frames.ensures c.processes-processes.ensures.count c.processors.ensures
-    c.in_ok-frames.ensures c.in_ok-descriptors.ensures c.in_ok-seats.ensures
+returns-clause-tables c = grind (arith, nat_tests, common_steps, booted_sizes)

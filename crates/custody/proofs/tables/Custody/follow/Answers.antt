@@ -1,4 +1,5 @@
-use Rattle.custody.proofs.Prelude.{on_ok}
+use Rattle.std.proofs.lemmas.Grind.{common_steps}
+use Rattle.custody.proofs.Prelude.{arith, nat_tests, on_ok}
 use Rattle.custody.proofs.FollowLaws.{active_advanced, custody_advanced, of_advanced}
 use Rattle.custody.proofs.KeptNodes.{nodes_kept}
 use Rattle.custody.proofs.tables.Custody.follow.Goals as goal
@@ -15,6 +16,4 @@ returns-clause-nodes c = on_ok c.advance.result _ _ (λ advances s shows nodes l
     (c.requires.allowed s shows nodes) lawful nodes)) c.advance.ensures.ok
 
 pub returns-clause-tables : goal.returns-clause-tables
-returns-clause-tables c = on_ok c.advance.result _ _ (λ advances s shows.
-    of_advanced c.args.script.now s c.args.self.now c.advance.new.self c.args.e c.requires.tables (advances s shows))
-    c.advance.ensures.ok
+returns-clause-tables c = grind (arith, nat_tests, common_steps, on_ok, of_advanced)
