@@ -112,7 +112,9 @@ none_due_decides t = scan_decides (λ (s : Seat). is_some s.due) (λ (s : Seat).
 
 pub page_goes_decides : {frames : List FrameUse} (t : Tables) (r : Bool) → frames ≡ t.frames
     → Decides r ((f : ℕ) × (is_going_frame (frame_at frames f) ≡ true)) → Decides r (GoesPage (custody_of t))
-page_goes_decides t r is h = grind (arith, nat_tests, common_steps)
+page_goes_decides t r is h =
+    let d = rw is at h in
+    (λ e. record { at = (d.0 e).0; going = (d.0 e).1 }, λ g. d.1 (g.at, g.going))
 
 pub descriptor_goes_decides : (t : Tables) (r : Bool) → r
     ≡ list_any (λ row. list_any is_going_descriptor row) t.descriptors → Decides r (GoesDescriptor (custody_of t))
