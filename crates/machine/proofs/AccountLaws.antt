@@ -1,7 +1,6 @@
 -- The accounts of a machine that keeps its promise, and what of its volumes is in use, are those of the flat store
 -- after the book; and the book tells at most as many failures as the drives have counted.
-use Rattle.machine.proofs.Prelude.{◌≡◌, ◌<◌, ◌≤◌, ◌^◌, ℕ, Bool, length, List, Option, arith, count_by, count_by-le-length, entries_on, taken_on, AccountMaps, Counts, taken, used, Keeps, is_fault, flat_of, State}
-use Rattle.vtoc.specs.Vtoc.{Entry}
+use Rattle.machine.proofs.Prelude.{◌≡◌, ◌<◌, ◌≤◌, ◌^◌, ℕ, Bool, length, List, Option, arith, count_by, count_by-le-length, entries_on, taken_on, AccountMaps, Counts, taken, used, Keeps, is_fault, flat_of, State, Vtoc_Entry as Entry}
 
 module _ (s : State) (keeps : Keeps s) where
   pub shown_nodes : (a : AccountMaps) → a ≡ s.store.accounts → (flat_of s).nodes ≡ a.nodes

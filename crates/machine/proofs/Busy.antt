@@ -1,9 +1,8 @@
 -- A processor that does more than take part, drop and load has a process.
-use Rattle.machine.proofs.Prelude.{◌≡◌, ◌<◌, ℕ, length, true, false, eqb, List, ◌∷◌, Option, Some, None, refl, sym, ap, ◌∙◌, cond_both, What, Transfer, Processor, action_of, clear_or, go_on_with, load_or_idle, own_or_run, run_process, transfer_or, no_call, Keeps, IsReading, or_zero, process_at, processor_at, Owner, State, action_by, process_here, reads_for, IsBusy, is_of_process, eqb-true, []}
-use Rattle.machine_model.specs.Actions as act
+use Rattle.machine.proofs.Prelude.{◌≡◌, ◌<◌, ℕ, length, true, false, eqb, List, ◌∷◌, Option, Some, None, refl, sym, ap, ◌∙◌, cond_both, What, Transfer, Processor, action_of, clear_or, go_on_with, load_or_idle, own_or_run, run_process, transfer_or, no_call, Keeps, IsReading, or_zero, process_at, processor_at, Owner, State, action_by, process_here, reads_for, IsBusy, is_of_process, eqb-true, [], Action, Action as act}
 
 -- what its action tells of a processor
-abbrev pub Busy : State → ℕ → act.Action → Type 0
+abbrev pub Busy : State → ℕ → Action → Type 0
 Busy s c a = is_of_process a ≡ true → IsBusy s c
 
 module _ (s : State) (c : ℕ) (k : Keeps s) (reading : IsReading s) (there : c < length s.processors) where
@@ -37,5 +36,5 @@ module _ (s : State) (c : ℕ) (k : Keeps s) (reading : IsReading s) (there : c 
   clear_busy None = transfer_busy p.cpu.transfer refl
 
   -- the same by the action's name
-  pub busy_of : (a : act.Action) → action_of s c ≡ a → Busy s c a
+  pub busy_of : (a : Action) → action_of s c ≡ a → Busy s c a
   busy_of a doing = rw (← doing) (action_by (Busy s c) s c none none (λ off. none) (λ on. clear_busy p.cpu.due))

@@ -1,6 +1,5 @@
 -- What a step's call of a drive comes to: which drive counts a failure more, and how many all of them do.
-use Rattle.machine.proofs.Prelude.{◌≡◌, ◌≤◌, ◌+◌, ◌^◌, ◌++◌, ℕ, Bool, true, false, length, map, min, List, refl, ap, ◌∙◌, arith, inl, inr, Err, IsOk, Ok, Result, count_by, sum_by, cases_lt, Rose, Entry, IsOneMore, CallsDrive, CallsDrives, page_in, is_fault, home_in, State, calls_drive, Parts, SparesCall, outcome_of, AreTold, CallsAs, CallsNone, CallsOne, CountsAlike, HaveCounted, KeepsParts, LetsGo, CallsTwo, RoseAtOne, count_on, sum_of_map, seen_same, OnErr, with_room}
-use Rattle.machine_model.specs.Actions as act
+use Rattle.machine.proofs.Prelude.{◌≡◌, ◌≤◌, ◌+◌, ◌^◌, ◌++◌, ℕ, Bool, true, false, length, map, min, List, refl, ap, ◌∙◌, arith, inl, inr, Err, IsOk, Ok, Result, count_by, sum_by, cases_lt, Rose, Entry, IsOneMore, CallsDrive, CallsDrives, page_in, is_fault, home_in, State, calls_drive, Parts, SparesCall, outcome_of, AreTold, CallsAs, CallsNone, CallsOne, CountsAlike, HaveCounted, KeepsParts, LetsGo, CallsTwo, RoseAtOne, count_on, sum_of_map, seen_same, OnErr, with_room, Action, Action as act}
 use Rattle.machine.proofs.DriveCounts.{others_sum}
 
 -- ---- a call by its result
@@ -68,7 +67,7 @@ module _ {D : Type 0} {faults : D → ℕ} {old new : List D} where
   }
 
   -- where it failed a drive was called, and counts one more
-  calls_failed : (s : State) (a : act.Action) → CallsAs faults s a old new true
+  calls_failed : (s : State) (a : Action) → CallsAs faults s a old new true
       → (calls_drive a ≡ true) × RoseAtOne faults old new
   calls_failed s (act.EndTransfer t) h = (refl, one_rose _ h)
   calls_failed s (act.FinishEviction f) h = (refl, one_rose _ h.called)
@@ -83,11 +82,11 @@ module _ {D : Type 0} {faults : D → ℕ} {old new : List D} where
   calls_failed s _ h = cc
 
   -- what is told of it
-  pub are_told : (s : State) (a : act.Action) (failed : Bool) {told : ℕ} → CallsAs faults s a old new failed → told ≤ 1
+  pub are_told : (s : State) (a : Action) (failed : Bool) {told : ℕ} → CallsAs faults s a old new failed → told ≤ 1
       → (1 ≤ told → failed ≡ true) → (calls_drive a ≡ true → failed ≡ true → 1 ≤ told) → AreTold faults old new told
   are_told s a failed {told} calls few only each = by failed calls only each
     where
-      same : (x : act.Action) → CallsAs faults s x old new false → map faults new ≡ map faults old
+      same : (x : Action) → CallsAs faults s x old new false → map faults new ≡ map faults old
       same (act.EndTransfer t) h = h.told refl
       same (act.FinishEviction f) h = h.called.told refl
       same (act.FinishPage f) h = h.called.told refl

@@ -1,6 +1,5 @@
 -- What the choice of a processor's action asks follows from the promise.
-use Rattle.machine.proofs.Prelude.{◌≡◌, ◌<◌, ◌≤◌, ℕ, true, false, is_some, length, List, Option, Some, None, refl, subst, ◌∙◌, arith, IfSome, find, HeldSeg, is_number, Mover, Node, node_in, pool_of, IsActive, table_at, uid_at, leads_to, place_of, pages_of, directory_found, room_of, IsLongEnough, AreHeldSegs, AreOfProcess, IsEntitled, seen, Keeps, MovesIn, mover_in, mover_of, Phase, cpu_at, is_active, next_command, process_at, shown, Owner, State, active_place, descriptor_active, entitled_all, leads_all, seg_found, active_there, AreLong, MayChoose, Parts, IsSound, some_same, []}
-use Rattle.machine_model.specs.declared.Phase.TheVariants as phase
+use Rattle.machine.proofs.Prelude.{◌≡◌, ◌<◌, ◌≤◌, ℕ, true, false, is_some, length, List, Option, Some, None, refl, subst, ◌∙◌, arith, IfSome, find, HeldSeg, is_number, Mover, Node, node_in, pool_of, IsActive, table_at, uid_at, leads_to, place_of, pages_of, directory_found, room_of, IsLongEnough, AreHeldSegs, AreOfProcess, IsEntitled, seen, Keeps, MovesIn, mover_in, mover_of, Phase, cpu_at, is_active, next_command, process_at, shown, Owner, State, active_place, descriptor_active, entitled_all, leads_all, seg_found, active_there, AreLong, MayChoose, Parts, IsSound, some_same, [], Phase as phase}
 use Rattle.machine.proofs.AloneLaws.{process_known, run_there}
 
 module _ {D : Type 0} (t : Parts D) (c : ℕ) (sound : IsSound t) (there : c < length t.state.processors) where

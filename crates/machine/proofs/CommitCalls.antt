@@ -1,6 +1,5 @@
 -- What the call asks that has a tree command take effect.
-use Rattle.machine.proofs.Prelude.{◌≡◌, ℕ, true, length, map, List, Some, refl, ap, subst, arith, is_command, Command, HasParts, or_zero, process_at, run_at, State, IsCommitting, committing, few_uids, Parts, IsApplicable, MayCommit, effect_had, drive_each, more_volumes, IsBusy, command_planned, MayAnswer}
-use Rattle.machine_model.specs.Actions as act
+use Rattle.machine.proofs.Prelude.{◌≡◌, ℕ, true, length, map, List, Some, refl, ap, subst, arith, is_command, Command, HasParts, or_zero, process_at, run_at, State, IsCommitting, committing, few_uids, Parts, IsApplicable, MayCommit, effect_had, drive_each, more_volumes, IsBusy, command_planned, MayAnswer, Action as act}
 use Rattle.machine.proofs.AloneLaws.{leaving_room, place_room, process_known, run_there}
 use Rattle.machine.proofs.Does.{Does, busy, keeps_of, knows, still_for}
 use Rattle.machine.proofs.OwnerCalls.{owned}

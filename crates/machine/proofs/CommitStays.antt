@@ -1,9 +1,6 @@
 -- How many places and drives there are stays where a tree command takes effect.
-use Rattle.machine.proofs.Prelude.{◌≡◌, ◌%◌, ◌/◌, ℕ, Bool, true, false, cond, eqb, length, List, ◌∷◌, Option, Some, None, refl, ◌∙◌, length-set, Command, Row, bound_page, Ptw, cut, erased, framed, Plain, frame_in, words_in, place_of, word_of, frames_freed, pages_past, with_cut, with_cut_in, with_deleted, with_effect, with_made, with_truncated, without_page, without_pages, are_zeros, here_if, with_here, with_inactive, home_in, is_active, Storage, with_pages, []}
-use Rattle.script.specs.declared.commands.Command.TheVariants as command
+use Rattle.machine.proofs.Prelude.{◌≡◌, ◌%◌, ◌/◌, ℕ, Bool, true, false, cond, eqb, length, List, ◌∷◌, Option, Some, None, refl, ◌∙◌, length-set, Command, Row, bound_page, Ptw, cut, erased, framed, Plain, frame_in, words_in, place_of, word_of, frames_freed, pages_past, with_cut, with_cut_in, with_deleted, with_effect, with_made, with_truncated, without_page, without_pages, are_zeros, here_if, with_here, with_inactive, home_in, is_active, Storage, with_pages, [], Command as command, Frame as frame, Ptw as ptw}
 use Rattle.flat_model.specs.Branches.{parts_of}
-use Rattle.core_map.specs.declared.Frame.TheVariants as frame
-use Rattle.page_table.specs.declared.Ptw.TheVariants as ptw
 
 -- how many places the active segment table has, and how many drives there are
 abbrev pub counts : Storage → ℕ × ℕ

@@ -1,7 +1,5 @@
 -- How many commands a processor has answered since it loaded its process, and where a process's next command stands.
-use Rattle.machine.proofs.Prelude.{◌≡◌, ◌<◌, ◌+◌, ℕ, eqb, List, ◌∷◌, length, Some, refl, sym, ◌∙◌, arith, cond_both, What, Plan, Entry, after_entry, Store, boot, custody_after, custody_from, Custody, Seat, nothing_held, at_put, custody_next, count_next, by_place, []}
-use Rattle.book.specs.declared.entries.Entry.TheVariants as entry
-use Rattle.custody_model.specs.Next.{told}
+use Rattle.machine.proofs.Prelude.{◌≡◌, ◌<◌, ◌+◌, ℕ, eqb, List, ◌∷◌, length, Some, refl, sym, ◌∙◌, arith, cond_both, What, Plan, Entry, after_entry, Store, boot, custody_after, custody_from, Custody, Seat, nothing_held, at_put, custody_next, count_next, by_place, [], Entry as entry, Next_told as told}
 
 -- of each processor that has a process: it has answered fewer commands since than there are entries
 abbrev AreCounted : Custody → ℕ → Type 0

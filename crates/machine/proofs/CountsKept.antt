@@ -1,11 +1,6 @@
 -- There are as many places and drives after each action, and after a visit of the shutdown, as before; and the drives
 -- have counted as many failures, but for a call that tells them.
-use Rattle.machine.proofs.Prelude.{set, Aim, Bool, Command, CutDescriptor, Home, Left, List, None, Option, Outcome, Reference, Some, State, Storage, What, after, after_visit, alters, ap, bound_page, calls_drive, committed_at, cond, copy_failed, cut_all, cut_of_owner, cut_one, eviction_done, false, fault_told, first_off_chain, frame_in, frames_from, frames_of_owner, get_or, hand_past, home_in, is_modified, leaving_if, left_after, left_of, length, length-set, new_word, next_command, old_word, page_back, page_copied, page_done, page_gone, page_in, page_taken, pages_after, pages_back, place_of, process_at, record_of, referred, refl, seg_back, seg_gone, segment_emptied, segment_taken, segs_back, segs_gone, take_all, take_one, trailers_in, transfer_failed, transferred, true, uid_of_command, visited_if, with_choice, with_faults, with_hand_moved, with_inactive, with_left, with_pages, with_store, word_put, words_in, write_failed, ℕ, ◌%◌, ◌∙◌, ◌∷◌, ◌≡◌, took, []}
-use Rattle.script.specs.declared.commands.Command.TheVariants as command
-use Rattle.assoc_mem.specs.declared.What.TheVariants as what
-use Rattle.page_control.specs.declared.Left.TheVariants as left
-use Rattle.machine_model.specs.declared.Aim.TheVariants as aim
-use Rattle.machine_model.specs.Actions as act
+use Rattle.machine.proofs.Prelude.{set, Aim, Bool, Command, CutDescriptor, Home, Left, List, None, Option, Outcome, Reference, Some, State, Storage, What, after, after_visit, alters, ap, bound_page, calls_drive, committed_at, cond, copy_failed, cut_all, cut_of_owner, cut_one, eviction_done, false, fault_told, first_off_chain, frame_in, frames_from, frames_of_owner, get_or, hand_past, home_in, is_modified, leaving_if, left_after, left_of, length, length-set, new_word, next_command, old_word, page_back, page_copied, page_done, page_gone, page_in, page_taken, pages_after, pages_back, place_of, process_at, record_of, referred, refl, seg_back, seg_gone, segment_emptied, segment_taken, segs_back, segs_gone, take_all, take_one, trailers_in, transfer_failed, transferred, true, uid_of_command, visited_if, with_choice, with_faults, with_hand_moved, with_inactive, with_left, with_pages, with_store, word_put, words_in, write_failed, ℕ, ◌%◌, ◌∙◌, ◌∷◌, ◌≡◌, took, [], Command as command, What as what, Left as left, Aim as aim, Action, Action as act}
 use Rattle.machine.proofs.CommitStays.{counts, effect, here}
 
 -- how many places and drives there are, and how many failures the drives have counted
@@ -115,10 +110,10 @@ referred_to st f r = by (alters r.kind)
 -- ---- each action
 
 -- where a drive was called it has counted what the call tells
-abbrev pub called : State → act.Action → Outcome → State
+abbrev pub called : State → Action → Outcome → State
 called s a o = cond (calls_drive a) (with_faults s o.faults) s
 
-pub tally_kept : (s : State) (c : ℕ) (a : act.Action) (o : Outcome) → tally (after s c a o) ≡ tally (called s a o)
+pub tally_kept : (s : State) (c : ℕ) (a : Action) (o : Outcome) → tally (after s c a o) ≡ tally (called s a o)
 unfolding after
 tally_kept s c (act.EndTransfer t) o = either o.failed (transferred (with_faults s o.faults) c t)
     (transfer_failed s c t o.faults) refl refl
@@ -144,7 +139,7 @@ tally_kept s c act.Commit o = commits s c (next_command s (process_at s c))
 tally_kept s c _ o = refl
 
 -- so the places and the drives stay
-pub counts_kept : (s : State) (c : ℕ) (a : act.Action) (o : Outcome) → counts (after s c a o).store ≡ counts s.store
+pub counts_kept : (s : State) (c : ℕ) (a : Action) (o : Outcome) → counts (after s c a o).store ≡ counts s.store
 counts_kept s c a o = ap (λ (n : (ℕ × ℕ) × ℕ). n.0) (tally_kept s c a o) ∙ by (calls_drive a)
   where
     by : (b : Bool) → counts (cond b (with_faults s o.faults) s).store ≡ counts s.store

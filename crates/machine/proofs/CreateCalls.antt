@@ -1,9 +1,5 @@
 -- What the call asks that makes a page for a reference.
-use Rattle.machine.proofs.Prelude.{◌≡◌, ◌≢◌, ℕ, Bool, true, false, not, ◌&&◌, cond, eqb, Some, None, List, refl, sym, ap, subst, ◌∙◌, ◌/◌, alters, new_word, Reference, Reply, Node, node_in, frame_at, is_free, uid_of, has_record, IsActive, kst_at, leads, word_of, IsKnownAt, pages_of, is_stored, is_out_of_room, is_used_up, room_reply, stores_page, word_reply, Keeps, cpu_at, flat_of, is_active, or_zero, process_at, is_of_room, only, room_refusal, State, free_frame, position_at, free_is, due_is, inside_is, IsInside, null_word, stored_is, active_at, HasPlace, IsMakeable, Parts, nonzero_alters, some_same}
-use Rattle.book.specs.declared.replies.Reply.TheVariants as reply
-use Rattle.core_map.specs.declared.Frame.TheVariants as frame
-use Rattle.page_table.specs.declared.Ptw.TheVariants as ptw
-use Rattle.machine_model.specs.Actions as act
+use Rattle.machine.proofs.Prelude.{◌≡◌, ◌≢◌, ℕ, Bool, true, false, not, ◌&&◌, cond, eqb, Some, None, List, refl, sym, ap, subst, ◌∙◌, ◌/◌, alters, new_word, Reference, Reply, Node, node_in, frame_at, is_free, uid_of, has_record, IsActive, kst_at, leads, word_of, IsKnownAt, pages_of, is_stored, is_out_of_room, is_used_up, room_reply, stores_page, word_reply, Keeps, cpu_at, flat_of, is_active, or_zero, process_at, is_of_room, only, room_refusal, State, free_frame, position_at, free_is, due_is, inside_is, IsInside, null_word, stored_is, active_at, HasPlace, IsMakeable, Parts, nonzero_alters, some_same, Reply as reply, Frame as frame, Ptw as ptw, Action as act}
 use Rattle.machine.proofs.AloneLaws.{process_known}
 use Rattle.machine.proofs.Does.{Does, found, keeps_of}
 use Rattle.machine.proofs.Found.{Looked}

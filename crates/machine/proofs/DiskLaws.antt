@@ -1,9 +1,5 @@
 -- The volumes of a machine that keeps its promise hold the flat store after the book.
-use Rattle.machine.proofs.Prelude.{◌≡◌, ◌≢◌, cond, ℕ, Bool, true, false, eqb, is_some, get_or, position, List, ◌∷◌, Option, Some, None, refl, sym, ap, ◌∙◌, ◌/◌, ◌%◌, Node, node_in, volume_in, is_stored, custody_after, Custody, record_at, Vols, Ptw, Home, is_binding, is_filed_at, words_of_page, bindings, vtoc_in, Mover, in_move, home_of, is_filed, is_there, picture, seen, Keeps, flat_of, bound_use, frame_use, State, position_at, HasHome, HasNode, IsOnDisk, bound_tells, []}
-use Rattle.custody_model.specs.Custody.{bound_page}
-use Rattle.vtoc.specs.Vtoc.{Entry}
-use Rattle.page_table.specs.declared.Ptw.TheVariants as ptw
-use Rattle.page_control.specs.Tied.{uid_at}
+use Rattle.machine.proofs.Prelude.{◌≡◌, ◌≢◌, cond, ℕ, Bool, true, false, eqb, is_some, get_or, position, List, ◌∷◌, Option, Some, None, refl, sym, ap, ◌∙◌, ◌/◌, ◌%◌, Node, node_in, volume_in, is_stored, custody_after, Custody, record_at, Vols, Ptw, Home, is_binding, is_filed_at, words_of_page, bindings, vtoc_in, Mover, in_move, home_of, is_filed, is_there, picture, seen, Keeps, flat_of, bound_use, frame_use, State, position_at, HasHome, HasNode, IsOnDisk, bound_tells, [], Ptw as ptw, page_held as bound_page, Vtoc_Entry as Entry, Tied_uid_at as uid_at}
 
 -- a frame that is bound shows its page
 bound_shows : (words : ℕ → ℕ → Ptw) (page : ℕ × ℕ) (x read : Option (ℕ × ℕ)) → x ≡ Some page

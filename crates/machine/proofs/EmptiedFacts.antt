@@ -1,10 +1,7 @@
 -- A segment that was taken whole is empty once its pages have left: no page of it is in a frame or being read, no
 -- descriptor leads to it, and it has no active inferior.
-use Rattle.machine.proofs.Prelude.{◌≡◌, ◌≢◌, ◌<◌, ℕ, zero, suc, true, false, get_or, List, ◌∷◌, Option, Some, is_some, length, arith, None, refl, sym, ap, ◌∙◌, All, Node, node_in, Ptw, HasNoInferior, IsAway, entry_at, superior_of, uid_at, uid_in, trailers_of, place_of, table_of, is_there, superior_in, is_going_descriptor, leads_to, uid_of_page, names, holding, seen, Keeps, cut_of_owner, frames_of_owner, is_active, trailers_in, bound_use, cut_uid, descriptor_use, frame_use, State, IsWhole, active_place, trailers_taken, ArePairs, active_at, no_page_left, IsEmptied, eqb-true, eqb_self, some_same, []}
-use Rattle.assoc_mem.specs.declared.What.TheVariants as what
-use Rattle.page_table.specs.declared.Ptw.TheVariants as ptw
+use Rattle.machine.proofs.Prelude.{◌≡◌, ◌≢◌, ◌<◌, ℕ, zero, suc, true, false, get_or, List, ◌∷◌, Option, Some, is_some, length, arith, None, refl, sym, ap, ◌∙◌, All, Node, node_in, Ptw, HasNoInferior, IsAway, entry_at, superior_of, uid_at, uid_in, trailers_of, place_of, table_of, is_there, superior_in, is_going_descriptor, leads_to, uid_of_page, names, holding, seen, Keeps, cut_of_owner, frames_of_owner, is_active, trailers_in, bound_use, cut_uid, descriptor_use, frame_use, State, IsWhole, active_place, trailers_taken, ArePairs, active_at, no_page_left, IsEmptied, eqb-true, eqb_self, some_same, [], What as what, Ptw as ptw, Custody_page_of as page_of}
 use Rattle.active_segs.specs.declared.Entry.{Entry}
-use Rattle.custody_model.specs.Custody.{page_of}
 
 -- a word that names no frame is of a page that is away
 word_away : (w : Ptw) → ((f : ℕ) → names w ≢ Some f) → IsAway w

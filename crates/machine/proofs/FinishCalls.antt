@@ -1,6 +1,5 @@
 -- What the calls ask that let a page go, and what is shown after them, however the call of the drive ended.
-use Rattle.machine.proofs.Prelude.{Aim, Err, HasOwner, IfOk, IsFaithful, IsLeaving, Left, List, MayAnswer, MayComeBack, MayFail, Ok, Parts, Result, State, Store, ap, arith, by_outcome, cond, descriptors_return, frames_of_owner, left_of, left_page, outcome_of, page_in, pages_return, subst, without_left, words_in, write_failed, ℕ, ◌∙◌, ◌∷◌, ◌≡◌, Plan}
-use Rattle.machine_model.specs.Actions as act
+use Rattle.machine.proofs.Prelude.{Aim, Err, HasOwner, IfOk, IsFaithful, IsLeaving, Left, List, MayAnswer, MayComeBack, MayFail, Ok, Parts, Result, State, Store, ap, arith, by_outcome, cond, descriptors_return, frames_of_owner, left_of, left_page, outcome_of, page_in, pages_return, subst, without_left, words_in, write_failed, ℕ, ◌∙◌, ◌∷◌, ◌≡◌, Plan, Action, Action as act}
 use Rattle.machine.proofs.Does.{Does, keeps_of}
 use Rattle.machine.proofs.Found.{Waited}
 use Rattle.machine.proofs.Stays.{faithful_as}
@@ -10,7 +9,7 @@ use Rattle.machine.proofs.TakingStays.{failed_as}
 abbrev Leaves : State → ℕ → ℕ → Aim → Type 0
 Leaves s c f a = Waited s c a (λ fs. (rest : List ℕ) × (fs ≡ f ∷ rest))
 
-module _ {D : Type 0} {t : Parts D} {c : ℕ} {a : act.Action} (d : Does t c a) where
+module _ {D : Type 0} {t : Parts D} {c : ℕ} {a : Action} (d : Does t c a) where
   abbrev s : State
   s = t.state
 

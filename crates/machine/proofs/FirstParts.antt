@@ -1,6 +1,5 @@
 -- Volumes as they are made of a script's lines and their drives: nothing of them is in use.
-use Rattle.machine.proofs.Prelude.{◌≡◌, ◌<◌, ℕ, zero, suc, false, List, ◌∷◌, ◌++◌, length, map, Option, Some, None, refl, sym, ap, ◌∙◌, arith, IfSome, slice_get, length-map, length-replicate, Plan, VolumeLine, entries_in, records_in, in_use, Part, Vols, made_of, size, flags_in, vtoc_in, AreFresh, none_some, parts_of, all_same, []}
-use Rattle.vtoc.specs.Vtoc.{Entry, entry_at}
+use Rattle.machine.proofs.Prelude.{◌≡◌, ◌<◌, ℕ, zero, suc, false, List, ◌∷◌, ◌++◌, length, map, Option, Some, None, refl, sym, ap, ◌∙◌, arith, IfSome, slice_get, length-map, length-replicate, Plan, VolumeLine, entries_in, records_in, in_use, Part, Vols, made_of, size, flags_in, vtoc_in, AreFresh, none_some, parts_of, all_same, [], Vtoc_Entry as Entry, Vtoc_entry_at as entry_at}
 
 -- there is one at each place
 get_some : (lines : List VolumeLine) (place : ℕ) → place < length lines

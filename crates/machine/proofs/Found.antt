@@ -1,15 +1,9 @@
 -- What the rules found where they choose an action of the supervisor's owner, or the end of a transfer.
-use Rattle.machine.proofs.Prelude.{◌≡◌, ◌<◌, ℕ, ◌*◌, length, Bool, true, false, not, ◌&&◌, cond, eqb, List, ◌∷◌, position, Option, Some, None, refl, sym, ap, subst, ◌∙◌, ◌/◌, nat_le, find, option_map, cond_both, HeldPage, HeldSeg, frame_of, is_page, seg_of, Sdw, Ptw, word_reply, new_word, permits, sdws_at, table_of, word_of, next_out, by_descriptor, by_held, by_page, by_seg, by_word, reference_of, Command, Reference, What, Transfer, Aim, Phase, Processor, action_of, by_move, clear_or, come_to, copy_or_commit, finish_of, go_on_with, has_had_its_turn, is_empty, load_or_idle, look_of, move_of, once_cleared, own_or_run, refer_or_take, run_process, take_or_wait, transfer_or, no_call, IsMachine, AreHeldPages, seen, descriptor_of, is_due, next_command, process_at, processor_at, Owner, State, action_by, LookFinds, look_finds, HasWaited, IsLooking, look_idle, process_here, speaks, IsMine, Looks, and_both, eqb-true, []}
-use Rattle.book.specs.declared.replies.Reply.TheVariants as reply
-use Rattle.descriptor_seg.specs.declared.Sdw.TheVariants as sdw
-use Rattle.page_table.specs.declared.Ptw.TheVariants as ptw
-use Rattle.processor.specs.declared.Move.TheVariants as move
-use Rattle.machine_model.specs.declared.Aim.TheVariants as aim
-use Rattle.machine_model.specs.declared.Phase.TheVariants as phase
-use Rattle.machine_model.specs.Actions as act
+use Rattle.machine.proofs.Prelude.{◌≡◌, ◌<◌, ℕ, ◌*◌, length, Bool, true, false, not, ◌&&◌, cond, eqb, List, ◌∷◌, position, Option, Some, None, refl, sym, ap, subst, ◌∙◌, ◌/◌, nat_le, find, option_map, cond_both, HeldPage, HeldSeg, frame_of, is_page, seg_of, Sdw, Ptw, word_reply, new_word, permits, sdws_at, table_of, word_of, next_out, by_descriptor, by_held, by_page, by_seg, by_word, reference_of, Command, Reference, What, Transfer, Aim, Phase, Processor, action_of, by_move, clear_or, come_to, copy_or_commit, finish_of, go_on_with, has_had_its_turn, is_empty, load_or_idle, look_of, move_of, once_cleared, own_or_run, refer_or_take, run_process, take_or_wait, transfer_or, no_call, IsMachine, AreHeldPages, seen, descriptor_of, is_due, next_command, process_at, processor_at, Owner, State, action_by, LookFinds, look_finds, HasWaited, IsLooking, look_idle, process_here, speaks, IsMine, Looks, and_both, eqb-true, [], Reply as reply, Sdw as sdw, Ptw as ptw, Aim as aim, Phase as phase, Action, Action as act}
+use Rattle.processor.specs.declared.Move.{Move as move}
 
 -- the owner looks, and the look comes to this action
-abbrev pub Looked : State → ℕ → act.Action → Type 0
+abbrev pub Looked : State → ℕ → Action → Type 0
 Looked s c a = Looks s c (λ x. LookFinds s (process_at s c) x a)
 
 -- the owner's job to this end has waited, and has these frames left
@@ -19,7 +13,7 @@ pub record Waited (s : State) (c : ℕ) (a : Aim) (IsLeft : List ℕ → Type 0)
   pub left : IsLeft waited.owner.owner.frames
 
 -- what the owner of the supervisor found, a processor with a transfer, and one that refers to a page that it holds
-abbrev pub Found : State → ℕ → act.Action → Type 0
+abbrev pub Found : State → ℕ → Action → Type 0
 Found s c (act.Through f r) = (u : ℕ) × ((seen s).bound f ≡ Some (u, r.offset / 1024))
 Found s c (act.EndTransfer t) = (processor_at s.processors c).cpu.transfer ≡ Some t
 Found s c (act.Activate u place) = Looked s c (act.Activate u place)
@@ -136,7 +130,7 @@ module _ (s : State) (c : ℕ) (m : IsMachine s) (there : c < length s.processor
       finds = h;
     }
 
-    look_found : (a : act.Action) → LookFinds s k cmd a → Found s c a
+    look_found : (a : Action) → LookFinds s k cmd a → Found s c a
     look_found (act.Activate u place) h = looks h
     look_found (act.Connect n u) h = looks h
     look_found (act.Create f u q r) h = looks h
@@ -205,5 +199,5 @@ module _ (s : State) (c : ℕ) (m : IsMachine s) (there : c < length s.processor
   step_found = action_by (Found s c) s c tt tt (λ off. tt) (λ on. clear_found p.cpu.due)
 
   -- the same by the action's name
-  pub found_of : (a : act.Action) → action_of s c ≡ a → Found s c a
+  pub found_of : (a : Action) → action_of s c ≡ a → Found s c a
   found_of a doing = rw (← doing) step_found

@@ -1,6 +1,5 @@
 -- What the calls ask that bring a segment of a chain nearer: it becomes active, or the victim of its pool is emptied.
-use Rattle.machine.proofs.Prelude.{Action, ArePools, Command, HasNoInferior, HasOneOffChain, IsAbout, IsSome, List, Looks, Node, None, Parts, Some, State, Storage, about_there, active_at, all_used, ap, arith, chain_end, chain_of, chain_one_off, first_inactive, first_there, free_place, is_of_process, is_some, is_there, leaf_inferiors, no_call, node_in, or_zero, own_chain, pool_of_node, process_at, refl, subst, sym, true, uid_at, victim_leaf, wanted_pool, ℕ, ◌<◌, ◌∙◌, ◌≡◌, IsSound, MayDo, some_same, speaks}
-use Rattle.machine_model.specs.Actions as act
+use Rattle.machine.proofs.Prelude.{Action, ArePools, Command, HasNoInferior, HasOneOffChain, IsAbout, IsSome, List, Looks, Node, None, Parts, Some, State, Storage, about_there, active_at, all_used, ap, arith, chain_end, chain_of, chain_one_off, first_inactive, first_there, free_place, is_of_process, is_some, is_there, leaf_inferiors, no_call, node_in, or_zero, own_chain, pool_of_node, process_at, refl, subst, sym, true, uid_at, victim_leaf, wanted_pool, ℕ, ◌<◌, ◌∙◌, ◌≡◌, IsSound, MayDo, some_same, speaks, Action as act}
 use Rattle.machine.proofs.Does.{Does, busy, found, keeps_of, still_for}
 use Rattle.machine.proofs.Found.{Looked}
 use Rattle.machine.proofs.OwnerCalls.{IsEmptiable, emptiable_by, owned}

@@ -1,4 +1,5 @@
 mod Prelude
+mod Laws
 pub mod AccountLaws
 pub mod AloneLaws
 pub mod Busy

@@ -1,11 +1,9 @@
 -- What the loops that make a machine end come to, turn by turn.
-use Rattle.machine.proofs.Prelude.{◌≡◌, ◌≤◌, ◌<◌, ℕ, ◌+◌, ◌++◌, ◌∷◌, true, false, cond, eqb, ◌&&◌, length, is_some, List, Option, Some, None, position, refl, sym, ap, subst, ◌∙◌, arith, inl, inr, cases_lt, append-nil, get_or_past, Err, Ok, OnErr, OnOk, Result, Transfer, action_of, has_process, is_over, CommandDone, Goes, HasTaken, IsReader, JobDone, JobFell, RoundDone, command_gauge, is_at, all_rank, Outline, Runner, runner_at, around, outline_of, stage_of, KeepsAll, cpu_at, no_processor, process_at, processor_at, IsGoing, IsOwnedBy, Owner, State, Processor, position_at, position_none, round_done, way_falls, way_next, kept_of, in_job, at_outline, long_outline, seen_reading, pools_kept, Parts, Why, HasGone, HasMoved, HasStalled, HasTurned, MayWait, OwnerTurned, WaitsFor, is_into, is_still_at, reads_into, with_spare, Grows, HasRun, HasStood, is_moved, tally, with_room, Appends, IfStill, IsTurn, KeepsParts, TellsFaults, turn_of, why_by, Turn, eqb-true, eqb_self, some_same, []}
+use Rattle.machine.proofs.Prelude.{◌≡◌, ◌≤◌, ◌<◌, ℕ, ◌+◌, ◌++◌, ◌∷◌, true, false, cond, eqb, ◌&&◌, length, is_some, List, Option, Some, None, position, refl, sym, ap, subst, ◌∙◌, arith, inl, inr, cases_lt, append-nil, get_or_past, Err, Ok, OnErr, OnOk, Result, Transfer, action_of, has_process, is_over, CommandDone, Goes, HasTaken, IsReader, JobDone, JobFell, RoundDone, command_gauge, is_at, all_rank, Outline, Runner, runner_at, around, outline_of, stage_of, KeepsAll, cpu_at, no_processor, process_at, processor_at, IsGoing, IsOwnedBy, Owner, State, Processor, position_at, position_none, round_done, way_falls, way_next, kept_of, in_job, at_outline, long_outline, seen_reading, pools_kept, Parts, Why, HasGone, HasMoved, HasStalled, HasTurned, MayWait, OwnerTurned, WaitsFor, is_into, is_still_at, reads_into, with_spare, Grows, HasRun, HasStood, is_moved, tally, with_room, Appends, IfStill, IsTurn, KeepsParts, TellsFaults, turn_of, why_by, Turn, eqb-true, eqb_self, some_same, [], Why as why, Turn as turn}
 use Rattle.machine_model.specs.Actions as act
 use Rattle.machine_model.specs.Outline as outline
 use Rattle.machine_model.specs.Turns as model
 use Rattle.machine_model.proofs.MachineRounds as rounds
-use Rattle.machine_tables.specs.declared.action.Why.TheVariants as why
-use Rattle.machine.specs.declared.turn.Turn.TheVariants as turn
 use Rattle.machine.proofs.RestLaws.{rest_kept}
 use Rattle.machine.proofs.RunLaws.{round_made, run_append, run_grows, run_grows_on, run_keeps, run_keeps_on}
 

@@ -1,9 +1,6 @@
 -- What the shutdown tells of drives that fail: at a visit one failure at the most, of no process; and at the end one
 -- for each page that is still in a frame.
-use Rattle.machine.proofs.Prelude.{◌≡◌, ◌<◌, ◌≤◌, ℕ, ◌+◌, ◌++◌, ◌∷◌, Bool, true, false, cond, List, Option, Some, None, inl, inr, refl, sym, ap, subst, ◌∙◌, arith, append-nil, ◌⊎◌, count_by, list_all, and_parts, Entry, bound_page, Left, frame_in, words_in, Ptw, Custody, page_held, Outcome, seen, entries_left, left_of, page_back, page_gone, page_in, Keeps, is_fault, frame_use, after_visit, page_taken, visited_if, State, fault_told, with_faults, TellsBack, WasVisited, append_assoc, binding_is, none_some, Parts, AllVisited, AreToldBack, CallsAtVisit, HasVisited, TellsLoss, CallsAs, calls_drive, length, []}
-use Rattle.book.specs.declared.entries.Entry.TheVariants as entry
-use Rattle.page_control.specs.declared.Left.TheVariants as left
-use Rattle.machine_model.specs.Actions as act
+use Rattle.machine.proofs.Prelude.{◌≡◌, ◌<◌, ◌≤◌, ℕ, ◌+◌, ◌++◌, ◌∷◌, Bool, true, false, cond, List, Option, Some, None, inl, inr, refl, sym, ap, subst, ◌∙◌, arith, append-nil, ◌⊎◌, count_by, list_all, and_parts, Entry, bound_page, Left, frame_in, words_in, Ptw, Custody, page_held, Outcome, seen, entries_left, left_of, page_back, page_gone, page_in, Keeps, is_fault, frame_use, after_visit, page_taken, visited_if, State, fault_told, with_faults, TellsBack, WasVisited, append_assoc, binding_is, none_some, Parts, AllVisited, AreToldBack, CallsAtVisit, HasVisited, TellsLoss, CallsAs, calls_drive, length, [], Entry as entry, Left as left, Action, Action as act}
 use Rattle.machine.proofs.CallLaws.{are_told}
 use Rattle.machine.proofs.VisitNext.{bound_there}
 
@@ -47,7 +44,7 @@ each_by n calls failed (inl none) called did = cc (none.1 called)
 each_by n calls failed (inr one) called did = omega arith
 
 -- what is done of a page that is let go
-abbrev pub visit_made : ℕ → Option (ℕ × ℕ) → act.Action
+abbrev pub visit_made : ℕ → Option (ℕ × ℕ) → Action
 visit_made f None = act.IsStopped
 visit_made f (Some page) = act.FinishPage f
 
@@ -120,7 +117,7 @@ visited_tells {D} {X} {plan} {places} {faults} {old} {new} h = record {
     page : Option (ℕ × ℕ)
     page = bound_page (frame_in old.state.store.pages old.state.visited)
 
-    made : act.Action
+    made : Action
     made = visit_made old.state.visited page
 
     calls : CallsAs faults old.state made old.drives new.drives h.outcome.failed

@@ -1,7 +1,5 @@
 -- What the calls of a move ask.
-use Rattle.machine.proofs.Prelude.{Action, Bool, Command, IsActive, IsUnread, List, MayAnswer, MayCopy, Mover, MovesFor, MovesForNext, None, Option, Parts, Some, State, ap, arith, cases_lt, count_by, count_of, eqb, flags_in, has_segment, home_in, inl, inr, is_roomy, is_some, length, long_segment, ltb, nat_tests, next_command, not, process_at, records_in, records_of, slice_get_past, tables_of, true, volumes_of, vtoc_in, ℕ, ◌&&◌, ◌-◌, ◌<◌, ◌≡◌, mover_to}
-use Rattle.vtoc.specs.Vtoc.{Entry}
-use Rattle.machine_model.specs.Actions as act
+use Rattle.machine.proofs.Prelude.{Action, Bool, Command, IsActive, IsUnread, List, MayAnswer, MayCopy, Mover, MovesFor, MovesForNext, None, Option, Parts, Some, State, ap, arith, cases_lt, count_by, count_of, eqb, flags_in, has_segment, home_in, inl, inr, is_roomy, is_some, length, long_segment, ltb, nat_tests, next_command, not, process_at, records_in, records_of, slice_get_past, tables_of, true, volumes_of, vtoc_in, ℕ, ◌&&◌, ◌-◌, ◌<◌, ◌≡◌, mover_to, Action as act, Vtoc_Entry as Entry}
 use Rattle.machine.proofs.Does.{Does, keeps_of, knows, still_for}
 use Rattle.machine.proofs.OwnerCalls.{active_there}
 

@@ -1,12 +1,5 @@
 -- A step that moves lengthens the book, or changes the owner of the supervisor or how far the owner's job has come.
-use Rattle.machine.proofs.Prelude.{◌≡◌, ◌≢◌, ◌⊎◌, ◌<◌, ◌≤◌, ◌+◌, ◌-◌, ℕ, Bool, true, false, cond, length, List, ◌∷◌, ◌++◌, Some, None, inl, inr, refl, sym, ◌∙◌, arith, length-append, Command, Entry, What, Transfer, Left, words_in, Aim, CutDescriptor, Phase, copy_failed, move_begun, page_copied, action_of, Outcome, after, by_outcome, committed, gone_entries, left_after, with_effect, cut_all, cut_one, emptied, entries_left, eviction_done, left_of, page_back, page_done, page_in, pages_back, seg_back, seg_gone, segment_taken, segs_back, segs_gone, take_all, take_one, took, with_hand_moved, write_failed, KeepsAll, Mover, table_of, cut_of_owner, frames_from, frames_of_owner, process_at, run_at, trailers_in, reply_of, uid_of_command, Owner, State, booked, fault_told, told, transfer_failed, transferred, with_faults, with_store, moves, first_past, CopiesNext, Knows, step_knows, BeginsMove, none_some, Changes, le_refl, []}
-use Rattle.script.specs.declared.commands.Command.TheVariants as command
-use Rattle.book.specs.declared.entries.Entry.TheVariants as entry
-use Rattle.assoc_mem.specs.declared.What.TheVariants as what
-use Rattle.page_control.specs.declared.Left.TheVariants as left
-use Rattle.machine_model.specs.declared.Aim.TheVariants as aim
-use Rattle.machine_model.specs.declared.Phase.TheVariants as phase
-use Rattle.machine_model.specs.Actions as act
+use Rattle.machine.proofs.Prelude.{◌≡◌, ◌≢◌, ◌⊎◌, ◌<◌, ◌≤◌, ◌+◌, ◌-◌, ℕ, Bool, true, false, cond, length, List, ◌∷◌, ◌++◌, Some, None, inl, inr, refl, sym, ◌∙◌, arith, length-append, Command, Entry, What, Transfer, Left, words_in, Aim, CutDescriptor, Phase, copy_failed, move_begun, page_copied, action_of, Outcome, after, by_outcome, committed, gone_entries, left_after, with_effect, cut_all, cut_one, emptied, entries_left, eviction_done, left_of, page_back, page_done, page_in, pages_back, seg_back, seg_gone, segment_taken, segs_back, segs_gone, take_all, take_one, took, with_hand_moved, write_failed, KeepsAll, Mover, table_of, cut_of_owner, frames_from, frames_of_owner, process_at, run_at, trailers_in, reply_of, uid_of_command, Owner, State, booked, fault_told, told, transfer_failed, transferred, with_faults, with_store, moves, first_past, CopiesNext, Knows, step_knows, BeginsMove, none_some, Changes, le_refl, [], Command as command, Entry as entry, What as what, Left as left, Aim as aim, Phase as phase, Action, Action as act}
 use Rattle.machine.proofs.Found.{Found, step_found}
 
 -- how many entries the book has
@@ -174,7 +167,7 @@ module _ (s : State) (c : ℕ) (o : Outcome) where
   one : (e : Entry) → size s < length (s.entries ++ e ∷ [])
   one e = longer s.entries e (size s) (le_refl _)
 
-  changes : (a : act.Action) → Knows s c a → Found s c a → moves a ≡ true → Changes s (after s c a o)
+  changes : (a : Action) → Knows s c a → Found s c a → moves a ≡ true → Changes s (after s c a o)
   unfolding after
   changes act.IsStopped k f m = cc
   changes act.HasEnded k f m = cc

@@ -1,10 +1,6 @@
 -- What the calls of the owner's looks ask, of a page that is read in, of a descriptor that is connected, and of what is
 -- taken.
-use Rattle.machine.proofs.Prelude.{Action, AreHere, Command, Core, Frame, HasOwner, IsActive, IsEmptied, IsIdle, IsInside, IsLeaf, IsMine, IsNotStarted, LeadsToSegment, List, None, Option, Parts, Ptw, Some, State, Storage, active_place, any_at, any_page, ap, arith, binding_at, bindings, bound_here, bound_page, chain_active, choice_bound, clock_choice, cpu_at, cut_of_owner, descriptors_few, false, flat_of, frame_at, frame_reading, frames_from, frames_of_owner, free_frame, free_is, going_for, inside_is, is_active, is_away, is_bare, is_bound, is_for, is_free, is_out, known_uid, kst_at, leads, leads_at, length, length_stands, list_any, map_list, node_in, none_some, nothing_whole, or_zero, pages_few, place_of, position_at, process_at, refl, refusal_of, segment_inferiors, started_page, subst, superior_in, sym, table_of, trailers_in, true, uid_of, uid_of_command, uid_of_number, unread_any, unread_page, within_by, within_some, word_of, word_within, ℕ, ◌+◌, ◌<◌, ◌∙◌, ◌∷◌, ◌≡◌, ◌≢◌, ◌≤◌, seen, []}
-use Rattle.core_map.specs.declared.Frame.TheVariants as frame
-use Rattle.page_table.specs.declared.Ptw.TheVariants as ptw
-use Rattle.machine_model.specs.Actions as act
-use Rattle.machine_model.specs.declared.Aim.TheVariants as aim
+use Rattle.machine.proofs.Prelude.{Action, AreHere, Command, Core, Frame, HasOwner, IsActive, IsEmptied, IsIdle, IsInside, IsLeaf, IsMine, IsNotStarted, LeadsToSegment, List, None, Option, Parts, Ptw, Some, State, Storage, active_place, any_at, any_page, ap, arith, binding_at, bindings, bound_here, bound_page, chain_active, choice_bound, clock_choice, cpu_at, cut_of_owner, descriptors_few, false, flat_of, frame_at, frame_reading, frames_from, frames_of_owner, free_frame, free_is, going_for, inside_is, is_active, is_away, is_bare, is_bound, is_for, is_free, is_out, known_uid, kst_at, leads, leads_at, length, length_stands, list_any, map_list, node_in, none_some, nothing_whole, or_zero, pages_few, place_of, position_at, process_at, refl, refusal_of, segment_inferiors, started_page, subst, superior_in, sym, table_of, trailers_in, true, uid_of, uid_of_command, uid_of_number, unread_any, unread_page, within_by, within_some, word_of, word_within, ℕ, ◌+◌, ◌<◌, ◌∙◌, ◌∷◌, ◌≡◌, ◌≢◌, ◌≤◌, seen, [], Frame as frame, Ptw as ptw, Aim as aim, Action as act}
 use Rattle.machine.proofs.Does.{Does, found, keeps_of, still_for}
 use Rattle.machine.proofs.EmptiedFacts.{emptied}
 use Rattle.machine.proofs.Found.{Looked, Waited}

@@ -57,12 +57,12 @@ pub use Rattle.custody_model.proofs.SharedLaws.{any_turned, has_head, range_leng
 pub use Rattle.custody_model.proofs.TurnLaws.{count_next}
 pub use Rattle.custody_model.specs.Allowed.{superior_in}
 unfoldable pub use Rattle.custody_model.specs.Clean.{custody_after, custody_from}
-pub use Rattle.custody_model.specs.Custody.{Custody, Seat, bound_page as page_held, has, is_going_descriptor, leads_to, nothing_held, range, uid_of_page}
-pub use Rattle.custody_model.specs.Next.{at_put, released_by}
+pub use Rattle.custody_model.specs.Custody.{Custody, Seat, bound_page as page_held, has, is_going_descriptor, leads_to, nothing_held, range, uid_of_page, page_of as Custody_page_of}
+pub use Rattle.custody_model.specs.Next.{at_put, released_by, told as Next_told}
 unfoldable pub use Rattle.custody_model.specs.Next.{custody_next}
 pub use Rattle.page_table.specs.declared.Ptw.{Ptw}
 pub use Rattle.record_map.specs.Bitmap.{in_use}
-pub use Rattle.vtoc.specs.Vtoc.{record_at}
+pub use Rattle.vtoc.specs.Vtoc.{record_at, Entry as Vtoc_Entry, entry_at as Vtoc_entry_at}
 pub use Rattle.core_map.specs.Clock.{after_choice, clock_choice}
 pub use Rattle.core_map.specs.CoreMap.{Core, bound_page, frame_at, is_bound, is_free, is_modified, started_page, with_frame}
 pub use Rattle.core_map.specs.declared.Frame.{Frame}
@@ -78,14 +78,14 @@ pub use Rattle.descriptor_seg.specs.declared.Sdw.{Sdw}
 pub use Rattle.trailers.specs.Trailer.{trailers_of}
 pub use Rattle.page_control.proofs.Facts.{bound_from_page}
 pub use Rattle.page_control.proofs.Pictures.{picture_by, shown_in, shown_out}
-pub use Rattle.page_control.proofs.Touching.{Touches, page_none, page_some, words_kept}
+pub use Rattle.page_control.proofs.Touching.{Touches, page_none, page_some, words_kept, moves as Touching_moves}
 pub use Rattle.page_control.specs.Counts.{entries, size, taken, used}
 pub use Rattle.page_control.specs.Drives.{CallsDrive}
 pub use Rattle.page_control.specs.Effects.{cut, erased, evicted, framed, referred, word_put}
 pub use Rattle.page_control.specs.Picture.{KeepsWords, is_binding, is_stored as is_stored_at, words_at, words_filed, words_held}
 unfoldable pub use Rattle.page_control.specs.Picture.{is_filed_at, words_of_page}
 pub use Rattle.page_control.specs.Plain.{Paging, Plain, binding_at, bindings, frame_in, record_of, words_in}
-pub use Rattle.page_control.specs.Tied.{IsInFrame, IsNotStarted, flags_in, has_record, is_out, vtoc_in}
+pub use Rattle.page_control.specs.Tied.{IsInFrame, IsNotStarted, flags_in, has_record, is_out, vtoc_in, uid_at as Tied_uid_at}
 pub use Rattle.page_control.specs.Ties.{IsTied}
 pub use Rattle.page_control.specs.declared.Home.{Home}
 pub use Rattle.page_control.specs.declared.Left.{Left}

@@ -1,9 +1,5 @@
 -- A page that comes into its frame, or a frame that is free again where the drive failed, isn't seen in the flat store.
-use Rattle.machine.proofs.Prelude.{◌≡◌, ◌≢◌, ◌<◌, ℕ, true, false, set, length, Some, None, refl, sym, ap, ◌∙◌, get_or-set_other, get_or-set_same, Frame, bound_page, frame_at, is_modified, started_page, with_frame, Ptw, Home, framed, KeepsWords, words_at, Plain, binding_at, bindings, frame_in, IsTied, shown_in, shown_out, Touches, page_none, page_some, words_kept, IsActive, table_at, table_of, word_of, IsHomeOf, IsKept, IsOutAt, home_of, Transfer, names, seen, Keeps, home_in, is_active, processor_at, State, brought, with_pages, map_list, within_by, active_at, word_within, some_same, []}
-use Rattle.core_map.specs.declared.Frame.TheVariants as frame
-use Rattle.page_table.specs.declared.Ptw.TheVariants as ptw
-use Rattle.page_control.proofs.Touching.{moves}
-use Rattle.machine_model.specs.Custodial.{is_out}
+use Rattle.machine.proofs.Prelude.{◌≡◌, ◌≢◌, ◌<◌, ℕ, true, false, set, length, Some, None, refl, sym, ap, ◌∙◌, get_or-set_other, get_or-set_same, Frame, bound_page, frame_at, is_modified, started_page, with_frame, Ptw, Home, framed, KeepsWords, words_at, Plain, binding_at, bindings, frame_in, IsTied, shown_in, shown_out, Touches, page_none, page_some, words_kept, IsActive, table_at, table_of, word_of, IsHomeOf, IsKept, IsOutAt, home_of, Transfer, names, seen, Keeps, home_in, is_active, processor_at, State, brought, with_pages, map_list, within_by, active_at, word_within, some_same, [], Frame as frame, Ptw as ptw, Touching_moves as moves, is_away as is_out}
 use Rattle.machine.proofs.Stays.{ShowsAs, core_as, pages_as, tables_as, then_as, unbound_put}
 
 started_is : (x : Frame) (u p : ℕ) → started_page x ≡ Some (u, p) → x ≡ frame.Started u p

@@ -1,7 +1,5 @@
 -- The promise reads neither how much room the book has nor whether the machine was stopped.
-use Rattle.machine.proofs.Prelude.{ℕ, Bool, Option, Some, None, Command, Aim, Phase, IsFitting, AllCome, Keeps, outline_of, IsMachine, KeepsAll, next_command, process_at, refusal_of, State, IsTakenBy, TakenIn, TakenTo, IsWorking, Parts, with_state, IsSound}
-use Rattle.machine_model.specs.declared.Aim.TheVariants as aim
-use Rattle.machine_model.specs.declared.Phase.TheVariants as phase
+use Rattle.machine.proofs.Prelude.{ℕ, Bool, Option, Some, None, Command, Aim, Phase, IsFitting, AllCome, Keeps, outline_of, IsMachine, KeepsAll, next_command, process_at, refusal_of, State, IsTakenBy, TakenIn, TakenTo, IsWorking, Parts, with_state, IsSound, Aim as aim, Phase as phase}
 
 module _ (s : State) (spare : ℕ) (stopped : Bool) where
   abbrev now : State

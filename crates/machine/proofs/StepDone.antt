@@ -1,19 +1,17 @@
 -- What a step has done, by what the call for its action says.
-use Rattle.machine.proofs.Prelude.{map, Bool, CallsAs, IfStill, IsTurn, MayDo, OnErr, Parts, Result, Rose, State, Turn, Why, action_of, after, ap, arith, calls_drive, cond, false, length, no_call, outcome_of, refl, true, turn_of, why_by, why_of, with_faults, with_state, ℕ, ◌∙◌, ◌≡◌, ◌≤◌}
-use Rattle.machine_model.specs.Actions as act
-use Rattle.machine_tables.specs.declared.action.Why.TheVariants as why
+use Rattle.machine.proofs.Prelude.{map, Bool, CallsAs, IfStill, IsTurn, MayDo, OnErr, Parts, Result, Rose, State, Turn, Why, action_of, after, ap, arith, calls_drive, cond, false, length, no_call, outcome_of, refl, true, turn_of, why_by, why_of, with_faults, with_state, ℕ, ◌∙◌, ◌≡◌, ◌≤◌, Why as why, Action, Action as act}
 use Rattle.machine.proofs.CallLaws.{outcome_tells}
 use Rattle.machine.proofs.CountsKept.{tally_kept}
 
 -- an action that makes no call of a drive leaves the drives' count
-quiet_faults : (s : State) (c : ℕ) (a : act.Action) → (after s c a (no_call s)).faults ≡ s.faults
+quiet_faults : (s : State) (c : ℕ) (a : Action) → (after s c a (no_call s)).faults ≡ s.faults
 quiet_faults s c a = ap (λ (n : (ℕ × ℕ) × ℕ). n.1) (tally_kept s c a (no_call s)) ∙ by (calls_drive a)
   where
     by : (b : Bool) → (cond b (with_faults s s.faults) s).faults ≡ s.faults
     by true = refl
     by false = refl
 
-module _ {D X : Type 0} {plan : D → X} {places faults : D → ℕ} {t u new : Parts D} {c : ℕ} {a : act.Action} {r : Turn}
+module _ {D X : Type 0} {plan : D → X} {places faults : D → ℕ} {t u new : Parts D} {c : ℕ} {a : Action} {r : Turn}
     (same : t ≡ u) (may : MayDo u.state c a) where
   -- the turn of such an action
   pub quiet_turn : {v : State} → new ≡ with_state t v → v ≡ after t.state c a (no_call t.state)

@@ -1,6 +1,5 @@
 -- What is told of a step, by its turn.
-use Rattle.machine.proofs.Prelude.{◌≡◌, ◌<◌, ℕ, length, sym, ap, ◌∙◌, arith, action_of, after, State, calls_drive, moves, process_at, entries_after, HasTold, faults_after, pools_kept, Parts, IsSound, is_moved, Appends, Changes, IfMoved, IsTurn, KeepsParts, TellsFaults, Turn}
-use Rattle.machine.specs.declared.turn.Turn.TheVariants as turn
+use Rattle.machine.proofs.Prelude.{◌≡◌, ◌<◌, ℕ, length, sym, ap, ◌∙◌, arith, action_of, after, State, calls_drive, moves, process_at, entries_after, HasTold, faults_after, pools_kept, Parts, IsSound, is_moved, Appends, Changes, IfMoved, IsTurn, KeepsParts, TellsFaults, Turn, Turn as turn}
 use Rattle.machine.proofs.CallLaws.{are_told, told_alike}
 use Rattle.machine.proofs.MovedLaws.{moved_changes}
 use Rattle.machine.proofs.TurnLaws.{told_moves}

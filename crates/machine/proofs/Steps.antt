@@ -1,6 +1,5 @@
 -- A machine keeps its promise through an action of a step, where the calls of its store do what they say.
-use Rattle.machine.proofs.Prelude.{AreAccounts, FillPage, FillSeg, FillsBusy, IsBusy, IsFaithful, IsKept, IsSound, IsStore, List, Outcome, Parts, Rose, Says, State, Storage, Store, after, ap, arith, is_of_process, length, no_call, none_some, pools_kept, refl, shown_after, step_keeps_all, sym, true, ℕ, ◌∙◌, ◌≡◌, ◌≤◌, OnErr, Result, outcome_of, sum, StoreKept}
-use Rattle.machine_model.specs.Actions as act
+use Rattle.machine.proofs.Prelude.{AreAccounts, FillPage, FillSeg, FillsBusy, IsBusy, IsFaithful, IsKept, IsSound, IsStore, List, Outcome, Parts, Rose, Says, State, Storage, Store, after, ap, arith, is_of_process, length, no_call, none_some, pools_kept, refl, shown_after, step_keeps_all, sym, true, ℕ, ◌∙◌, ◌≡◌, ◌≤◌, OnErr, Result, outcome_of, sum, StoreKept, Action, Action as act}
 use Rattle.machine.proofs.CallLaws.{outcome_faults, outcome_tells}
 use Rattle.machine.proofs.CountsKept.{counts_kept}
 use Rattle.machine.proofs.Does.{Does, busy, keeps_of}
@@ -13,12 +12,12 @@ pub record IsStoreOf (st : Storage) : Type 0 where
   pub accounts : AreAccounts st.accounts
 
 -- a processor that takes an entry in has a process
-fills_busy : (s : State) (c : ℕ) (a : act.Action) → (is_of_process a ≡ true → IsBusy s c) → FillsBusy s c a
+fills_busy : (s : State) (c : ℕ) (a : Action) → (is_of_process a ≡ true → IsBusy s c) → FillsBusy s c a
 fills_busy s c (FillSeg n) its = λ e. none_some (sym e ∙ its refl)
 fills_busy s c (FillPage f r) its = λ e. none_some (sym e ∙ its refl)
 fills_busy s c a its = tt
 
-module _ {D : Type 0} {t now : Parts D} {c : ℕ} {a : act.Action} (d : Does t c a) where
+module _ {D : Type 0} {t now : Parts D} {c : ℕ} {a : Action} (d : Does t c a) where
   -- The store keeps its promise and shows what it is to show, and the drives' count rises where one failed.
   pub sound_after : (o : Outcome) → now.state ≡ after t.state c a o → now.room ≡ t.room → IsStoreOf now.state.store
       → ((x : Store) → IsFaithful t.state.plan x t.state.store

@@ -1,8 +1,5 @@
 -- What the call asks that takes what a tree command must have out of use.
-use Rattle.machine.proofs.Prelude.{◌≡◌, ◌≢◌, ◌<◌, ◌≤◌, ◌+◌, ℕ, zero, suc, Bool, true, false, cond, length, ◌∷◌, drop, Option, Some, None, ◌⊎◌, inl, inr, refl, ap, subst, arith, Command, IsActive, descriptors_taken, first_taken, frames_taken, Keeps, cpu_at, cut_of_owner, frames_in, frames_of_owner, is_active, is_connected, descriptor_of, next_command, or_zero, process_at, trailers_in, uid_of_command, State, Storage, command_few, connected_few, frames_from_few, trailers_few, no_table, HasItsSegment, frames_for, of_segment, pairs_for, what_for, taken_for, HasOwner, Parts, is_of_process, IsBusy, IsSound, MayDo, took_for, []}
-use Rattle.script.specs.declared.commands.Command.TheVariants as command
-use Rattle.machine_model.specs.declared.Aim.TheVariants as aim
-use Rattle.machine_model.specs.Actions as act
+use Rattle.machine.proofs.Prelude.{◌≡◌, ◌≢◌, ◌<◌, ◌≤◌, ◌+◌, ℕ, zero, suc, Bool, true, false, cond, length, ◌∷◌, drop, Option, Some, None, ◌⊎◌, inl, inr, refl, ap, subst, arith, Command, IsActive, descriptors_taken, first_taken, frames_taken, Keeps, cpu_at, cut_of_owner, frames_in, frames_of_owner, is_active, is_connected, descriptor_of, next_command, or_zero, process_at, trailers_in, uid_of_command, State, Storage, command_few, connected_few, frames_from_few, trailers_few, no_table, HasItsSegment, frames_for, of_segment, pairs_for, what_for, taken_for, HasOwner, Parts, is_of_process, IsBusy, IsSound, MayDo, took_for, [], Command as command, Aim as aim, Action, Action as act}
 use Rattle.machine.proofs.AloneLaws.{process_known, run_there}
 use Rattle.machine.proofs.Does.{Does, busy, found, keeps_of, knows, still_for}
 use Rattle.machine.proofs.Found.{Looked}
@@ -80,7 +77,7 @@ pub record IsTakeable (s : State) (k : ℕ) : Type 0 where
       ≤ s.spare
 
 -- what a command takes, of a segment that is active then
-abbrev pub taking : State → ℕ → Option Command → act.Action
+abbrev pub taking : State → ℕ → Option Command → Action
 taking s k x = act.TakeAway (frames_for s.store k x) (pairs_for s.store k x) (what_for s.store k x)
 
 pub taking_as : (s : State) (c k : ℕ) (x : Option Command) → ShowsAs s.store (took_for s c k x).store

@@ -1,7 +1,5 @@
 -- What a job takes, and what comes back where the drive failed, isn't seen in the flat store.
-use Rattle.machine.proofs.Prelude.{choice_bindings, Aim, CutDescriptor, List, None, Option, Some, State, Storage, What, after_choice, bound_page, cut_all, cut_of_owner, cut_one, deactivation_begun, fault_told, first_off_chain, frame_in, frames_from, frames_of_owner, hand_past, here_if, leads_at, leaving_if, page_back, pages_back, process_at, refl, seg_back, segment_taken, segs_back, segs_gone_rest, subst, sym, take_all, take_one, trailers_in, unlinked, victim_taken, with_choice, with_hand_moved, with_inactive, with_leaving, with_relink, with_store, write_failed, ℕ, ◌∷◌, emptied, took, []}
-use Rattle.assoc_mem.specs.declared.What.TheVariants as what
-use Rattle.machine_model.specs.declared.Aim.TheVariants as aim
+use Rattle.machine.proofs.Prelude.{choice_bindings, Aim, CutDescriptor, List, None, Option, Some, State, Storage, What, after_choice, bound_page, cut_all, cut_of_owner, cut_one, deactivation_begun, fault_told, first_off_chain, frame_in, frames_from, frames_of_owner, hand_past, here_if, leads_at, leaving_if, page_back, pages_back, process_at, refl, seg_back, segment_taken, segs_back, segs_gone_rest, subst, sym, take_all, take_one, trailers_in, unlinked, victim_taken, with_choice, with_hand_moved, with_inactive, with_leaving, with_relink, with_store, write_failed, ℕ, ◌∷◌, emptied, took, [], What as what, Aim as aim}
 use Rattle.machine.proofs.Stays.{ShowsAs, core_as, same_as, tables_as, then_as}
 
 -- the clock's choice, with the marks and the hand as they are then

@@ -1,7 +1,5 @@
 -- What a reference through a frame asks, and what the machine is after it.
-use Rattle.machine.proofs.Prelude.{Parts, Reference, Reply, Some, ap, bound_from_page, bound_page, cpu_at, frame_at, is_bound, map_list, old_word, or_zero, pages_after, sym, told_by, true, went_through, with_pages_of, with_state, word_reply, ℕ, ◌/◌, ◌∙◌, ◌≡◌}
-use Rattle.core_map.specs.declared.Frame.TheVariants as frame
-use Rattle.machine_model.specs.Actions as act
+use Rattle.machine.proofs.Prelude.{Parts, Reference, Reply, Some, ap, bound_from_page, bound_page, cpu_at, frame_at, is_bound, map_list, old_word, or_zero, pages_after, sym, told_by, true, went_through, with_pages_of, with_state, word_reply, ℕ, ◌/◌, ◌∙◌, ◌≡◌, Frame as frame, Action as act}
 use Rattle.machine.proofs.Does.{Does, found}
 
 -- the frame has a page

@@ -1,8 +1,6 @@
 -- What the end of a transfer asks, and that the machine keeps its promise through it, however the call of the drive
 -- ended.
-use Rattle.machine.proofs.Prelude.{Bool, IsActive, IsKept, IsSound, OnErr, Parts, Result, Rose, Some, State, Storage, Transfer, after, cond, false, frame_at, length, outcome_of, processor_at, table_of, transfer_failed, transferred, true, with_faults, ℕ, ◌<◌, ◌≡◌, ◌≤◌}
-use Rattle.core_map.specs.declared.Frame.TheVariants as frame
-use Rattle.machine_model.specs.Actions as act
+use Rattle.machine.proofs.Prelude.{Bool, IsActive, IsKept, IsSound, OnErr, Parts, Result, Rose, Some, State, Storage, Transfer, after, cond, false, frame_at, length, outcome_of, processor_at, table_of, transfer_failed, transferred, true, with_faults, ℕ, ◌<◌, ◌≡◌, ◌≤◌, Frame as frame, Action as act}
 use Rattle.machine.proofs.Does.{Does, found, keeps_of}
 use Rattle.machine.proofs.ReadStays.{active_there, brought_as, lost_as, page_within, started}
 use Rattle.machine.proofs.Stays.{ShowsAs, faithful_as}

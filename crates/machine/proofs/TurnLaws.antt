@@ -1,10 +1,8 @@
 -- What an answer tells.
-use Rattle.machine.proofs.Prelude.{◌≡◌, ℕ, false, refl, State, moves, is_moved, IfStill, turn_of, Turn}
-use Rattle.machine_model.specs.Actions as act
-use Rattle.machine.specs.declared.turn.Turn.TheVariants as turn
+use Rattle.machine.proofs.Prelude.{◌≡◌, ℕ, false, refl, State, moves, is_moved, IfStill, turn_of, Turn, Turn as turn, Action, Action as act}
 
 -- an answer tells of a move just where something is done
-pub told_moves : (s : State) (c : ℕ) (a : act.Action) → is_moved (turn_of s c a) ≡ moves a
+pub told_moves : (s : State) (c : ℕ) (a : Action) → is_moved (turn_of s c a) ≡ moves a
 told_moves s c act.IsStopped = refl
 told_moves s c a = refl
 

@@ -1,6 +1,5 @@
 -- Some processor goes on just where the machine wasn't stopped and some process hasn't ended.
-use Rattle.machine.proofs.Prelude.{◌≡◌, ◌≤◌, ◌<◌, ◌+◌, ℕ, Bool, true, false, cond, List, refl, sym, ap, subst, ◌∙◌, inl, inr, le_refl, arith, ◌↔◌, Contains, Result, Ok, Err, IfOk, list_any, list_any_at, cases_lt, action_of, is_over, KeepsAll, State, moves, IsDone, NamesAll, would_move, some_moves}
-use Rattle.machine_model.specs.Actions as act
+use Rattle.machine.proofs.Prelude.{◌≡◌, ◌≤◌, ◌<◌, ◌+◌, ℕ, Bool, true, false, cond, List, refl, sym, ap, subst, ◌∙◌, inl, inr, le_refl, arith, ◌↔◌, Contains, Result, Ok, Err, IfOk, list_any, list_any_at, cases_lt, action_of, is_over, KeepsAll, State, moves, IsDone, NamesAll, would_move, some_moves, Action as act}
 use Rattle.machine.proofs.EndedLaws.{over_ended}
 
 stopped_still : (s : State) (c : ℕ) → s.stopped ≡ true → would_move s c ≡ false

@@ -1,6 +1,5 @@
 -- A visit of the shutdown: what it asks of the tables, and that the machine keeps its promise.
-use Rattle.machine.proofs.Prelude.{◌≡◌, ◌<◌, ◌≤◌, ℕ, true, false, length, sum, List, Option, Some, None, inr, refl, sym, ap, subst, ◌∙◌, arith, OnErr, Result, nat_lt, nat_tests, Rose, Plan, Frame, bound_page, frame_at, is_modified, Store, CallsDrive, frame_in, words_in, is_over, Outcome, seen, are_zeros, page_in, IsFaithful, Keeps, mover_of, frames_of_owner, home_in, left_page, after_visit, State, AreVisited, over_free, bound_here, VisitSays, same_seats, visit_keeps_all, Parts, SparesCall, outcome_of, AreHere, shown_visited, IsSound, AllVisited, CallsAtVisit, HasVisited, TellsLoss, Appends, KeepsParts, LetsGo, StoreKept}
-use Rattle.core_map.specs.declared.Frame.TheVariants as frame
+use Rattle.machine.proofs.Prelude.{◌≡◌, ◌<◌, ◌≤◌, ℕ, true, false, length, sum, List, Option, Some, None, inr, refl, sym, ap, subst, ◌∙◌, arith, OnErr, Result, nat_lt, nat_tests, Rose, Plan, Frame, bound_page, frame_at, is_modified, Store, CallsDrive, frame_in, words_in, is_over, Outcome, seen, are_zeros, page_in, IsFaithful, Keeps, mover_of, frames_of_owner, home_in, left_page, after_visit, State, AreVisited, over_free, bound_here, VisitSays, same_seats, visit_keeps_all, Parts, SparesCall, outcome_of, AreHere, shown_visited, IsSound, AllVisited, CallsAtVisit, HasVisited, TellsLoss, Appends, KeepsParts, LetsGo, StoreKept, Frame as frame}
 use Rattle.machine.proofs.CallLaws.{outcome_faults, outcome_tells, page_let_go, told_alike}
 use Rattle.machine.proofs.CountsKept.{visit_counts}
 use Rattle.machine.proofs.LossTold.{visit_tells}

@@ -1,9 +1,5 @@
 -- What holds of the frames that the shutdown has visited holds after each visit, and one frame more was.
-use Rattle.machine.proofs.Prelude.{◌≡◌, ◌≢◌, ◌<◌, ℕ, ◌+◌, ◌++◌, ◌∷◌, Bool, true, false, cond, length, not, replicate, List, Option, Some, None, inl, inr, refl, sym, ap, subst, ◌∙◌, arith, cases_lt, get_or-set_other, get_or-set_same, get_or_past, Entry, bound_page, Plan, Left, Home, evicted, Plain, frame_in, words_in, Processor, action_of, clear_or, is_over, Outcome, after, are_zeros, here_if, leaving_if, left_of, page_back, page_gone, page_in, with_here, KeepsAll, cpu_at, home_in, no_processor, processor_at, after_visit, page_taken, visited_if, State, fault_told, with_faults, AreIdle, AreVisited, WasVisited, append_assoc, FillsBusy, idle_kept, pools_kept, none_some, SameSeats, VisitSays, same_seats, visit_over, all_same, []}
-use Rattle.book.specs.declared.entries.Entry.TheVariants as entry
-use Rattle.core_map.specs.declared.Frame.TheVariants as frame
-use Rattle.page_control.specs.declared.Left.TheVariants as left
-use Rattle.machine_model.specs.Actions as act
+use Rattle.machine.proofs.Prelude.{◌≡◌, ◌≢◌, ◌<◌, ℕ, ◌+◌, ◌++◌, ◌∷◌, Bool, true, false, cond, length, not, replicate, List, Option, Some, None, inl, inr, refl, sym, ap, subst, ◌∙◌, arith, cases_lt, get_or-set_other, get_or-set_same, get_or_past, Entry, bound_page, Plan, Left, Home, evicted, Plain, frame_in, words_in, Processor, action_of, clear_or, is_over, Outcome, after, are_zeros, here_if, leaving_if, left_of, page_back, page_gone, page_in, with_here, KeepsAll, cpu_at, home_in, no_processor, processor_at, after_visit, page_taken, visited_if, State, fault_told, with_faults, AreIdle, AreVisited, WasVisited, append_assoc, FillsBusy, idle_kept, pools_kept, none_some, SameSeats, VisitSays, same_seats, visit_over, all_same, [], Entry as entry, Frame as frame, Left as left, Action as act}
 
 -- a frame that was visited, where its page and its words are as before and the book has entries more
 carried : (old new : Plain) (es more : List Entry) (g : ℕ) → frame_in new g ≡ frame_in old g

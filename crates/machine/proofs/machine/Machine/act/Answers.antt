@@ -1,6 +1,5 @@
-use Rattle.machine.proofs.Prelude.{refl, ap, after}
+use Rattle.machine.proofs.Prelude.{refl, ap, after, Turn as turn}
 use Rattle.machine.proofs.StepDone.{quiet_turn, why_told}
-use Rattle.machine.specs.declared.turn.Turn.TheVariants as turn
 use Rattle.machine.proofs.machine.Machine.act.Goals as goal
 
 pub returns-in-IsStopped : goal.returns-in-IsStopped

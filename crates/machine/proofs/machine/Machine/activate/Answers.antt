@@ -1,8 +1,5 @@
 use Rattle.machine.proofs.Prelude.{after, refl, rules}
-use Rattle.machine.proofs.Does.{does}
-use Rattle.machine.proofs.JoinCalls.{joinable, place_is}
-use Rattle.machine.proofs.StepDone.{quiet_turn}
-use Rattle.machine.proofs.Stays.{stays_sound, tables_as}
+use Rattle.machine.proofs.Laws.{does, joinable, place_is, quiet_turn, stays_sound, tables_as}
 use Rattle.machine.proofs.machine.Machine.activate.Goals as goal
 
 pub activate-place-requires : goal.activate-place-requires

@@ -1,8 +1,5 @@
 use Rattle.machine.proofs.Prelude.{after, refl, rules}
-use Rattle.machine.proofs.Does.{does}
-use Rattle.machine.proofs.MoveCalls.{movable}
-use Rattle.machine.proofs.StepDone.{quiet_turn}
-use Rattle.machine.proofs.Steps.{changed_sound}
+use Rattle.machine.proofs.Laws.{does, movable, quiet_turn, changed_sound}
 use Rattle.machine.proofs.machine.Machine.begin_move.Goals as goal
 
 pub begin_move-requires : goal.begin_move-requires

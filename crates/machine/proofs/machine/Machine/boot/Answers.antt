@@ -1,6 +1,5 @@
 use Rattle.machine.proofs.Prelude.{◌≡◌, ◌∙◌, ap, length, List, map, sum_by, sym, length-map, VolumeLine, Vols, made_of, first_state, first_store, State, first_words, first_keeps, parts_of}
-use Rattle.machine.proofs.FirstParts.{are_fresh, as_many, drives_are}
-use Rattle.machine.proofs.VisitNext.{visited_first}
+use Rattle.machine.proofs.Laws.{are_fresh, as_many, drives_are, visited_first}
 use Rattle.machine.proofs.machine.Machine.boot.Goals.{In_ok-volumes}
 use Rattle.machine.proofs.machine.Machine.boot.Goals as goal
 

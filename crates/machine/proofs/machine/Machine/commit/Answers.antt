@@ -1,8 +1,5 @@
 use Rattle.machine.proofs.Prelude.{after, refl}
-use Rattle.machine.proofs.CommitCalls.{may_commit}
-use Rattle.machine.proofs.Does.{does}
-use Rattle.machine.proofs.StepDone.{quiet_turn}
-use Rattle.machine.proofs.Steps.{changed_sound}
+use Rattle.machine.proofs.Laws.{may_commit, does, quiet_turn, changed_sound}
 use Rattle.machine.proofs.machine.Machine.commit.Goals as goal
 
 pub commit-requires : goal.commit-requires

@@ -1,8 +1,5 @@
 use Rattle.machine.proofs.Prelude.{rules, after, arith, refl, ◌≤◌}
-use Rattle.machine.proofs.Does.{does, knows, still_for}
-use Rattle.machine.proofs.MoveCalls.{ended_segment}
-use Rattle.machine.proofs.StepDone.{quiet_turn}
-use Rattle.machine.proofs.Steps.{changed_sound}
+use Rattle.machine.proofs.Laws.{does, knows, still_for, ended_segment, quiet_turn, changed_sound}
 use Rattle.machine.proofs.machine.Machine.commit_move.Goals as goal
 
 pub commit_move-requires : goal.commit_move-requires

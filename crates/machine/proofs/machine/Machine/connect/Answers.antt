@@ -1,8 +1,5 @@
 use Rattle.machine.proofs.Prelude.{after, refl, rules}
-use Rattle.machine.proofs.Does.{does}
-use Rattle.machine.proofs.OwnerCalls.{connectable}
-use Rattle.machine.proofs.StepDone.{quiet_turn}
-use Rattle.machine.proofs.Stays.{stays_sound, tables_as}
+use Rattle.machine.proofs.Laws.{does, connectable, quiet_turn, stays_sound, tables_as}
 use Rattle.machine.proofs.machine.Machine.connect.Goals as goal
 
 pub connect-requires : goal.connect-requires

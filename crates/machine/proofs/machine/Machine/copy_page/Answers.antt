@@ -1,10 +1,5 @@
 use Rattle.machine.proofs.Prelude.{after, refl}
-use Rattle.machine.proofs.CallLaws.{outcome_faults, two_called}
-use Rattle.machine.proofs.Does.{does, knows, still_for}
-use Rattle.machine.proofs.DriveCounts.{copy_counts}
-use Rattle.machine.proofs.MoveCalls.{may_copy}
-use Rattle.machine.proofs.StepDone.{drive_turn}
-use Rattle.machine.proofs.Steps.{drive_sound}
+use Rattle.machine.proofs.Laws.{outcome_faults, two_called, does, knows, still_for, copy_counts, may_copy, drive_turn, drive_sound}
 use Rattle.machine.proofs.machine.Machine.copy_page.Goals as goal
 
 pub copy_page-copied-requires : goal.copy_page-copied-requires

@@ -1,8 +1,5 @@
 use Rattle.machine.proofs.Prelude.{after, refl}
-use Rattle.machine.proofs.CreateCalls.{made_known, made_page, makeable}
-use Rattle.machine.proofs.Does.{does, still_for}
-use Rattle.machine.proofs.StepDone.{quiet_turn}
-use Rattle.machine.proofs.Steps.{changed_sound}
+use Rattle.machine.proofs.Laws.{made_known, made_page, makeable, does, still_for, quiet_turn, changed_sound}
 use Rattle.machine.proofs.machine.Machine.create.Goals as goal
 
 pub create-requires-clause-still : goal.create-requires-clause-still

@@ -1,9 +1,5 @@
 use Rattle.machine.proofs.Prelude.{after, arith, refl, ◌≤◌}
-use Rattle.machine.proofs.Does.{does, still_for}
-use Rattle.machine.proofs.OwnerCalls.{inactive_emptied, inactive_owner}
-use Rattle.machine.proofs.StepDone.{quiet_turn}
-use Rattle.machine.proofs.Stays.{stays_sound}
-use Rattle.machine.proofs.TakingStays.{emptied_as}
+use Rattle.machine.proofs.Laws.{does, still_for, inactive_emptied, inactive_owner, quiet_turn, stays_sound, emptied_as}
 use Rattle.machine.proofs.machine.Machine.deactivate.Goals as goal
 
 pub deactivate-requires : goal.deactivate-requires

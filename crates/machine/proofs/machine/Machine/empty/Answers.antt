@@ -1,9 +1,5 @@
 use Rattle.machine.proofs.Prelude.{after, refl, rules}
-use Rattle.machine.proofs.Does.{does}
-use Rattle.machine.proofs.OwnerCalls.{emptiable}
-use Rattle.machine.proofs.StepDone.{quiet_turn}
-use Rattle.machine.proofs.Stays.{stays_sound}
-use Rattle.machine.proofs.TakingStays.{begun_as}
+use Rattle.machine.proofs.Laws.{does, emptiable, quiet_turn, stays_sound, begun_as}
 use Rattle.machine.proofs.machine.Machine.empty.Goals as goal
 
 pub empty-requires : goal.empty-requires

@@ -1,8 +1,5 @@
 use Rattle.machine.proofs.Prelude.{after, refl, rules, chain_of, wanted_pool}
-use Rattle.machine.proofs.JoinCalls.{is_victim, pool_is, victim_call}
-use Rattle.machine.proofs.StepDone.{quiet_turn}
-use Rattle.machine.proofs.Stays.{stays_sound}
-use Rattle.machine.proofs.TakingStays.{victim_as}
+use Rattle.machine.proofs.Laws.{is_victim, pool_is, victim_call, quiet_turn, stays_sound, victim_as}
 use Rattle.machine.proofs.machine.Machine.empty_victim.Goals as goal
 
 pub take_victim-requires : goal.take_victim-requires

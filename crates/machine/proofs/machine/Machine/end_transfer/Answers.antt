@@ -1,9 +1,5 @@
 use Rattle.machine.proofs.Prelude.{after, refl}
-use Rattle.machine.proofs.CallLaws.{one_called, outcome_faults}
-use Rattle.machine.proofs.Does.{does}
-use Rattle.machine.proofs.DriveCounts.{call_counts}
-use Rattle.machine.proofs.StepDone.{drive_turn}
-use Rattle.machine.proofs.TransferCalls.{ending, transfer_sound}
+use Rattle.machine.proofs.Laws.{one_called, outcome_faults, does, call_counts, drive_turn, ending, transfer_sound}
 use Rattle.machine.proofs.machine.Machine.end_transfer.Goals as goal
 
 pub end_transfer-read-requires-clause-active : goal.end_transfer-read-requires-clause-active

@@ -1,6 +1,5 @@
 use Rattle.machine.proofs.Prelude.{over_complete}
-use Rattle.machine.proofs.EndedLaws.{over_ended}
-use Rattle.machine.proofs.VisitCalls.{over_still}
+use Rattle.machine.proofs.Laws.{over_ended, over_still}
 use Rattle.machine.proofs.machine.Machine.ended.Goals as goal
 
 pub returns-clause-ended : goal.returns-clause-ended

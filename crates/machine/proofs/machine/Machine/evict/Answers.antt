@@ -1,9 +1,5 @@
 use Rattle.machine.proofs.Prelude.{after, refl, rules}
-use Rattle.machine.proofs.Does.{does}
-use Rattle.machine.proofs.OwnerCalls.{evict_is, evictable}
-use Rattle.machine.proofs.StepDone.{quiet_turn}
-use Rattle.machine.proofs.Stays.{stays_sound}
-use Rattle.machine.proofs.TakingStays.{evicted_as}
+use Rattle.machine.proofs.Laws.{does, evict_is, evictable, quiet_turn, stays_sound, evicted_as}
 use Rattle.machine.proofs.machine.Machine.evict.Goals as goal
 
 pub evict-f-requires : goal.evict-f-requires

@@ -1,8 +1,5 @@
 use Rattle.machine.proofs.Prelude.{refl, after}
-use Rattle.machine.proofs.AloneLaws.{page_not_held}
-use Rattle.machine.proofs.Does.{does}
-use Rattle.machine.proofs.Stays.{quiet_sound}
-use Rattle.machine.proofs.StepDone.{quiet_turn}
+use Rattle.machine.proofs.Laws.{page_not_held, does, quiet_sound, quiet_turn}
 use Rattle.machine.proofs.machine.Machine.fill_page.Goals as goal
 
 pub fill_page-requires-clause-new : goal.fill_page-requires-clause-new

@@ -1,11 +1,5 @@
 use Rattle.machine.proofs.Prelude.{after, refl, eviction_done, with_faults}
-use Rattle.machine.proofs.CallLaws.{outcome_faults, page_let_go}
-use Rattle.machine.proofs.Does.{does, found, still_for}
-use Rattle.machine.proofs.DriveCounts.{call_counts}
-use Rattle.machine.proofs.FinishCalls.{finished_shown, leaves_by, may_fail}
-use Rattle.machine.proofs.OwnerCalls.{owned}
-use Rattle.machine.proofs.StepDone.{drive_turn}
-use Rattle.machine.proofs.Steps.{drive_sound}
+use Rattle.machine.proofs.Laws.{outcome_faults, page_let_go, does, found, still_for, call_counts, finished_shown, leaves_by, may_fail, owned, drive_turn, drive_sound}
 use Rattle.machine.proofs.machine.Machine.finish_eviction.Goals as goal
 
 pub finish_eviction-gone-requires : goal.finish_eviction-gone-requires

@@ -1,8 +1,5 @@
 use Rattle.machine.proofs.Prelude.{◌∙◌, ap, map, subst, All, All-map, HaveFullPages, Vols, Paging, Control, Storage}
-use Rattle.machine.proofs.DiskLaws.{drives_in_move}
-use Rattle.machine.proofs.LossTold.{told_back}
-use Rattle.machine.proofs.NoZeros.{has_no_zeros}
-use Rattle.machine.proofs.VisitCalls.{all_visited}
+use Rattle.machine.proofs.Laws.{drives_in_move, told_back, has_no_zeros, all_visited}
 use Rattle.machine.proofs.machine.Machine.has_frames.Goals as goal
 
 pub returns-clause-told : goal.returns-clause-told

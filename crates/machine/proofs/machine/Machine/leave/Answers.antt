@@ -1,8 +1,5 @@
 use Rattle.machine.proofs.Prelude.{refl, after}
-use Rattle.machine.proofs.AloneLaws.{ready_room, run_there}
-use Rattle.machine.proofs.Does.{does}
-use Rattle.machine.proofs.Stays.{quiet_sound}
-use Rattle.machine.proofs.StepDone.{quiet_turn}
+use Rattle.machine.proofs.Laws.{ready_room, run_there, does, quiet_sound, quiet_turn}
 use Rattle.machine.proofs.machine.Machine.leave.Goals as goal
 
 pub leave-requires-clause-run : goal.leave-requires-clause-run

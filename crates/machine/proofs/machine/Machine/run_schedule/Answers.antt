@@ -1,5 +1,4 @@
-use Rattle.machine.proofs.RunLaws.{ran_grows, ran_keeps, ran_zero}
-use Rattle.machine.proofs.UnstuckLaws.{run_done}
+use Rattle.machine.proofs.Laws.{ran_grows, ran_keeps, ran_zero, run_done}
 use Rattle.machine.proofs.machine.Machine.run_schedule.Goals as goal
 
 pub returns : goal.returns

@@ -1,5 +1,4 @@
-use Rattle.machine.proofs.LossTold.{still_tells}
-use Rattle.machine.proofs.VisitCalls.{visited_parts}
+use Rattle.machine.proofs.Laws.{still_tells, visited_parts}
 use Rattle.machine.proofs.machine.Machine.shutdown_step.Goals as goal
 
 pub returns-else-has_frames-clause-faults : goal.returns-else-has_frames-clause-faults

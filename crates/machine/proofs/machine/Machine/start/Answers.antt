@@ -1,9 +1,5 @@
-use Rattle.machine.proofs.Prelude.{after, ap, bound_page, refl, rules}
-use Rattle.machine.proofs.Does.{does}
-use Rattle.machine.proofs.OwnerCalls.{readable}
-use Rattle.machine.proofs.StepDone.{quiet_turn}
-use Rattle.machine.proofs.Stays.{core_as, stays_sound, unbound_put}
-use Rattle.core_map.specs.declared.Frame.TheVariants as frame
+use Rattle.machine.proofs.Prelude.{after, ap, bound_page, refl, rules, Frame as frame}
+use Rattle.machine.proofs.Laws.{does, readable, quiet_turn, core_as, stays_sound, unbound_put}
 use Rattle.machine.proofs.machine.Machine.start.Goals as goal
 
 pub start-requires : goal.start-requires

@@ -1,7 +1,5 @@
 use Rattle.machine.proofs.Prelude.{after, next_command, process_at, refl, rules}
-use Rattle.machine.proofs.StepDone.{quiet_turn}
-use Rattle.machine.proofs.Stays.{stays_sound}
-use Rattle.machine.proofs.TakeCalls.{taking_as, take_busy, takeable, takes}
+use Rattle.machine.proofs.Laws.{quiet_turn, stays_sound, taking_as, take_busy, takeable, takes}
 use Rattle.machine.proofs.machine.Machine.take_away.Goals as goal
 
 pub busy-process-requires : goal.busy-process-requires

@@ -1,7 +1,5 @@
 use Rattle.machine.proofs.Prelude.{refl, after}
-use Rattle.machine.proofs.Does.{does}
-use Rattle.machine.proofs.Stays.{quiet_sound}
-use Rattle.machine.proofs.StepDone.{quiet_turn}
+use Rattle.machine.proofs.Laws.{does, quiet_sound, quiet_turn}
 use Rattle.machine.proofs.machine.Machine.take_supervisor.Goals as goal
 
 pub returns : goal.returns

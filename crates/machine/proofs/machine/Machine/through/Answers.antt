@@ -1,8 +1,5 @@
 use Rattle.machine.proofs.Prelude.{after, refl}
-use Rattle.machine.proofs.Does.{does}
-use Rattle.machine.proofs.StepDone.{quiet_turn}
-use Rattle.machine.proofs.Steps.{changed_sound}
-use Rattle.machine.proofs.ThroughCalls.{told_through, through_bound}
+use Rattle.machine.proofs.Laws.{does, quiet_turn, changed_sound, told_through, through_bound}
 use Rattle.machine.proofs.machine.Machine.through.Goals as goal
 
 pub reach-word-requires : goal.reach-word-requires

@@ -1,7 +1,5 @@
 use Rattle.machine.proofs.Prelude.{◌≡◌, true, is_over, ◌≤◌, arith}
-use Rattle.machine.proofs.DriveCounts.{call_counts}
-use Rattle.machine.proofs.LossTold.{visited_tells}
-use Rattle.machine.proofs.VisitCalls.{over_owner, over_still, visit_done, visit_here, visit_sound, visit_within, visited_adds}
+use Rattle.machine.proofs.Laws.{call_counts, visited_tells, over_owner, over_still, visit_done, visit_here, visit_sound, visit_within, visited_adds}
 use Rattle.machine.proofs.machine.Machine.visit.Goals as goal
 
 pub visit-visited-requires : goal.visit-visited-requires

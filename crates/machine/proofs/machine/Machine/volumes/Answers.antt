@@ -1,7 +1,5 @@
 use Rattle.machine.proofs.Prelude.{rules, ◌∙◌, ap, length, map, sym, length-map, Storage}
-use Rattle.machine.proofs.AccountLaws.{entries_taken, records_taken}
-use Rattle.machine.proofs.DiskLaws.{on_volumes, records_still, vtocs_still}
-use Rattle.machine.proofs.SizeLaws.{drive_size}
+use Rattle.machine.proofs.Laws.{entries_taken, records_taken, on_volumes, records_still, vtocs_still, drive_size}
 use Rattle.machine.proofs.machine.Machine.volumes.Goals as goal
 
 pub returns : goal.returns
