@@ -1,5 +1,5 @@
 -- What the tables ask of a processor that acts by itself follows from the promise and the rule.
-use Rattle.machine.proofs.Prelude.{◌≡◌, ◌<◌, ◌≤◌, ◌+◌, ◌-◌, ◌^◌, ◌/◌, ℕ, Bool, true, false, ◌||◌, ◌&&◌, cond, eqb, length, map, List, ◌∷◌, Option, Some, None, refl, sym, ap, subst, ◌∙◌, inl, inr, arith, find, length-le_from_distinct_below, eqb_tells, HeldPage, HeldSeg, is_number, is_page, page_of, seg_of, Command, is_end, place_fits, place_within, custody_after, Custody, Seat, has, range, released_by, Action, no_call, AreDistinct, AreHeldPages, held_page, Reference, cpu_at, next_command, processor_at, run_at, shown, speaks, led_to, seen, Who, sdws_at, leb_tells, length-map, get_or_past, none_some, State, Asks, action_can, CanDo, CanFill, Parts, IsSound, MayAnswer, and_both, distinct_of, none_listed, or_parts, range_length, any_turned, or_zero, some_same, and_parts, eqb-true, eqb_self, to_hold, [], Sdw as sdw, Action as act}
+use Rattle.machine.proofs.Prelude.{◌≡◌, ◌<◌, ◌≤◌, ◌+◌, ◌-◌, ◌^◌, ◌/◌, ℕ, Bool, true, false, ◌||◌, ◌&&◌, cond, eqb, length, map, List, ◌∷◌, Option, Some, None, refl, sym, ap, subst, ◌∙◌, inl, inr, arith, find, length-le_from_distinct_below, eqb_tells, HeldPage, HeldSeg, is_number, is_page, page_of, seg_of, Command, is_end, place_fits, place_within, custody_after, Custody, Seat, has, range, released_by, Action, no_call, AreDistinct, AreHeldPages, held_page, Reference, cpu_at, next_command, processor_at, run_at, shown, speaks, led_to, seen, sdws_at, leb_tells, length-map, get_or_past, none_some, State, Asks, action_can, CanDo, CanFill, Parts, IsSound, MayAnswer, and_both, distinct_of, none_listed, or_parts, range_length, any_turned, or_zero, some_same, and_parts, eqb-true, eqb_self, to_hold, [], Sdw as sdw, Action as act}
 use Rattle.machine.proofs.CountedLaws.{counted_after}
 use Rattle.machine.proofs.Does.{Does, keeps_of}
 
@@ -39,11 +39,7 @@ module _ {D : Type 0} {t : Parts D} (sound : IsSound t) (c : ℕ) {k : ℕ}
   run_there = omega (arith, sound.keeps.machine.keeps.sizes.processes, planned)
 
   pub process_known : k < length s.store.links.known
-  process_known =
-      let whos : length s.store.whos ≡ length s.plan.processes =
-      ap (λ (xs : List Who). length xs) sound.keeps.machine.keeps.faithful.script.whos
-      ∙ length-map s.plan.processes (λ x. x.who) in
-      omega (arith, whos, sound.keeps.machine.keeps.store.counted.known.processes, planned)
+  process_known = grind (arith, length-map, planned)
 
 -- ---- what is taken in
 

@@ -1,5 +1,5 @@
 -- A processor that does more than take part, drop and load has a process.
-use Rattle.machine.proofs.Prelude.{◌≡◌, ◌<◌, ℕ, length, true, false, eqb, List, ◌∷◌, Option, Some, None, refl, sym, ap, ◌∙◌, cond_both, What, Transfer, Processor, action_of, clear_or, go_on_with, load_or_idle, own_or_run, run_process, transfer_or, no_call, Keeps, IsReading, or_zero, process_at, processor_at, Owner, State, action_by, process_here, reads_for, IsBusy, is_of_process, eqb-true, [], Action, Action as act}
+use Rattle.machine.proofs.Prelude.{◌≡◌, ◌<◌, ℕ, length, true, false, eqb, List, ◌∷◌, Option, Some, None, refl, sym, ap, ◌∙◌, cond_both, What, Transfer, Processor, action_of, clear_or, go_on_with, load_or_idle, own_or_run, run_process, transfer_or, no_call, Keeps, IsReading, or_zero, process_at, processor_at, Owner, State, action_by, process_here, reads_for, IsBusy, is_of_process, eqb-true, [], Action}
 
 -- what its action tells of a processor
 abbrev pub Busy : State → ℕ → Action → Type 0

@@ -1,5 +1,5 @@
 -- What the choice of a processor's action asks follows from the promise.
-use Rattle.machine.proofs.Prelude.{◌≡◌, ◌<◌, ◌≤◌, ℕ, true, false, is_some, length, List, Option, Some, None, refl, subst, ◌∙◌, arith, IfSome, find, HeldSeg, is_number, Mover, Node, node_in, pool_of, IsActive, table_at, uid_at, leads_to, place_of, pages_of, directory_found, room_of, IsLongEnough, AreHeldSegs, AreOfProcess, IsEntitled, seen, Keeps, MovesIn, mover_in, mover_of, Phase, cpu_at, is_active, next_command, process_at, shown, Owner, State, active_place, descriptor_active, entitled_all, leads_all, seg_found, active_there, AreLong, MayChoose, Parts, IsSound, some_same, [], Phase as phase}
+use Rattle.machine.proofs.Prelude.{◌≡◌, ◌<◌, ◌≤◌, ℕ, true, false, is_some, length, List, Option, Some, None, refl, subst, ◌∙◌, arith, find, HeldSeg, is_number, Mover, Node, node_in, pool_of, IsActive, table_at, uid_at, place_of, pages_of, directory_found, room_of, IsLongEnough, AreHeldSegs, AreOfProcess, IsEntitled, seen, Keeps, MovesIn, mover_in, mover_of, Phase, cpu_at, is_active, next_command, process_at, shown, Owner, State, active_place, descriptor_active, entitled_all, leads_all, seg_found, active_there, AreLong, MayChoose, Parts, IsSound, some_same, Phase as phase}
 use Rattle.machine.proofs.AloneLaws.{process_known, run_there}
 
 module _ {D : Type 0} (t : Parts D) (c : ℕ) (sound : IsSound t) (there : c < length t.state.processors) where
@@ -24,9 +24,7 @@ module _ {D : Type 0} (t : Parts D) (c : ℕ) (sound : IsSound t) (there : c < l
         (keeps.book.holding_right c).segs
 
     active : is_active s.store.ast h.uid ≡ true
-    active = descriptor_active s k h.number h.uid keeps
-        (seg_found (λ e. leads_to ((shown (seen s)).descriptor k e.number) ≡ Some e.uid) segs n h held
-        (leads_all (shown (seen s)).descriptor k segs its_segs))
+    active = grind (arith, descriptor_active, seg_found, leads_all, its_segs)
 
     long : (place : ℕ) → uid_at s.store.ast.entries place ≡ Some h.uid
         → h.pages ≤ length (table_at s.store.ast.tables place)
@@ -57,20 +55,7 @@ module _ {D : Type 0} (t : Parts D) (c : ℕ) (sound : IsSound t) (there : c < l
     }
 
   held_long : AreLong s.store.ast (cpu_at s.processors c).assoc
-  held_long n = by (find (is_number n) segs) refl
-    where
-      nothing : (cpu_at s.processors c).process ≡ None → segs ≡ []
-      nothing none = subst (λ (x : Option ℕ). AreOfProcess (shown (seen s)).descriptor x segs) none
-          (keeps.book.holding_right c).segs
-
-      of_process : (h : HeldSeg) → find (is_number n) segs ≡ Some h → (x : Option ℕ)
-          → (cpu_at s.processors c).process ≡ x → IsLongEnough s.store.ast h
-      of_process h e None none = cc (nothing none)
-      of_process h e (Some k) its = long_enough k its n h e
-
-      by : (x : Option HeldSeg) → find (is_number n) segs ≡ x → IfSome x (IsLongEnough s.store.ast)
-      by None e = tt
-      by (Some h) e = of_process h e (cpu_at s.processors c).process refl
+  held_long n = grind (arith, long_enough)
 
   -- the segment that moves is active
   moves_active : (m : Mover) → (x : Option Owner) → s.owner ≡ x → mover_of x ≡ Some m
@@ -91,15 +76,4 @@ module _ {D : Type 0} (t : Parts D) (c : ℕ) (sound : IsSound t) (there : c < l
   moved_active m e = moves_active m s.owner refl (cc)
 
   pub may_choose : MayChoose s c
-  may_choose = record {
-    processor = there;
-    count = keeps.sizes.processors;
-    run = λ k its. run_there sound c its;
-    known = λ k its. process_known sound c its;
-    held = held_long;
-    keeps = keeps;
-    script = sound.keeps.machine.script;
-    pools = sound.keeps.machine.pools;
-    moving = sound.keeps.machine.moving;
-    moves = moved_active;
-  }
+  may_choose = grind (arith, run_there, process_known, held_long, moved_active)

@@ -1,5 +1,5 @@
 -- How many commands a processor has answered since it loaded its process, and where a process's next command stands.
-use Rattle.machine.proofs.Prelude.{◌≡◌, ◌<◌, ◌+◌, ℕ, eqb, List, ◌∷◌, length, Some, refl, sym, ◌∙◌, arith, cond_both, What, Plan, Entry, after_entry, Store, boot, custody_after, custody_from, Custody, Seat, nothing_held, at_put, custody_next, count_next, by_place, [], Entry as entry, Next_told as told}
+use Rattle.machine.proofs.Prelude.{◌≡◌, ◌<◌, ◌+◌, ℕ, eqb, List, ◌∷◌, length, Some, refl, arith, cond_both, What, Plan, Entry, after_entry, Store, boot, custody_after, custody_from, Custody, Seat, nothing_held, at_put, custody_next, count_next, by_place, [], Next_told as told}
 
 -- of each processor that has a process: it has answered fewer commands since than there are entries
 abbrev AreCounted : Custody → ℕ → Type 0
@@ -28,22 +28,7 @@ counted_load c i d k n x zero counted = by_place (λ (y : Seat). y.process ≡ S
 counted_next : (p : Plan) (s : Store) (c : Custody) (e : Entry) (n : ℕ) → AreCounted c n
     → AreCounted (custody_next p s c e) (n + 1)
 unfolding custody_next
-counted_next p s c (entry.Load i j) n counted d k h = counted_load c i d k n _ refl counted h
-counted_next p s c (entry.Do j i f g r) n counted d k h =
-    kept p s c (entry.Do j i f g r) n d k counted (put_had c.seat f d k _ (λ x. x) h)
-counted_next p s c (entry.Online i) n counted d k h =
-    kept p s c (entry.Online i) n d k counted (put_had c.seat i d k _ (λ x. x) h)
-counted_next p s c (entry.Leave i) n counted d k h =
-    kept p s c (entry.Leave i) n d k counted (put_had c.seat i d k _ (λ x. cc) h)
-counted_next p s c (entry.Signal i w) n counted d k h =
-    kept p s c (entry.Signal i w) n d k counted (sym (told_same c i w d) ∙ h)
-counted_next p s c (entry.Clear i w) n counted d k h =
-    kept p s c (entry.Clear i w) n d k counted (put_had c.seat i d k _ (λ x. x) h)
-counted_next p s c (entry.FillSeg i m) n counted d k h =
-    kept p s c (entry.FillSeg i m) n d k counted (put_had c.seat i d k _ (λ x. x) h)
-counted_next p s c (entry.FillPage i f) n counted d k h =
-    kept p s c (entry.FillPage i f) n d k counted (put_had c.seat i d k _ (λ x. x) h)
-counted_next p s c e n counted d k h = kept p s c e n d k counted h
+counted_next p s c e n h1 = grind (arith, counted_load, kept, put_had, told_same)
 
 counted_from : (p : Plan) (s : Store) (c : Custody) (es : List Entry) (n : ℕ) → AreCounted c n
     → AreCounted (custody_from p s c es) (length es + n)

@@ -1,6 +1,6 @@
 -- A segment that was taken whole is empty once its pages have left: no page of it is in a frame or being read, no
 -- descriptor leads to it, and it has no active inferior.
-use Rattle.machine.proofs.Prelude.{◌≡◌, ◌≢◌, ◌<◌, ℕ, zero, suc, true, false, get_or, List, ◌∷◌, Option, Some, is_some, length, arith, None, refl, sym, ap, ◌∙◌, All, Node, node_in, Ptw, HasNoInferior, IsAway, entry_at, superior_of, uid_at, uid_in, trailers_of, place_of, table_of, is_there, superior_in, is_going_descriptor, leads_to, uid_of_page, names, holding, seen, Keeps, cut_of_owner, frames_of_owner, is_active, trailers_in, bound_use, cut_uid, descriptor_use, frame_use, State, IsWhole, active_place, trailers_taken, ArePairs, active_at, no_page_left, IsEmptied, eqb-true, eqb_self, some_same, [], What as what, Ptw as ptw, Custody_page_of as page_of}
+use Rattle.machine.proofs.Prelude.{◌≡◌, ◌≢◌, ◌<◌, ℕ, zero, suc, true, false, get_or, List, ◌∷◌, Option, Some, is_some, length, arith, None, refl, sym, ap, ◌∙◌, All, Node, node_in, Ptw, HasNoInferior, IsAway, entry_at, superior_of, uid_at, uid_in, trailers_of, place_of, table_of, is_there, superior_in, names, holding, seen, Keeps, frames_of_owner, is_active, trailers_in, State, IsWhole, active_place, trailers_taken, ArePairs, active_at, no_page_left, IsEmptied, eqb-true, eqb_self, some_same, [], What as what, Ptw as ptw}
 use Rattle.active_segs.specs.declared.Entry.{Entry}
 
 -- a word that names no frame is of a page that is away
@@ -34,13 +34,7 @@ module _ (s : State) (u : ℕ) (k : Keeps s) (whole : IsWhole (holding s) u) (fr
 
     -- no page of it is in a frame
     unbound : (f p : ℕ) → (seen s).bound f ≢ Some (u, p)
-    unbound f p h = no_page_left (holding s) s.owner u k.book.going_owned whole frames f
-        (ap (λ (x : Option (ℕ × ℕ)). uid_of_page (page_of (frame_use (seen s).words x ((seen s).reads f)))) h
-        ∙ by ((seen s).words u p))
-      where
-        by : (w : Ptw) → uid_of_page (page_of (bound_use (u, p) w)) ≡ Some u
-        by ptw.Null = refl
-        by _ = refl
+    unbound f p h = grind (arith, no_page_left)
 
     -- none is being read into one
     unread : (f p : ℕ) → (seen s).reads f ≢ Some (u, p)
@@ -49,9 +43,7 @@ module _ (s : State) (u : ℕ) (k : Keeps s) (whole : IsWhole (holding s) u) (fr
 
     -- no descriptor leads to it
     unlinked : (j n : ℕ) → (seen s).linked j n ≢ Some u
-    unlinked j n e = let is = ap (λ (y : Option ℕ). descriptor_use y (cut_uid (cut_of_owner s.owner) j n)) e in
-        let going = whole.descriptors j n (ap leads_to is) in
-        let no : false ≡ true = sym (ap is_going_descriptor is) ∙ going in cc
+    unlinked j n e = grind arith
 
     no_trailers : (xs : List (ℕ × ℕ)) → ArePairs (seen s).linked (what.Seg u) xs → xs ≡ []
     no_trailers [] h = refl

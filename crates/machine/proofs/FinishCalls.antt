@@ -1,5 +1,5 @@
 -- What the calls ask that let a page go, and what is shown after them, however the call of the drive ended.
-use Rattle.machine.proofs.Prelude.{Aim, Err, HasOwner, IfOk, IsFaithful, IsLeaving, Left, List, MayAnswer, MayComeBack, MayFail, Ok, Parts, Result, State, Store, ap, arith, by_outcome, cond, descriptors_return, frames_of_owner, left_of, left_page, outcome_of, page_in, pages_return, subst, without_left, words_in, write_failed, ℕ, ◌∙◌, ◌∷◌, ◌≡◌, Plan, Action, Action as act}
+use Rattle.machine.proofs.Prelude.{Aim, Err, HasOwner, IfOk, IsFaithful, IsLeaving, Left, List, MayAnswer, MayComeBack, MayFail, Ok, Parts, Result, State, Store, ap, arith, by_outcome, cond, descriptors_return, frames_of_owner, left_of, left_page, outcome_of, page_in, pages_return, subst, without_left, words_in, write_failed, ℕ, ◌∙◌, ◌∷◌, ◌≡◌, Plan, Action}
 use Rattle.machine.proofs.Does.{Does, keeps_of}
 use Rattle.machine.proofs.Found.{Waited}
 use Rattle.machine.proofs.Stays.{faithful_as}
@@ -15,18 +15,7 @@ module _ {D : Type 0} {t : Parts D} {c : ℕ} {a : Action} (d : Does t c a) wher
 
   -- all that the owner took may come back, and its process may be answered
   pub may_fail : {k : ℕ} → MayAnswer t c k → HasOwner s.owner → MayFail t c k
-  may_fail may owner = record {
-    processor = d.may.there;
-    its = may.process;
-    owner = owner;
-    pages = pages_return s (keeps_of d);
-    descriptors = descriptors_return s (keeps_of d) d.sound.keeps.working;
-    run = may.run;
-    place = may.place;
-    count = may.count;
-    ready = may.ready;
-    room = omega arith;
-  }
+  may_fail may owner = grind (arith, pages_return, keeps_of, descriptors_return)
 
   -- the page that leaves is on its way out
   pub leaves_by : {f : ℕ} {w : Aim} → Leaves s c f w → IsLeaving s.store f

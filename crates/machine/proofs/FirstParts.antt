@@ -50,9 +50,7 @@ module _ {D : Type 0} (pages : D → List (List ℕ)) where
   HaveSizes lines ds = map (λ d. length (pages d)) ds ≡ map (λ v. v.records) lines
 
   pub as_many : (lines : List VolumeLine) (ds : List D) → HaveSizes lines ds → length ds ≡ length lines
-  as_many lines ds h = (let a = length-map ds (λ d. length (pages d)) in
-      let b = length-map lines (λ (v : VolumeLine). v.records) in let c = ap (λ (ns : List ℕ). length ns) h in
-      omega arith)
+  as_many lines ds h = grind (arith, length-map)
 
   head_is : {a b : ℕ} {xs ys : List ℕ} → a ∷ xs ≡ b ∷ ys → a ≡ b
   head_is h = cc
@@ -88,9 +86,4 @@ module _ {D : Type 0} (pages : D → List (List ℕ)) where
 
   pub are_fresh : (p : Plan) (ds : List D) → HaveSizes p.volumes ds
       → AreFresh p (of p.volumes ds).records (of p.volumes ds).vtocs
-  are_fresh p ds h = record {
-    records = λ v. size_is p.volumes ds h v;
-    entries = λ v. entry_is p.volumes ds h v;
-    unused = λ v r. unused_is p.volumes ds v r;
-    free = λ v e. free_is p.volumes ds v e;
-  }
+  are_fresh p ds h = grind (arith, size_is, entry_is, unused_is, free_is)

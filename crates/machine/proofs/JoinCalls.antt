@@ -1,5 +1,5 @@
 -- What the calls ask that bring a segment of a chain nearer: it becomes active, or the victim of its pool is emptied.
-use Rattle.machine.proofs.Prelude.{Action, ArePools, Command, HasNoInferior, HasOneOffChain, IsAbout, IsSome, List, Looks, Node, None, Parts, Some, State, Storage, about_there, active_at, all_used, ap, arith, chain_end, chain_of, chain_one_off, first_inactive, first_there, free_place, is_of_process, is_some, is_there, leaf_inferiors, no_call, node_in, or_zero, own_chain, pool_of_node, process_at, refl, subst, sym, true, uid_at, victim_leaf, wanted_pool, ℕ, ◌<◌, ◌∙◌, ◌≡◌, IsSound, MayDo, some_same, speaks, Action as act}
+use Rattle.machine.proofs.Prelude.{Action, ArePools, Command, HasNoInferior, HasOneOffChain, IsAbout, IsSome, List, Looks, Node, None, Parts, Some, State, Storage, about_there, active_at, all_used, ap, arith, chain_end, chain_of, chain_one_off, first_inactive, first_there, free_place, is_of_process, is_some, is_there, leaf_inferiors, node_in, or_zero, own_chain, pool_of_node, process_at, refl, subst, sym, true, uid_at, victim_leaf, wanted_pool, ℕ, ◌<◌, ◌∙◌, ◌≡◌, IsSound, MayDo, some_same, speaks, Action as act}
 use Rattle.machine.proofs.Does.{Does, busy, found, keeps_of, still_for}
 use Rattle.machine.proofs.Found.{Looked}
 use Rattle.machine.proofs.OwnerCalls.{IsEmptiable, emptiable_by, owned}
@@ -8,10 +8,7 @@ use Rattle.machine.proofs.OwnerCalls.{IsEmptiable, emptiable_by, owned}
 about_is : {D : Type 0} {t : Parts D} {c : ℕ} {a : Action} {Finds : Command → Type 0} → Does t c a
     → is_of_process a ≡ true → (l : Looks t.state c Finds) → (u : ℕ)
     → IsAbout t.state (process_at t.state c) l.command u → is_there t.state.store.accounts.nodes u ≡ true
-about_is {D} {t} {c} d of l = about_there t.state c (no_call t.state) d.sound.keeps.machine l.idle l.command
-    (let its = speaks t.state c (process_at t.state c) d.sound.keeps.machine d.may.there (busy d of) in
-    let same = some_same its.0 l.command (cc) in
-    rw (← same) its.1)
+about_is {D} {t} {c} d of l = grind (arith, about_there, speaks, busy, some_same)
 
 -- ---- a segment becomes active
 

@@ -1,5 +1,5 @@
 -- What the loops that make a machine end come to, turn by turn.
-use Rattle.machine.proofs.Prelude.{◌≡◌, ◌≤◌, ◌<◌, ℕ, ◌+◌, ◌++◌, ◌∷◌, true, false, cond, eqb, ◌&&◌, length, is_some, List, Option, Some, None, position, refl, sym, ap, subst, ◌∙◌, arith, inl, inr, cases_lt, append-nil, get_or_past, Err, Ok, OnErr, OnOk, Result, Transfer, action_of, has_process, is_over, CommandDone, Goes, HasTaken, IsReader, JobDone, JobFell, RoundDone, command_gauge, is_at, all_rank, Outline, Runner, runner_at, around, outline_of, stage_of, KeepsAll, cpu_at, no_processor, process_at, processor_at, IsGoing, IsOwnedBy, Owner, State, Processor, position_at, position_none, round_done, way_falls, way_next, kept_of, in_job, at_outline, long_outline, seen_reading, pools_kept, Parts, Why, HasGone, HasMoved, HasStalled, HasTurned, MayWait, OwnerTurned, WaitsFor, is_into, is_still_at, reads_into, with_spare, Grows, HasRun, HasStood, is_moved, tally, with_room, Appends, IfStill, IsTurn, KeepsParts, TellsFaults, turn_of, why_by, Turn, eqb-true, eqb_self, some_same, [], Why as why, Turn as turn}
+use Rattle.machine.proofs.Prelude.{◌≡◌, ◌≤◌, ◌<◌, ℕ, ◌+◌, ◌∷◌, true, false, cond, eqb, ◌&&◌, length, is_some, List, Option, Some, None, position, refl, sym, ap, subst, ◌∙◌, arith, append-nil, get_or_past, Err, Ok, OnErr, OnOk, Result, Transfer, action_of, has_process, is_over, CommandDone, Goes, HasTaken, IsReader, JobDone, JobFell, RoundDone, command_gauge, is_at, all_rank, Outline, Runner, runner_at, around, outline_of, stage_of, KeepsAll, cpu_at, no_processor, process_at, processor_at, IsGoing, IsOwnedBy, Owner, State, position_at, position_none, round_done, way_falls, way_next, kept_of, in_job, at_outline, long_outline, seen_reading, pools_kept, Parts, Why, HasGone, HasMoved, HasStalled, HasTurned, MayWait, OwnerTurned, WaitsFor, is_into, is_still_at, reads_into, with_spare, Grows, HasRun, HasStood, is_moved, tally, with_room, Appends, IfStill, IsTurn, KeepsParts, TellsFaults, turn_of, why_by, Turn, eqb-true, eqb_self, some_same, [], Why as why, Turn as turn}
 use Rattle.machine_model.specs.Actions as act
 use Rattle.machine_model.specs.Outline as outline
 use Rattle.machine_model.specs.Turns as model
@@ -15,12 +15,7 @@ module _ {D X : Type 0} {plan : D → X} {places faults : D → ℕ} where
 
   pub gone_on : {a b d : Parts D} → HasGone plan places faults a b → HasGone plan places faults b d
       → HasGone plan places faults a d
-  gone_on {a} {b} {d} one two = record {
-    cpus = one.cpus ++ two.cpus;
-    moved = one.moved + two.moved;
-    run = run_append plan places faults a b d one.cpus two.cpus one.moved two.moved one.run two.run;
-    stopped = two.stopped ∙ one.stopped;
-  }
+  gone_on {a} {b} {d} one two = grind (arith, run_append)
 
   pub stalled_on : {a b d : Parts D} → HasGone plan places faults a b → HasStalled plan places faults b d
       → HasStalled plan places faults a d
@@ -87,9 +82,7 @@ module _ {D X T E : Type 0} (plan : D → X) (places faults : D → ℕ) (a b : 
 
   pub loop_keeps : (r : Result T E) → OnOk r (HasGone plan places faults a b)
       → OnErr r (HasStalled plan places faults a b) → KeepsParts plan places faults a b
-  loop_keeps (Ok x) gone stalled = run_keeps plan places faults a b gone.cpus gone.moved gone.run
-  loop_keeps (Err e) gone stalled = let stood = stalled_stood stalled in
-      run_keeps_on plan places faults a b stood.0 stood.1
+  loop_keeps r h1 h2 = grind (arith, run_keeps, stalled_stood, run_keeps_on)
 
   pub loop_stopped : (r : Result T E) → OnOk r (HasGone plan places faults a b)
       → OnErr r (HasStalled plan places faults a b) → b.state.stopped ≡ a.state.stopped
@@ -102,24 +95,7 @@ module _ {D X T E : Type 0} (plan : D → X) (places faults : D → ℕ) (a b : 
 pub turned_by : {D X : Type 0} {plan : D → X} {places faults : D → ℕ} {a b d : Parts D} {c : ℕ} {answer : Turn}
     → b ≡ with_room a b.state.spare → KeepsAll a.state → KeepsAll d.state → IsTurn plan places faults b d c answer
     → HasTurned a.state d.state c answer
-turned_by {D} {X} {plan} {places} {faults} {a} {b} {d} {c} {answer} is before now made = by (rw is at made)
-  where
-    stays : (x : Turn) → IfStill x (d ≡ with_room a b.state.spare)
-        → IfStill x (d.state ≡ with_spare a.state b.state.spare)
-    stays (turn.Moved p) h = tt
-    stays (turn.Waits w) h = cc
-    stays turn.Ended h = cc
-    stays turn.Stopped h = ap (λ (t : Parts D). t.state) h
-
-    by : IsTurn plan places faults (with_room a b.state.spare) d c answer → HasTurned a.state d.state c answer
-    by h = record {
-      before = before;
-      now = now;
-      spare = b.state.spare;
-      stepped = record { outcome = h.step.outcome; done = h.step.done };
-      answer_is = h.answer_is;
-      still = stays answer h.still;
-    }
+turned_by {D} {X} {plan} {places} {faults} {a} {b} {d} {c} {answer} is before now made = grind arith
 
 -- an answer says what the model's does
 abbrev SaysTurn : Turn → outline.Turn → Type 0
@@ -128,10 +104,7 @@ SaysTurn (turn.Waits w) x = (reason : act.Why) × (w ≡ why_by reason) × (x �
 SaysTurn _ x = x ≡ outline.Ended
 
 says_turn : (s : State) (c : ℕ) (a : act.Action) → SaysTurn (turn_of s c a) (model.turn_of a)
-says_turn s c act.IsStopped = refl
-says_turn s c act.HasEnded = refl
-says_turn s c (act.Waits reason) = (reason, refl, refl)
-says_turn s c a = refl
+says_turn s c a = grind arith
 
 module _ {s t : State} {c : ℕ} {answer : Turn} (turned : HasTurned s t c answer) (on : s.stopped ≡ false) where
   abbrev roomy : State
@@ -185,10 +158,7 @@ owner_there s c keeps mine = rw (← mine.cpu, ← (long_outline s)) ((kept_of s
 
 -- what the owner waits for is a processor, or is read by one
 pub may_wait : (s t : State) (c : ℕ) (answer : Turn) → OwnerTurned s t c answer → MayWait t c answer
-may_wait s t c (turn.Moved p) h = tt
-may_wait s t c (turn.Waits (why.ForClear late)) h = h.1
-may_wait s t c (turn.Waits (why.ForTransfer frame)) h = h.1
-may_wait s t c _ h = absurd h
+may_wait s t c answer h1 = grind arith
 
 -- the processor that is waited for is there
 pub awaited_planned : (s : State) (c d : ℕ) (answer : Turn) → KeepsAll s → WaitsFor s c answer d → d < s.plan.processors
@@ -260,11 +230,7 @@ job_goes_on a b t c d goes owned fell = let same = job_mine a b c d goes owned i
 
 -- a processor that has a process is there
 pub running_there : (s : State) (c : ℕ) → is_some (cpu_at s.processors c).process ≡ true → c < length s.processors
-running_there s c running = elim (cases_lt c (length s.processors)) [
-  | inl lt ↦ lt
-  | inr past ↦ cc (sym running ∙ ap (λ (p : Processor). is_some p.cpu.process)
-      (get_or_past s.processors c no_processor past))
-]
+running_there s c running = grind (arith, get_or_past)
 
 module _ {s t : State} {c : ℕ} {answer : Turn} (turned : HasTurned s t c answer) (on : s.stopped ≡ false)
     (none : s.owner ≡ None) (running : is_some (cpu_at s.processors c).process ≡ true) where

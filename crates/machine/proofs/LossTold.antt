@@ -1,6 +1,6 @@
 -- What the shutdown tells of drives that fail: at a visit one failure at the most, of no process; and at the end one
 -- for each page that is still in a frame.
-use Rattle.machine.proofs.Prelude.{◌≡◌, ◌<◌, ◌≤◌, ℕ, ◌+◌, ◌++◌, ◌∷◌, Bool, true, false, cond, List, Option, Some, None, inl, inr, refl, sym, ap, subst, ◌∙◌, arith, append-nil, ◌⊎◌, count_by, list_all, and_parts, Entry, bound_page, Left, frame_in, words_in, Ptw, Custody, page_held, Outcome, seen, entries_left, left_of, page_back, page_gone, page_in, Keeps, is_fault, frame_use, after_visit, page_taken, visited_if, State, fault_told, with_faults, TellsBack, WasVisited, append_assoc, binding_is, none_some, Parts, AllVisited, AreToldBack, CallsAtVisit, HasVisited, TellsLoss, CallsAs, calls_drive, length, [], Entry as entry, Left as left, Action, Action as act}
+use Rattle.machine.proofs.Prelude.{◌≡◌, ◌≤◌, ℕ, ◌+◌, ◌++◌, ◌∷◌, Bool, true, false, cond, List, Option, Some, None, inl, inr, refl, sym, ap, ◌∙◌, arith, append-nil, ◌⊎◌, count_by, list_all, and_parts, Entry, bound_page, Left, frame_in, Ptw, page_held, Outcome, entries_left, page_back, page_gone, Keeps, is_fault, frame_use, after_visit, page_taken, visited_if, State, fault_told, with_faults, append_assoc, binding_is, none_some, Parts, AllVisited, AreToldBack, CallsAtVisit, HasVisited, TellsLoss, CallsAs, calls_drive, length, [], Entry as entry, Action, Action as act}
 use Rattle.machine.proofs.CallLaws.{are_told}
 use Rattle.machine.proofs.VisitNext.{bound_there}
 
@@ -57,33 +57,11 @@ module _ (s : State) (o : Outcome) where
 
   gone : (how : Left) (page : ℕ × ℕ) (now : State)
       → now.entries ≡ (s.entries ++ entry.Take f ∷ []) ++ entries_left f how page → Tells s now true false
-  gone left.Released page now e = record {
-    more = entry.Take f ∷ entry.GonePage f ∷ entry.Release page.0 page.1 ∷ [];
-    entries = e ∙ append_assoc s.entries (entry.Take f ∷ []) (entries_left f left.Released page);
-    told = inl (refl, λ called. refl);
-    quiet = refl;
-    few = omega arith;
-  }
-  gone left.Kept page now e = record {
-    more = entry.Take f ∷ entry.GonePage f ∷ [];
-    entries = e ∙ append_assoc s.entries (entry.Take f ∷ []) (entries_left f left.Kept page);
-    told = inl (refl, λ called. refl);
-    quiet = refl;
-    few = omega arith;
-  }
+  gone how page now h1 = grind (arith, append_assoc)
 
   ended : (b : Bool) → Tells s (cond b (page_back (fault_told out None o.faults) f)
       (page_gone (with_faults out o.faults) f)) true b
-  ended true = record {
-    more = entry.Take f ∷ entry.Fault None ∷ entry.BackPage f ∷ [];
-    entries = append_assoc (s.entries ++ entry.Take f ∷ []) (entry.Fault None ∷ []) (entry.BackPage f ∷ [])
-        ∙ append_assoc s.entries (entry.Take f ∷ []) (entry.Fault None ∷ entry.BackPage f ∷ []);
-    told = inr (refl, refl);
-    quiet = refl;
-    few = omega arith;
-  }
-  ended false = gone (left_of (words_in out.store.pages f)) (page_in out.store f)
-      (page_gone (with_faults out o.faults) f) refl
+  ended b = grind (arith, append_assoc)
 
   pub visit_tells : Tells s (after_visit s o) (calls_drive (visit_made f (bound_page (frame_in s.store.pages f))))
       o.failed
@@ -155,16 +133,4 @@ shown_bound words None (Some p) page h = cc
 
 -- Once every frame was visited the book tells why a page is still in its frame.
 pub told_back : (s : State) → Keeps s → AllVisited s → AreToldBack s.plan s.entries
-told_back s keeps each f page h = by (each f inside)
-  where
-    bound : (p : ℕ × ℕ) × (bound_page (frame_in s.store.pages f) ≡ Some p)
-    bound = let one = shown_bound (seen s).words ((seen s).bound f) ((seen s).reads f) page
-        (ap (λ (c : Custody). page_held (c.frame f)) keeps.book.held ∙ h) in
-        (one.0, sym (binding_is s f) ∙ one.1)
-
-    inside : f < s.plan.frames
-    inside = subst (λ (n : ℕ). f < n) keeps.sizes.frames (bound_there s.store.pages f bound.0 bound.1)
-
-    by : WasVisited s.store.pages s.entries f → TellsBack s.entries f
-    by (inl none) = absurd (none_some (sym none ∙ bound.1))
-    by (inr stayed) = stayed.told
+told_back s keeps each f page h = grind (arith, shown_bound, binding_is, bound_there, none_some)

@@ -1,5 +1,5 @@
 -- What the calls of a move ask.
-use Rattle.machine.proofs.Prelude.{Action, Bool, Command, IsActive, IsUnread, List, MayAnswer, MayCopy, Mover, MovesFor, MovesForNext, None, Option, Parts, Some, State, ap, arith, cases_lt, count_by, count_of, eqb, flags_in, has_segment, home_in, inl, inr, is_roomy, is_some, length, long_segment, ltb, nat_tests, next_command, not, process_at, records_in, records_of, slice_get_past, tables_of, true, volumes_of, vtoc_in, ℕ, ◌&&◌, ◌-◌, ◌<◌, ◌≡◌, mover_to, Action as act, Vtoc_Entry as Entry}
+use Rattle.machine.proofs.Prelude.{Action, Bool, Command, IsActive, IsUnread, List, MayAnswer, MayCopy, Mover, MovesFor, MovesForNext, None, Option, Parts, Some, State, arith, count_by, count_of, has_segment, home_in, is_roomy, is_some, length, long_segment, ltb, nat_tests, next_command, process_at, slice_get_past, tables_of, true, volumes_of, ℕ, ◌&&◌, ◌-◌, ◌<◌, ◌≡◌, mover_to, Action as act, Vtoc_Entry as Entry}
 use Rattle.machine.proofs.Does.{Does, keeps_of, knows, still_for}
 use Rattle.machine.proofs.OwnerCalls.{active_there}
 
@@ -51,17 +51,7 @@ module _ {D : Type 0} {t : Parts D} {c u volume : ℕ} (d : Does t c (act.BeginM
       (knows d).moves.moves).1.first.room
 
   volume_there : volume < length s.store.pages.disks
-  volume_there = elim (cases_lt volume (length s.plan.volumes)) [
-    | inl lt ↦ (omega arith)
-    | inr past ↦
-        (let some = some_record (count_of s.store.accounts u)
-        (flags_in s.store.pages.records volume) (vtoc_in s.store.pages.vtocs volume)
-        (not (eqb volume (home_in s.store u).volume)) room in
-        let size : records_of s.plan volume ≡ length (flags_in s.store.pages.records volume) =
-        (keeps_of d).faithful.script.records volume in
-        let none : records_of s.plan volume ≡ 0 = ap records_in (slice_get_past s.plan.volumes volume past) in
-        absurd (omega arith))
-  ]
+  volume_there = grind (arith, some_record, room, keeps_of, slice_get_past)
 
   pub movable : IsMovable s u volume
   movable = record {

@@ -1,5 +1,5 @@
 -- A step that moves lengthens the book, or changes the owner of the supervisor or how far the owner's job has come.
-use Rattle.machine.proofs.Prelude.{◌≡◌, ◌≢◌, ◌⊎◌, ◌<◌, ◌≤◌, ◌+◌, ◌-◌, ℕ, Bool, true, false, cond, length, List, ◌∷◌, ◌++◌, Some, None, inl, inr, refl, sym, ◌∙◌, arith, length-append, Command, Entry, What, Transfer, Left, words_in, Aim, CutDescriptor, Phase, copy_failed, move_begun, page_copied, action_of, Outcome, after, by_outcome, committed, gone_entries, left_after, with_effect, cut_all, cut_one, emptied, entries_left, eviction_done, left_of, page_back, page_done, page_in, pages_back, seg_back, seg_gone, segment_taken, segs_back, segs_gone, take_all, take_one, took, with_hand_moved, write_failed, KeepsAll, Mover, table_of, cut_of_owner, frames_from, frames_of_owner, process_at, run_at, trailers_in, reply_of, uid_of_command, Owner, State, booked, fault_told, told, transfer_failed, transferred, with_faults, with_store, moves, first_past, CopiesNext, Knows, step_knows, BeginsMove, none_some, Changes, le_refl, [], Command as command, Entry as entry, What as what, Left as left, Aim as aim, Phase as phase, Action, Action as act}
+use Rattle.machine.proofs.Prelude.{◌≡◌, ◌≢◌, ◌⊎◌, ◌<◌, ◌≤◌, ◌+◌, ◌-◌, ℕ, Bool, true, false, cond, length, List, ◌∷◌, ◌++◌, Some, inl, inr, refl, sym, ◌∙◌, arith, length-append, Command, Entry, What, Transfer, Left, words_in, Aim, CutDescriptor, copy_failed, move_begun, page_copied, action_of, Outcome, after, by_outcome, committed, gone_entries, left_after, with_effect, cut_all, cut_one, emptied, entries_left, eviction_done, left_of, page_back, page_done, page_in, pages_back, seg_back, seg_gone, segment_taken, segs_back, segs_gone, take_all, take_one, took, with_hand_moved, write_failed, KeepsAll, Mover, table_of, cut_of_owner, frames_from, frames_of_owner, process_at, trailers_in, uid_of_command, Owner, State, booked, fault_told, transfer_failed, transferred, with_faults, with_store, moves, first_past, CopiesNext, Knows, step_knows, BeginsMove, none_some, Changes, le_refl, [], Command as command, Entry as entry, What as what, Left as left, Aim as aim, Phase as phase, Action, Action as act}
 use Rattle.machine.proofs.Found.{Found, step_found}
 
 -- how many entries the book has
@@ -82,11 +82,7 @@ left_some f left.Kept page = omega arith
 
 page_longer : (s : State) (f : ℕ)
     → size s < length (s.entries ++ entries_left f (left_of (words_in s.store.pages f)) (page_in s.store f))
-page_longer s f = omega (
-  arith,
-  left_some f (left_of (words_in s.store.pages f)) (page_in s.store f),
-  length-append s.entries (entries_left f (left_of (words_in s.store.pages f)) (page_in s.store f)),
-)
+page_longer s f = grind (arith, left_some, length-append)
 
 failed_longer : (s : State) (c n : ℕ) → IsLonger s (write_failed s c n)
 failed_longer s c n =
@@ -101,11 +97,7 @@ lost_longer s c t n = longer _ _ _ (still _ _ _ (still _ _ _ (le_refl _)))
 
 by_longer : (s : State) (o : Outcome) (well ill : State) → IsLonger s well → IsLonger s ill
     → IsLonger s (by_outcome o well ill)
-by_longer s o well ill a b = by o.failed
-  where
-    by : (f : Bool) → IsLonger s (cond f ill well)
-    by true = b
-    by false = a
+by_longer s o well ill a b = grind arith
 
 -- ---- a command
 
@@ -119,13 +111,7 @@ let_go s k x = booked (with_store s (with_effect s.store k (uid_of_command s.sto
     (gone_entries s (uid_of_command s.store k x) x)
 
 committed_longer : (s : State) (c k : ℕ) (x : Command) → IsLonger s (committed s c k x)
-committed_longer s c k x = omega (
-  arith,
-  length-append s.entries (gone_entries s (uid_of_command s.store k x) x),
-  length-append (let_go s k x).entries (entry.Do (process_at (let_go s k x) c) (run_at (let_go s k x).runs
-      (process_at (let_go s k x) c)).place c None (reply_of s k x) ∷ []),
-  left_size (told (let_go s k x) c None (reply_of s k x)) c x,
-)
+committed_longer s c k x = grind (arith, length-append, left_size)
 
 -- ---- a segment moves
 
@@ -137,9 +123,7 @@ phases : {a b : Owner} → Some a ≡ Some b → a.phase ≡ b.phase
 phases e = cc
 
 begin_changes : (s : State) (c u volume : ℕ) → BeginsMove s c u volume → (move_begun s c u volume).owner ≢ s.owner
-begin_changes s c u volume k e =
-    let looks : Phase = k.looking.owner.owner.phase in
-    let no : phase.Moving _ ≡ phase.Looking = phases (e ∙ k.looking.owner.mine) ∙ k.looking.looks in cc
+begin_changes s c u volume k e = grind (arith, phases)
 
 -- the next page that is copied is past the one before
 next_of : {m n : Mover} → phase.Moving m ≡ phase.Moving n → m.next ≡ n.next

@@ -1,6 +1,6 @@
 -- Once every frame was visited no stored page is all zeros: such a page would be in a frame, and the pages that stayed
 -- in theirs have a word other than 0.
-use Rattle.machine.proofs.Prelude.{◌≡◌, ◌<◌, ◌≤◌, ◌+◌, ◌*◌, ℕ, Bool, true, false, get_or, length, position, List, Option, Some, None, inl, inr, refl, sym, ap, subst, ◌∙◌, arith, ◌/◌, ◌%◌, All, and_parts, cases_lt, get_or_past, length-replicate, All-get_or, All-nil, AreZero, bound_page, is_stored, is_zero_page, zero_words, record_at, HaveFullPages, is_binding, is_stored_at, words_filed, words_held, words_of_page, bindings, frame_in, words_in, IsInFrame, vtoc_in, place_of, IsHomeOf, is_filed, is_there, picture, Keeps, flat_of, home_in, is_active, State, WasVisited, active_place, frame_words, binding_is, none_some, active_at, AllVisited, HasNoZeros, words_of, get_or_default_zero, zeros_to, []}
+use Rattle.machine.proofs.Prelude.{◌≡◌, ◌<◌, ◌≤◌, ◌+◌, ◌*◌, ℕ, Bool, true, false, get_or, length, List, refl, sym, ◌∙◌, arith, ◌/◌, ◌%◌, All, and_parts, get_or_past, length-replicate, AreZero, is_stored, is_zero_page, zero_words, HaveFullPages, is_stored_at, words_of_page, bindings, IsInFrame, place_of, IsHomeOf, is_filed, is_there, picture, Keeps, flat_of, home_in, is_active, State, active_place, frame_words, binding_is, none_some, active_at, AllVisited, HasNoZeros, words_of, get_or_default_zero, zeros_to, []}
 use Rattle.machine.proofs.VisitNext.{bound_there}
 
 -- ---- pages of 1024 words
@@ -9,17 +9,10 @@ abbrev IsFull : List ℕ → Type 0
 IsFull words = length words ≡ 1024
 
 few_words : (pages : List (List ℕ)) → All IsFull pages → (r : ℕ) → length (get_or pages r []) ≤ 1024
-few_words pages full r = elim (cases_lt r (length pages)) [
-  | inl lt ↦ (omega (arith, All-get_or IsFull pages r [] lt full))
-  | inr past ↦ (let none : length (get_or pages r []) ≡ 0 =
-      ap (λ (ws : List ℕ). length ws) (get_or_past pages r [] past) in omega arith)
-]
+few_words pages full r = grind (arith, get_or_past)
 
 full_disk : (disks : List (List (List ℕ))) → All HaveFullPages disks → (v : ℕ) → HaveFullPages (get_or disks v [])
-full_disk disks full v = elim (cases_lt v (length disks)) [
-  | inl lt ↦ All-get_or HaveFullPages disks v [] lt full
-  | inr past ↦ subst HaveFullPages (sym (get_or_past disks v [] past)) (All-nil IsFull)
-]
+full_disk disks full v = grind (arith, get_or_past)
 
 -- ---- zeros
 
@@ -63,48 +56,16 @@ module _ (s : State) (k : Keeps s) where
 
     module _ (each : AllVisited s) where
       no_zeros : AreZero (words_of s u p) → ⊥
-      no_zeros zeros = by (in_frame zeros)
-        where
-          by : IsInFrame (bindings s.store.pages.core) u p → ⊥
-          by (f, bound) = visited (each f inside)
-            where
-              page : bound_page (frame_in s.store.pages f) ≡ Some (u, p)
-              page = sym (binding_is s f) ∙ bound
-
-              inside : f < s.plan.frames
-              inside = subst (λ (n : ℕ). f < n) k.sizes.frames (bound_there s.store.pages f (u, p) page)
-
-              visited : WasVisited s.store.pages s.entries f → ⊥
-              visited (inl none) = none_some (sym none ∙ page)
-              visited (inr stayed) = (let no : true ≡ false =
-                  sym (zeros_to (words_in s.store.pages f) (subst AreZero (frame_words s k u f p bound) zeros))
-                  ∙ stayed.words in cc)
+      no_zeros zeros = grind (arith, in_frame, binding_is, bound_there, none_some, zeros_to, frame_words)
 
       some_word : length (words_of s u p) ≤ 1024 → is_zero_page (flat_of s).words u p ≡ false
-      some_word size = by (is_zero_page (flat_of s).words u p) refl
-        where
-          by : (b : Bool) → is_zero_page (flat_of s).words u p ≡ b → b ≡ false
-          by true zeros = absurd (no_zeros (zeros_there size zeros))
-          by false e = refl
+      some_word size = grind (arith, no_zeros, zeros_there)
 
   -- a page has at most 1024 words where it is, if the frames and the pages of the drives have as many
   page_size : All IsFull s.store.pages.frames → All HaveFullPages s.store.pages.disks → (u p : ℕ)
       → length (words_of s u p) ≤ 1024
   unfolding words_of_page
-  page_size frames disks u p = by (position (is_binding u p) (bindings s.store.pages.core))
-    where
-      disk : List (List ℕ)
-      disk = get_or s.store.pages.disks (home_in s.store u).volume []
-
-      on_record : (x : Option ℕ) → length (words_filed disk x) ≤ 1024
-      on_record None = omega (arith, length-replicate {A = ℕ} 1024 0)
-      on_record (Some r) = few_words disk (full_disk s.store.pages.disks disks (home_in s.store u).volume) r
-
-      by : (x : Option ℕ) → length (words_held s.store.pages.frames disk
-          (record_at (vtoc_in s.store.pages.vtocs (home_in s.store u).volume) (home_in s.store u).entry p) x) ≤ 1024
-      by None = on_record (record_at (vtoc_in s.store.pages.vtocs (home_in s.store u).volume)
-          (home_in s.store u).entry p)
-      by (Some f) = few_words s.store.pages.frames frames f
+  page_size frames disks u p = grind (arith, length-replicate, few_words, full_disk)
 
   -- No stored page is all zeros.
   pub has_no_zeros : All IsFull s.store.pages.frames → All HaveFullPages s.store.pages.disks → AllVisited s

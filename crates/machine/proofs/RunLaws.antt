@@ -1,5 +1,5 @@
 -- What processors come to that make their steps one after the other.
-use Rattle.machine.proofs.Prelude.{◌≡◌, ◌≤◌, ◌+◌, ℕ, Bool, true, false, length, List, ◌∷◌, ◌++◌, drop, append-nil, ◌<◌, get_or, take, Some, refl, sym, ap, subst, ◌∙◌, arith, ◌↔◌, Result, Ok, Err, IfOk, OnErr, count_by, list_any, or_parts, take-append-drop, take_more, action_of, process_at, move_to, outside_refusal, refusal_of, room_refusal, append_assoc, Parts, Grows, HasRun, HasStood, IsRound, is_moved, tally, with_room, would_move, Appends, AreTold, IsTurn, KeepsParts, TellsFaults, Turn, is_fault, []}
+use Rattle.machine.proofs.Prelude.{◌≡◌, ◌≤◌, ◌+◌, ℕ, Bool, true, false, length, List, ◌∷◌, ◌++◌, drop, append-nil, ◌<◌, get_or, take, refl, sym, ap, subst, ◌∙◌, arith, ◌↔◌, Result, Ok, Err, IfOk, OnErr, list_any, or_parts, take-append-drop, take_more, action_of, process_at, move_to, outside_refusal, refusal_of, room_refusal, append_assoc, Parts, Grows, HasRun, HasStood, IsRound, is_moved, tally, with_room, would_move, Appends, IsTurn, KeepsParts, TellsFaults, Turn, []}
 use Rattle.machine.proofs.CallLaws.{keeps_on, keeps_room}
 use Rattle.machine.proofs.TurnLaws.{still_of, told_moves}
 
@@ -20,17 +20,10 @@ module _ {D Plan : Type 0} (plan : D → Plan) (places faults : D → ℕ) where
   Run = HasRun plan places faults
 
   round_moves : (old new : Parts D) (c one : ℕ) → Round old new c one → one ≡ tally (would_move old.state c)
-  round_moves old new c one r = cc (
-    told_moves (with_room old r.spare).state c (action_of (with_room old r.spare).state c),
-    same_action old r.spare c,
-  )
+  round_moves old new c one r = grind (arith, told_moves, same_action)
 
   pub round_few : (old new : Parts D) (c one : ℕ) → Round old new c one → one ≤ 1
-  round_few old new c one r = rw r.moved_is (by (is_moved r.answer))
-    where
-      by : (b : Bool) → tally b ≤ 1
-      by true = omega arith
-      by false = omega arith
+  round_few old new c one r = grind arith
 
   -- a step in which nothing is done changes but the room
   round_still : (old new : Parts D) (c one : ℕ) (r : Round old new c one) → one ≡ 0 → new ≡ with_room old r.spare
@@ -123,25 +116,7 @@ module _ {D Plan : Type 0} (plan : D → Plan) (places faults : D → ℕ) where
       → IsTurn plan places faults mid new c answer → Appends mid.state.entries new.state.entries 320
       → KeepsParts plan places faults mid new → TellsFaults faults mid new (process_at mid.state c)
       → one ≡ tally (is_moved answer) → Round old new c one
-  round_made old mid new c one answer same turn appends keeps told is = record {
-    spare = mid.state.spare;
-    answer = answer;
-    moved_is = is;
-    turn = rw (← same) turn;
-    entries = record {
-      more = appends.more;
-      entries = appends.entries ∙ ap (λ (t : Parts D). t.state.entries ++ appends.more) same;
-      few = appends.few;
-    };
-    kept = keeps_on plan places faults old mid new (keeps_room plan places faults old mid _ same) keeps;
-    told = record {
-      more = told.more;
-      entries = told.entries ∙ ap (λ (t : Parts D). t.state.entries ++ told.more) same;
-      told = subst (λ (t : Parts D). AreTold faults t.drives new.drives (count_by is_fault told.more)) same told.told;
-      its = λ xs ys k e. told.its xs ys k e ∙ ap (λ (t : Parts D). Some (process_at t.state c)) same;
-      later = told.later;
-    };
-  }
+  round_made old mid new c one answer same turn appends keeps told is = grind (arith, keeps_on, keeps_room)
 
   -- of the first numbers of a list, one more makes its step
   pub run_next : (old mid new : Parts D) (cs : List ℕ) (i n one : ℕ) → Run old mid (take i cs) n → i < length cs
@@ -170,9 +145,7 @@ module _ {D Plan : Type 0} (plan : D → Plan) (places faults : D → ℕ) where
 
   pub run_keeps_on : (old new : Parts D) (cs : List ℕ) → HasStood plan places faults old new cs
       → KeepsParts plan places faults old new
-  run_keeps_on old new cs stood = keeps_on plan places faults old stood.last new
-      (run_keeps old stood.last stood.before stood.moved stood.run)
-      (keeps_room plan places faults stood.last new _ stood.room)
+  run_keeps_on old new cs stood = grind (arith, keeps_on, run_keeps, keeps_room)
 
   -- however it ended
   pub ran_grows : {E : Type 0} (old new : Parts D) (cs : List ℕ) (r : Result ℕ E) → IfOk r (Run old new cs)

@@ -1,5 +1,5 @@
 -- A store after a call that isn't seen in the flat store: it shows what it showed.
-use Rattle.machine.proofs.Prelude.{◌≡◌, ℕ, Bool, true, false, cond, get_or, map, replicate, set, List, ◌∷◌, None, refl, ap, subst, ◌∙◌, ◌/◌, map-set_same, Plan, AccountMaps, Frame, Core, bound_page, with_frame, ActiveSegs, Plain, bindings, words_at, entries, picture_by, Links, home_of, is_filed, is_there, picture, Store, Action, after, no_call, IsFaithful, shown_after, State, Storage, with_pages, Parts, IsSound, with_state, [], Frame as frame}
+use Rattle.machine.proofs.Prelude.{◌≡◌, ℕ, Bool, true, false, cond, get_or, replicate, None, refl, ap, subst, ◌∙◌, ◌/◌, map-set_same, Plan, AccountMaps, Frame, Core, bound_page, with_frame, ActiveSegs, Plain, bindings, words_at, picture_by, Links, home_of, is_filed, is_there, picture, Store, Action, after, no_call, IsFaithful, shown_after, State, Storage, with_pages, Parts, IsSound, with_state, Frame as frame}
 use Rattle.machine.proofs.Does.{Does, keeps_of}
 use Rattle.machine.proofs.Steps.{IsStoreOf, changed_sound}
 

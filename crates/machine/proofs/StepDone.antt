@@ -1,5 +1,5 @@
 -- What a step has done, by what the call for its action says.
-use Rattle.machine.proofs.Prelude.{map, Bool, CallsAs, IfStill, IsTurn, MayDo, OnErr, Parts, Result, Rose, State, Turn, Why, action_of, after, ap, arith, calls_drive, cond, false, length, no_call, outcome_of, refl, true, turn_of, why_by, why_of, with_faults, with_state, ℕ, ◌∙◌, ◌≡◌, ◌≤◌, Why as why, Action, Action as act}
+use Rattle.machine.proofs.Prelude.{map, Bool, CallsAs, IfStill, IsTurn, MayDo, OnErr, Parts, Result, Rose, State, Turn, Why, after, ap, arith, calls_drive, cond, false, length, no_call, outcome_of, refl, true, turn_of, why_by, why_of, with_faults, with_state, ℕ, ◌∙◌, ◌≡◌, ◌≤◌, Why as why, Action}
 use Rattle.machine.proofs.CallLaws.{outcome_tells}
 use Rattle.machine.proofs.CountsKept.{tally_kept}
 
@@ -17,27 +17,7 @@ module _ {D X : Type 0} {plan : D → X} {places faults : D → ℕ} {t u new : 
   pub quiet_turn : {v : State} → new ≡ with_state t v → v ≡ after t.state c a (no_call t.state)
       → r ≡ turn_of t.state c a → CallsAs faults t.state a t.drives t.drives false → IfStill r (new ≡ t)
       → IsTurn plan places faults u new c r
-  quiet_turn {v} is state answer calls still = rw (← same) (record {
-    step = record {
-      outcome = no_call t.state;
-      done = rw (is, doing) state;
-      calls_are = rw (is, doing) calls;
-      rose = λ h. cc;
-      grows = omega (arith, counted);
-      plans = rw is;
-      stores = rw is;
-      count = rw is;
-      room = rw is;
-    };
-    answer_is = rw doing answer;
-    still = still;
-  })
-    where
-      doing : action_of t.state c ≡ a
-      doing = rw same may.doing
-
-      counted : new.state.faults ≡ t.state.faults
-      counted = rw (is, state) (quiet_faults t.state c a)
+  quiet_turn {v} is state answer calls still = grind (arith, quiet_faults)
 
   -- the turn of one that calls a drive, or two
   pub drive_turn : {T E : Type 0} (x : Result T E) → new.state ≡ after t.state c a (outcome_of x new.state.faults)
@@ -46,24 +26,7 @@ module _ {D X : Type 0} {plan : D → X} {places faults : D → ℕ} {t u new : 
       → length new.drives ≡ length t.drives → new.room ≡ t.room
       → (t.state.faults ≤ new.state.faults) × OnErr x (Rose t.state.faults new.state.faults) → IfStill r (new ≡ t)
       → IsTurn plan places faults u new c r
-  drive_turn x state answer calls plans stores count room counts still = rw (← same) (record {
-    step = record {
-      outcome = outcome_of x new.state.faults;
-      done = rw doing state;
-      calls_are = rw doing calls;
-      rose = outcome_tells x new.state.faults counts.1;
-      grows = counts.0;
-      plans = plans;
-      stores = stores;
-      count = count;
-      room = room;
-    };
-    answer_is = rw doing answer;
-    still = still;
-  })
-    where
-      doing : action_of t.state c ≡ a
-      doing = rw same may.doing
+  drive_turn x state answer calls plans stores count room counts still = grind (arith, outcome_tells)
 
 -- what is waited for, as it is told
 pub why_told : (w : Why) → w ≡ why_by (why_of w)

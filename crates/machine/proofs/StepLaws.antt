@@ -1,5 +1,5 @@
 -- What is told of a step, by its turn.
-use Rattle.machine.proofs.Prelude.{◌≡◌, ◌<◌, ℕ, length, sym, ap, ◌∙◌, arith, action_of, after, State, calls_drive, moves, process_at, entries_after, HasTold, faults_after, pools_kept, Parts, IsSound, is_moved, Appends, Changes, IfMoved, IsTurn, KeepsParts, TellsFaults, Turn, Turn as turn}
+use Rattle.machine.proofs.Prelude.{◌<◌, ℕ, length, ap, ◌∙◌, arith, action_of, after, State, calls_drive, process_at, entries_after, HasTold, faults_after, pools_kept, Parts, IsSound, Appends, Changes, IfMoved, IsTurn, KeepsParts, TellsFaults, Turn}
 use Rattle.machine.proofs.CallLaws.{are_told, told_alike}
 use Rattle.machine.proofs.MovedLaws.{moved_changes}
 use Rattle.machine.proofs.TurnLaws.{told_moves}
@@ -16,13 +16,7 @@ module _ {D X : Type 0} {plan : D → X} {places faults : D → ℕ} {old new : 
 
   -- what is done changes something
   pub step_changes : IfMoved answer (Changes old.state new.state)
-  step_changes = by answer (cc (told_moves old.state c (action_of old.state c)))
-    where
-      by : (x : Turn) → is_moved x ≡ moves (action_of old.state c) → IfMoved x (Changes old.state new.state)
-      by (turn.Moved point) e = rw made.step.done
-          (moved_changes old.state c made.step.outcome sound.keeps there (sym e))
-      by (turn.Waits why) e = tt
-      by _ e = tt
+  step_changes = grind (arith, told_moves, moved_changes)
 
   pub step_faults : TellsFaults faults old new (process_at old.state c)
   step_faults = record {

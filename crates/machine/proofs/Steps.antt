@@ -1,5 +1,5 @@
 -- A machine keeps its promise through an action of a step, where the calls of its store do what they say.
-use Rattle.machine.proofs.Prelude.{AreAccounts, FillPage, FillSeg, FillsBusy, IsBusy, IsFaithful, IsKept, IsSound, IsStore, List, Outcome, Parts, Rose, Says, State, Storage, Store, after, ap, arith, is_of_process, length, no_call, none_some, pools_kept, refl, shown_after, step_keeps_all, sym, true, ℕ, ◌∙◌, ◌≡◌, ◌≤◌, OnErr, Result, outcome_of, sum, StoreKept, Action, Action as act}
+use Rattle.machine.proofs.Prelude.{AreAccounts, FillPage, FillSeg, FillsBusy, IsBusy, IsFaithful, IsKept, IsSound, IsStore, List, Outcome, Parts, Rose, Says, State, Storage, Store, after, ap, arith, is_of_process, length, no_call, none_some, pools_kept, refl, shown_after, step_keeps_all, sym, true, ℕ, ◌∙◌, ◌≡◌, ◌≤◌, OnErr, Result, outcome_of, sum, StoreKept, Action}
 use Rattle.machine.proofs.CallLaws.{outcome_faults, outcome_tells}
 use Rattle.machine.proofs.CountsKept.{counts_kept}
 use Rattle.machine.proofs.Does.{Does, busy, keeps_of}
@@ -65,6 +65,4 @@ module _ {D : Type 0} {t now : Parts D} {c : ℕ} {a : Action} (d : Does t c a) 
       → now.room ≡ t.room → IsStoreOf now.state.store → ((x : Store) → IsFaithful t.state.plan x t.state.store
       → IsFaithful t.state.plan (shown_after t.state c (outcome_of r now.state.faults) a x) now.state.store)
       → (t.state.faults ≤ now.state.faults) × OnErr r (Rose t.state.faults now.state.faults) → IsSound now
-  drive_sound r state room told shown counts = sound_after (outcome_of r now.state.faults) state room told shown
-      (rw (outcome_faults r now.state.faults) counts.0)
-      (rw (outcome_faults r now.state.faults) (outcome_tells r now.state.faults counts.1))
+  drive_sound r state room told shown counts = grind (arith, sound_after, outcome_faults, outcome_tells)

@@ -1,5 +1,5 @@
 -- What the call asks that takes what a tree command must have out of use.
-use Rattle.machine.proofs.Prelude.{◌≡◌, ◌≢◌, ◌<◌, ◌≤◌, ◌+◌, ℕ, zero, suc, Bool, true, false, cond, length, ◌∷◌, drop, Option, Some, None, ◌⊎◌, inl, inr, refl, ap, subst, arith, Command, IsActive, descriptors_taken, first_taken, frames_taken, Keeps, cpu_at, cut_of_owner, frames_in, frames_of_owner, is_active, is_connected, descriptor_of, next_command, or_zero, process_at, trailers_in, uid_of_command, State, Storage, command_few, connected_few, frames_from_few, trailers_few, no_table, HasItsSegment, frames_for, of_segment, pairs_for, what_for, taken_for, HasOwner, Parts, is_of_process, IsBusy, IsSound, MayDo, took_for, [], Command as command, Aim as aim, Action, Action as act}
+use Rattle.machine.proofs.Prelude.{◌≡◌, ◌≢◌, ◌<◌, ◌≤◌, ◌+◌, ℕ, zero, suc, true, false, length, drop, Option, Some, None, ◌⊎◌, refl, ap, subst, arith, Command, descriptors_taken, first_taken, frames_taken, Keeps, cpu_at, cut_of_owner, frames_in, frames_of_owner, is_active, next_command, or_zero, process_at, trailers_in, uid_of_command, State, Storage, command_few, connected_few, frames_from_few, trailers_few, no_table, HasItsSegment, frames_for, of_segment, pairs_for, what_for, taken_for, HasOwner, Parts, is_of_process, IsBusy, IsSound, MayDo, took_for, [], Aim as aim, Action, Action as act}
 use Rattle.machine.proofs.AloneLaws.{process_known, run_there}
 use Rattle.machine.proofs.Does.{Does, busy, found, keeps_of, knows, still_for}
 use Rattle.machine.proofs.Found.{Looked}
@@ -18,15 +18,7 @@ frames_le s k keeps (Some cmd) = by (first_taken cmd)
     by (Some low) = frames_from_few s (uid_of_command s.store k cmd) low keeps
 
 pairs_of : (s : State) (k u : ℕ) (cmd : Command) → Keeps s → length (descriptors_taken s.store k u cmd) ≤ 256
-pairs_of s k u (command.Acl path row m) keeps = omega (arith, trailers_few s u keeps)
-pairs_of s k u (command.Delete path) keeps = omega (arith, trailers_few s u keeps)
-pairs_of s k u (command.Terminate n) keeps = by (is_connected (descriptor_of s.store.links k n))
-  where
-    by : (b : Bool) → length {A = ℕ × ℕ} (cond b ((k, n) ∷ []) []) ≤ 256
-    by true = omega arith
-    by false = omega arith
-pairs_of s k u command.End keeps = connected_few s.store.links k
-pairs_of s k u _ keeps = omega arith
+pairs_of s k u cmd h1 = grind (arith, trailers_few, connected_few)
 
 pairs_le : (s : State) (k : ℕ) → Keeps s → (x : Option Command) → length (pairs_for s.store k x) ≤ 256
 pairs_le s k keeps None = omega arith
@@ -53,11 +45,7 @@ no_trailers st u off = rw off
 
 no_pairs : (st : Storage) (k u : ℕ) (cmd : Command) → is_active st.ast u ≡ false → of_segment cmd ≡ true
     → descriptors_taken st k u cmd ≡ []
-no_pairs st k u (command.Acl path row m) off h = no_trailers st u off
-no_pairs st k u (command.Delete path) off h = no_trailers st u off
-no_pairs st k u (command.Terminate n) off h = cc
-no_pairs st k u command.End off h = cc
-no_pairs st k u _ off h = refl
+no_pairs st k u cmd h1 h2 = grind (arith, no_trailers)
 
 -- a processor that comes to this has a process
 pub take_busy : (st : Storage) (k : ℕ) (x : Option Command) → is_of_process (taken_for st k x) ≡ true
@@ -85,18 +73,7 @@ taking_as s c k x = took_as s c aim.Committing (what_for s.store k x) (frames_fo
 
 its_segment : (s : State) (k : ℕ) → Keeps s → (x : Option Command)
     → (frames_for s.store k x ≢ []) ⊎ (pairs_for s.store k x ≢ []) → HasItsSegment s.store k x
-its_segment s k keeps None some = tt
-its_segment s k keeps (Some cmd) some = λ of. by of (is_active s.store.ast u) refl
-  where
-    u : ℕ
-    u = uid_of_command s.store k cmd
-
-    by : of_segment cmd ≡ true → (b : Bool) → is_active s.store.ast u ≡ b → IsActive s.store.ast.entries u
-    by of true on = active_there s.store u on
-    by of false off = elim some [
-      | inl fs ↦ absurd (fs (no_frames s u keeps off (first_taken cmd)))
-      | inr xs ↦ absurd (xs (no_pairs s.store k u cmd off of))
-    ]
+its_segment s k h1 x h2 = grind (arith, active_there, no_frames, no_pairs)
 
 -- the command is there
 pub takes : {D : Type 0} {t u : Parts D} {c : ℕ} → t ≡ u → IsSound t

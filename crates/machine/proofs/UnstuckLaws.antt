@@ -1,5 +1,5 @@
 -- Some processor goes on just where the machine wasn't stopped and some process hasn't ended.
-use Rattle.machine.proofs.Prelude.{◌≡◌, ◌≤◌, ◌<◌, ◌+◌, ℕ, Bool, true, false, cond, List, refl, sym, ap, subst, ◌∙◌, inl, inr, le_refl, arith, ◌↔◌, Contains, Result, Ok, Err, IfOk, list_any, list_any_at, cases_lt, action_of, is_over, KeepsAll, State, moves, IsDone, NamesAll, would_move, some_moves, Action as act}
+use Rattle.machine.proofs.Prelude.{◌≡◌, ◌≤◌, ◌<◌, ◌+◌, ℕ, Bool, true, false, List, refl, sym, ap, ◌∙◌, inl, inr, le_refl, arith, ◌↔◌, Contains, Result, Ok, Err, IfOk, list_any, list_any_at, action_of, is_over, KeepsAll, State, moves, IsDone, NamesAll, would_move, some_moves}
 use Rattle.machine.proofs.EndedLaws.{over_ended}
 
 stopped_still : (s : State) (c : ℕ) → s.stopped ≡ true → would_move s c ≡ false
@@ -8,11 +8,7 @@ stopped_still s c h = rw h refl
 
 over_still : (s : State) (c : ℕ) → is_over s ≡ true → would_move s c ≡ false
 unfolding action_of
-over_still s c h = rw h (by s.stopped)
-  where
-    by : (b : Bool) → moves (cond b act.IsStopped act.HasEnded) ≡ false
-    by true = refl
-    by false = refl
+over_still s c h = grind arith
 
 -- where the machine was stopped or every process has ended, no processor does anything
 pub done_still : (s : State) (c : ℕ) → KeepsAll s → IsDone s → would_move s c ≡ false
@@ -25,23 +21,12 @@ moves_not s c keeps done moves = let no : true ≡ false = sym moves ∙ done_st
 -- none of the first ones does anything, nor does the next
 pub one_more : (s : State) (c : ℕ) → ((d : ℕ) → d < c → would_move s d ≡ false) → would_move s c ≡ false
     → (d : ℕ) → d < c + 1 → would_move s d ≡ false
-one_more s c before here d within = elim (cases_lt d c) [
-  | inl lt ↦ before d lt
-  | inr past ↦ subst (λ (e : ℕ). would_move s e ≡ false) (omega arith) here
-]
+one_more s c before here d within = grind arith
 
 -- where no processor does anything, the machine was stopped or every process has ended
 pub still_done : (s : State) → KeepsAll s → (n : ℕ) → n ≡ s.plan.processors → (c : ℕ) → n ≤ c
     → ((d : ℕ) → d < c → would_move s d ≡ false) → IsDone s
-still_done s keeps n is c all still = by s.stopped refl (is_over s) refl
-  where
-    by : (a : Bool) → s.stopped ≡ a → (b : Bool) → is_over s ≡ b → IsDone s
-    by true e b i = inl e
-    by false e true i = inr ((over_ended s keeps).0 i)
-    by false e false i = let found = some_moves s keeps e i in
-        let there : found.0 < s.plan.processors =
-        subst (λ (m : ℕ). found.0 < m) keeps.machine.keeps.sizes.processors found.1.there in
-        absurd (let no : true ≡ false = sym found.1.moves ∙ still found.0 (omega (arith, is, all, there)) in cc)
+still_done s keeps n is c all still = grind (arith, over_ended, some_moves)
 
 -- none of a list moves, which has each processor
 pub none_moves : (s : State) (cpus : List ℕ) → KeepsAll s → list_any (would_move s) cpus ≡ false → NamesAll s cpus

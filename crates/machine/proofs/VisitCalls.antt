@@ -1,5 +1,5 @@
 -- A visit of the shutdown: what it asks of the tables, and that the machine keeps its promise.
-use Rattle.machine.proofs.Prelude.{◌≡◌, ◌<◌, ◌≤◌, ℕ, true, false, length, sum, List, Option, Some, None, inr, refl, sym, ap, subst, ◌∙◌, arith, OnErr, Result, nat_lt, nat_tests, Rose, Plan, Frame, bound_page, frame_at, is_modified, Store, CallsDrive, frame_in, words_in, is_over, Outcome, seen, are_zeros, page_in, IsFaithful, Keeps, mover_of, frames_of_owner, home_in, left_page, after_visit, State, AreVisited, over_free, bound_here, VisitSays, same_seats, visit_keeps_all, Parts, SparesCall, outcome_of, AreHere, shown_visited, IsSound, AllVisited, CallsAtVisit, HasVisited, TellsLoss, Appends, KeepsParts, LetsGo, StoreKept, Frame as frame}
+use Rattle.machine.proofs.Prelude.{◌≡◌, ◌<◌, ◌≤◌, ℕ, true, false, length, sum, List, Option, Some, None, refl, sym, ap, subst, ◌∙◌, arith, OnErr, Result, nat_lt, nat_tests, Rose, Plan, Frame, bound_page, frame_at, is_modified, Store, CallsDrive, frame_in, words_in, is_over, Outcome, seen, are_zeros, page_in, IsFaithful, Keeps, mover_of, frames_of_owner, home_in, left_page, after_visit, State, AreVisited, over_free, bound_here, VisitSays, same_seats, visit_keeps_all, Parts, SparesCall, outcome_of, AreHere, shown_visited, IsSound, AllVisited, HasVisited, TellsLoss, Appends, KeepsParts, StoreKept, Frame as frame}
 use Rattle.machine.proofs.CallLaws.{outcome_faults, outcome_tells, page_let_go, told_alike}
 use Rattle.machine.proofs.CountsKept.{visit_counts}
 use Rattle.machine.proofs.LossTold.{visit_tells}
@@ -96,25 +96,7 @@ module _ {D : Type 0} {t : Parts D} (sound : IsSound t) (over : is_over t.state 
         → CallsDrive plan places faults t.drives now.drives (home_in s.store (page_in s.store s.visited).0).volume r
         → SparesCall s.store.pages s.visited t.drives now.drives r → now.room ≡ t.room
         → HasVisited plan places faults t now
-    visit_done {X} {plan} {places} {faults} call spares room = record {
-      outcome = o;
-      done = state;
-      calls_are = calls_at (bound_page (frame_in s.store.pages s.visited)) refl;
-      rose = outcome_tells r now.state.faults counts.1;
-      grows = counts.0;
-      plans = call.plans;
-      stores = call.stores;
-      count = call.count;
-      room = room;
-    }
-      where
-        goes : LetsGo faults s s.visited t.drives now.drives o.failed
-        goes = page_let_go s s.visited r now.state.faults call spares
-
-        calls_at : (x : Option (ℕ × ℕ)) → bound_page (frame_in s.store.pages s.visited) ≡ x
-            → CallsAtVisit faults s x t.drives now.drives o.failed
-        calls_at None e = goes.spared (inr (unbound_clean (frame_in s.store.pages s.visited) e))
-        calls_at (Some page) e = goes
+    visit_done {X} {plan} {places} {faults} call spares room = grind (arith, outcome_tells, page_let_go, unbound_clean)
 
 -- ---- what follows
 

@@ -1,5 +1,5 @@
 -- What holds of the frames that the shutdown has visited holds after each visit, and one frame more was.
-use Rattle.machine.proofs.Prelude.{◌≡◌, ◌≢◌, ◌<◌, ℕ, ◌+◌, ◌++◌, ◌∷◌, Bool, true, false, cond, length, not, replicate, List, Option, Some, None, inl, inr, refl, sym, ap, subst, ◌∙◌, arith, cases_lt, get_or-set_other, get_or-set_same, get_or_past, Entry, bound_page, Plan, Left, Home, evicted, Plain, frame_in, words_in, Processor, action_of, clear_or, is_over, Outcome, after, are_zeros, here_if, leaving_if, left_of, page_back, page_gone, page_in, with_here, KeepsAll, cpu_at, home_in, no_processor, processor_at, after_visit, page_taken, visited_if, State, fault_told, with_faults, AreIdle, AreVisited, WasVisited, append_assoc, FillsBusy, idle_kept, pools_kept, none_some, SameSeats, VisitSays, same_seats, visit_over, all_same, [], Entry as entry, Frame as frame, Left as left, Action as act}
+use Rattle.machine.proofs.Prelude.{◌≡◌, ◌≢◌, ◌<◌, ℕ, ◌+◌, ◌++◌, ◌∷◌, Bool, true, false, cond, length, replicate, List, Option, Some, None, inl, inr, refl, ap, ◌∙◌, arith, cases_lt, get_or-set_other, get_or-set_same, get_or_past, Entry, bound_page, Left, Home, evicted, Plain, frame_in, words_in, action_of, is_over, Outcome, after, are_zeros, left_of, page_back, page_gone, page_in, with_here, KeepsAll, home_in, no_processor, after_visit, page_taken, visited_if, State, fault_told, with_faults, AreVisited, WasVisited, append_assoc, FillsBusy, idle_kept, pools_kept, none_some, VisitSays, same_seats, visit_over, all_same, [], Entry as entry, Frame as frame, Left as left}
 
 -- a frame that was visited, where its page and its words are as before and the book has entries more
 carried : (old new : Plain) (es more : List Entry) (g : ℕ) → frame_in new g ≡ frame_in old g
@@ -38,10 +38,7 @@ evicted_here pages home p f left.Kept there = get_or-set_same pages.core.frames 
 -- a frame with a page is there
 pub bound_there : (pages : Plain) (f : ℕ) (page : ℕ × ℕ) → bound_page (frame_in pages f) ≡ Some page
     → f < length pages.core.frames
-bound_there pages f page h = elim (cases_lt f (length pages.core.frames)) [
-  | inl lt ↦ lt
-  | inr far ↦ absurd (none_some (sym (ap bound_page (get_or_past pages.core.frames f frame.Free far)) ∙ h))
-]
+bound_there pages f page h = grind (arith, none_some, get_or_past)
 
 module _ (s : State) (o : Outcome) (all : KeepsAll s) (visits : AreVisited s) (over : is_over s ≡ true)
     (more : s.visited < s.plan.frames) (says : VisitSays s o) where
@@ -52,18 +49,10 @@ module _ (s : State) (o : Outcome) (all : KeepsAll s) (visits : AreVisited s) (o
   taken = page_taken s f
 
   taken_pages : taken.store.pages ≡ s.store.pages
-  taken_pages = by (bound_page (frame_in s.store.pages f))
-    where
-      by : (x : Option (ℕ × ℕ)) → (leaving_if s.store f x).pages ≡ s.store.pages
-      by None = refl
-      by (Some page) = refl
+  taken_pages = grind arith
 
   back_pages : (with_here taken.store f).pages ≡ s.store.pages
-  back_pages = by (bound_page (frame_in taken.store.pages f)) ∙ taken_pages
-    where
-      by : (x : Option (ℕ × ℕ)) → (here_if taken.store f x).pages ≡ taken.store.pages
-      by None = refl
-      by (Some page) = refl
+  back_pages = grind (arith, taken_pages)
 
   abbrev gone : State
   gone = page_gone (with_faults taken o.faults) f
@@ -113,61 +102,20 @@ module _ (s : State) (o : Outcome) (all : KeepsAll s) (visits : AreVisited s) (o
 
   -- What holds of the frames that were visited holds after a visit.
   pub visited_next : AreVisited (after_visit s o)
-  visited_next = record {
-    idle = subst AreIdle (sym seats.processors) visits.idle;
-    over = λ h. visit_over s o all over visits.idle says;
-    few = let same = ap (λ (p : Plan). p.frames) seats.plan in omega arith;
-    each = each_next (bound_page (frame_in s.store.pages f)) refl;
-  }
-    where
-      seats : SameSeats s (after_visit s o)
-      seats = same_seats s o
+  visited_next = grind (arith, visit_over, each_next, same_seats)
 
 -- ---- at first, and after the steps of processors
 
 -- no frame was visited, and no processor has a process
 pub visited_first : (s : State) (n : ℕ) → s.processors ≡ replicate n no_processor → s.visited ≡ 0 → AreVisited s
-visited_first s n idle none = record {
-  idle = record {
-    held = λ d i. ap (λ (ps : List Processor). (cpu_at ps d).assoc) idle
-        ∙ ap (λ (p : Processor). p.cpu.assoc) (all_same n d no_processor);
-  };
-  over = λ h. absurd (omega (arith, h, none));
-  few = omega (arith, none);
-  each = λ f lt. absurd (omega (arith, lt, none));
-}
+visited_first s n idle none = grind (arith, all_same)
 
 -- a machine in which no process is ready or running stays as it is
 still_over : (s : State) (c : ℕ) (o : Outcome) → is_over s ≡ true → after s c (action_of s c) o ≡ s
 unfolding action_of after
-still_over s c o over = by s.stopped (is_over s) over
-  where
-    by : (stopped ended : Bool) → ended ≡ true → after s c (cond stopped act.IsStopped (cond ended act.HasEnded
-        (cond (not (processor_at s.processors c).cpu.online) act.Online
-        (clear_or s c (processor_at s.processors c) (processor_at s.processors c).cpu.due)))) o ≡ s
-    by true ended h = refl
-    by false true h = refl
-    by false false h = cc
+still_over s c o over = grind arith
 
 -- What holds of the frames that were visited holds after a step.
 pub visited_after : (s : State) (c : ℕ) (o : Outcome) → c < length s.processors → FillsBusy s c (action_of s c)
     → AreVisited s → AreVisited (after s c (action_of s c) o)
-visited_after s c o there busy visits = by (is_over s) refl
-  where
-    by : (b : Bool) → is_over s ≡ b → AreVisited (after s c (action_of s c) o)
-    by true over = subst AreVisited (sym (still_over s c o over)) visits
-    by false on = record {
-      idle = idle_kept s c o there visits.idle (action_of s c) busy;
-      over = λ h. absurd (omega (arith, h, none));
-      few = omega (arith, none);
-      each = λ f lt. absurd (omega (arith, lt, none));
-    }
-      where
-        begun : s.visited ≡ 0
-        begun = elim (cases_lt 0 s.visited) [
-          | inl some ↦ absurd (let no : true ≡ false = sym (visits.over some) ∙ on in cc)
-          | inr past ↦ omega (arith, past)
-        ]
-
-        none : (after s c (action_of s c) o).visited ≡ 0
-        none = (pools_kept s c (action_of s c) o).visited ∙ begun
+visited_after s c o there busy visits = grind (arith, still_over, idle_kept, pools_kept)
