@@ -1,18 +1,12 @@
 -- What a path leads to, by its walk.
-use Rattle.machine_tables.proofs.Prelude.{◌≡◌, ℕ, true, is_some, List, Option, Some, None, refl, Ok, Err, path_answer, PathFault, LeadsTo, Node, Walk, node_in, walk_in, node_at, there_or, walked, uid_of_node, found_uid}
+use Rattle.machine_tables.proofs.Prelude.{◌≡◌, ℕ, true, is_some, List, Ok, Err, path_answer, PathFault, Node, Walk, node_in, walk_in, node_at, walked, uid_of_node, found_uid, arith}
 
 led_to : (ns : List Node) (w : Walk) (u : ℕ) → Ok u ≡ path_answer w → is_some (node_in ns u) ≡ true
     → u ≡ uid_of_node (walked ns w)
-led_to ns (LeadsTo v) u is there = by (node_in ns v) refl
-  where
-    by : (x : Option Node) → node_in ns v ≡ x → u ≡ uid_of_node (there_or x)
-    by None e = absurd cc
-    by (Some n) e = cc (found_uid ns v n e)
-led_to ns _ u is there = absurd cc
+led_to ns w u h1 h2 = grind (arith, found_uid)
 
 led_nowhere : (ns : List Node) (w : Walk) (e : PathFault) → Err e ≡ path_answer w → 0 ≡ uid_of_node (walked ns w)
-led_nowhere ns (LeadsTo v) e is = absurd cc
-led_nowhere ns _ e is = refl
+led_nowhere ns w e h1 = grind arith
 
 pub path_leads : (ns : List Node) (path : List (List ℕ)) (u : ℕ) → Ok u ≡ path_answer (walk_in ns path)
     → is_some (node_in ns u) ≡ true → u ≡ uid_of_node (node_at ns path)

@@ -1,5 +1,5 @@
 -- A segment is active where a search finds it.
-use Rattle.machine_tables.proofs.Prelude.{◌≡◌, ℕ, Bool, true, false, is_some, List, Option, Some, None, refl, sym, ap, ◌∙◌, ◌↔◌, ActiveSegs, uid_at, place_of, EmptyVictim, any_page, empty_victim, unless_read, frame_reading, is_active, or_zero, Storage, active_place, none_some, active_at}
+use Rattle.machine_tables.proofs.Prelude.{◌≡◌, ℕ, Bool, true, false, is_some, List, Option, Some, None, refl, sym, ◌↔◌, ActiveSegs, uid_at, place_of, EmptyVictim, any_page, empty_victim, unless_read, frame_reading, is_active, or_zero, Storage, active_place, active_at}
 
 pub search_tells : (ast : ActiveSegs) (u : ℕ) (o : Option ℕ)
     → ((place : ℕ) → (o ≡ Some place) ↔ (uid_at ast.entries place ≡ Some u)) → is_some o ≡ is_active ast u

@@ -1,6 +1,5 @@
 -- The next command of a process takes effect in the store of the tables.
-use Rattle.machine_tables.proofs.Prelude.{◌≡◌, ℕ, List, map, Option, Some, sym, ap, subst, ◌∙◌, Command, Reference, Reply, effect_by, effect_of_tree_command, Store, IsReady, Shows, Stored, answered, frame_entry, IsFaithful, flat_of, frames_of_owner, next_command, reply_of, with_command, State, Storage, HasEffect, IsCommitted, effect_for, reply_for, left_entry, next_frame_entry, Parts, shown, IsApplicable, IsCommittedBut, IsReadyFor, OwnsFor}
-use Rattle.script.specs.declared.commands.Command.TheVariants as command
+use Rattle.machine_tables.proofs.Prelude.{◌≡◌, ℕ, List, map, Option, Some, sym, subst, ◌∙◌, Command, Reply, Store, IsReady, Shows, Stored, IsFaithful, flat_of, frames_of_owner, next_command, reply_of, with_command, State, HasEffect, IsCommitted, effect_for, reply_for, left_entry, next_frame_entry, Parts, shown, IsApplicable, IsCommittedBut, IsReadyFor, OwnsFor, Command as command, arith}
 use Rattle.machine_tables.proofs.RefusalLaws.{shows_of}
 
 pub same_some : {X : Type 0} {x y : X} → Some x ≡ Some y → x ≡ y
@@ -72,8 +71,4 @@ module _ {D : Type 0} (drive : D → List (List ℕ)) (tables : Parts D) (t u : 
 
   pub applied_shown : (flat : Store) → IsFaithful s.plan flat s.store
       → IsFaithful s.plan (with_command s k (next_command s k) flat) (shown drive u)
-  applied_shown flat h = rw (next, may.tree, ← reply_is) (record
-      { tree = now.tree; known = now.known; pages = now.pages; script = now.script })
-    where
-      now : Shows drive s.plan (answered r flat (effect_of_tree_command s.plan flat k x)) u
-      now = commits.does.effect s.plan flat (shows flat h)
+  applied_shown flat h = grind (arith, reply_is, shows)

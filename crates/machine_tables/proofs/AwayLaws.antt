@@ -1,8 +1,5 @@
 -- What a tree command must have out of use: pages that are here, and descriptors that lead to a segment.
-use Rattle.machine_tables.proofs.Prelude.{◌≡◌, ℕ, zero, suc, ◌+◌, ◌<◌, ◌≤◌, Bool, true, false, not, ◌||◌, cond, List, [], ◌∷◌, ◌++◌, map, length, get_or, drop, refl, sym, ap, ◌∙◌, arith, inl, inr, ◌/◌, filter, range_with_len, eqb_tells, Command, What, Ptw, is_out, ActiveSegs, Core, table_of, bring_cut, descriptors_taken, first_taken, frames_taken, is_empty, take_or_commit, what_taken, frames_from, frames_in, here_in, is_active, State, Storage, inactive_blank, is_bare}
-use Rattle.page_table.specs.declared.Ptw.TheVariants as ptw
-use Rattle.machine_model.specs.Actions as act
-use Rattle.machine_model.specs.Actions.{room_for}
+use Rattle.machine_tables.proofs.Prelude.{◌≡◌, ℕ, zero, suc, ◌+◌, ◌<◌, ◌≤◌, Bool, true, false, not, ◌||◌, cond, List, [], ◌∷◌, map, length, get_or, drop, refl, arith, ◌/◌, filter, range_with_len, eqb_tells, Command, What, Ptw, is_out, ActiveSegs, Core, table_of, bring_cut, descriptors_taken, first_taken, frames_taken, is_empty, take_or_commit, what_taken, frames_from, frames_in, is_active, State, Storage, inactive_blank, is_bare, Ptw as ptw, Action, Action as act, Actions_room_for as room_for}
 
 -- ---- of a segment that isn't active there is nothing
 
@@ -29,11 +26,7 @@ module _ (k : ℕ) (test : ℕ → Bool) where
       by : (t : Bool) → test from ≡ t → (from + 1 ≤ i → not (is_bare [] (pairs (from + 1) n)) ≡ true)
           → not (is_bare [] (map (λ x. (k, x)) (cond t (from ∷ filter test (range_with_len (from + 1) n))
           (filter test (range_with_len (from + 1) n))))) ≡ true
-      by true e rest = refl
-      by false e rest = elim (eqb_tells i from) [
-        | inl same ↦ cc (same.1)
-        | inr m ↦ (let other = m.1 in rest (omega arith))
-      ]
+      by t h1 h2 = grind (arith, eqb_tells)
 
   pub no_pair : (from n : ℕ) → ((i : ℕ) → i < from + n → test i ≡ false) → pairs from n ≡ []
   no_pair from zero off = refl
@@ -45,17 +38,13 @@ module _ (k : ℕ) (test : ℕ → Bool) where
 -- none of the numbers up to the next passes
 pub none_next : (test : ℕ → Bool) (n : ℕ) → ((i : ℕ) → i < n → test i ≡ false) → test n ≡ false → (i : ℕ)
     → i < n + 1 → test i ≡ false
-none_next test n before here i lt = elim (eqb_tells i n) [
-  | inl e ↦ ap test e.1 ∙ here
-  | inr m ↦ (let other = m.1 in before i (omega arith))
-]
+none_next test n before here i lt = grind (arith, eqb_tells)
 
 -- ---- taken, or done at once
 
 bare : (fs : List ℕ) (pairs : List (ℕ × ℕ)) → not (is_empty fs) ≡ false → not (is_bare [] pairs) ≡ false
     → (w : What) → act.Commit ≡ take_or_commit fs pairs w
-bare [] [] a b w = refl
-bare _ _ a b w = cc
+bare fs pairs h1 h2 w = grind arith
 
 module _ (s : State) (k u : ℕ) (c : Command) where
   abbrev frames : List ℕ
@@ -66,16 +55,11 @@ module _ (s : State) (k u : ℕ) (c : Command) where
 
   pub committed : (not (is_empty frames) || not (is_bare [] descriptors)) ≡ false
       → act.Commit ≡ take_or_commit frames descriptors (what_taken u c)
-  committed none = both (not (is_empty frames)) (not (is_bare [] descriptors)) refl refl none
-    where
-      both : (a b : Bool) → not (is_empty frames) ≡ a → not (is_bare [] descriptors) ≡ b → (a || b) ≡ false
-          → act.Commit ≡ take_or_commit frames descriptors (what_taken u c)
-      both true b d e h = absurd cc
-      both false b d e h = bare frames descriptors d (e ∙ h) (what_taken u c)
+  committed none = grind arith
 
 -- ---- the page that is cut
 
-module _ (st : Storage) (u words : ℕ) (otherwise : act.Action) where
+module _ (st : Storage) (u words : ℕ) (otherwise : Action) where
   abbrev page : ℕ
   page = words / 1024
 
@@ -84,9 +68,7 @@ module _ (st : Storage) (u words : ℕ) (otherwise : act.Action) where
 
   brought : (w : Ptw) → is_out w ≡ true
       → room_for core u page (λ f. act.Start f u page) ≡ bring_cut core u page w otherwise
-  brought (ptw.Out r) h = refl
-  brought _ h = absurd cc
+  brought w h1 = grind arith
 
   left : (w : Ptw) → is_out w ≡ false → otherwise ≡ bring_cut core u page w otherwise
-  left (ptw.Out r) h = absurd cc
-  left w h = refl
+  left w h1 = grind arith

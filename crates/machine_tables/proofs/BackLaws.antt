@@ -86,7 +86,4 @@ pub record GoesOn (now first : State) : Type 0 where
 
 pub goes_next : (s t first : State) (d : CutDescriptor) → GoesOn s first
     → Some d ≡ slice_get (cut_of_owner s.owner) 0 → t ≡ seg_gone s d → GoesOn t first
-goes_next s t first d on h is = record {
-  each = cut_next seg_gone segs_gone s t first d (λ ds. refl) refl refl on.each h is;
-  store = cc;
-}
+goes_next s t first d on h is = grind (arith, cut_next)

@@ -1,7 +1,5 @@
 -- The look for a tree command that nothing refuses, by the command.
-use Rattle.machine_tables.proofs.Prelude.{◌≡◌, ◌≢◌, ℕ, true, is_some, cond, List, None, refl, sym, ap, subst, ◌∙◌, Command, is_there, empty_when_read, look_to_change, look_to_take, with_chain, with_cut_page, Keeps, is_active, refusal_of, uid_of_command, State, Storage, truncate_stands}
-use Rattle.script.specs.declared.commands.Command.TheVariants as command
-use Rattle.machine_model.specs.Actions as act
+use Rattle.machine_tables.proofs.Prelude.{◌≡◌, ◌≢◌, ℕ, true, is_some, cond, List, None, refl, ap, ◌∙◌, Command, is_there, empty_when_read, look_to_change, look_to_take, with_chain, with_cut_page, Keeps, is_active, refusal_of, uid_of_command, State, Storage, truncate_stands, Command as command, Action as act}
 
 -- the segment of a `truncate` that nothing refuses is there
 pub truncate_there : (s : State) (k : ℕ) → Keeps s → (path : List (List ℕ)) (words : ℕ) (c : Command)

@@ -1,9 +1,6 @@
 -- What a claim of a tree command names stays while pages are taken, and the descriptors of a process are cut in order.
-use Rattle.machine_tables.proofs.Prelude.{◌≡◌, ◌≢◌, ◌+◌, ◌-◌, ◌<◌, ◌≤◌, ℕ, suc, zero, Bool, true, false, cond, length, List, [], ◌∷◌, ◌++◌, map, set, Option, Some, None, refl, sym, ap, subst, ◌∙◌, arith, inl, inr, length-append, filter, nat_le, range_with_len, nat_tests, cases_lt, get_or-set_other, get_or-set_same, What, is_command, Fault, Links, leads_at, sdws_at, unlinked, Aim, cut_all, cut_one, take_all, took, connected_of, cut_of_owner, descriptor_of, is_connected, State, none_some, Cuts, cuts_in, HasOwner, Parts, with_state, take_cut, cut_long, one_known}
+use Rattle.machine_tables.proofs.Prelude.{◌≡◌, ◌≢◌, ◌+◌, ◌-◌, ◌<◌, ◌≤◌, ℕ, suc, zero, true, length, List, [], ◌∷◌, ◌++◌, map, set, Option, Some, None, refl, sym, ap, ◌∙◌, arith, inl, inr, length-append, filter, range_with_len, nat_tests, cases_lt, get_or-set_other, get_or-set_same, What, is_command, Fault, Links, leads_at, sdws_at, unlinked, Aim, cut_all, cut_one, take_all, took, connected_of, cut_of_owner, descriptor_of, is_connected, State, none_some, Cuts, cuts_in, HasOwner, Parts, with_state, take_cut, cut_long, one_known, Command as command, Cuts as cuts, Claimed_number_in as number_in}
 use lib.Seq.{set_out}
-use Rattle.script.specs.declared.commands.Command.TheVariants as command
-use Rattle.machine_tables.specs.declared.claiming.Cuts.TheVariants as cuts
-use Rattle.machine_tables.specs.Claimed.{number_in}
 use Rattle.machine_tables.proofs.TakeLaws.{owner_still, room_less}
 use Rattle.machine_tables.proofs.TookLaws.{links_still, trailers_still}
 
@@ -27,14 +24,8 @@ pub claim_after : (s t : State) (c : ℕ) (a : Aim) (w : What) (fs : List ℕ) (
     → t ≡ take_all s c a w fs → k < length s.store.links.known → HasOwner s.owner
     → length (cut_of_owner s.owner) + length (cuts_in s.store k uid x) ≤ 256
     → length fs + length (cuts_in s.store k uid x) ≤ s.spare → CanCutClaim t k uid x
-claim_after s t c a w fs k uid x is knows owner few room = subst (λ (y : State). CanCutClaim y k uid x) (sym is)
-    (record {
-      knows = rw (links_still s c a w fs) knows;
-      owner = owner_still s c a w fs owner;
-      few = omega (arith, ap length (take_cut s c a w fs), ap length (cuts_still s c a w fs k uid x));
-      room = let spent = room_less s c a w fs (omega arith) in
-          omega (arith, ap length (cuts_still s c a w fs k uid x));
-    })
+claim_after s t c a w fs k uid x is knows owner few room =
+    grind (arith, links_still, owner_still, take_cut, cuts_still, room_less)
 
 pub claim_is : {D : Type 0} (old mid new : Parts D) (c : ℕ) (a : Aim) (w : What) (fs : List ℕ) (k uid : ℕ) (x : Cuts)
     → mid ≡ with_state old (take_all old.state c a w fs)
@@ -58,23 +49,14 @@ connected_from links k n = connected_in links k (range_with_len n (256 - n))
 
 one_connected : (links : Links) (k n : ℕ) (ns : List ℕ)
     → connected_in links k (n ∷ ns) ≡ number_in links k n ++ connected_in links k ns
-one_connected links k n ns = by (is_connected (descriptor_of links k n)) refl
-  where
-    by : (b : Bool) → is_connected (descriptor_of links k n) ≡ b
-        → map (λ m. (k, m)) (cond b (n ∷ filter (λ m. is_connected (descriptor_of links k m)) ns)
-        (filter (λ m. is_connected (descriptor_of links k m)) ns)) ≡ cond b ((k, n) ∷ []) [] ++ connected_in links k ns
-    by true e = refl
-    by false e = refl
+one_connected links k n ns = grind arith
 
 pub next_connected : (links : Links) (k n : ℕ) → n < 256
     → connected_from links k n ≡ number_in links k n ++ connected_from links k (n + 1)
-next_connected links k n lt =
-    let one : 256 - n ≡ suc (256 - (n + 1)) = omega arith in
-    rw one (one_connected links k n (range_with_len (n + 1) (256 - (n + 1))))
+next_connected links k n lt = grind (arith, one_connected)
 
 pub none_connected : (links : Links) (k n : ℕ) → 256 ≤ n → connected_from links k n ≡ []
-none_connected links k n le =
-    let none : 256 - n ≡ zero = omega arith in rw none
+none_connected links k n le = grind arith
 
 -- a cut leaves the other numbers of the process
 number_left : (links : Links) (k n m : ℕ) → n ≢ m
@@ -106,12 +88,7 @@ rest_left links k n from (suc count) lt = cc (
 pub from_left : (s : State) (c : ℕ) (a : Aim) (w : What) (k n : ℕ)
     → connected_from (cut_all s c a w (number_in s.store.links k n)).store.links k (n + 1)
     ≡ connected_from s.store.links k (n + 1)
-from_left s c a w k n = by (is_connected (descriptor_of s.store.links k n))
-  where
-    by : (b : Bool) → connected_from (cut_all s c a w (cond b ((k, n) ∷ []) [])).store.links k (n + 1)
-        ≡ connected_from s.store.links k (n + 1)
-    by true = rest_left s.store.links k n (n + 1) (256 - (n + 1)) (omega arith)
-    by false = refl
+from_left s c a w k n = grind (arith, rest_left)
 
 -- so far as the numbers of a process are cut, the rest leads to the same
 pub record CutsAllOn (now first : State) (c : ℕ) (a : Aim) (w : What) (k n : ℕ) : Type 0 where
@@ -125,10 +102,7 @@ pub record CutsAllOn (now first : State) (c : ℕ) (a : Aim) (w : What) (k n : �
 pub number_few : {s first : State} {c : ℕ} {a : Aim} {w : What} {k n : ℕ} → CutsAllOn s first c a w k n → n < 256
     → (length (cut_of_owner s.owner) + length (number_in s.store.links k n) ≤ 256)
     × (length (number_in s.store.links k n) ≤ s.spare)
-number_few {s} {k = k} {n} on lt =
-    let all = ap length (next_connected s.store.links k n lt) in
-    let both = length-append (number_in s.store.links k n) (connected_from s.store.links k (n + 1)) in
-    (omega arith, omega arith)
+number_few {s} {k = k} {n} on lt = grind (arith, next_connected)
 
 -- what a cut leaves of the rest
 one_owner : (s : State) (c : ℕ) (a : Aim) (w : What) (xs : List (ℕ × ℕ)) → HasOwner s.owner

@@ -46,20 +46,13 @@ columns_same ks vs ws up long many same = ext_get_or 0 vs ws (cc) (λ i lt. (let
 
 pub segments_same : (old new : AccountMaps) → HasColumns old → HasColumns new → new.nodes ≡ old.nodes
     → new.segments ≡ old.segments
-segments_same old new before after nodes = rising_same new.segments old.segments after.rising before.rising
-    (λ u. cc (after.segments u, nodes, before.segments u))
+segments_same old new before after nodes = grind (arith, rising_same)
 
 -- accounts whose nodes and counts are told
 pub maps_same : (new old : AccountMaps) (nodes : List Node) (counts : List ℕ) → new.nodes ≡ nodes
     → new.entries ≡ old.entries → new.next ≡ old.next → new.segments ≡ old.segments → new.counts ≡ counts
     → new ≡ record old { nodes = nodes; counts = counts }
-maps_same new old nodes counts a b c d e = (λ i. record {
-  nodes = a i;
-  entries = b i;
-  next = c i;
-  segments = d i;
-  counts = e i;
-})
+maps_same new old nodes counts a b c d e = grind arith
 
 -- one count is told
 pub recounted : (old new : AccountMaps) (seg count : ℕ) → HasColumns old → HasColumns new → Recounts old new seg count

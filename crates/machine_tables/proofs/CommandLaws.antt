@@ -1,23 +1,14 @@
 -- The command that a process comes to: its numbers are in their ranges.
-use Rattle.machine_tables.proofs.Prelude.{◌≡◌, ◌<◌, ℕ, true, length, Option, Some, None, arith, refl, ap, sym, subst, ◌∙◌, IfSome, nat_le, and_parts, nat_tests, IsPlan, is_command, is_place, Plan, command_at, reference_of, Command, Reference, refers, command_planned}
-use Rattle.script.specs.declared.commands.Command.TheVariants as command
+use Rattle.machine_tables.proofs.Prelude.{◌≡◌, ◌<◌, ℕ, true, length, Option, Some, None, arith, refl, ap, sym, ◌∙◌, IfSome, and_parts, nat_tests, IsPlan, is_command, is_place, Plan, command_at, reference_of, Command, Reference, refers, command_planned, Command as command}
 
 -- the number of a reference is one of 256
 small_in : (n offset : ℕ) (x r : Reference) → is_place n offset ≡ true → x.number ≡ n → Some x ≡ Some r → r.number < 256
-small_in n offset x r place is e =
-    let same : x ≡ r = cc in
-    let at : x.number ≡ r.number = ap (λ (y : Reference). y.number) same in
-    let le : nat_le n 255 ≡ true = (and_parts _ _ place).0 in
-    grind (arith, nat_tests)
+small_in n offset x r place is e = grind (arith, and_parts)
 
 pub number_small : (volumes : ℕ) (c : Command) (r : Reference) → is_command volumes c ≡ true
     → reference_of c ≡ Some r → r.number < 256
 unfolding is_command
-number_small volumes (command.Read n o) r h e = small_in n o _ r h refl e
-number_small volumes (command.Write n o w) r h e = small_in n o _ r (and_parts _ _ h).0 refl e
-number_small volumes (command.Add n o w) r h e = small_in n o _ r (and_parts _ _ h).0 refl e
-number_small volumes (command.Await n o w t) r h e = small_in n o _ r (and_parts _ _ h).0 refl e
-number_small volumes c r h e = cc
+number_small volumes c r h1 h2 = grind (arith, small_in, and_parts)
 
 pub number_ended : (volumes : ℕ) (c : Command) (n : ℕ) → c ≡ command.Terminate n → is_command volumes c ≡ true → n < 256
 unfolding is_command
@@ -38,10 +29,8 @@ next_number p k place x plan is = rw is (by_command p k place (command_at p k pl
 
 pub ranges_of : (p now : Plan) (k place : ℕ) → now ≡ p → IsPlan p → (c : Command) → command_at now k place ≡ Some c
     → is_command (length p.volumes) c ≡ true
-ranges_of p now k place same plan c at =
-    command_planned p k place c plan (ap (λ (q : Plan). command_at q k place) (sym same) ∙ at)
+ranges_of p now k place same plan c at = grind (arith, command_planned)
 
 -- what follows from a fact about what is there
 pub if_some_then : {X : Type 0} {P Q : X → Type 0} (o : Option X) → ((x : X) → P x → Q x) → IfSome o P → IfSome o Q
-if_some_then None f h = h
-if_some_then (Some x) f h = f x h
+if_some_then o h1 h2 = grind arith

@@ -1,32 +1,20 @@
 -- What a tree command changes of a store, exactly.
-use Rattle.machine_tables.proofs.Prelude.{◌≡◌, ℕ, Bool, true, false, cond, List, [], ◌∷◌, length, map, set, Option, None, refl, sym, ap, ◌∙◌, ℤ, Result, Ok, Err, is_positive, unsigned_abs, Mode, Named, Plan, Command, Reply, AccountMaps, Changes, HasColumns, number_for, with_number, getter_of, giver_of, Node, above, branch_at, directory_at, node_at, only_directory, only_segment, segment_at, takes_effect, after_initiate, after_terminate, initiate_reply, initiated, row_with, Store, kst_at, Commits, HasLengthSet, HasMoved, HasRowSet, Shows, Stored, answered, with_known, segment_refuses, with_row_of, with_effect, IsFaithful, uid_at_path, uid_of_command, uid_of_node, HasEffect, IsCommitted, TakesEffect, shown, keeps_length, keeps_moved, keeps_one, keeps_rows, segment_map}
-use Rattle.script.specs.declared.commands.Command.TheVariants as command
-use Rattle.book.specs.declared.replies.Reply.TheVariants as reply
+use Rattle.machine_tables.proofs.Prelude.{◌≡◌, ℕ, true, List, length, map, Option, refl, sym, ap, ◌∙◌, ℤ, Result, Ok, Err, is_positive, unsigned_abs, Mode, Named, Plan, Command, Reply, AccountMaps, Changes, HasColumns, getter_of, giver_of, Node, above, branch_at, directory_at, node_at, segment_at, takes_effect, after_initiate, after_terminate, initiate_reply, row_with, Store, Commits, HasLengthSet, HasMoved, HasRowSet, Shows, Stored, answered, with_known, segment_refuses, with_row_of, with_effect, IsFaithful, uid_at_path, uid_of_command, uid_of_node, HasEffect, IsCommitted, TakesEffect, shown, keeps_length, keeps_moved, keeps_one, keeps_rows, segment_map, Command as command, KeepLaws_Keeps as Keeps, arith}
 use Rattle.machine_tables.proofs.ColumnLaws.{columns_same, maps_same, rising_same}
 use Rattle.machine_tables.proofs.RefusalLaws.{shows_of}
-use Rattle.flat_model.proofs.KeepLaws.{Keeps}
 
 -- ---- what a path leads to
 
 pub segment_node : (ns : List Node) (path : List (List ℕ)) (n : Node) → segment_at ns path ≡ Ok n
     → node_at ns path ≡ Ok n
-segment_node ns path n h = by (node_at ns path) refl h
-  where
-    kind : (b : Bool) (m : Node) → cond b (Err reply.IsDir) (Ok m) ≡ Ok n → m ≡ n
-    kind true m e = cc
-    kind false m e = cc
-
-    by : (x : Result Node Reply) → node_at ns path ≡ x → only_segment x ≡ Ok n → node_at ns path ≡ Ok n
-    by (Ok m) e i = cc (kind m.directory m i)
-    by (Err r) e i = cc
+segment_node ns path n h = grind arith
 
 pub segment_uid : (ns : List Node) (path : List (List ℕ)) (n : Node) → segment_at ns path ≡ Ok n
     → uid_of_node (node_at ns path) ≡ n.uid
 segment_uid ns path n h = ap uid_of_node (segment_node ns path n h)
 
 pub branch_node : (ns : List Node) (path : List (List ℕ)) (n : Node) → branch_at ns path ≡ Ok n → node_at ns path ≡ Ok n
-branch_node ns [] n h = cc
-branch_node ns (name ∷ names) n h = h
+branch_node ns path n h1 = grind arith
 
 pub branch_uid : (ns : List Node) (path : List (List ℕ)) (n : Node) → branch_at ns path ≡ Ok n
     → uid_of_node (node_at ns path) ≡ n.uid
@@ -34,16 +22,7 @@ branch_uid ns path n h = ap uid_of_node (branch_node ns path n h)
 
 directory_uid : (ns : List Node) (path : List (List ℕ)) (n : Node) → directory_at ns path ≡ Ok n
     → uid_of_node (node_at ns path) ≡ n.uid
-directory_uid ns path n h = branch_uid ns path n (by (branch_at ns path) refl h)
-  where
-    kind : (b : Bool) (m : Node) → cond b (Ok m) (Err reply.IsSeg) ≡ Ok n → m ≡ n
-    kind true m e = cc
-    kind false m e = cc
-
-    by : (x : Result Node Reply) → branch_at ns path ≡ x → only_directory reply.IsSeg x ≡ Ok n
-        → branch_at ns path ≡ Ok n
-    by (Ok m) e i = cc (kind m.directory m i)
-    by (Err r) e i = cc
+directory_uid ns path n h = grind (arith, branch_uid)
 
 -- ---- nodes are changed
 
@@ -53,8 +32,7 @@ changed_nodes old new f keeps before after told =
     maps_same new old (map f old.nodes) old.counts told.nodes told.entries told.next segments counts
   where
     segments : new.segments ≡ old.segments
-    segments = rising_same new.segments old.segments after.rising before.rising
-        (λ u. cc (after.segments u, told.nodes, segment_map f keeps old.nodes u, before.segments u))
+    segments = grind (arith, rising_same, segment_map)
 
     counts : new.counts ≡ old.counts
     counts = columns_same old.segments new.counts old.counts before.rising (after.counted ∙ ap length segments)
@@ -71,20 +49,14 @@ module _ {D : Type 0} (drive : D → List (List ℕ)) (t u : Stored D) (k : ℕ)
   by_nodes : (c : Command) (frames : List ℕ) → Commits drive t u k c r → (HasEffect c r
       → shown drive u ≡ with_effect (shown drive t) k (uid_of_command (shown drive t) k c) frames c)
       → IsCommitted drive t u k frames c r
-  by_nodes c frames does exact = record {
-    does = does;
-    exact = λ p flat faithful takes. exact takes;
-    drives = cc;
-  }
+  by_nodes c frames does exact = grind arith
 
   nodes_shown : (c : Command) (frames : List ℕ) (f : Node → Node) (v : ℕ) → Keeps f
       → Changes t.accounts u.accounts (map f t.accounts.nodes)
       → record (shown drive t) { accounts = record t.accounts { nodes = map f t.accounts.nodes } }
       ≡ with_effect (shown drive t) k v frames c → uid_of_command (shown drive t) k c ≡ v
       → shown drive u ≡ with_effect (shown drive t) k (uid_of_command (shown drive t) k c) frames c
-  nodes_shown c frames f v keeps told same uid =
-      cc (accounts_shown drive t u (record t.accounts { nodes = map f t.accounts.nodes }) rest
-      (changed_nodes t.accounts u.accounts f keeps before after told))
+  nodes_shown c frames f v keeps told same uid = grind (arith, accounts_shown, changed_nodes)
 
   pub row_committed : (path : List (List ℕ)) (row : Named) (m : Mode) → Commits drive t u k (command.Acl path row m) r
       → (takes_effect r ≡ true → HasRowSet t.accounts u.accounts path (row_with row m))

@@ -1,7 +1,5 @@
 -- A tree command takes effect: the steps of the whole come to the model's.
-use Rattle.machine_tables.proofs.Prelude.{◌≡◌, ℕ, Bool, true, false, if◌then◌else◌, [], ◌∷◌, map, Option, Some, None, refl, sym, ap, ◌∙◌, Command, Reply, committed_at, frame_entry, gone_entries, inactive_entries, left_after, with_effect, cpu_at, frames_of_owner, is_active, next_command, or_zero, process_at, reply_of, uid_of_command, Owner, State, Storage, booked, left_at, told_by, with_owner, with_store, effect_for, reply_for, ends_in, goes_inactive, inactive_entry, left_entries, left_entry, next_frame_entry, Parts, with_state}
-use Rattle.script.specs.declared.commands.Command.TheVariants as command
-use Rattle.book.specs.declared.entries.Entry.TheVariants as entry
+use Rattle.machine_tables.proofs.Prelude.{◌≡◌, ℕ, Bool, true, false, if◌then◌else◌, [], ◌∷◌, map, Option, Some, None, refl, ap, ◌∙◌, Command, Reply, committed_at, frame_entry, gone_entries, inactive_entries, left_after, with_effect, cpu_at, frames_of_owner, is_active, next_command, or_zero, process_at, reply_of, uid_of_command, Owner, State, Storage, booked, left_at, told_by, with_owner, with_store, effect_for, reply_for, ends_in, goes_inactive, inactive_entry, left_entries, left_entry, next_frame_entry, Parts, with_state, Command as command, Entry_Entry as entry, arith}
 
 -- ---- entries
 
@@ -11,8 +9,7 @@ inactive_named st k (command.Delete path) = split (is_active st.ast (uid_of_comm
   where
     split : (b : Bool) → inactive_entry (if b then Some (uid_of_command st k (command.Delete path)) else None)
         ≡ (if b then entry.Deactivate (uid_of_command st k (command.Delete path)) ∷ [] else [])
-    split true = refl
-    split false = refl
+    split b = grind arith
 inactive_named st k _ = refl
 
 entries_named : (s : State) (k : ℕ) (x : Command) (kept : Option ℕ)
@@ -23,12 +20,10 @@ entries_named s k x kept left = cc (left, inactive_named s.store k x)
 -- ---- the end of a process
 
 stays_at : (t : State) (c : ℕ) (x : Command) → ends_in (Some x) ≡ false → left_after t c x ≡ t
-stays_at t c command.End e = cc
-stays_at t c _ e = refl
+stays_at t c x h1 = grind arith
 
 leaves_at : (t : State) (c : ℕ) (x : Command) → ends_in (Some x) ≡ true → left_after t c x ≡ left_at t c
-leaves_at t c command.End e = refl
-leaves_at t c _ e = cc
+leaves_at t c x h1 = grind arith
 
 -- ---- all of it
 
@@ -83,25 +78,9 @@ module _ {D : Type 0} (old applied gone said : Parts D) (c k : ℕ) (kept inacti
   pub committed_stays : {v : Parts D} (J : Option Owner) (b : Bool) → v ≡ said → J ≡ None
       → b ≡ ends_in (next_command s k) → b ≡ false
       → with_state v (with_owner v.state J) ≡ with_state old (committed_at s c (next_command s k))
-  committed_stays J b view none is e = final said J view none said_whole (cc (
-    said_state,
-    stays_at (told_by (booked after (gone_entries s uid x)) c k None (reply_of s k x)) c x
-        (ap ends_in (sym next) ∙ (sym is ∙ e)),
-  ))
+  committed_stays J b view none is e = grind (arith, final, said_whole, said_state, stays_at)
 
   pub committed_leaves : {v left : Parts D} (J : Option Owner) (b : Bool)
       → left ≡ with_state said (left_at said.state c) → v ≡ left → J ≡ None → b ≡ ends_in (next_command s k) → b ≡ true
       → with_state v (with_owner v.state J) ≡ with_state old (committed_at s c (next_command s k))
-  committed_leaves {v} {left} J b leaves view none is e = final left J view none left_whole (cc (
-    left_state,
-    leaves_at (told_by (booked after (gone_entries s uid x)) c k None (reply_of s k x)) c x
-        (ap ends_in (sym next) ∙ (sym is ∙ e)),
-  ))
-    where
-      left_state : with_owner left.state None
-          ≡ with_owner (left_at (told_by (booked after (gone_entries s uid x)) c k None (reply_of s k x)) c) None
-      left_state = ap (λ (t : Parts D). with_owner t.state None) leaves
-          ∙ ap (λ (t : State). with_owner (left_at t c) None) said_state
-
-      left_whole : left ≡ with_state old left.state
-      left_whole = rw (leaves, said_whole)
+  committed_leaves {v} {left} J b leaves view none is e = grind (arith, final, leaves_at, said_state, said_whole)

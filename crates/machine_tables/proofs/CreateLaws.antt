@@ -1,6 +1,5 @@
 -- A page that is made: what the store asks, and what the tables have then.
-use Rattle.machine_tables.proofs.Prelude.{◌≡◌, ℕ, ◌+◌, Bool, cond, map, List, Option, Some, None, refl, sym, ap, subst, ◌∙◌, arith, Result, Ok, Plan, Reference, Reply, HasColumns, count_of, uid_of, Node, node_in, volume_in, is_volume_full, room_reply, room_for, Store, HasParts, plain, kst_at, IsKnownAs, IsPageMade, done_or, move_target, room_of, IsStore, Shows, Stored, pages_of, full_told, room_shown, IsFaithful, charged, with_created, flat_of, move_to, State, Storage, HasPlace, IsMakeable, shown, found_uid}
-use Rattle.book.specs.declared.replies.Reply.TheVariants as reply
+use Rattle.machine_tables.proofs.Prelude.{◌≡◌, ℕ, ◌+◌, cond, map, List, Option, Some, None, refl, sym, ap, ◌∙◌, arith, Result, Ok, Plan, Reference, Reply, HasColumns, count_of, uid_of, Node, node_in, volume_in, is_volume_full, room_reply, room_for, Store, HasParts, plain, kst_at, IsKnownAs, IsPageMade, done_or, move_target, IsStore, Shows, Stored, pages_of, full_told, room_shown, IsFaithful, charged, with_created, flat_of, State, Storage, HasPlace, IsMakeable, shown, found_uid, Reply as reply}
 use Rattle.machine_tables.proofs.ColumnLaws.{recounted}
 use Rattle.machine_tables.proofs.RefusalLaws.{moves_is, shows_of}
 
@@ -9,10 +8,7 @@ target_told : {D : Type 0} (drive : D → List (List ℕ)) (p : Plan) (flat : St
     → Shows drive p flat t → IsStore (plain drive t.segs.pages) t.segs.ast t.segs.links t.accounts t.whos
     → HasParts (map drive t.segs.pages.volumes.drives) t.segs.pages.volumes.records t.segs.pages.volumes.vtocs
     → move_target t u ≡ cond (is_volume_full p flat (volume_in flat.nodes u)) (room_for p flat u) None
-target_told drive p flat t u shows kept parts = cc (
-  full_told drive p flat t (volume_in t.accounts.nodes u) kept shows,
-  room_shown drive p flat t shows kept u parts,
-)
+target_told drive p flat t u shows kept parts = grind (arith, full_told, room_shown)
 
 -- the segment of a page that may be made stays where it is
 pub stays : {D : Type 0} (drive : D → List (List ℕ)) (s : State) (t : Stored D) (k f : ℕ) (r : Reference) (u : ℕ)

@@ -1,6 +1,5 @@
 -- Descriptors of a segment that are cut one after the other.
-use Rattle.machine_tables.proofs.Prelude.{◌≡◌, ◌+◌, ◌<◌, ◌≤◌, ℕ, Bool, true, false, cond, count_by, List, [], ◌∷◌, length, get_or, Option, Some, refl, sym, ap, ◌∙◌, arith, length-append, slice_get, lt-ltb, get_or-set_same, nil_from_length, sum_by-cons, What, Entry, IsActive, Sdw, Fault, leads_to, trailers_of, without_trailer, Links, leads, leads_at, place_of, sdws_at, unlinked, AreLinked, Aim, CutDescriptor, cut_all, cut_one, note_of, cut_of_owner, descriptor_of, is_active, trailers_in, State, Storage, none_some, active_at, HasOwner, IsOldest, eqb_self, shown_within, times_one}
-use Rattle.laws.proofs.Lists.{within_from}
+use Rattle.machine_tables.proofs.Prelude.{◌≡◌, ◌+◌, ◌<◌, ◌≤◌, ℕ, Bool, true, cond, count_by, List, [], ◌∷◌, length, get_or, Option, Some, refl, sym, ap, ◌∙◌, arith, length-append, slice_get, lt-ltb, get_or-set_same, nil_from_length, sum_by-cons, What, Entry, IsActive, Sdw, Fault, leads_to, trailers_of, without_trailer, Links, leads, leads_at, place_of, sdws_at, unlinked, AreLinked, Aim, CutDescriptor, cut_all, cut_one, note_of, cut_of_owner, descriptor_of, trailers_in, State, Storage, none_some, active_at, HasOwner, IsOldest, eqb_self, shown_within, times_one, within_from}
 
 -- ---- the oldest trailer
 
@@ -28,8 +27,7 @@ trailers_are st u active = cc (active_at st.ast active.0 u active.1)
 
 pub no_trailers : (st : Storage) (u : ℕ) → IsActive st.ast.entries u
     → length (trailers_of st.links.trailers (place_of st.ast.entries u)) ≡ 0 → trailers_in st u ≡ []
-no_trailers st u active none = trailers_are st u active
-    ∙ nil_from_length (trailers_of st.links.trailers (place_of st.ast.entries u)) none
+no_trailers st u active none = grind (arith, trailers_are, nil_from_length)
 
 rest_of : (xs : List (ℕ × ℕ)) (pair : ℕ × ℕ) → slice_get xs 0 ≡ Some pair → (rest : List (ℕ × ℕ)) × (xs ≡ pair ∷ rest)
 rest_of [] pair h = cc
@@ -77,17 +75,7 @@ pub trailers_left : (st : Storage) (u : ℕ) (pair : ℕ × ℕ) (rest : List (�
     → leads_at st.links.descriptors pair.0 pair.1 ≡ Some (place_of st.ast.entries u) → trailers_in (record st {
       links = unlinked st.links pair.0 pair.1 (leads_at st.links.descriptors pair.0 pair.1);
     }) u ≡ rest
-trailers_left st u pair rest is leads = by (is_active st.ast u) refl is
-  where
-    place : ℕ
-    place = place_of st.ast.entries u
-
-    by : (b : Bool) → is_active st.ast u ≡ b → cond b (trailers_of st.links.trailers place) [] ≡ pair ∷ rest
-        → cond b (trailers_of (unlinked st.links pair.0 pair.1 (leads_at st.links.descriptors pair.0 pair.1)).trailers
-        place) [] ≡ rest
-    by false e is = absurd cc
-    by true e is = rw (leads, get_or-set_same, trailers_within st.links.trailers place pair rest is, is)
-        (without_first pair rest)
+trailers_left st u pair rest is leads = grind (arith, get_or-set_same, trailers_within, without_first)
 
 -- so far as the descriptors of a segment are cut, the rest leads to the same
 pub record CutsOn (now first : State) (c : ℕ) (a : Aim) (w : What) (u : ℕ) : Type 0 where
@@ -127,10 +115,7 @@ cuts_next {s} {c = c} {a} {w} {u} {pair} on is cut = rw cut (record {
 -- each cut leaves one less
 pub cut_smaller : (s t : State) (c : ℕ) (a : Aim) (w : What) (u : ℕ) (pair : ℕ × ℕ) → IsOldest s.store u pair
     → t ≡ cut_one s c a w pair → length (trailers_in t.store u) < length (trailers_in s.store u)
-cut_smaller s t c a w u pair is cut =
-    let left = ap (λ (x : State). length (trailers_in x.store u)) cut
-    ∙ ap length (trailers_left s.store u pair is.rest is.is is.leads) in
-    omega (arith, ap length is.is)
+cut_smaller s t c a w u pair is cut = grind (arith, trailers_left)
 
 pub cuts_end : {s first : State} {c : ℕ} {a : Aim} {w : What} {u : ℕ} → CutsOn s first c a w u
     → trailers_in s.store u ≡ [] → s ≡ cut_all first c a w (trailers_in first.store u)

@@ -1,11 +1,7 @@
 -- The pages of a node that is deleted: to drop them one after the other and to give all its records back at once come
 -- to the same, where the frames that they were in are free.
-use Rattle.machine_tables.proofs.Prelude.{◌≡◌, ◌≢◌, ◌<◌, ◌≤◌, ◌+◌, ◌-◌, ℕ, suc, zero, Bool, true, false, cond, length, List, [], ◌∷◌, ◌++◌, get_or, set, ext_get_or, replicate, Option, Some, None, inl, inr, refl, sym, ◌∙◌, arith, range_with_len, cases_eq, cases_lt, ne_eqb, get_or-set_other, get_or-set_same, length-set, set-set, Ptw, Here, Leaving, Null, Out, Free, Core, with_record, ActiveSegs, deactivated, table_at, Home, erased, framed, freed, unstored, Plain, entry_of, file_map_of, filed, flags_of, vtoc_of, place_of, table_of, word_of, worded, Paged, page_cut, pages_cut, pages_in, frames_freed, Storage, word_within, OwnsAll, freed_length, given_twice, has_append}
-use Rattle.std.proofs.lemmas.Bool.{or_cases, or_left, or_right}
-use Rattle.laws.proofs.Numbers.{eqb_self}
+use Rattle.machine_tables.proofs.Prelude.{◌≡◌, ◌≢◌, ◌<◌, ◌≤◌, ◌+◌, ◌-◌, ℕ, suc, zero, Bool, true, false, cond, length, List, [], ◌∷◌, ◌++◌, get_or, set, ext_get_or, replicate, Option, Some, None, inl, inr, refl, sym, ◌∙◌, arith, range_with_len, cases_eq, cases_lt, ne_eqb, get_or-set_other, get_or-set_same, length-set, set-set, Ptw, Here, Leaving, Null, Out, Free, Core, with_record, ActiveSegs, deactivated, table_at, Home, erased, framed, freed, unstored, Plain, entry_of, file_map_of, filed, flags_of, vtoc_of, place_of, table_of, word_of, worded, Paged, page_cut, pages_cut, pages_in, frames_freed, Storage, word_within, OwnsAll, freed_length, given_twice, has_append, or_cases, or_left, or_right, eqb_self, Custody_has as has, VtocEntry as Entry}
 use lib.Seq.{set_out}
-use Rattle.custody_model.specs.Custody.{has}
-use Rattle.vtoc.specs.Vtoc.{Entry}
 use Rattle.machine_tables.proofs.TakeLaws.{word_other, word_put}
 
 -- ---- flags
@@ -47,25 +43,11 @@ module _ (s : Plain) (home : Home) (p r : ℕ) (used : IsUsed s home) (at : file
 
   -- to give all records back afterwards gives the same
   pub erased_less : erased less home ≡ erased s home
-  erased_less = (λ i. record s { records = records i; vtocs = vtocs i })
-    where
-      records : set less.records home.volume (freed (flags_of less home.volume) (file_map_of less home))
-          ≡ set s.records home.volume (freed (flags_of s home.volume) (file_map_of s home))
-      records = rw (set-set, flags_less, map_less, freed_less (flags_of s home.volume) (file_map_of s home) p r at)
-
-      vtocs : set less.vtocs home.volume (set (vtoc_of less home.volume) home.entry None)
-          ≡ set s.vtocs home.volume (set (vtoc_of s home.volume) home.entry None)
-      vtocs = rw (set-set, vtoc_less, set-set)
+  erased_less = grind (arith, set-set, flags_less, map_less, freed_less, vtoc_less)
 
   -- the home is used still, and names the same for other pages
   pub used_less : IsUsed less home
-  used_less = record {
-    volume = rw length-set used.volume;
-    records = rw length-set used.records;
-    entry = rw (vtoc_less, length-set) used.entry;
-    used = record used.used { records = set used.used.records p None };
-    is = rw (entry_less, used.is);
-  }
+  used_less = grind (arith, length-set, vtoc_less, entry_less)
 
   pub filed_less : (q : ℕ) → q ≢ p → filed less home q ≡ filed s home q
   filed_less q ne = rw (map_less, get_or-set_other)
@@ -93,17 +75,12 @@ freed_rest s [] = refl
 freed_rest s (f ∷ fs) = freed_rest (framed s f Free) fs
 
 used_core : (s : Plain) (home : Home) (core : Core) → IsUsed s home → IsUsed (record s { core = core }) home
-used_core s home core u =
-    record { volume = u.volume; records = u.records; entry = u.entry; used = u.used; is = u.is }
+used_core s home core u = grind arith
 
 -- a page that is dropped first, where the frames are freed and all records given back afterwards
 erased_freed : (s : Plain) (home : Home) (p r : ℕ) (fs : List ℕ) → IsUsed s home → filed s home p ≡ Some r
     → erased (frames_freed (unstored s home p) fs) home ≡ erased (frames_freed s fs) home
-erased_freed s home p r fs u at = cc (
-  freed_unstored s home p fs,
-  freed_rest s fs,
-  erased_less (record s { core = (frames_freed s fs).core }) home p r (used_core s home (frames_freed s fs).core u) at,
-)
+erased_freed s home p r fs u at = grind (arith, freed_unstored, freed_rest, erased_less, used_core)
 
 -- ---- the words of a page table
 
@@ -233,8 +210,7 @@ freed_at s (f ∷ fs) g lt = freed_at (framed s f Free) fs g (rw length-set lt) 
 ]
   where
     by : (b : Bool) → cond b Free Free ≡ Free
-    by true = refl
-    by false = refl
+    by b = grind arith
 
 pub freed_alike : (s : Plain) (fs gs : List ℕ) → ((g : ℕ) → has fs g ≡ has gs g) → frames_freed s fs ≡ frames_freed s gs
 freed_alike s fs gs same = freed_rest s fs
@@ -252,13 +228,10 @@ freed_alike s fs gs same = freed_rest s fs
 -- ---- the frames that a job has taken
 
 both_ways : (a b : Bool) → (a ≡ true → b ≡ true) → (b ≡ true → a ≡ true) → a ≡ b
-both_ways true b to back = sym (to refl)
-both_ways false true to back = back refl
-both_ways false false to back = refl
+both_ways a b h1 h2 = grind arith
 
 leaving_has : (w : Ptw) (g : ℕ) → has (leaving w) g ≡ true → w ≡ Leaving g
-leaving_has (Leaving f) g h = elim (cases_eq f g) [ inl same ↦ cc | inr other ↦ cc (ne_eqb f g other) ]
-leaving_has _ g h = cc
+leaving_has w g h1 = grind (arith, ne_eqb)
 
 leaving_there : (ast : ActiveSegs) (uid g from n : ℕ) → has (leaving_in ast uid (range_with_len from n)) g ≡ true
     → (p : ℕ) × (word_of ast uid p ≡ Leaving g)
@@ -281,7 +254,4 @@ there_leaving ast uid g from (suc n) p low high h =
 
 pub owned_alike : (st : Storage) (uid : ℕ) (frames : List ℕ) → OwnsAll st uid frames → (g : ℕ)
     → has frames g ≡ has (leaving_in st.ast uid (range_with_len 0 (pages_in st.accounts.nodes uid))) g
-owned_alike st uid frames owns g = both_ways (has frames g) _ (λ h. (let page = owns.pages g h in let lt = page.1 in
-    there_leaving st.ast uid g 0 (pages_in st.accounts.nodes uid) page.0 (omega arith) (omega arith) page.2))
-    (λ h. (let page = leaving_there st.ast uid g 0 (pages_in st.accounts.nodes uid) h in
-    owns.each page.0 g page.1))
+owned_alike st uid frames owns g = grind (arith, both_ways, there_leaving, leaving_there)

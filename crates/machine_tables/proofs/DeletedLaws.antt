@@ -1,13 +1,5 @@
 -- A node that is deleted, exactly.
-use Rattle.machine_tables.proofs.Prelude.{◌≡◌, ◌≢◌, ◌<◌, ℕ, ◌-◌, Bool, true, false, not, ◌&&◌, cond, eqb, is_some, length, map, count_by, List, [], ◌∷◌, get_or, Option, Some, None, refl, sym, ap, ◌∙◌, arith, inl, inr, Result, Ok, Err, filter, range_with_len, cases_eq, ne_eqb, eq-eqb, length-map, sum_by-cons, Plan, Reply, HasColumns, count_of, LeadsTo, Node, Walk, node_in, walk_in, without_node, branch_at, node_at, there_or, walked, takes_effect, after_delete, delete_reply, deleted, without_stored, Store, Ptw, Null, HasParts, Home, erased, Plain, filed, plain, vtoc_of, has_record, IsTied, is_for, place_of, table_of, word_of, IsKept, Commits, KeepsRest, Erases, paged, pages_cut, pages_from, IsStore, Shows, Stored, home_of, is_there, pages_in, branch_refuses, frames_freed, inactive_if, lost, with_deleted, with_effect, with_inactive, IsFaithful, is_active, uid_at_path, Storage, with_pages, active_place, within_some, active_at, word_within, IsCommitted, shown, OwnsAll, OwnsFor, found_uid}
-use Rattle.std.proofs.lemmas.Bool.{cases_Bool, false_from_ne_true}
-use Rattle.laws.proofs.Places.{shown_within}
-use Rattle.script.specs.declared.commands.Command.TheVariants as command
-use Rattle.book.specs.declared.replies.Reply.TheVariants as reply
-use Rattle.tree_model.specs.Trees.{IsTree}
-use Rattle.custody_model.specs.Custody.{has}
-use Rattle.vtoc.specs.Vtoc.{Entry, uid_of}
-use Rattle.page_control.specs.Tied.{uid_at}
+use Rattle.machine_tables.proofs.Prelude.{◌≡◌, ◌≢◌, ◌<◌, ℕ, ◌-◌, Bool, true, false, not, ◌&&◌, cond, eqb, is_some, length, map, count_by, List, [], ◌∷◌, get_or, Option, Some, None, refl, sym, ap, ◌∙◌, arith, inl, inr, Result, Ok, Err, filter, range_with_len, cases_eq, ne_eqb, eq-eqb, length-map, sum_by-cons, Plan, Reply, HasColumns, count_of, Node, branch_at, node_at, takes_effect, after_delete, delete_reply, deleted, without_stored, Store, Ptw, Null, HasParts, Home, erased, Plain, filed, plain, vtoc_of, has_record, IsTied, is_for, place_of, table_of, word_of, IsKept, Commits, KeepsRest, Erases, paged, pages_cut, pages_from, IsStore, Shows, Stored, home_of, is_there, pages_in, branch_refuses, frames_freed, inactive_if, lost, with_deleted, with_effect, IsFaithful, is_active, uid_at_path, Storage, with_pages, active_place, within_some, active_at, word_within, IsCommitted, shown, OwnsAll, OwnsFor, found_uid, Command as command, cases_Bool, false_from_ne_true, shown_within, IsNodeTree as IsTree, Custody_has as has, VtocEntry as Entry, Vtoc_uid_of as uid_of, Tied_uid_at as uid_at}
 use Rattle.machine_tables.proofs.CommitLaws.{branch_node, branch_uid, flat_after}
 use Rattle.machine_tables.proofs.DeleteLaws.{IsNamed, IsUsed, cut_erased, cut_inactive, freed_alike, freed_rest, owned_alike}
 use Rattle.machine_tables.proofs.GoneLaws.{entry_kept, lost_is}
@@ -101,15 +93,7 @@ module _ (st : Storage) (uid : ℕ) (kept : IsKept st.pages st.ast st.links)
 -- what a path leads to is there
 pub node_there : (ns : List Node) (path : List (List ℕ)) (n : Node) → node_at ns path ≡ Ok n → is_there ns n.uid ≡ true
 unfolding node_at
-node_there ns path n h = by (walk_in ns path) h
-  where
-    found : (v : ℕ) (x : Option Node) → node_in ns v ≡ x → there_or x ≡ Ok n → is_there ns n.uid ≡ true
-    found v None e i = cc
-    found v (Some m) e i = cc (found_uid ns v m e)
-
-    by : (w : Walk) → walked ns w ≡ Ok n → is_there ns n.uid ≡ true
-    by (LeadsTo v) i = found v (node_in ns v) refl i
-    by _ i = cc
+node_there ns path n h = grind (arith, found_uid)
 
 module _ {D : Type 0} (drive : D → List (List ℕ)) (t u : Stored D) (path : List (List ℕ)) (r : Reply)
     (before : HasColumns t.accounts) (after : HasColumns u.accounts) (tree : IsTree t.accounts.nodes)
@@ -169,27 +153,16 @@ module _ {D : Type 0} (drive : D → List (List ℕ)) (t u : Stored D) (path : L
     left_counts s other = now.tree.counts s ∙ (count_kept s n.uid other flat.stored ∙ sym (faithful.tree.counts s))
 
     vtocs : u.segs.pages.volumes.vtocs ≡ (erased (plain drive t.segs.pages) (home_of t.accounts n.uid)).vtocs
-    vtocs = ap (λ (x : Plain). x.vtocs) pages ∙ ap (λ (x : Plain). (erased x (home_of t.accounts n.uid)).vtocs)
-        (freed_rest (plain drive t.segs.pages) frames)
+    vtocs = grind (arith, freed_rest)
 
     accounts_lost : u.accounts ≡ lost t.accounts n.uid
-    accounts_lost = lost_is t.accounts u.accounts n.uid before after tree now_tree (cc) (cc) left_counts
-        (entry_kept t.accounts u.accounts t.segs.pages.volumes.vtocs u.segs.pages.volumes.vtocs n.uid counted.housed
-        now_counted.housed vtocs)
+    accounts_lost = grind (arith, lost_is, left_counts, entry_kept, vtocs)
 
     links_left : u.segs.links ≡ t.segs.links
-    links_left = (λ i. record {
-      trailers = rest.trailers i;
-      known = (sym now.known ∙ faithful.known) i;
-      descriptors = rest.descriptors i;
-    })
+    links_left = grind arith
 
   inactive_rest : (x : Storage) (uid : ℕ) → inactive_if x uid ≡ record x { ast = (inactive_if x uid).ast }
-  inactive_rest x uid = by (is_active x.ast uid)
-    where
-      by : (b : Bool) → cond b (with_inactive x uid) x ≡ record x { ast = (cond b (with_inactive x uid) x).ast }
-      by true = refl
-      by false = refl
+  inactive_rest x uid = grind arith
 
   -- the store once it takes effect
   deleted_exact : (n : Node) (frames : List ℕ) (p : Plan) (flat : Store) → branch_at t.accounts.nodes path ≡ Ok n

@@ -1,7 +1,6 @@
 -- What is found first in a list, by its place.
-use Rattle.machine_tables.proofs.Prelude.{◌≡◌, ℕ, ◌<◌, Bool, true, false, List, length, get_or, position, Some, None, ap, ◌∙◌, arith, find, position_or_len, slice_get, le-ltb, lt-ltb}
+use Rattle.machine_tables.proofs.Prelude.{◌≡◌, ℕ, ◌<◌, Bool, true, false, List, length, get_or, position, Some, None, arith, find, position_or_len, le-ltb, lt-ltb, position_or_len_is}
 use Rattle.std.proofs.lemmas.List.Folds.{find_at}
-use Rattle.std.proofs.lemmas.List.Sums.{position_or_len_is}
 use Rattle.std.proofs.lemmas.Option.{slice_get-get_or, slice_get_past}
 
 module _ {X : Type 0} (p : X → Bool) (d : X) (xs : List X) where
@@ -13,18 +12,13 @@ module _ {X : Type 0} (p : X → Bool) (d : X) (xs : List X) where
   place_none off = position_or_len_is p xs (length xs) d (omega arith) off (λ lt. absurd (omega arith))
 
   pub find_first : (i : ℕ) → i < length xs → p (get_or xs i d) ≡ true → FailsTo i → find p xs ≡ Some (get_or xs i d)
-  find_first i lt here before = cc (
-    find_at p xs,
-    position_or_len_is p xs i d (omega (arith, lt)) before (λ l. here),
-    slice_get-get_or xs i d lt,
-  )
+  find_first i lt here before = grind (arith, find_at, position_or_len_is, slice_get-get_or)
 
   pub find_none : FailsTo (length xs) → find p xs ≡ None
   find_none off = cc (find_at p xs, place_none off, slice_get_past xs (length xs) (omega arith))
 
   pub position_first : (i : ℕ) → i < length xs → p (get_or xs i d) ≡ true → FailsTo i → position p xs ≡ Some i
-  position_first i lt here before =
-      rw (position_or_len_is p xs i d (omega arith) before (λ l. here), lt-ltb i (length xs) lt)
+  position_first i lt here before = grind (arith, position_or_len_is, lt-ltb)
 
   pub position_not : FailsTo (length xs) → position p xs ≡ None
   position_not off = rw (place_none off, le-ltb (length xs) (length xs) (omega arith))

@@ -1,8 +1,5 @@
 -- The tables at first: a store of the root alone on volumes of which nothing is in use.
-use Rattle.machine_tables.proofs.Prelude.{◌≡◌, ℕ, suc, false, List, [], ◌∷◌, map, length, get_or, set, sum, replicate, Option, Some, None, refl, sym, ap, subst, ◌∙◌, arith, slice_get, length-map, length-replicate, IsPlan, Plan, VolumeLine, root_alone, Store, boot, entries_in, records_in, store_after-nil, VtocEntry, fresh_entry, HasParts, Vols, Entry, no_segments, after_asked, Plain, plain, vtoc_in, no_links, IsKept, AreFresh, IsStore, Shows, Stored, empty_frames, booted, first_pages, first_state, first_store, first_vtocs, unused_entries, unused_records, AllCome, AreAccounts, IsConserved, IsFaithful, StoreSays, KeepsAll, State, Storage, none_fits, conserved_by, boot_keeps_all, none_some, kept_with, none_work, first_words, shown}
-use Rattle.std.proofs.Common.{ext_get_or}
-use Rattle.laws.proofs.Lists.{all_same}
-use Rattle.core_map.specs.declared.Frame.TheVariants as frame
+use Rattle.machine_tables.proofs.Prelude.{◌≡◌, ℕ, suc, false, List, [], ◌∷◌, map, length, get_or, set, sum, replicate, Option, Some, None, refl, sym, ap, subst, ◌∙◌, arith, slice_get, length-map, length-replicate, IsPlan, Plan, VolumeLine, root_alone, boot, entries_in, records_in, store_after-nil, VtocEntry, fresh_entry, HasParts, Vols, no_segments, after_asked, Plain, plain, vtoc_in, no_links, IsKept, AreFresh, IsStore, Shows, Stored, empty_frames, booted, first_pages, first_state, first_store, first_vtocs, unused_entries, unused_records, AllCome, AreAccounts, IsFaithful, StoreSays, KeepsAll, State, Storage, none_fits, conserved_by, boot_keeps_all, kept_with, none_work, first_words, shown, Frame as frame, ext_get_or, all_same}
 
 -- ---- lists of nothing
 
@@ -28,8 +25,7 @@ with_root vtocs = set vtocs 0 (set (vtoc_in vtocs 0) 0 (fresh_entry 1))
 
 root_in : (vs : List VolumeLine) → with_root (map unused_entries vs) ≡ first_vtocs vs
 unfolding with_root
-root_in [] = refl
-root_in (v ∷ vs) = refl
+root_in vs = grind arith
 
 -- ---- the store
 
@@ -52,27 +48,14 @@ module _ {D : Type 0} (pages : D → List (List ℕ)) (p : Plan) (v : Vols D)
   pages_first : after_asked (plain pages (empty_frames p.frames v)) 0 1 (Some 0)
       ≡ first_pages p (first_words p.frames) (map pages v.drives)
   unfolding with_root
-  pages_first = λ i. record {
-    core = record { frames = replicate p.frames frame.Free; hand = 0 };
-    frames = first_words p.frames;
-    disks = map pages v.drives;
-    records = records_first i;
-    vtocs = vtocs_first i;
-  }
+  pages_first = grind (arith, records_first, vtocs_first)
 
   pub store_first : (t : Stored D) → t.accounts ≡ root_alone 0 0 p.quota
       → plain pages t.segs.pages ≡ after_asked (plain pages (empty_frames p.frames v)) 0 1 (Some 0)
       → t.segs.ast ≡ no_segments p.pools → t.segs.links ≡ no_links (sum p.pools) (length p.processes)
       → t.whos ≡ map (λ x. x.who) p.processes → t.segs.moving ≡ None
       → shown pages t ≡ first_store p (first_words p.frames) (map pages v.drives)
-  store_first t accounts paged ast links whos still = λ i. assumption (
-    accounts i,
-    (paged ∙ pages_first) i,
-    ast i,
-    links i,
-    whos i,
-    still i,
-  )
+  store_first t accounts paged ast links whos still = grind (arith, pages_first)
 
 -- ---- what it says
 
@@ -110,10 +93,7 @@ module _ {D : Type 0} (pages : D → List (List ℕ)) (p : Plan) (v : Vols D) (t
       (ap (λ (x : Plain). length x.core.frames) paged ∙ length-replicate p.frames frame.Free))
     where
       places : length (no_segments p.pools).entries ≡ sum p.pools
-      places = length-replicate (sum p.pools) none
-        where
-          none : Option Entry
-          none = None
+      places = grind (arith, length-replicate)
 
 -- ---- the promise
 

@@ -1,7 +1,6 @@
 -- The frames of core: whether one is bound, and what the clock chooses then.
-use Rattle.machine_tables.proofs.Prelude.{◌≡◌, ◌<◌, ◌≤◌, ℕ, true, false, List, [], ◌∷◌, length, position, Option, Some, None, refl, sym, ap, ◌∙◌, arith, All, list_any, position_or_len, All-get_or, Frame, Free, Started, Core, bound_page, frame_at, is_bound, is_free, is_started, clock_choice, evict_or_wait, unless_read, or_zero, any_at, some_within, chosen, choice_bound, map_list, found, bound_is}
+use Rattle.machine_tables.proofs.Prelude.{◌≡◌, ◌≤◌, ℕ, true, false, List, [], ◌∷◌, length, position, Option, Some, None, refl, sym, ◌∙◌, arith, All, list_any, position_or_len, All-get_or, Frame, Free, Core, bound_page, frame_at, is_bound, is_free, is_started, clock_choice, evict_or_wait, or_zero, any_at, some_within, chosen, choice_bound, map_list, found, bound_is, first_false}
 use Rattle.machine_model.specs.Actions as act
-use Rattle.laws.proofs.Bools.{first_false}
 use Rattle.machine_tables.proofs.FindLaws.{position_first}
 
 -- ---- the clock
@@ -29,8 +28,7 @@ none_chosen core none = by (clock_choice core) refl
         absurd (let no : true ≡ false = sym (any_at is_bound core.frames f Free bound refl) ∙ none in cc)
 
 started_by : (x : Frame) → is_free x ≡ false → is_bound x ≡ false → is_started x ≡ true
-started_by (Started u p) free bound = refl
-started_by _ free bound = cc
+started_by x h1 h2 = grind arith
 
 first_started : (frames : List Frame) → 1 ≤ length frames → All (λ x. is_free x ≡ false) frames
     → list_any is_bound frames ≡ false → position is_started frames ≡ Some 0

@@ -1,5 +1,5 @@
 -- The accounts' lists once a node is added, or is taken out.
-use Rattle.machine_tables.proofs.Prelude.{◌≡◌, ℕ, Bool, true, false, not, ◌||◌, cond, eqb, List, [], ◌∷◌, length, inl, inr, refl, sym, ap, subst, ◌∙◌, arith, insert, cases_eq, eq-eqb, ne_eqb, length-insert, AccountMaps, HasColumns, count_of, Node, AreBelow, has_segment, has, look, with_beside, IsRising, IsGap, has_insert, look_insert, rising_insert, gap_of, insert_beside}
+use Rattle.machine_tables.proofs.Prelude.{◌≡◌, ℕ, true, false, not, ◌||◌, cond, eqb, List, [], ◌∷◌, length, refl, ap, subst, ◌∙◌, arith, insert, eq-eqb, ne_eqb, length-insert, AccountMaps, HasColumns, count_of, Node, AreBelow, has_segment, has, look, with_beside, IsRising, IsGap, has_insert, look_insert, rising_insert, gap_of, insert_beside}
 use Rattle.machine_tables.proofs.ColumnLaws.{columns_same, rising_same}
 
 -- ---- a uid more
@@ -24,11 +24,7 @@ module _ (ks vs : List ℕ) (u : ℕ) (up : IsRising ks) (off : has ks u ≡ fal
   look_beside v = cc (keys_are, values_are, look_insert ks vs gap.0 u v long off)
 
   pub length_beside : length (with_beside ks vs u 0) ≡ length (with_beside ks ks u u)
-  length_beside =
-      let inside = gap.1.within in
-      let keys = ap length (sym keys_are) ∙ length-insert ks gap.0 u inside in
-      let values = ap length (sym values_are) ∙ length-insert vs gap.0 0 (omega arith) in
-      omega arith
+  length_beside = grind (arith, keys_are, length-insert, values_are)
 
 below_absent : (u : ℕ) (ns : List Node) → AreBelow u ns → has_segment ns u ≡ false
 below_absent u [] below = refl
@@ -56,10 +52,7 @@ module _ (old new : AccountMaps) (n : Node) (before : HasColumns old) (after : H
   )
     where
       same : (u : ℕ) → has new.segments u ≡ has old.segments u
-      same u = there_now u ∙ rw dir (elim (cases_eq n.uid u) [
-        | inl is ↦ rw (eq-eqb n.uid u is) (cc (is, fresh))
-        | inr isnt ↦ rw (ne_eqb n.uid u isnt)
-      ])
+      same u = grind (arith, there_now, eq-eqb, fresh, ne_eqb)
 
       segments : new.segments ≡ old.segments
       segments = rising_same new.segments old.segments after.rising before.rising same
@@ -82,12 +75,7 @@ module _ (old new : AccountMaps) (n : Node) (before : HasColumns old) (after : H
       rising = rising_beside old.segments old.counts n.uid before.rising fresh before.counted
 
       same : (u : ℕ) → has new.segments u ≡ has (with_beside old.segments old.segments n.uid n.uid) u
-      same u = there_now u ∙ (ap (λ (b : Bool). cond (eqb n.uid u) (not b) (has old.segments u)) seg ∙ (by (eqb n.uid u)
-          ∙ sym (has_beside old.segments old.counts n.uid before.rising fresh before.counted u)))
-        where
-          by : (b : Bool) → cond b true (has old.segments u) ≡ (b || has old.segments u)
-          by true = refl
-          by false = refl
+      same u = grind (arith, there_now, has_beside, fresh)
 
       segments : new.segments ≡ with_beside old.segments old.segments n.uid n.uid
       segments = rising_same new.segments (with_beside old.segments old.segments n.uid n.uid) after.rising rising same

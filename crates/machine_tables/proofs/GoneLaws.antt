@@ -1,12 +1,6 @@
 -- The accounts' lists once a node is taken out.
-use Rattle.machine_tables.proofs.Prelude.{◌≡◌, ◌≢◌, ℕ, ◌<◌, Bool, true, false, not, ◌&&◌, eqb, length, map, List, [], ◌∷◌, get_or, set, Option, Some, None, inl, inr, ◌⊎◌, refl, sym, ap, ◌∙◌, arith, remove, cases_Bool, cases_eq, cases_lt, eq-eqb, eqb-true, ne_eqb, get_or-set_other, get_or-set_same, length-remove, AccountMaps, HasColumns, count_of, Node, without_node, AreBelow, has_segment, has, look, without_beside, IsRising, has_remove, look_remove, rising_remove, remove_beside, Home, vtoc_in, AreHoused, home_of, is_there, lost, all_left, joined_below, place_there}
+use Rattle.machine_tables.proofs.Prelude.{◌≡◌, ◌≢◌, ℕ, ◌<◌, Bool, true, false, not, ◌&&◌, eqb, length, map, List, [], ◌∷◌, get_or, set, Option, Some, None, inl, inr, ◌⊎◌, refl, sym, ap, ◌∙◌, arith, remove, cases_Bool, cases_eq, cases_lt, eq-eqb, eqb-true, ne_eqb, get_or-set_other, get_or-set_same, length-remove, AccountMaps, HasColumns, count_of, Node, without_node, AreBelow, has_segment, has, look, without_beside, IsRising, has_remove, look_remove, rising_remove, remove_beside, Home, vtoc_in, AreHoused, home_of, is_there, lost, all_left, joined_below, place_there, and_false, eqb_self, Maps_entry_of as entry_of, IsNodeTree as IsTree, VtocEntry as Entry, Tied_uid_at as uid_at}
 use lib.Seq.{set_out}
-use Rattle.laws.proofs.Bools.{and_false}
-use Rattle.laws.proofs.Numbers.{eqb_self}
-use Rattle.accounts.specs.Maps.{entry_of}
-use Rattle.tree_model.specs.Trees.{IsTree}
-use Rattle.vtoc.specs.Vtoc.{Entry}
-use Rattle.page_control.specs.Tied.{uid_at}
 use Rattle.machine_tables.proofs.ColumnLaws.{columns_same, rising_same}
 
 -- ---- a uid less
@@ -20,8 +14,7 @@ without_absent _ _ u long off = refl
 
 -- a test that nothing passes leaves what it is beside
 kept : (a b : Bool) → b ≡ false → a ≡ (a && not b)
-kept true b off = cc
-kept false b off = refl
+kept a b h1 = grind arith
 
 module _ (ks vs : List ℕ) (u : ℕ) (up : IsRising ks) (long : length vs ≡ length ks) where
   -- it is taken out at its place, or isn't there
@@ -43,36 +36,16 @@ module _ (ks vs : List ℕ) (u : ℕ) (up : IsRising ks) (long : length vs ≡ l
       )
 
   pub rising_without : IsRising (without_beside ks ks u)
-  rising_without = elim (cases_Bool (has ks u)) [
-    | inl is ↦ (let w = there is in rw w.1.keys (rising_remove ks w.0 up w.1.within))
-    | inr isnt ↦ rw (without_absent ks ks u refl isnt) up
-  ]
+  rising_without = grind (arith, there, rising_remove, without_absent)
 
   pub has_without : (v : ℕ) → has (without_beside ks ks u) v ≡ (has ks v && not (eqb u v))
-  has_without v = elim (cases_Bool (has ks u)) [
-    | inl is ↦ (let w = there is in cc (w.1.keys, has_remove ks w.0 v up w.1.within, w.1.at))
-    | inr isnt ↦ rw (without_absent ks ks u refl isnt)
-        (elim (cases_eq u v) [ inl same ↦ cc | inr other ↦ kept (has ks v) (eqb u v) (ne_eqb u v other) ])
-  ]
+  has_without v = grind (arith, there, has_remove, without_absent, kept, ne_eqb)
 
   pub look_without : (v : ℕ) → v ≢ u → look (without_beside ks ks u) (without_beside ks vs u) v ≡ look ks vs v
-  look_without v other = elim (cases_Bool (has ks u)) [
-    | inl is ↦ (let w = there is in
-        rw (w.1.keys, w.1.values, look_remove ks vs w.0 v long up w.1.within (λ e. other (e ∙ w.1.at))))
-    | inr isnt ↦ rw (without_absent ks ks u refl isnt, without_absent ks vs u long isnt)
-  ]
+  look_without v other = grind (arith, there, look_remove, without_absent)
 
   pub length_without : length (without_beside ks vs u) ≡ length (without_beside ks ks u)
-  length_without = elim (cases_Bool (has ks u)) [
-    | inl is ↦ (let w = there is in
-        let within = w.1.within in
-        let keys = ap length w.1.keys in
-        let values = ap length w.1.values in
-        let fewer = length-remove ks w.0 within in
-        let less = length-remove vs w.0 (omega arith) in
-        omega arith)
-    | inr isnt ↦ rw (without_absent ks ks u refl isnt, without_absent ks vs u long isnt) long
-  ]
+  length_without = grind (arith, there, length-remove, without_absent)
 
 -- ---- segments and their counts
 
@@ -182,20 +155,8 @@ pub lost_is : (old new : AccountMaps) (uid : ℕ) → HasColumns old → HasColu
     → IsTree new.nodes → new.nodes ≡ without_node old.nodes uid → new.next ≡ old.next
     → ((s : ℕ) → s ≢ uid → count_of new s ≡ count_of old s)
     → ((v : ℕ) → is_there new.nodes v ≡ true → entry_of new v ≡ entry_of old v) → new ≡ lost old uid
-lost_is old new uid before after tree now nodes next counts entries = (λ i. record {
-  nodes = nodes i;
-  entries = homes i;
-  next = next i;
-  segments = segments_lost old new uid before after nodes counts i;
-  counts = counts_lost old new uid before after nodes counts i;
-})
-  where
-    homes : new.entries ≡ without_beside (uids old.nodes) old.entries uid
-    homes = entries_same new.nodes now new.entries (without_beside (uids old.nodes) old.entries uid) after.homes
-        (cc (length_left old.nodes tree old.entries uid before.homes)) (λ v there. cc (
-          entries v there,
-          uids_left old.nodes tree old.entries uid v (there_left old.nodes uid v (rw nodes at there)),
-        ))
+lost_is old new uid before after tree now nodes next counts entries =
+    grind (arith, segments_lost, counts_lost, entries_same, length_left, there, uids_left, there_left)
 
 -- ---- homes
 
@@ -211,14 +172,7 @@ set_cases xs i j x d = elim (cases_eq j i) [
 still_used : (vtocs : List (List (Option Entry))) (home other : Home) (v : ℕ)
     → uid_at (set vtocs home.volume (set (vtoc_in vtocs home.volume) home.entry None)) other ≡ Some v
     → uid_at vtocs other ≡ Some v
-still_used vtocs home other v h =
-    elim (set_cases vtocs home.volume other.volume (set (vtoc_in vtocs home.volume) home.entry None) []) [
-      | inl same ↦ rw same at h
-      | inr is ↦ elim (set_cases (vtoc_in vtocs home.volume) home.entry other.entry None None) [
-        | inl same ↦ cc (is.0, is.1, same)
-        | inr gone ↦ cc (is.1, gone.1)
-      ]
-    ]
+still_used vtocs home other v h = grind (arith, set_cases)
 
 -- each node that is left has the entry that it had
 pub entry_kept : (old new : AccountMaps) (vtocs now : List (List (Option Entry))) (uid : ℕ) → AreHoused old vtocs

@@ -1,5 +1,5 @@
 -- What the tables show of the flat store, the store inside them shows.
-use Rattle.machine_tables.proofs.Prelude.{◌≡◌, ℕ, List, subst, sym, Store, Shows, Stored, IsFaithful, Parts, shown}
+use Rattle.machine_tables.proofs.Prelude.{◌≡◌, ℕ, List, Store, Shows, Stored, IsFaithful, Parts, shown}
 use Rattle.machine_tables.proofs.RefusalLaws.{shows_of}
 
 pub inside_faithful : {D : Type 0} (drive : D → List (List ℕ)) (t : Parts D) (st : Stored D) (x : Store)

@@ -1,35 +1,28 @@
 -- The lists of a job: what it took first, and what is left.
-use Rattle.machine_tables.proofs.Prelude.{◌≡◌, ◌<◌, ℕ, List, [], ◌∷◌, length, Option, Some, None, sym, ap, arith, slice_get, CutDescriptor, cut_of_owner, frames_of_owner, Owner, State, rest_of, without_first_cut, without_first_frame, none_some, HasOwner, Parts}
+use Rattle.machine_tables.proofs.Prelude.{◌≡◌, ◌<◌, ℕ, List, ◌∷◌, length, Option, Some, sym, arith, slice_get, CutDescriptor, cut_of_owner, frames_of_owner, Owner, State, rest_of, without_first_cut, without_first_frame, none_some, HasOwner, Parts}
 use Rattle.machine_tables.proofs.PartLaws.{Going}
 
 first_of : {A : Type 0} (xs : List A) (x : A) → slice_get xs 0 ≡ Some x → xs ≡ x ∷ rest_of xs
-first_of [] x h = cc
-first_of (y ∷ ys) x h = let same : y ≡ x = cc in cc
+first_of xs x h1 = grind arith
 
 pub frames_next : (o : Option Owner) (f : ℕ) → slice_get (frames_of_owner o) 0 ≡ Some f
     → frames_of_owner o ≡ f ∷ frames_of_owner (without_first_frame o)
-frames_next None f h = cc
-frames_next (Some o) f h = first_of o.frames f h
+frames_next o f h1 = grind arith
 
 pub cuts_after : (o : Option Owner) (d : CutDescriptor) → slice_get (cut_of_owner o) 0 ≡ Some d
     → cut_of_owner o ≡ d ∷ cut_of_owner (without_first_cut o)
-cuts_after None d h = cc
-cuts_after (Some o) d h = first_of o.cut d h
+cuts_after o d h1 = grind arith
 
 pub owner_left : (o : Option Owner) → HasOwner o → HasOwner (without_first_frame o)
-owner_left None has = has
-owner_left (Some o) has = λ none. none_some (sym none)
+owner_left o h1 = grind (arith, none_some)
 
 pub owner_less : (o : Option Owner) → HasOwner o → HasOwner (without_first_cut o)
-owner_less None has = has
-owner_less (Some o) has = λ none. none_some (sym none)
+owner_less o h1 = grind (arith, none_some)
 
 -- each step of a loop leaves one less
 one_less : {A : Type 0} (items : Option Owner → List A) (o now left : Option Owner) (x : A)
     → items o ≡ x ∷ items left → now ≡ left → length (items now) < length (items o)
-one_less items o now left x next is =
-    let more = ap length next in
-    let fewer = ap (λ (y : Option Owner). length (items y)) is in omega arith
+one_less items o now left x next is = grind arith
 
 module _ {D : Type 0} {On : State → State → Type 0} {s first : Parts D} (t : Parts D) (going : Going On s first) where
   pub frame_smaller : {f : ℕ} → Some f ≡ slice_get (frames_of_owner s.state.owner) 0

@@ -1,9 +1,5 @@
 -- The next segment of the chain of a node: which it is, its pool, and what becomes of it.
-use Rattle.machine_tables.proofs.Prelude.{◌≡◌, ℕ, ◌-◌, ◌<◌, true, false, not, List, [], ◌∷◌, length, map, get_or, Option, Some, None, refl, sym, ap, subst, ◌∙◌, arith, ◌⊎◌, inl, inr, IsSome, length-map, AccountMaps, chain_of, Node, node_in, ActiveSegs, IsFull, HasOneOffChain, first_off_chain, hand_moved, hand_past, map_at, Link, Next, Activated, Victim, Whole, place_of, IsInactive, AreActive, IsFirstInactive, link_at, made_active, no_link, superior_of, table_for, uids_of, HasOneToGo, IsChainDown, link_of, IsStore, home_of, is_there, link_pool, link_superior, link_there, found_there, pool_of_node, with_hand_moved, first_inactive, frames_from, free_place, is_active, or_zero, superior_of_node, trailers_in, Storage, with_active, active_place, none_some, active_at, FindsFull, Joins, JoinsAt, NeedsVictim, links_of, wanted_pool, IsEmptied, is_bare}
-use Rattle.std.proofs.lemmas.Bool.{false_from_ne_true}
-use Rattle.std.proofs.lemmas.List.{get_or-map}
-use Rattle.tree_model.specs.Trees.{IsTree}
-use Rattle.seg_control.specs.Next.{words_in}
+use Rattle.machine_tables.proofs.Prelude.{◌≡◌, ℕ, ◌<◌, true, false, not, List, [], ◌∷◌, length, map, get_or, Option, Some, refl, sym, ap, ◌∙◌, arith, ◌⊎◌, IsSome, length-map, AccountMaps, chain_of, Node, node_in, ActiveSegs, IsFull, HasOneOffChain, first_off_chain, hand_moved, hand_past, map_at, Link, Next, Activated, Victim, Whole, place_of, IsInactive, AreActive, IsFirstInactive, link_at, made_active, no_link, superior_of, table_for, uids_of, HasOneToGo, IsChainDown, link_of, IsStore, home_of, is_there, link_pool, link_superior, link_there, found_there, pool_of_node, with_hand_moved, first_inactive, frames_from, free_place, is_active, superior_of_node, trailers_in, Storage, with_active, active_place, none_some, active_at, FindsFull, Joins, JoinsAt, NeedsVictim, links_of, wanted_pool, IsEmptied, is_bare, false_from_ne_true, List_get_or-map as get_or-map, IsNodeTree as IsTree, Next_words_in as words_in}
 use Rattle.machine_tables.proofs.FindLaws.{find_first, find_none}
 use Rattle.machine_tables.proofs.PoolLaws.{full_none, least_free}
 
@@ -103,8 +99,7 @@ module _ (st new : Storage) (of : ℕ) (h : IsStore st.pages st.ast st.links st.
   -- where its pool has a free place, no other segment has to go
   pub no_victim : (i : ℕ) → IsFirstInactive st.ast.entries chain i → IsSome (free_place st.ast (wanted_pool st of))
       → IsFull st.ast (link_at chain i).pool → ⊥
-  no_victim i first free full =
-      let none = full_none st.ast (wanted_pool st of) (rw (← (pool_is i first)) full) in cc
+  no_victim i first free full = grind (arith, full_none, pool_is)
 
   pub free_to_go : IsSome (free_place st.ast (wanted_pool st of)) → HasOneToGo st.ast chain
   free_to_go free = record { off = λ i first full. absurd (no_victim i first free full) }
@@ -112,9 +107,7 @@ module _ (st new : Storage) (of : ℕ) (h : IsStore st.pages st.ast st.links st.
   -- ---- its pool is full
 
   pub off_to_go : HasOneOffChain st.ast (wanted_pool st of) uids → HasOneToGo st.ast chain
-  off_to_go off = record {
-    off = λ i first full. rw (same_uids a uids, pool_is i first) off;
-  }
+  off_to_go off = grind (arith, same_uids, pool_is)
 
   pub passed_is : (i : ℕ) → FindsFull st new chain i → new ≡ with_hand_moved st (wanted_pool st of) uids
   passed_is i finds = finds.effect ∙ (λ k. record st {
@@ -130,15 +123,11 @@ module _ (st new : Storage) (of : ℕ) (h : IsStore st.pages st.ast st.links st.
   -- a segment whose pool has a free place becomes active, and one whose pool is full has the pool's hand pass
   pub must_join : (r : Next) → Joins st new chain r → IsSome (first_inactive st.ast uids)
       → IsSome (free_place st.ast (wanted_pool st of)) → ((place : ℕ) × (r ≡ Victim place)) ⊎ (r ≡ Whole) → ⊥
-  must_join r joins first free (inl v) = let next = subst (Joins st new chain) v.1 joins in
-      no_victim next.0 next.1.first free next.1.full
-  must_join r joins first free (inr w) = not_whole (subst (Joins st new chain) w joins).0 first
+  must_join r h1 h2 h3 h4 = grind (arith, no_victim, not_whole)
 
   pub must_pass : (r : Next) → Joins st new chain r → NeedsVictim st of
       → ((place : ℕ) × (r ≡ Activated place)) ⊎ (r ≡ Whole) → ⊥
-  must_pass r joins needs (inl a) = let next = subst (Joins st new chain) a.1 joins in
-      none_some (sym needs.full ∙ joined_place a.0 next.0 next.1)
-  must_pass r joins needs (inr w) = not_whole (subst (Joins st new chain) w joins).0 needs.first
+  must_pass r h1 h2 h3 = grind (arith, none_some, joined_place, not_whole)
 
 -- a victim of which there is nothing to take is empty after the hand has moved too
 pub bare_after : (st : Storage) (pool : ℕ) (us : List ℕ) (uid : ℕ)
@@ -150,5 +139,4 @@ bare_after st pool us uid empty = by (first_off_chain st.ast pool us)
     by : (o : Option ℕ) → is_bare (frames_from (hand_past st.ast pool o) uid 0)
         (trailers_in (record st { ast = hand_past st.ast pool o }) uid) ≡ true
         → IsEmptied (record st { ast = hand_past st.ast pool o }) uid
-    by None bare = empty bare
-    by (Some place) bare = assumption (empty bare)
+    by o h1 = grind arith

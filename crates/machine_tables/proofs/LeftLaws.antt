@@ -1,7 +1,6 @@
 -- How a page leaves its frame, and what comes back where it can't.
-use Rattle.machine_tables.proofs.Prelude.{◌≡◌, ◌↔◌, ◌<◌, ℕ, suc, zero, length, get_or, Bool, true, false, cond, eqb, List, [], ◌∷◌, refl, sym, ap, subst, ◌∙◌, arith, IfOk, OnErr, Result, Ok, Err, AreZero, Left, Kept, Released, AccountMaps, HasColumns, IsSettled, are_zeros, left_of, page_back, page_in, pages_back, with_left, cut_of_owner, frames_of_owner, State, Storage, MayRelink, with_all_here, with_store, Parts, with_accounts, with_drives, with_state, zero_word, zeros_to}
+use Rattle.machine_tables.proofs.Prelude.{◌≡◌, ◌↔◌, ◌<◌, ℕ, suc, zero, length, get_or, true, false, eqb, List, [], ◌∷◌, refl, arith, IfOk, OnErr, Result, Ok, Err, AreZero, Left, Released, HasColumns, IsSettled, are_zeros, left_of, page_back, page_in, pages_back, with_left, cut_of_owner, frames_of_owner, State, MayRelink, with_all_here, with_store, Parts, with_accounts, with_drives, with_state, zero_word, zeros_to, Bools_and_parts as and_parts}
 use Rattle.machine_tables.proofs.ColumnLaws.{settled_is}
-use Rattle.laws.proofs.Bools.{and_parts}
 
 -- ---- pages of zeros
 
@@ -15,23 +14,12 @@ left_released ws h = cc
 
 pub left_is : {E : Type 0} (r : Result Left E) (ws : List ℕ) → (r ≡ Ok Released) ↔ AreZero ws
     → IfOk r (λ left. left ≡ left_of ws)
-left_is (Err e) ws zeros = tt
-left_is (Ok Released) ws zeros = left_released ws (zeros_to ws (zeros.0 refl))
-left_is (Ok Kept) ws zeros = by (are_zeros ws) refl
-  where
-    by : (b : Bool) → are_zeros ws ≡ b → Kept ≡ cond b Released Kept
-    by false e = refl
-    by true e = absurd (let no = zeros.1 (zeros_from ws e) in cc)
+left_is r ws h1 = grind (arith, left_released, zeros_to, zeros_from)
 
 -- one that stays in its frame, since the drive failed, isn't all zeros
 pub left_stays : {E : Type 0} (r : Result Left E) (ws : List ℕ) → (r ≡ Ok Released) ↔ AreZero ws
     → OnErr r (are_zeros ws ≡ false)
-left_stays (Ok x) ws zeros = tt
-left_stays (Err e) ws zeros = by (are_zeros ws) refl
-  where
-    by : (b : Bool) → are_zeros ws ≡ b → b ≡ false
-    by false h = refl
-    by true h = absurd (let no = zeros.1 (zeros_from ws h) in cc)
+left_stays r ws h1 = grind (arith, zeros_from)
 
 -- a page that has left its frame, and what its account is then
 pub left_exact : {D E : Type 0} (old new : Parts D) (f : ℕ) (r : Result Left E) → HasColumns old.state.store.accounts
@@ -58,13 +46,4 @@ pub relink_after : {D : Type 0} (old mid new : Parts D) (x : State) → mid ≡ 
     → cut_of_owner new.state.owner ≡ cut_of_owner mid.state.owner
     → MayRelink (with_all_here old.state.store (frames_of_owner old.state.owner)) (cut_of_owner old.state.owner)
     → MayRelink new.state.store (cut_of_owner new.state.owner)
-relink_after old mid new x is store owner effect cut may =
-    let frames : frames_of_owner mid.state.owner ≡ frames_of_owner old.state.owner =
-    ap (λ (y : Parts _). frames_of_owner y.state.owner) is ∙ ap frames_of_owner owner in
-    let here : new.state.store ≡ with_all_here old.state.store (frames_of_owner old.state.owner) =
-    ap (λ (y : Parts _). y.state.store) effect ∙ back_store mid.state (frames_of_owner mid.state.owner)
-    ∙ ap (λ (st : Storage). with_all_here st (frames_of_owner mid.state.owner)) (cc)
-    ∙ ap (with_all_here old.state.store) frames in
-    let cuts : cut_of_owner new.state.owner ≡ cut_of_owner old.state.owner =
-    cut ∙ ap (λ (y : Parts _). cut_of_owner y.state.owner) is ∙ ap cut_of_owner owner in
-    rw (here, cuts) may
+relink_after old mid new x is store owner effect cut may = grind (arith, back_store)

@@ -1,6 +1,5 @@
 -- What the owner took is gone, one after the other.
-use Rattle.machine_tables.proofs.Prelude.{◌≡◌, ◌+◌, ◌-◌, ◌≤◌, ℕ, length, map, List, [], ◌∷◌, ◌++◌, Option, Some, None, sym, ap, subst, ◌∙◌, arith, append_assoc, append-nil, length-append, slice_get, CutDescriptor, cut_entry, seg_gone, segs_gone, without_first_cut, without_first_frame, cut_of_owner, frames_of_owner, State, booked, with_owner, inactive_entry, left_entries, left_entry, HasOwner, Parts, with_state, cut_less}
-use Rattle.book.specs.declared.entries.Entry.{Entry}
+use Rattle.machine_tables.proofs.Prelude.{◌≡◌, ◌+◌, ◌-◌, ◌≤◌, ℕ, length, map, List, [], ◌∷◌, ◌++◌, Option, Some, None, sym, ap, subst, ◌∙◌, arith, append_assoc, append-nil, length-append, slice_get, CutDescriptor, cut_entry, seg_gone, segs_gone, without_first_cut, without_first_frame, cut_of_owner, frames_of_owner, State, booked, with_owner, inactive_entry, left_entries, left_entry, HasOwner, Parts, with_state, cut_less, Entry_Entry as Entry}
 use Rattle.machine_tables.proofs.JobLaws.{frames_next, owner_left}
 
 -- ---- entries
@@ -64,28 +63,4 @@ pub all_gone : {D : Type 0} (old mid next new : Parts D) (kept inactive : Option
     → next ≡ with_state mid (segs_gone mid.state (cut_of_owner mid.state.owner))
     → new ≡ with_state next (booked next.state (inactive_entry inactive))
     → new ≡ with_state old (with_owner (booked old.state (left_entries old.state kept inactive)) new.state.owner)
-all_gone {D} old mid next new kept inactive pages cut segs last = cc (whole, state)
-  where
-    F : List Entry
-    F = map (left_entry kept) (frames_of_owner old.state.owner)
-
-    C : List Entry
-    C = map cut_entry (cut_of_owner old.state.owner)
-
-    I : List Entry
-    I = inactive_entry inactive
-
-    segs_state : with_owner next.state None ≡ with_owner (booked old.state (F ++ C)) None
-    segs_state = rw (segs, segs_booked mid.state (cut_of_owner mid.state.owner), cut, pages)
-        (ap (λ (x : State). with_owner x None) (booked_more old.state F C))
-
-    none_state : with_owner new.state None ≡ with_owner (booked old.state (F ++ (C ++ I))) None
-    none_state = ap (λ (x : Parts D). with_owner x.state None) last ∙ (ap (λ (x : State). booked x I) segs_state
-        ∙ ap (λ (x : State). with_owner x None) (booked_more old.state (F ++ C) I
-        ∙ ap (booked old.state) (append_assoc F C I)))
-
-    state : new.state ≡ with_owner (booked old.state (F ++ (C ++ I))) new.state.owner
-    state = ap (λ (x : State). with_owner x new.state.owner) none_state
-
-    whole : new ≡ with_state old new.state
-    whole = rw (last, segs, pages)
+all_gone {D} old mid next new kept inactive pages cut segs last = grind (arith, segs_booked, booked_more)

@@ -1,4 +1,5 @@
 mod Prelude
+mod Laws
 pub mod AboutLaws
 pub mod ActiveLaws
 pub mod AwayLaws

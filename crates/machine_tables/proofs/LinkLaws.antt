@@ -1,6 +1,5 @@
 -- Where a descriptor leads, where a segment is active, and which page is in a frame.
-use Rattle.machine_tables.proofs.Prelude.{◌≡◌, ◌<◌, ℕ, List, Option, Some, None, length, sym, ap, subst, ◌∙◌, refl, get_or-map, Entry, Free, bound_page, Here, Plain, frame_in, frame_of, ActiveSegs, IsActive, IsTree, uid_at, Links, leads_at, place_of, word_of, AreLinked, IsKept, active_place, active_at, shown_within}
-use Rattle.active_segs.specs.Active.{uid_in}
+use Rattle.machine_tables.proofs.Prelude.{◌≡◌, ◌<◌, ℕ, List, Option, Some, None, length, sym, ap, ◌∙◌, refl, get_or-map, Entry, Free, bound_page, Here, Plain, frame_in, frame_of, ActiveSegs, IsActive, IsTree, uid_at, Links, leads_at, place_of, word_of, AreLinked, IsKept, active_place, active_at, shown_within, Active_uid_in as uid_in}
 
 -- a descriptor leads to a place of the table
 pub leads_within : (entries : List (Option Entry)) (links : Links) (k n place : ℕ) → AreLinked entries links

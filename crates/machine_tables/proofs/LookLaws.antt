@@ -1,5 +1,5 @@
 -- What a look asks of the chain of a node: its first link that isn't active is there, and a full pool has a victim.
-use Rattle.machine_tables.proofs.Prelude.{◌≡◌, ℕ, true, Some, sym, subst, ArePools, node_in, chain_of, IsFull, HasItsSuperiors, HasOneOffChain, is_there, pool_of_node, first_inactive, State, Storage, first_there, MayLook}
+use Rattle.machine_tables.proofs.Prelude.{◌≡◌, ℕ, true, Some, node_in, chain_of, IsFull, HasItsSuperiors, HasOneOffChain, is_there, pool_of_node, first_inactive, State, Storage, first_there, MayLook, arith}
 use Rattle.machine_tables.proofs.VictimLaws.{chain_one_off, chain_superiors}
 
 module _ (s : State) (u : ℕ) where
@@ -18,7 +18,4 @@ module _ (s : State) (u : ℕ) where
       → first_inactive st.ast (chain_of st.accounts.nodes u) ≡ Some v → (pool : ℕ)
       → pool ≡ pool_of_node (node_in st.accounts.nodes v) → IsFull st.ast pool
       → HasOneOffChain st.ast pool (chain_of st.accounts.nodes u)
-  link_victim v h there first pool is full =
-      rw is (chain_one_off st.pages st.ast st.links st.accounts st.whos h.keeps.store.counted
-      h.keeps.store.accounts.tree u h.keeps.store.kept.tree (subst ArePools (sym h.pools) h.script.pools) there v first
-      (subst (IsFull st.ast) is full))
+  link_victim v h there first pool is full = grind (arith, chain_one_off)

@@ -1,7 +1,5 @@
 -- A directory or a segment that is made, exactly.
-use Rattle.machine_tables.proofs.Prelude.{◌≡◌, ℕ, ◌+◌, Bool, true, false, cond, List, [], ◌∷◌, Option, Some, None, get_or, refl, sym, ap, subst, ◌∙◌, Result, Ok, Err, get_or-map, Who, Plan, ProcessPlan, nobody, who_of, Reply, HasColumns, count_of, with_beside, Row, Node, AreBelow, node_at, parts_of, takes_effect, after_make, made_at, made_in, made_of, make_of, make_reply, owner_row, Store, allocated, vtoc_of, least_free_entry, Commits, TakesHome, Shows, Stored, who_at, with_vtocs, node_refuses, branch_of, gained, with_branch, with_made, IsFaithful, or_zero, uid_at_path, uid_of_node, Storage, TakesEffect, shown}
-use Rattle.script.specs.declared.commands.Command.TheVariants as command
-use Rattle.book.specs.declared.replies.Reply.TheVariants as reply
+use Rattle.machine_tables.proofs.Prelude.{◌≡◌, ℕ, Bool, true, false, cond, List, [], ◌∷◌, Some, get_or, refl, sym, ap, ◌∙◌, Result, Ok, Err, get_or-map, Who, Plan, ProcessPlan, nobody, who_of, Reply, HasColumns, count_of, with_beside, Row, Node, AreBelow, node_at, parts_of, takes_effect, after_make, made_in, make_of, make_reply, owner_row, Store, vtoc_of, least_free_entry, Commits, TakesHome, Shows, Stored, who_at, with_vtocs, node_refuses, branch_of, gained, with_branch, with_made, IsFaithful, or_zero, uid_at_path, uid_of_node, Storage, TakesEffect, shown, Command as command, arith}
 use Rattle.machine_tables.proofs.CommitLaws.{flat_after}
 use Rattle.machine_tables.proofs.GainLaws.{directory_gained, segment_gained}
 use Rattle.machine_tables.proofs.RefusalLaws.{shows_of}
@@ -33,16 +31,7 @@ module _ {D : Type 0} (drive : D → List (List ℕ)) (t u : Stored D) (before :
   above_is = sym (ap uid_of_node (ap (λ (ns : List Node). node_at ns parts.0) (sym faithful.tree.nodes) ∙ found))
 
   nodes : u.accounts.nodes ≡ node ∷ t.accounts.nodes
-  nodes = sym now.tree.nodes ∙ (λ i. record {
-    uid = faithful.tree.next i;
-    superior = Some (above_is i);
-    name = parts.1;
-    directory = dir;
-    volume = volume;
-    pages = pages;
-    quota = 0;
-    rows = rows;
-  } ∷ faithful.tree.nodes i)
+  nodes = grind (arith, above_is)
 
   counts : (s : ℕ) → count_of u.accounts s ≡ count_of t.accounts s
   counts s = now.tree.counts s ∙ sym (faithful.tree.counts s)
@@ -54,13 +43,7 @@ module _ {D : Type 0} (drive : D → List (List ℕ)) (t u : Stored D) (before :
       → (cond dir t.accounts.segments (with_beside t.accounts.segments t.accounts.segments node.uid node.uid) ≡ ks)
       → (cond dir t.accounts.counts (with_beside t.accounts.segments t.accounts.counts node.uid 0) ≡ vs)
       → u.accounts ≡ gained t.accounts node (or_zero (least_free_entry (vtoc_of st.pages volume)))
-  gains ks vs segments values keys_are values_are = (λ i. record {
-    nodes = nodes i;
-    entries = (home.beside ∙ ap (λ (e : ℕ). e ∷ t.accounts.entries) entry_is) i;
-    next = (sym now.tree.next ∙ ap (λ (n : ℕ). n + 1) faithful.tree.next) i;
-    segments = (segments ∙ sym keys_are) i;
-    counts = (values ∙ sym values_are) i;
-  })
+  gains ks vs segments values keys_are values_are = grind (arith, entry_is)
 
   accounts : u.accounts ≡ gained t.accounts node (or_zero (least_free_entry (vtoc_of st.pages volume)))
   accounts = by dir refl
@@ -74,14 +57,7 @@ module _ {D : Type 0} (drive : D → List (List ℕ)) (t u : Stored D) (before :
 
   -- the store once it is made
   pub branch_made : shown drive u ≡ with_branch st node
-  branch_made = (λ i. record {
-    accounts = accounts i;
-    pages = (home.filed ∙ ap (λ (e : ℕ). allocated st.pages volume e t.accounts.next) entry_is) i;
-    ast = ap (λ (x : Stored D). x.segs.ast) rest i;
-    links = ap (λ (x : Stored D). x.segs.links) rest i;
-    whos = ap (λ (x : Stored D). x.whos) rest i;
-    moving = ap (λ (x : Stored D). x.segs.moving) rest i;
-  })
+  branch_made = grind (arith, accounts, entry_is)
 
 module _ {D : Type 0} (drive : D → List (List ℕ)) (t u : Stored D) (before : HasColumns t.accounts)
     (after : HasColumns u.accounts) (below : AreBelow t.accounts.next t.accounts.nodes) (path : List (List ℕ))
@@ -92,17 +68,7 @@ module _ {D : Type 0} (drive : D → List (List ℕ)) (t u : Stored D) (before :
       → r ≡ make_reply p flat path volume dir → Shows drive p (after_make flat path volume dir pages rows) u
       → shown drive u ≡ with_made (shown drive t) dir pages volume rows (parts_of path)
   unfolding make_reply after_make
-  made_exact p flat rows faithful takes is now = by (parts_of path) is now
-    where
-      by : (x : Option (List (List ℕ) × List ℕ)) → r ≡ make_of p flat volume dir x
-          → Shows drive p (made_of flat volume dir pages rows x) u
-          → shown drive u ≡ with_made (shown drive t) dir pages volume rows x
-      by None e shows = absurd cc
-      by (Some parts) e shows =
-          let below_it = made_below p flat volume dir parts r e takes in
-          branch_made drive t u before after below volume (home takes) rest p flat faithful dir pages rows parts
-          below_it.0 below_it.1 (subst (λ (s : Store). Shows drive p s u)
-          (ap (λ (y : Result Node Reply). made_at flat volume dir pages rows parts.1 y) below_it.1) shows)
+  made_exact p flat rows faithful takes is now = grind (arith, made_below, branch_made)
 
 pub dir_committed : {D : Type 0} (drive : D → List (List ℕ)) (t u : Stored D) (k : ℕ) (path : List (List ℕ))
     (volume : ℕ) (r : Reply) → HasColumns t.accounts → HasColumns u.accounts

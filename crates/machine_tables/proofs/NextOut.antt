@@ -1,6 +1,5 @@
 -- The page that is copied next is found by a walk up the page table.
-use Rattle.machine_tables.proofs.Prelude.{◌≡◌, ◌<◌, ◌≤◌, ◌+◌, ◌-◌, ℕ, zero, suc, Bool, true, false, cond, length, List, Some, None, refl, ap, ◌∙◌, arith, get_or_past, Ptw, ptw_at, is_out, first_out, next_out}
-use Rattle.page_table.specs.declared.Ptw.TheVariants as ptw
+use Rattle.machine_tables.proofs.Prelude.{◌≡◌, ◌<◌, ◌≤◌, ◌+◌, ◌-◌, ℕ, zero, suc, true, false, cond, length, List, Some, None, refl, arith, get_or_past, Ptw, ptw_at, is_out, first_out, next_out, Ptw as ptw}
 
 -- past the end of a page table there is no page
 none_past : (table : List Ptw) (count p : ℕ) → length table ≤ p → first_out table count p ≡ None

@@ -1,7 +1,5 @@
 -- Pages that are cut off: to drop those past the page that is cut before it is cut, or after, comes to the same.
-use Rattle.machine_tables.proofs.Prelude.{◌≡◌, ◌≢◌, ◌<◌, ◌≤◌, ◌+◌, ◌-◌, ℕ, suc, zero, Bool, true, false, cond, length, List, get_or, set, Option, Some, None, inl, inr, refl, sym, ap, ◌∙◌, arith, range_with_len, cases_eq, get_or-set_other, get_or-set_same, set-set, set_comm, Ptw, Here, Leaving, Null, Frame, Free, Core, after_reference, with_record, ActiveSegs, Home, unstored, Plain, entry_of, filed, flags_of, frame_in, vtoc_of, place_of, table_of, word_of, worded, Paged, is_cleared, page_cleared, page_cut, pages_cut, word_within, here_again, given_twice}
-use Rattle.std.proofs.Common.{suc-add, zero-add}
-use Rattle.vtoc.specs.Vtoc.{Entry}
+use Rattle.machine_tables.proofs.Prelude.{◌≡◌, ◌≢◌, ◌<◌, ◌≤◌, ◌+◌, ◌-◌, ℕ, suc, zero, Bool, true, false, cond, length, List, get_or, set, Option, Some, None, inl, inr, refl, sym, ◌∙◌, arith, range_with_len, cases_eq, get_or-set_other, get_or-set_same, set-set, set_comm, Ptw, Here, Leaving, Null, Frame, Free, Core, after_reference, with_record, ActiveSegs, Home, unstored, Plain, entry_of, filed, flags_of, frame_in, vtoc_of, place_of, word_of, worded, Paged, is_cleared, page_cleared, page_cut, pages_cut, word_within, here_again, given_twice, suc-add, zero-add, VtocEntry as Entry}
 use Rattle.machine_tables.proofs.DeleteLaws.{Drops, IsNamed, IsUsed, entry_less, filed_less, flags_less, page_drops, table_in, vtoc_less}
 use Rattle.machine_tables.proofs.TakeLaws.{word_other, word_put}
 
@@ -10,17 +8,7 @@ use Rattle.machine_tables.proofs.TakeLaws.{word_other, word_put}
 -- two words are changed
 words_order : (ast : ActiveSegs) (u p q : ℕ) (v w : Ptw) → place_of ast.entries u < length ast.tables → p ≢ q
     → worded (worded ast u p v) u q w ≡ worded (worded ast u q w) u p v
-words_order ast u p q v w within ne = (λ i. record ast { tables = tables i })
-  where
-    place : ℕ
-    place = place_of ast.entries u
-
-    both : (a b : ℕ) (x y : Ptw) → (worded (worded ast u a x) u b y).tables
-        ≡ set ast.tables place (set (set (table_of ast u) a x) b y)
-    both a b x y = rw (set-set, get_or-set_same)
-
-    tables : (worded (worded ast u p v) u q w).tables ≡ (worded (worded ast u q w) u p v).tables
-    tables = cc (both p q v w, both q p w v, set_comm (table_of ast u) p q v w ne)
+words_order ast u p q v w within ne = grind (arith, set-set, get_or-set_same, set_comm)
 
 -- ---- records
 
@@ -31,8 +19,7 @@ module _ (s : Plain) (home : Home) (p q r n : ℕ) (used : IsUsed s home) (here 
 
   records_after : (a b i j : ℕ) → filed s home a ≡ Some i → filed s home b ≡ Some j → b ≢ a
       → (unstored (unstored s home a) home b).records ≡ flags_both i j
-  records_after a b i j at bt other =
-      rw (set-set, flags_less s home a i used at, filed_less s home a i used at b other, bt)
+  records_after a b i j at bt other = grind (arith, set-set, flags_less, filed_less)
 
   records_order : (unstored (unstored s home p) home q).records ≡ (unstored (unstored s home q) home p).records
   records_order = cc (
@@ -48,8 +35,7 @@ module _ (s : Plain) (home : Home) (p q r n : ℕ) (used : IsUsed s home) (here 
 
   maps_order : (e : Option Entry) → with_record (with_record e p None) q None
       ≡ with_record (with_record e q None) p None
-  maps_order None = refl
-  maps_order (Some e) = rw (set_comm e.records p q None None ne)
+  maps_order e = grind (arith, set_comm)
 
   vtocs_order : (unstored (unstored s home p) home q).vtocs ≡ (unstored (unstored s home q) home p).vtocs
   vtocs_order = cc (vtocs_after p q r here, maps_order (entry_of s home), vtocs_after q p n there)
@@ -69,8 +55,7 @@ cut_first x home uid p at w =
 -- whether a page is all zeros then doesn't depend on another that is dropped
 pub cleared_same : (x : Paged) (home : Home) (uid q at f : ℕ) (v : Ptw)
     → is_cleared (page_cut x home uid q v) at (Leaving f) ≡ is_cleared x at (Leaving f)
-cleared_same x home uid q at f Null = refl
-cleared_same x home uid q at f v = refl
+cleared_same x home uid q at f v = grind arith
 
 module _ (x : Paged) (home : Home) (uid p q at f : ℕ) (word : word_of x.ast uid p ≡ Leaving f) (ne : p ≢ q)
     (named : IsNamed x home uid) where
@@ -170,20 +155,11 @@ module _ (x : Paged) (home : Home) (uid p q at f : ℕ) (word : word_of x.ast ui
   pub one_order : (v : Ptw) → word_of x.ast uid q ≡ v → v ≢ Leaving f
       → page_cut (cut_first x home uid p at (Leaving f)) home uid q v
       ≡ cut_first (page_cut x home uid q v) home uid p at (Leaving f)
-  one_order v is apart = rw (cleared_same x home uid q at f v) (by (is_cleared x at (Leaving f)))
-    where
-      by : (b : Bool) → page_cut (cond b (drops x) (stays x)) home uid q v
-          ≡ cond b (drops (page_cut x home uid q v)) (stays (page_cut x home uid q v))
-      by true = drops_order v is apart
-      by false = stays_order v is apart
+  one_order v is apart = grind (arith, cleared_same, drops_order, stays_order)
 
   -- the word of another page is as before
   pub first_other : word_of (cut_first x home uid p at (Leaving f)).ast uid q ≡ word_of x.ast uid q
-  first_other = by (is_cleared x at (Leaving f))
-    where
-      by : (b : Bool) → word_of (cond b (drops x) (stays x)).ast uid q ≡ word_of x.ast uid q
-      by true = word_other x.ast uid p q Null (table_in x.ast uid p own) (λ e. ne (sym e))
-      by false = word_other x.ast uid p q (Here f) (table_in x.ast uid p own) (λ e. ne (sym e))
+  first_other = grind (arith, word_other, table_in)
 
 -- ---- several pages
 

@@ -1,5 +1,5 @@
 -- Tables of which a loop changes the machine's state alone.
-use Rattle.machine_tables.proofs.Prelude.{◌≡◌, ℕ, List, sym, ap, ◌∙◌, sum_by, Stored, State, Storage, with_store, Parts, shown, with_state, with_stored}
+use Rattle.machine_tables.proofs.Prelude.{◌≡◌, ℕ, List, Stored, State, Storage, with_store, Parts, shown, with_state, with_stored, arith}
 
 pub rest_next : {D : Type 0} (s t first : Parts D) (x : State) → s ≡ with_state first s.state → t ≡ with_state s x
     → t ≡ with_state first t.state
@@ -30,8 +30,4 @@ pub stored_is : {D : Type 0} (pages : D → List (List ℕ)) (faults : D → ℕ
     (change : Storage → Storage) → x ≡ now → x ≡ with_stored x pages faults t
     → shown pages u ≡ change (shown pages t) → u.segs.pages.volumes.drives ≡ t.segs.pages.volumes.drives
     → with_stored x pages faults u ≡ with_state now (with_store now.state (change now.state.store))
-stored_is {D} pages faults x now t u change view is changed drives = (λ i. record {
-  state = record x.state { store = changed i; faults = sum_by faults (drives i) };
-  room = x.room;
-  drives = drives i;
-}) ∙ ap (λ (y : Parts D). with_state y (with_store y.state (change y.state.store))) (cc)
+stored_is {D} pages faults x now t u change view is changed drives = grind arith

@@ -1,6 +1,6 @@
 -- Pools of the active segment table: the least free place of one, which pool a node's page table is of, and what the
 -- pools of a script have.
-use Rattle.machine_tables.proofs.Prelude.{◌≡◌, ◌≢◌, ℕ, zero, suc, ◌+◌, ◌-◌, ◌<◌, ◌≤◌, Bool, true, false, cond, is_none, List, [], ◌∷◌, Option, Some, None, refl, sym, ap, subst, ◌∙◌, arith, inl, inr, IfSome, IsNone, ◌↔◌, find, range_with_len, eqb_tells, ArePools, Node, ActiveSegs, IsFull, IsLeastFree, entry_at, first_of, size_of, pool_of_node, free_place, pool_small, some_not_none}
+use Rattle.machine_tables.proofs.Prelude.{◌≡◌, ◌≢◌, ℕ, zero, suc, ◌+◌, ◌-◌, ◌<◌, ◌≤◌, Bool, true, false, cond, is_none, List, [], ◌∷◌, Option, Some, None, refl, sym, ap, ◌∙◌, arith, inl, inr, IfSome, IsNone, ◌↔◌, find, range_with_len, eqb_tells, ArePools, Node, ActiveSegs, IsFull, IsLeastFree, entry_at, first_of, size_of, pool_of_node, free_place, pool_small, some_not_none}
 
 -- ---- what is found among numbers in order
 
@@ -42,8 +42,7 @@ module _ (ast : ActiveSegs) (pool : ℕ) where
       (h.least q (record { from = a; to = omega arith }) b)))
 
   pub full_none : IsFull ast pool → free_place ast pool ≡ None
-  full_none h = none_in (λ q. is_none (entry_at ast.entries q)) first (first + size - first)
-      (λ q a b. some_not_none (entry_at ast.entries q) (h q (record { from = a; to = omega arith })))
+  full_none h = grind (arith, none_in, some_not_none)
 
   pub free_told : (found : ActiveSegs) (o : Option ℕ) → found ≡ ast → IfSome o (IsLeastFree found pool)
       → (IsNone o ↔ IsFull found pool) → o ≡ free_place ast pool
@@ -53,8 +52,7 @@ module _ (ast : ActiveSegs) (pool : ℕ) where
 -- ---- the pool of a node
 
 pub pool_few : (o : Option Node) → pool_of_node o < 4
-pool_few None = omega arith
-pool_few (Some n) = pool_small n
+pool_few o = grind (arith, pool_small)
 
 -- ---- the pools of a script
 

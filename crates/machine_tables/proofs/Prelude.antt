@@ -1,23 +1,23 @@
 -- The names that the proofs of this crate take from elsewhere.
-pub use Rattle.std.proofs.Common.{Bool, List, None, Option, Some, [], ap, append-nil, append_assoc, arith, cond, count_by, drop, eqb, ext_get_or, false, get_or, if◌then◌else◌, inl, inr, is_none, is_some, length, length-append, map, not, position, refl, replicate, reverse, rules, set, subst, suc, sum, sym, take, true, w32, zero, ℕ, ◌%◌, ◌&&◌, ◌*◌, ◌++◌, ◌+◌, ◌-◌, ◌<◌, ◌||◌, ◌∙◌, ◌∷◌, ◌≡◌, ◌≢◌, ◌≤◌, ◌⊎◌}
+pub use Rattle.std.proofs.Common.{Bool, List, None, Option, Some, [], ap, append-nil, append_assoc, arith, cond, count_by, drop, eqb, ext_get_or, false, get_or, if◌then◌else◌, inl, inr, is_none, is_some, length, length-append, map, not, position, refl, replicate, reverse, rules, set, subst, suc, sum, sym, take, true, w32, zero, ℕ, ◌%◌, ◌&&◌, ◌*◌, ◌++◌, ◌+◌, ◌-◌, ◌<◌, ◌||◌, ◌∙◌, ◌∷◌, ◌≡◌, ◌≢◌, ◌≤◌, ◌⊎◌, suc-add, zero-add}
 pub use Rattle.std.proofs.Math.ListN.{drop_of_length-le, get_or-map}
-pub use Rattle.std.proofs.lemmas.Bool.{and_parts, cases_Bool, cases_eq, cases_lt, eq-eqb, eqb-true, le-ltb, lt-ltb, ne_eqb}
+pub use Rattle.std.proofs.lemmas.Bool.{and_parts, cases_Bool, cases_eq, cases_lt, eq-eqb, eqb-true, le-ltb, lt-ltb, ne_eqb, or_cases, or_left, or_right, false_from_ne_true, not_from_false}
 pub use Rattle.std.proofs.lemmas.Bool.Decides.{eqb_tells, leb_tells, nat_tests}
 pub use Rattle.std.proofs.lemmas.Grind.{reverse_onto}
 pub use Rattle.std.proofs.lemmas.Int.{to_z-of_z}
-pub use Rattle.std.proofs.lemmas.List.{drop_more, get_or-reverse, get_or-set_other, get_or-set_same, get_or_default, get_or_past, length-map, length-replicate, length-reverse, length-set, nil_from_length, reverse-reverse, set-set, set_comm}
+pub use Rattle.std.proofs.lemmas.List.{drop_more, get_or-reverse, get_or-set_other, get_or-set_same, get_or_default, get_or_past, length-map, length-replicate, length-reverse, length-set, nil_from_length, reverse-reverse, set-set, set_comm, get_or-map as List_get_or-map}
 pub use Rattle.std.proofs.lemmas.List.Edits.{length-insert, length-remove}
 pub use Rattle.std.proofs.lemmas.List.Elements.{All-get_or}
-pub use Rattle.std.proofs.lemmas.List.Sums.{sum_by-cons}
+pub use Rattle.std.proofs.lemmas.List.Sums.{sum_by-cons, position_or_len_is}
 pub use Rattle.std.specs.Int.{is_positive}
 pub use Rattle.std.specs.Int.RustNames.{unsigned_abs}
 pub use Rattle.std.specs.List.{All, find, insert, list_all, list_any, position_or_len, range_with_len, remove}
 pub use Rattle.std.specs.Prelude.{Err, IfOk, IfSome, IsNone, IsSome, Ok, OnErr, Result, filter, nat_le, nat_lt, slice_get, sum_by, ℤ, ◌/◌, ◌↔◌}
-pub use Rattle.laws.proofs.Bools.{not_both}
-pub use Rattle.laws.proofs.Lists.{given_twice}
+pub use Rattle.laws.proofs.Bools.{not_both, first_false, and_false, and_parts as Bools_and_parts}
+pub use Rattle.laws.proofs.Lists.{given_twice, within_from, all_same}
 pub use Rattle.laws.proofs.Numbers.{eqb_self, zero_word}
 pub use Rattle.laws.proofs.Options.{page_is, times_one, when_none}
-pub use Rattle.laws.proofs.Places.{shown_within}
+pub use Rattle.laws.proofs.Places.{shown_within, list_within}
 pub use Rattle.laws.proofs.Rising.{first_less, first_once, place_there, rest_rises}
 pub use Rattle.mword.specs.Words.{AreZero}
 pub use Rattle.mnames.specs.declared.modes.Mode.{Mode}
@@ -53,10 +53,10 @@ pub use Rattle.quota_cells.proofs.RowLaws.{gap_of, insert_beside, remove_beside}
 pub use Rattle.quota_cells.specs.Accounts.{has, look, with_beside, with_value, without_beside}
 pub use Rattle.quota_cells.specs.Cells.{IsRising}
 pub use Rattle.quota_cells.specs.Columns.{IsGap}
-pub use Rattle.accounts.specs.Maps.{AccountMaps, Changes, HasColumns, Recounts, count_of, root_alone, rows_in}
+pub use Rattle.accounts.specs.Maps.{AccountMaps, Changes, HasColumns, Recounts, count_of, root_alone, rows_in, entry_of as Maps_entry_of}
 pub use Rattle.flat_model.proofs.BookLaws.{store_after-nil}
 pub use Rattle.flat_model.proofs.FieldLaws.{field_found}
-pub use Rattle.flat_model.proofs.KeepLaws.{keeps_length, keeps_moved, keeps_one, keeps_rows, segment_map}
+pub use Rattle.flat_model.proofs.KeepLaws.{keeps_length, keeps_moved, keeps_one, keeps_rows, segment_map, Keeps as KeepLaws_Keeps}
 pub use Rattle.flat_model.proofs.PathRefusals.{branch_refuses, node_refuses, segment_refuses}
 pub use Rattle.flat_model.proofs.ScriptLaws.{command_planned, few_pages}
 pub use Rattle.flat_model.specs.Branches.{branch_at, directory_at, done_at, only_directory, only_segment, parts_of, segment_at, there_or, walked}
@@ -77,18 +77,18 @@ unfoldable pub use Rattle.flat_model.specs.Sizes.{after_truncate, length_reply, 
 pub use Rattle.flat_model.specs.Store.{Store, entries_in, known_uid, numbers_of, records_in, records_of}
 unfoldable pub use Rattle.flat_model.specs.Store.{boot}
 pub use Rattle.custody_model.proofs.SharedLaws.{has_append, range_end, range_length}
-pub use Rattle.custody_model.specs.Custody.{range}
+pub use Rattle.custody_model.specs.Custody.{range, has as Custody_has}
 pub use Rattle.page_table.specs.PageTable.{ptw_at}
 pub use Rattle.page_table.specs.declared.Ptw.{Ptw}
 pub use Rattle.page_table.specs.declared.Ptw.TheVariants.{Here, Leaving, Null, Out}
-pub use Rattle.vtoc.specs.Vtoc.{Entry as VtocEntry, fresh_entry, least_free_entry, with_record}
+pub use Rattle.vtoc.specs.Vtoc.{Entry as VtocEntry, fresh_entry, least_free_entry, with_record, uid_of as Vtoc_uid_of}
 pub use Rattle.core_map.specs.Clock.{clock_choice}
 pub use Rattle.core_map.specs.CoreMap.{Core, after_reference, bound_page, frame_at, is_bound, is_free, is_started, least_free_frame, reads_of, started_page}
 pub use Rattle.core_map.specs.declared.Frame.{Frame}
 pub use Rattle.core_map.specs.declared.Frame.TheVariants.{Bound, Free, Started}
 pub use Rattle.volumes.specs.Volumes.{HasParts, Vols}
 pub use Rattle.seg_mover.specs.declared.Mover.{Mover}
-pub use Rattle.active_segs.specs.Active.{ActiveSegs, IsActive, IsFull, IsLeastFree, IsTree, deactivated, entry_at, no_segments, table_at, uid_at}
+pub use Rattle.active_segs.specs.Active.{ActiveSegs, IsActive, IsFull, IsLeastFree, IsTree, deactivated, entry_at, no_segments, table_at, uid_at, uid_in as Active_uid_in}
 pub use Rattle.active_segs.specs.Pool.{IsInPool, first_of, size_of}
 pub use Rattle.active_segs.specs.Victim.{HasItsSuperiors, HasOneOffChain, first_off_chain, hand_moved, hand_past, off_chain}
 pub use Rattle.active_segs.specs.declared.Entry.{Entry, Entry as Segment}
@@ -97,10 +97,10 @@ pub use Rattle.descriptor_seg.specs.declared.Sdw.TheVariants.{Fault}
 pub use Rattle.trailers.specs.Trailer.{leads_to, trailers_of, without_trailer}
 pub use Rattle.traffic.specs.Queue.{Queue, with_last}
 pub use Rattle.page_control.specs.Counts.{size}
-pub use Rattle.page_control.specs.Effects.{after_asked, allocated, cut, erased, framed, freed, referred, unstored, word_put}
+pub use Rattle.page_control.specs.Effects.{after_asked, allocated, cut, erased, framed, freed, referred, unstored, word_put, worded as Effects_worded}
 unfoldable pub use Rattle.page_control.specs.Picture.{is_filed_at}
 pub use Rattle.page_control.specs.Plain.{Plain, binding_at, bindings, entry_of, file_map_of, filed, flags_of, frame_in, number_in, plain, vtoc_of, words_in}
-pub use Rattle.page_control.specs.Tied.{frame_of, has_record, is_out, map_at, uid_in, vtoc_in}
+pub use Rattle.page_control.specs.Tied.{frame_of, has_record, is_out, map_at, uid_in, vtoc_in, uid_at as Tied_uid_at}
 pub use Rattle.page_control.specs.Ties.{IsTied}
 pub use Rattle.page_control.specs.declared.Home.{Home}
 pub use Rattle.page_control.specs.declared.Left.{Left}
@@ -112,7 +112,7 @@ pub use Rattle.seg_control.specs.Effects.{no_links, unlinked, worded}
 pub use Rattle.seg_control.specs.Kept.{AreLinked, IsInactive, IsKept, read_at}
 pub use Rattle.seg_control.specs.Moving.{next_out}
 unfoldable pub use Rattle.seg_control.specs.Moving.{first_out}
-pub use Rattle.seg_control.specs.Next.{AreActive, IsFirstInactive, link_at, made_active, no_link, superior_of, uids_of}
+pub use Rattle.seg_control.specs.Next.{AreActive, IsFirstInactive, link_at, made_active, no_link, superior_of, uids_of, words_in as Next_words_in}
 unfoldable pub use Rattle.seg_control.specs.Next.{table_for}
 pub use Rattle.seg_control.specs.declared.Link.{Link}
 pub use Rattle.seg_control.specs.declared.Next.{Next}
@@ -120,7 +120,7 @@ pub use Rattle.seg_control.specs.declared.Next.TheVariants.{Activated, Victim, W
 pub use Rattle.storage_ops.proofs.ChainDown.{chain_first, chain_length, chain_next, chain_there, link_pool, link_superior, link_there}
 pub use Rattle.storage_ops.proofs.Fresh.{dir_volume, new_length, seg_volume}
 pub use Rattle.storage_ops.proofs.NodeLaws.{found_there}
-pub use Rattle.storage_ops.proofs.PageFacts.{directory_found}
+pub use Rattle.storage_ops.proofs.PageFacts.{directory_found, room_of as PageFacts_room_of}
 pub use Rattle.storage_ops.proofs.PageRoom.{full_told}
 pub use Rattle.storage_ops.proofs.Refusals.{long_segment}
 pub use Rattle.storage_ops.proofs.RoomsFound.{room_shown}
@@ -141,7 +141,7 @@ pub use Rattle.machine_model.proofs.ChainFacts.{AllFail, chain_active, first_the
 pub use Rattle.machine_model.proofs.CommandFacts.{truncate_stands}
 pub use Rattle.machine_model.proofs.DeleteKept.{freed_length}
 pub use Rattle.machine_model.proofs.ChoiceLaws.{choice_bound, chosen}
-pub use Rattle.machine_model.proofs.FindLaws.{find_true}
+pub use Rattle.machine_model.proofs.FindLaws.{find_true, first_idle}
 pub use Rattle.machine_model.proofs.FitsKept.{none_fits}
 pub use Rattle.machine_model.proofs.FlatAlike.{conserved_by}
 pub use Rattle.machine_model.proofs.InsideLaws.{inside_is}
@@ -161,7 +161,7 @@ pub use Rattle.machine_model.proofs.TransferKept.{active_at, kept_with}
 pub use Rattle.machine_model.proofs.VictimLaws.{first_pool}
 pub use Rattle.machine_model.proofs.WordLaws.{found, word_within}
 pub use Rattle.machine_model.proofs.WorkStep.{none_work}
-pub use Rattle.machine_model.specs.Actions.{Action, Connect, Create, EmptyVictim, Start, activate_first, any_page, bring_cut, descriptors_taken, empty_victim, empty_when_read, evict_or_wait, first_taken, frames_taken, has_process, into_frame, is_empty, is_over, look_to_change, look_to_take, pool_of_node, take_or_commit, unless_read, what_taken, with_chain, with_cut_page}
+pub use Rattle.machine_model.specs.Actions.{Action, Connect, Create, EmptyVictim, Start, activate_first, any_page, bring_cut, descriptors_taken, empty_victim, empty_when_read, evict_or_wait, first_taken, frames_taken, has_process, into_frame, is_empty, is_over, look_to_change, look_to_take, pool_of_node, take_or_commit, unless_read, what_taken, with_chain, with_cut_page, room_for as Actions_room_for, move_of as Actions_move_of}
 unfoldable pub use Rattle.machine_model.specs.Actions.{action_of}
 pub use Rattle.machine_model.specs.After.{by_outcome}
 pub use Rattle.machine_model.specs.Boot.{booted, first_pages, first_run, first_state, first_store, first_vtocs, unused_entries, unused_records}
@@ -185,7 +185,7 @@ pub use Rattle.machine_model.specs.declared.Aim.TheVariants.{Committing, Deactiv
 pub use Rattle.machine_model.specs.declared.CutDescriptor.{CutDescriptor}
 pub use Rattle.machine_model.specs.declared.Processor.{Processor}
 pub use Rattle.machine_tables.specs.Activated.{FindsFull, Joins, JoinsAt, NeedsVictim, links_of, wanted_pool}
-pub use Rattle.machine_tables.specs.Claimed.{HasItsSegment, cuts_in}
+pub use Rattle.machine_tables.specs.Claimed.{HasItsSegment, cuts_in, number_in as Claimed_number_in}
 pub use Rattle.machine_tables.specs.Committed.{HasEffect, IsCommitted, TakesEffect, effect_for, reply_for}
 pub use Rattle.machine_tables.specs.Gone.{ends_in, goes_inactive, inactive_entry, is_kept, left_entries, left_entry, next_frame_entry}
 pub use Rattle.machine_tables.specs.Held.{AreLong, MayLook}
@@ -200,3 +200,4 @@ pub use Rattle.machine_tables.specs.Taken.{AreHere, IsEmptied, IsOldest, LeavesP
 pub use Rattle.machine_tables.specs.Truncated.{IsCommittedBut, here_again, uid_found}
 pub use Rattle.machine_tables.specs.declared.claiming.Cuts.{Cuts}
 pub use Rattle.machine_tables.specs.declared.owner.Holder.{Holder}
+pub use Rattle.book.specs.declared.entries.Entry.{Entry as Entry_Entry}

@@ -1,10 +1,8 @@
 -- A command of the script is in its ranges by the drives that there are.
-use Rattle.machine_tables.proofs.Prelude.{◌≡◌, ℕ, zero, suc, ◌-◌, ◌<◌, ◌≤◌, Bool, true, false, ◌&&◌, List, [], ◌∷◌, map, length, Option, sym, ap, ◌∙◌, arith, inl, inr, nat_lt, slice_get, list_all, and_parts, cases_lt, leb_tells, nat_tests, get_or_past, length-map, IsPlan, is_command, is_from, is_path, is_volume, Plan, Command, VolumeLine, records_in, records_of, HasParts, size, not_both}
-use Rattle.script.specs.declared.commands.Command.TheVariants as command
+use Rattle.machine_tables.proofs.Prelude.{◌≡◌, ℕ, zero, suc, ◌-◌, ◌<◌, ◌≤◌, Bool, true, ◌&&◌, List, [], ◌∷◌, map, length, Option, ap, arith, inl, inr, nat_lt, slice_get, list_all, and_parts, cases_lt, leb_tells, nat_tests, get_or_past, length-map, IsPlan, is_command, is_volume, Plan, Command, VolumeLine, records_in, records_of, HasParts, size, not_both}
 
 and_more : (a b d : Bool) → (b ≡ true → d ≡ true) → (a && b) ≡ true → (a && d) ≡ true
-and_more true b d more h = more h
-and_more false b d more h = h
+and_more a b d h1 h2 = grind arith
 
 lt_more : (v few most : ℕ) → few ≤ most → nat_lt v few ≡ true → nat_lt v most ≡ true
 lt_more v few most le h = grind (arith, nat_tests)
@@ -12,19 +10,11 @@ lt_more v few most le h = grind (arith, nat_tests)
 -- a command that is in its ranges stays so where there are more volumes
 pub more_volumes : (few most : ℕ) (c : Command) → few ≤ most → is_command few c ≡ true → is_command most c ≡ true
 unfolding is_command
-more_volumes few most (command.MkDir path volume) le h = and_more (is_path path) (nat_lt volume few)
-    (nat_lt volume most) (lt_more volume few most le) h
-more_volumes few most (command.MkSeg path pages volume) le h = and_more (is_path path)
-    (is_from 1 256 pages && nat_lt volume few) (is_from 1 256 pages && nat_lt volume most)
-    (and_more (is_from 1 256 pages) (nat_lt volume few) (nat_lt volume most) (lt_more volume few most le)) h
-more_volumes few most c le h = h
+more_volumes few most c h1 h2 = grind (arith, and_more, lt_more)
 
 some_records : (v : VolumeLine) → is_volume v ≡ true → 1 ≤ v.records
 unfolding is_volume
-some_records v h = elim (leb_tells 1 v.records) [
-  | inl e ↦ e.1
-  | inr m ↦ absurd (not_both (and_parts _ _ (and_parts _ _ (and_parts _ _ h).1).0).0 m.0)
-]
+some_records v h = grind (arith, leb_tells, not_both, and_parts)
 
 records_some : (vs : List VolumeLine) (v : ℕ) → list_all is_volume vs ≡ true → v < length vs
     → 1 ≤ records_in (slice_get vs v)

@@ -1,8 +1,6 @@
 -- What a reference goes to that nothing refuses before its page is looked at: its segment is there, and where its
 -- number is connected the segment is active, with a word for the page in its page table.
-use Rattle.machine_tables.proofs.Prelude.{◌≡◌, ℕ, true, is_some, length, ◌<◌, ◌≤◌, Option, Some, None, refl, sym, ap, subst, ◌∙◌, arith, ◌/◌, Reference, Node, node_in, pool_of, has_segment, Sdw, IsActive, uid_at, leads, place_of, table_of, IsKept, is_there, pages_of, directory_found, long_segment, Keeps, descriptor_of, is_connected, or_zero, outside_refusal, uid_of_number, State, Storage, inside_is, IsInside}
-use Rattle.descriptor_seg.specs.declared.Sdw.TheVariants as sdw
-use Rattle.storage_ops.proofs.PageFacts.{room_of}
+use Rattle.machine_tables.proofs.Prelude.{◌≡◌, ℕ, true, is_some, length, ◌<◌, ◌≤◌, Option, Some, None, refl, sym, ap, subst, ◌∙◌, arith, ◌/◌, Reference, Node, node_in, pool_of, has_segment, Sdw, IsActive, uid_at, leads, place_of, table_of, IsKept, is_there, pages_of, directory_found, long_segment, Keeps, descriptor_of, is_connected, or_zero, outside_refusal, uid_of_number, State, Storage, inside_is, IsInside, Sdw as sdw, PageFacts_room_of as room_of}
 use Rattle.machine_tables.proofs.LinkLaws.{place_found}
 
 -- a number that is connected stands for an active segment

@@ -1,7 +1,5 @@
 -- The least frame into which a page of a segment is being read, by the processors that read.
-use Rattle.machine_tables.proofs.Prelude.{◌≡◌, ◌+◌, ◌<◌, ◌≤◌, ℕ, zero, suc, Bool, true, false, ◌&&◌, cond, eqb, List, length, Option, Some, None, ◌⊎◌, inl, inr, refl, sym, ap, subst, ◌∙◌, arith, nat_le, eqb_tells, nat_tests, Frame, Free, Core, frame_at, reads_of, started_page, read_at, Transfer, Processor, frame_reading, is_page_of, no_processor, processor_at, map_list, none_some, AreRead, least_from, lesser, read_by}
-use Rattle.laws.proofs.Lists.{within_from}
-use Rattle.laws.proofs.Places.{shown_within}
+use Rattle.machine_tables.proofs.Prelude.{◌≡◌, ◌+◌, ◌<◌, ◌≤◌, ℕ, zero, suc, Bool, true, false, cond, List, length, Option, Some, None, ◌⊎◌, inl, inr, refl, sym, ap, ◌∙◌, arith, nat_le, eqb_tells, nat_tests, Frame, Free, Core, frame_at, reads_of, started_page, read_at, Transfer, Processor, frame_reading, is_page_of, no_processor, processor_at, map_list, AreRead, least_from, lesser, read_by, within_from, shown_within}
 use Rattle.machine_tables.proofs.FindLaws.{position_first, position_not}
 
 -- ---- the least of what processors read
@@ -10,13 +8,7 @@ some_same : {x y : ℕ} → Some x ≡ Some y → x ≡ y
 some_same h = cc
 
 lesser_from : (a b : Option ℕ) (f : ℕ) → lesser a b ≡ Some f → (a ≡ Some f) ⊎ (b ≡ Some f)
-lesser_from None b f h = inr h
-lesser_from (Some x) None f h = inl h
-lesser_from (Some x) (Some y) f h = by (nat_le x y) h
-  where
-    by : (t : Bool) → Some (cond t x y) ≡ Some f → (Some x ≡ Some f) ⊎ (Some y ≡ Some f)
-    by true e = inl e
-    by false e = inr e
+lesser_from a b f h1 = grind arith
 
 -- the frames of two is at most each
 abbrev pub AtMost : Option ℕ → ℕ → Type 0
@@ -81,16 +73,7 @@ module _ (core : Core) (ps : List Processor) (uid : ℕ) (test : ℕ → Bool) (
   -- what a processor reads is being read into its frame
   read_from : (d f : ℕ) (o : Option Transfer) → (processor_at ps d).cpu.transfer ≡ o → read_by uid test o ≡ Some f
       → passes (frame_at core f) ≡ true
-  read_from d f None e h = cc
-  read_from d f (Some t) e h = by (eqb t.uid uid && test t.page) refl h
-    where
-      by : (b : Bool) → (eqb t.uid uid && test t.page) ≡ b → cond b (Some t.frame) None ≡ Some f
-          → passes (frame_at core f) ≡ true
-      by false i j = cc
-      by true i j =
-          let same : t.frame ≡ f = some_same j in
-          let read : read_at (reads_of core) t.frame ≡ Some (t.uid, t.page) = under.reading d t e in
-          cc (started_at f)
+  read_from d f o h1 h2 = grind (arith, some_same, started_at)
 
   -- what is being read into a frame is read by some processor
   reads_to : (f : ℕ) → passes (frame_at core f) ≡ true

@@ -33,10 +33,7 @@ abbrev pub first_of : ℕ → ℕ → Queue
 first_of n count = record { waiting = range 0 n; room = count }
 
 pub ready_room : (q : Queue) (n count : ℕ) → q ≡ first_of n count → n < count → length q.waiting < q.room
-ready_room q n count e lt =
-    let items : length q.waiting ≡ n = ap (λ (x : Queue). length x.waiting) e ∙ range_length 0 n in
-    let same : q.room ≡ count = ap (λ (x : Queue). x.room) e in
-    omega arith
+ready_room q n count e lt = grind (arith, range_length)
 
 pub one_ready : (before after : Queue) (n count : ℕ) → before ≡ first_of n count → after ≡ with_last before n
     → after ≡ first_of (n + 1) count

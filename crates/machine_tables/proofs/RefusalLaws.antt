@@ -1,6 +1,5 @@
 -- What the store refuses is what the model refuses by the flat store after the book.
-use Rattle.machine_tables.proofs.Prelude.{◌≡◌, ℕ, cond, List, Option, None, refl, ap, Plan, reference_of, Command, Reference, Reply, reply_by, reply_to_command, volume_in, is_volume_full, reply_to_reference, room_for, Store, Shows, Stored, refusal, IsFaithful, flat_of, State, shown}
-use Rattle.book.specs.declared.replies.Reply.TheVariants as reply
+use Rattle.machine_tables.proofs.Prelude.{◌≡◌, ℕ, cond, List, None, refl, Plan, reference_of, Command, Reference, Reply, reply_to_command, volume_in, is_volume_full, reply_to_reference, room_for, Store, Shows, Stored, refusal, IsFaithful, flat_of, State, shown, arith}
 use Rattle.storage_ops.specs.References as stored
 use Rattle.machine_model.specs.Refusal as model
 
@@ -16,16 +15,10 @@ pub shows_of : {D : Type 0} (drive : D → List (List ℕ)) (p : Plan) (t : Stor
 shows_of drive p t st h = assumption
 
 same_outside : (x : Reply) → stored.only stored.is_outside x ≡ model.only model.is_outside x
-same_outside reply.Unknown = refl
-same_outside reply.Gone = refl
-same_outside reply.NoAccess = refl
-same_outside reply.Length = refl
-same_outside x = refl
+same_outside x = grind arith
 
 same_room : (x : Reply) → stored.only stored.is_of_room x ≡ model.only model.is_of_room x
-same_room reply.Quota = refl
-same_room reply.NoRecord = refl
-same_room x = refl
+same_room x = grind arith
 
 pub outside_is : (s : State) (k : ℕ) (r : Reference)
     → stored.outside_refusal s.plan (flat_of s) k r ≡ model.outside_refusal s k r

@@ -1,5 +1,5 @@
 -- The right of a process to a segment that is in the tree.
-use Rattle.machine_tables.proofs.Prelude.{◌≡◌, ℕ, true, List, refl, sym, ap, ◌∙◌, Mode, Who, rows_in, Row, access_of, Node, node_in, field_found, IsRight, is_there, pages_in, pages_of, who_at, some_there}
+use Rattle.machine_tables.proofs.Prelude.{◌≡◌, ℕ, true, List, refl, Mode, Who, rows_in, access_of, Node, node_in, field_found, IsRight, is_there, pages_in, who_at, some_there}
 
 pub right_is : (ns : List Node) (whos : List Who) (k u : ℕ) (m : Mode) (pages : ℕ) → is_there ns u ≡ true
     → IsRight ns whos k u m pages → (m ≡ access_of (who_at whos k) (rows_in ns u)) × (pages ≡ pages_in ns u)

@@ -1,7 +1,6 @@
 -- The rules of a step, in their order.
-use Rattle.machine_tables.proofs.Prelude.{◌≡◌, ◌≢◌, ◌≤◌, ℕ, Bool, true, false, is_some, length, List, Option, Some, None, refl, ap, subst, ◌∙◌, IsSome, action_of, has_process, is_over, IsActive, Mover, table_of, Keeps, mover_in, mover_of, cpu_at, processor_at, State, CutDescriptor, over_idle, table_few, active_at, rule_of, owner_by, owner_of, Holder}
-use Rattle.machine_model.specs.Actions as act
-use Rattle.machine_model.specs.declared.Phase.TheVariants as phase
+use Rattle.machine_tables.proofs.Prelude.{◌≡◌, ◌≤◌, ℕ, true, false, length, List, Some, refl, IsSome, action_of, has_process, is_over, IsActive, Mover, table_of, Keeps, mover_of, cpu_at, processor_at, State, CutDescriptor, over_idle, table_few, active_at, rule_of, owner_by, owner_of, Holder, Action as act, arith}
+use Rattle.machine_model.specs.declared.Phase.{Phase as phase}
 
 pub stopped_rule : (s : State) (c : ℕ) → s.stopped ≡ true → act.IsStopped ≡ action_of s c
 unfolding action_of
@@ -35,12 +34,4 @@ moved_short s keeps m active = table_few s m.uid keeps (active_at s.store.ast ac
 
 -- where a processor has a process, some process is running
 pub busy_goes_on : (s : State) (c : ℕ) → has_process (processor_at s.processors c) ≡ true → is_over s ≡ false
-busy_goes_on s c busy = by (is_over s) refl
-  where
-    none : (o : Option ℕ) → is_some o ≡ true → ((k : ℕ) → o ≢ Some k) → ⊥
-    none None e idle = cc
-    none (Some k) e idle = idle k refl
-
-    by : (b : Bool) → is_over s ≡ b → b ≡ false
-    by false e = refl
-    by true e = absurd (none (cpu_at s.processors c).process busy (over_idle s e c))
+busy_goes_on s c busy = grind (arith, over_idle)

@@ -1,5 +1,5 @@
 -- What the calls on pages make of the flat store that is shown.
-use Rattle.machine_tables.proofs.Prelude.{◌≡◌, ◌+◌, ◌*◌, ℕ, Bool, true, false, cond, refl, sym, ap, subst, ◌∙◌, ◌%◌, List, IfOk, Result, Ok, Err, Plan, Reference, alters, new_word, written, Store, Frame, Free, Started, Bound, after_reference, bound_page, frame_at, is_bound, Left, Kept, Released, Plain, frame_in, number_in, referred, uid_in, get_or-set_same, page_left, Shows, Stored, page_in, page_or_zero, IsFaithful, through, without_left, Storage, old_word, Parts, shown, with_pages_of}
+use Rattle.machine_tables.proofs.Prelude.{◌≡◌, ◌+◌, ◌*◌, ℕ, true, false, subst, ◌%◌, List, IfOk, Result, Ok, Err, Plan, Reference, alters, new_word, written, Store, Frame, after_reference, bound_page, frame_at, is_bound, Left, Plain, frame_in, number_in, referred, uid_in, get_or-set_same, page_left, Shows, Stored, page_in, page_or_zero, IsFaithful, through, without_left, Storage, old_word, Parts, shown, with_pages_of, arith}
 use Rattle.machine_tables.proofs.PageLaws.{bound_within}
 use Rattle.machine_tables.proofs.RefusalLaws.{shows_of}
 
@@ -11,13 +11,11 @@ faithful_of drive p t st h = assumption
 pub shown_by : {D : Type 0} (drive : D → List (List ℕ)) (old : Parts D) (before after : Stored D) (p : Plan)
     (t u : Store) → shown drive before ≡ old.state.store → (Shows drive p t before → Shows drive p u after)
     → IsFaithful p t old.state.store → IsFaithful p u (shown drive after)
-shown_by drive old before after p t u same call h = faithful_of drive p u after
-    (call (shows_of drive p t before (rw same h)))
+shown_by drive old before after p t u same call h = grind (arith, faithful_of, shows_of)
 
 -- the page in a bound frame
 page_told : (x : Frame) → is_bound x ≡ true → ◌≡◌ {A = ℕ × ℕ} (uid_in x, number_in x) (page_or_zero (bound_page x))
-page_told (Bound u q used modified) h = refl
-page_told _ h = cc
+page_told x h1 = grind arith
 
 pub page_of_frame : {D : Type 0} (drive : D → List (List ℕ)) (old : Parts D) (before : Stored D) (f : ℕ)
     → shown drive before ≡ old.state.store → is_bound (frame_at old.state.store.pages.core f) ≡ true
@@ -33,15 +31,12 @@ pub written_shown : {D : Type 0} (drive : D → List (List ℕ)) (old : Parts D)
     (1024 * number_in (frame_at before.segs.pages.core f) + at) w) after) → IsFaithful p t old.state.store
     → IsFaithful p (written t (page_in old.state.store f).0 (1024 * (page_in old.state.store f).1 + at) w)
     (shown drive after)
-written_shown drive old before after p t f at w same bound call h =
-    subst (λ (x : ℕ × ℕ). IsFaithful p (written t x.0 (1024 * x.1 + at) w) (shown drive after))
-    (page_of_frame drive old before f same bound) (shown_by drive old before after p t _ same call h)
+written_shown drive old before after p t f at w same bound call h = grind (arith, page_of_frame, shown_by)
 
 -- a page has left its frame
 left_same : (E : Type 0) (t : Store) (page : ℕ × ℕ) (left : Left)
     → page_left {E = E} t page.0 page.1 (Ok left) ≡ without_left left page t
-left_same E t page Released = refl
-left_same E t page Kept = refl
+left_same E t page left = grind arith
 
 pub left_shown : {D E : Type 0} (drive : D → List (List ℕ)) (old : Parts D) (before after : Stored D) (f uid : ℕ)
     (r : Result Left E) → shown drive before ≡ old.state.store
@@ -59,17 +54,12 @@ left_shown {E = E} drive old before after f uid (Ok left) same bound own call = 
 -- ---- a reference through a frame
 
 still_bound : (x : Frame) → bound_page (after_reference x false) ≡ bound_page x
-still_bound Free = refl
-still_bound (Started u q) = refl
-still_bound (Bound u q used modified) = refl
+still_bound x = grind arith
 
 -- once its word was read
 page_read : (s : Plain) (f : ℕ) → is_bound (frame_in s f) ≡ true
     → bound_page (frame_in (referred s f false) f) ≡ bound_page (frame_in s f)
-page_read s f bound = cc (
-  get_or-set_same s.core.frames f (after_reference (frame_in s f) false) Free (bound_within s f bound),
-  still_bound (frame_in s f),
-)
+page_read s f bound = grind (arith, get_or-set_same, bound_within, still_bound)
 
 pub through_shown : {D : Type 0} (old mid : Parts D) (after : Storage) (f w : ℕ) (r : Reference) (p : Plan) (t : Store)
     → is_bound (frame_in old.state.store.pages f) ≡ true
@@ -78,18 +68,7 @@ pub through_shown : {D : Type 0} (old mid : Parts D) (after : Storage) (f w : �
     → (IsFaithful p t mid.state.store → IsFaithful p
     (written t (page_in mid.state.store f).0 (1024 * (page_in mid.state.store f).1 + r.offset % 1024) w) after)
     → IsFaithful p t mid.state.store → IsFaithful p (through old.state f r t) after
-through_shown old mid after f w r p t bound read writes word write h = rw done (write h)
-  where
-    page : page_in mid.state.store f ≡ page_in old.state.store f
-    page = ap (λ (x : Parts _). page_in x.state.store f) read
-        ∙ ap page_or_zero (page_read old.state.store.pages f bound)
-
-    into : ℕ × ℕ → ℕ → Store
-    into x v = written t x.0 (1024 * x.1 + r.offset % 1024) v
-
-    done : through old.state f r t ≡ into (page_in mid.state.store f) w
-    done = ap (λ (b : Bool). cond b (into (page_in old.state.store f)
-        (new_word (old_word old.state.store.pages f r) r.kind)) t) writes ∙ (λ i. into (sym page i) (sym word i))
+through_shown old mid after f w r p t bound read writes word write h = grind (arith, page_read)
 
 pub not_through : {D : Type 0} (old : Parts D) (after : Storage) (f : ℕ) (r : Reference) (p : Plan) (t : Store)
     → alters r.kind ≡ false → IsFaithful p t after → IsFaithful p (through old.state f r t) after

@@ -1,5 +1,5 @@
 -- Processors that are told one after the other.
-use Rattle.machine_tables.proofs.Prelude.{◌≡◌, ◌+◌, ◌<◌, ℕ, suc, zero, List, [], ◌∷◌, length, get_or, set, refl, ap, ◌∙◌, arith, What, Processor, told_at, told_from}
+use Rattle.machine_tables.proofs.Prelude.{◌≡◌, ◌+◌, ◌<◌, ℕ, suc, zero, List, [], ◌∷◌, length, get_or, set, refl, arith, What, Processor, told_at, told_from}
 
 -- the first n of a list are told
 unfoldable pub told_first : ℕ → What → ℕ → ℕ → List Processor → List Processor

@@ -1,12 +1,10 @@
 -- Pages of a segment that are taken one after the other.
-use Rattle.machine_tables.proofs.Prelude.{◌≡◌, ◌≢◌, ◌+◌, ◌<◌, ◌≤◌, ℕ, true, List, [], ◌∷◌, ◌++◌, length, set, Option, Some, None, refl, sym, ap, ◌∙◌, arith, length-append, subst, drop_more, get_or-set_other, get_or-set_same, drop_of_length-le, What, Frame, Bound, bound_page, is_bound, Ptw, Null, Entry, ActiveSegs, IsActive, frame_in, number_in, uid_in, place_of, table_of, word_of, worded, Aim, take_all, take_one, frames_from, frames_in, frames_of_owner, here_in, State, leaving_moving, none_some, HasOwner, LeavesPast, take_long, page_is}
-use Rattle.laws.proofs.Places.{list_within}
+use Rattle.machine_tables.proofs.Prelude.{◌≡◌, ◌≢◌, ◌+◌, ◌<◌, ◌≤◌, ℕ, true, List, [], ◌∷◌, ◌++◌, length, set, Some, None, refl, sym, ap, ◌∙◌, arith, drop_more, get_or-set_other, get_or-set_same, drop_of_length-le, What, Frame, bound_page, is_bound, Ptw, Null, ActiveSegs, IsActive, frame_in, number_in, uid_in, place_of, table_of, word_of, worded, Aim, take_all, take_one, frames_from, frames_in, frames_of_owner, here_in, State, leaving_moving, none_some, HasOwner, LeavesPast, take_long, page_is, list_within}
 
 -- what a frame that a page is in is bound to
 pub bound_parts : (x : Frame) (u p : ℕ) → bound_page x ≡ Some (u, p)
     → (is_bound x ≡ true) × (uid_in x ≡ u) × (number_in x ≡ p)
-bound_parts (Bound v q used modified) u p h = let same = page_is v q u p h in (refl, same.0, same.1)
-bound_parts _ u p h = cc
+bound_parts x u p h1 = grind (arith, page_is)
 
 -- ---- the list of what is taken
 
@@ -70,32 +68,13 @@ pub here_few : {s first : State} {c : ℕ} {a : Aim} {w : What} {u p low : ℕ} 
     → p < length (table_of s.store.ast u)
     → (length (frames_of_owner s.owner) + length (here_in (word_of s.store.ast u p)) ≤ 256)
     × (length (here_in (word_of s.store.ast u p)) ≤ s.spare)
-here_few {s} {u = u} {p = p} on lt =
-    let all = ap length (frames_here s.store.ast u p lt) in
-    let both = length-append (here_in (word_of s.store.ast u p)) (frames_from s.store.ast u (p + 1)) in
-    (omega arith, omega arith)
+here_few {s} {u = u} {p = p} on lt = grind (arith, frames_here)
 
 pub takes_next : {s t first : State} {c : ℕ} {a : Aim} {w : What} {u p low : ℕ} → TakesOn s first c a w u p low
     → p < length (table_of s.store.ast u) → t ≡ take_all s c a w (here_in (word_of s.store.ast u p))
     → LeavesPast s.store.ast t.store.ast u p → TakesOn t first c a w u (p + 1) low
 takes_next {s} {t} {first} {c} {a} {w} {u} {p} on lt is past =
-    let hs = here_in (word_of s.store.ast u p) in
-    let rest : frames_from t.store.ast u (p + 1) ≡ frames_from s.store.ast u (p + 1) = ap frames_in past.past in
-    let all = frames_here s.store.ast u p lt in
-    let count = ap length all ∙ length-append hs (frames_from s.store.ast u (p + 1)) in
-    let less = ap length rest in
-    let more = ap (λ (x : State). length (frames_of_owner x.owner)) is ∙ take_long s c a w hs in
-    let spent = room_less s c a w hs (omega arith) in
-    let spare = ap (λ (x : State). x.spare) is in
-    record {
-      same = cc (take_all-append s c a w hs (frames_from s.store.ast u (p + 1)));
-      active = rw past.entries on.active;
-      long = cc;
-      owner = rw is (owner_still s c a w hs on.owner);
-      few = omega arith;
-      room = omega arith;
-      still = cc (takes_still s c a w hs on.still);
-    }
+    grind (arith, frames_here, take_long, room_less, take_all-append, owner_still, takes_still)
 
 pub takes_end : {s first : State} {c : ℕ} {a : Aim} {w : What} {u p low : ℕ} → TakesOn s first c a w u p low
     → length (table_of s.store.ast u) ≤ p → s ≡ take_all first c a w (frames_from first.store.ast u low)

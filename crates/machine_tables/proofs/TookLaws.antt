@@ -1,5 +1,5 @@
 -- What stays while pages are taken, and what is taken of a segment.
-use Rattle.machine_tables.proofs.Prelude.{◌≡◌, ◌+◌, ◌<◌, ◌≤◌, ℕ, true, false, not, List, [], ◌∷◌, ◌++◌, length, Option, refl, sym, ap, subst, ◌∙◌, arith, drop, drop_of_length-le, drop_more, What, Entry, ptw_at, Ptw, Null, IsActive, Aim, cut_all, take_all, took, is_empty, cut_of_owner, frames_in, here_in, trailers_in, State, HasOwner, Parts, with_state, is_bare, take_cut}
+use Rattle.machine_tables.proofs.Prelude.{◌≡◌, ◌+◌, ◌<◌, ◌≤◌, ℕ, true, false, not, List, [], ◌∷◌, ◌++◌, length, arith, drop, drop_of_length-le, drop_more, What, ptw_at, Ptw, Null, IsActive, Aim, cut_all, take_all, took, is_empty, cut_of_owner, frames_in, here_in, trailers_in, State, HasOwner, Parts, with_state, is_bare, take_cut}
 use Rattle.machine_model.proofs.TakeWhole.{take_rest}
 use Rattle.machine_tables.proofs.TakeLaws.{owner_still, room_less}
 
@@ -18,17 +18,14 @@ trailers_still s c a w fs u = cc (entries_still s c a w fs, links_still s c a w 
 -- ---- whether there is something to take
 
 nonempty_append : (xs ys : List ℕ) → not (is_empty xs) ≡ true → not (is_empty (xs ++ ys)) ≡ true
-nonempty_append [] ys h = cc
-nonempty_append (x ∷ xs) ys h = refl
+nonempty_append xs ys h1 = grind arith
 
 none_of : (xs : List ℕ) → not (is_empty xs) ≡ false → xs ≡ []
-none_of [] h = refl
-none_of (x ∷ xs) h = cc
+none_of xs h1 = grind arith
 
 pub some_here : (ws : List Ptw) (p low : ℕ) → frames_in (drop p ws) ≡ frames_in (drop low ws) → p < length ws
     → not (is_empty (here_in (ptw_at ws p))) ≡ true → not (is_empty (frames_in (drop low ws))) ≡ true
-some_here ws p low same lt here =
-    cc (drop_more ws p Null lt, nonempty_append (here_in (ptw_at ws p)) (frames_in (drop (p + 1) ws)) here)
+some_here ws p low same lt here = grind (arith, drop_more, nonempty_append)
 
 pub next_here : (ws : List Ptw) (p low : ℕ) → frames_in (drop p ws) ≡ frames_in (drop low ws) → p < length ws
     → not (is_empty (here_in (ptw_at ws p))) ≡ false → frames_in (drop (p + 1) ws) ≡ frames_in (drop low ws)
@@ -39,16 +36,11 @@ pub none_here : (ws : List Ptw) (p low : ℕ) → frames_in (drop p ws) ≡ fram
 none_here ws p low same past = cc (drop_of_length-le ws past)
 
 pub bare_pages : (fs : List ℕ) (pairs : List (ℕ × ℕ)) → not (is_empty fs) ≡ true → is_bare fs pairs ≡ false
-bare_pages [] pairs h = cc
-bare_pages (f ∷ fs) pairs h = refl
+bare_pages fs pairs h1 = grind arith
 
 pub bare_trailers : (fs : List ℕ) (pairs rest : List (ℕ × ℕ)) (pair : ℕ × ℕ) → pairs ≡ pair ∷ rest
     → is_bare fs pairs ≡ false
-bare_trailers fs pairs rest pair is = ap (is_bare fs) is ∙ by fs
-  where
-    by : (xs : List ℕ) → is_bare xs (pair ∷ rest) ≡ false
-    by [] = refl
-    by (x ∷ xs) = refl
+bare_trailers fs pairs rest pair is = grind arith
 
 pub bare_none : (fs : List ℕ) (pairs : List (ℕ × ℕ)) → not (is_empty fs) ≡ false → pairs ≡ [] → is_bare fs pairs ≡ true
 bare_none fs pairs none is = cc (none_of fs none)
@@ -66,14 +58,8 @@ pub after_pages : (s t : State) (c : ℕ) (a : Aim) (w : What) (fs : List ℕ) (
     → IsActive s.store.ast.entries u → HasOwner s.owner
     → length (cut_of_owner s.owner) + length (trailers_in s.store u) ≤ 256
     → length fs + length (trailers_in s.store u) ≤ s.spare → CanCut t u
-after_pages s t c a w fs u is active owner few room = rw is (record {
-  active = subst (λ (e : List (Option Entry)). IsActive e u) (sym (entries_still s c a w fs)) active;
-  owner = owner_still s c a w fs owner;
-  few = let cut = ap length (take_cut s c a w fs) in let all = ap length (trailers_still s c a w fs u) in
-      omega (arith, cut, all, few);
-  room = let spent = room_less s c a w fs (omega (arith, room)) in
-      let all = ap length (trailers_still s c a w fs u) in omega (arith, spent, all, room);
-})
+after_pages s t c a w fs u is active owner few room =
+    grind (arith, entries_still, owner_still, take_cut, trailers_still, room_less)
 
 pub took_is : {D : Type 0} (old mid new : Parts D) (c : ℕ) (a : Aim) (w : What) (fs : List ℕ) (u : ℕ)
     → mid ≡ with_state old (take_all old.state c a w fs)

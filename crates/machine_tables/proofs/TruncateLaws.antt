@@ -1,6 +1,5 @@
 -- What a truncation changes of a store, by page control, the active segments and one count.
-use Rattle.machine_tables.proofs.Prelude.{◌≡◌, ◌≢◌, ◌-◌, ◌/◌, ◌%◌, ℕ, Bool, true, false, cond, length, List, [], ◌∷◌, Some, inl, inr, refl, sym, ap, ◌∙◌, arith, cases_eq, eq-eqb, ne_eqb, get_or-set_same, count_of, look, with_value, length_with, look_with_other, Free, bound_page, Ptw, Here, Leaving, Null, Out, cut, frame_in, words_in, word_of, Paged, is_cleared, page_cut, pages_cut, with_cut, with_truncated, without_page, without_pages, pages_past, are_zeros, here_if, with_here, home_in, Storage, with_pages, page_referred}
-use Rattle.laws.proofs.Lists.{within_from}
+use Rattle.machine_tables.proofs.Prelude.{◌≡◌, ◌≢◌, ◌-◌, ◌/◌, ◌%◌, ℕ, Bool, true, false, cond, length, List, [], ◌∷◌, Some, inl, inr, refl, ap, arith, cases_eq, eq-eqb, ne_eqb, get_or-set_same, count_of, look, with_value, length_with, look_with_other, bound_page, Ptw, Here, Leaving, Out, cut, frame_in, word_of, Paged, is_cleared, page_cut, pages_cut, with_cut, with_truncated, without_page, without_pages, pages_past, here_if, with_here, home_in, Storage, with_pages, page_referred, within_from}
 use Rattle.machine_tables.proofs.OrderLaws.{cut_first}
 
 -- what is told of a segment
@@ -35,34 +34,16 @@ pub record KeepsOthers (old now : Storage) (uid : ℕ) : Type 0 where
   pub moving : now.moving ≡ old.moving
 
 keeps_both : (a b c : Storage) (uid : ℕ) → KeepsOthers a b uid → KeepsOthers b c uid → KeepsOthers a c uid
-keeps_both a b c uid x y = record {
-  nodes = cc;
-  entries = cc;
-  next = cc;
-  segments = cc;
-  long = cc;
-  counts = λ s other. y.counts s other ∙ x.counts s other;
-  links = cc;
-  whos = cc;
-  moving = cc;
-}
+keeps_both a b c uid x y = grind arith
 
 -- ---- pages that are stored no more
 
 without_told : (st : Storage) (uid p : ℕ) (w : Ptw)
     → told_of (without_page st uid p w) uid ≡ page_cut (told_of st uid) (home_in st uid) uid p w
-without_told st uid p Null = refl
-without_told st uid p w = cc (less_of st.accounts.segments st.accounts.counts uid)
+without_told st uid p w = grind (arith, less_of)
 
 without_keeps : (st : Storage) (uid p : ℕ) (w : Ptw) → KeepsOthers st (without_page st uid p w) uid
-without_keeps st uid p Null = assumption
-without_keeps st uid p w =
-    let less = count_of st.accounts uid - 1 in
-    assumption (
-      length_with st.accounts.segments st.accounts.counts uid less,
-      (λ (s : ℕ) (other : s ≢ uid). look_with_other st.accounts.segments st.accounts.counts uid less s
-          (λ e. other (sym e))),
-    )
+without_keeps st uid p w = grind (arith, length_with, look_with_other)
 
 -- the home of a segment stays
 home_same : (old now : Storage) (uid : ℕ) → KeepsOthers old now uid → home_in now uid ≡ home_in old uid
@@ -98,11 +79,7 @@ pub record IsCuttable (st : Storage) (uid p : ℕ) (w : Ptw) : Type 0 where
 -- a reference leaves what a frame is bound to
 bound_cut : (st : Storage) (f at uid p : ℕ) → bound_page (frame_in st.pages f) ≡ Some (uid, p)
     → bound_page (frame_in (cut st.pages f at) f) ≡ Some (uid, p)
-bound_cut st f at uid p bound = rw (
-  get_or-set_same,
-  within_from st.pages.core.frames f Free (λ free. cc),
-  page_referred (frame_in st.pages f) true,
-) bound
+bound_cut st f at uid p bound = grind (arith, get_or-set_same, within_from, page_referred)
 
 -- both ends of a cut
 module _ (st : Storage) (uid p at f : ℕ) (bound : bound_page (frame_in st.pages f) ≡ Some (uid, p)) where
@@ -126,19 +103,11 @@ module _ (st : Storage) (uid p at f : ℕ) (bound : bound_page (frame_in st.page
 
 pub cut_told : (st : Storage) (uid p at : ℕ) (w : Ptw) → IsCuttable st uid p w
     → told_of (with_cut st uid p at w) uid ≡ cut_first (told_of st uid) (home_in st uid) uid p at w
-cut_told st uid p at Null may = refl
-cut_told st uid p at (Out r) may = absurd (may.inside r refl)
-cut_told st uid p at (Here f) may = absurd (may.away f refl)
-cut_told st uid p at (Leaving f) may = leaving_told st uid p at f (may.bound f refl)
-    (are_zeros (words_in (cut st.pages f at) f)) refl
+cut_told st uid p at w h1 = grind (arith, leaving_told)
 
 pub cut_keeps : (st : Storage) (uid p at : ℕ) (w : Ptw) → IsCuttable st uid p w
     → KeepsOthers st (with_cut st uid p at w) uid
-cut_keeps st uid p at Null may = assumption
-cut_keeps st uid p at (Out r) may = absurd (may.inside r refl)
-cut_keeps st uid p at (Here f) may = absurd (may.away f refl)
-cut_keeps st uid p at (Leaving f) may = leaving_keeps st uid p at f (may.bound f refl)
-    (are_zeros (words_in (cut st.pages f at) f))
+cut_keeps st uid p at w h1 = grind (arith, leaving_keeps)
 
 -- ---- the whole
 
@@ -156,19 +125,8 @@ module _ (st : Storage) (uid words : ℕ) where
   pub odd_told : at ≢ 0 → IsCuttable st uid page (word_of st.ast uid page) → told_of (with_truncated st uid words) uid
       ≡ pages_cut (cut_first (told_of st uid) (home_in st uid) uid page at (word_of st.ast uid page))
       (home_in st uid) uid (pages_past st uid words)
-  odd_told odd may =
-      let now = with_cut st uid page at (word_of st.ast uid page) in
-      rw (ne_eqb at 0 odd) (cc (
-        some_told now uid (pages_past st uid words),
-        home_same st now uid (cut_keeps st uid page at (word_of st.ast uid page) may),
-        cut_told st uid page at (word_of st.ast uid page) may,
-      ))
+  odd_told odd may = grind (arith, ne_eqb, some_told, home_same, cut_keeps, cut_told)
 
   pub truncated_keeps : (at ≢ 0 → IsCuttable st uid page (word_of st.ast uid page))
       → KeepsOthers st (with_truncated st uid words) uid
-  truncated_keeps may = elim (cases_eq at 0) [
-    | inl even ↦ rw (eq-eqb at 0 even) (some_keeps st uid (pages_past st uid words))
-    | inr odd ↦ rw (ne_eqb at 0 odd) (let now = with_cut st uid page at (word_of st.ast uid page) in
-        keeps_both st now (without_pages now uid (pages_past st uid words)) uid
-        (cut_keeps st uid page at (word_of st.ast uid page) (may odd)) (some_keeps now uid (pages_past st uid words)))
-  ]
+  truncated_keeps may = grind (arith, eq-eqb, some_keeps, ne_eqb, keeps_both, cut_keeps)

@@ -1,12 +1,5 @@
 -- A segment that is truncated, exactly.
-use Rattle.machine_tables.proofs.Prelude.{◌≡◌, ◌≢◌, ◌<◌, ◌≤◌, ◌+◌, ◌-◌, ◌*◌, ◌/◌, ◌%◌, ℕ, suc, zero, Bool, true, false, not, ◌&&◌, cond, eqb, length, map, List, [], ◌∷◌, Option, Some, None, inl, inr, refl, sym, ap, subst, ◌∙◌, arith, Result, Ok, Err, nat_lt, range_with_len, cases_eq, cases_lt, eq-eqb, le-ltb, lt-ltb, ne_eqb, get_or_past, Plan, Reply, LeadsTo, Node, Walk, node_in, walk_in, PathFault, path_answer, HasColumns, count_of, look, node_at, only_segment, segment_at, walked, takes_effect, after_truncate, truncate_reply, Store, Free, bound_page, frame_at, is_bound, Ptw, Here, Leaving, Null, Segment, ActiveSegs, IsActive, Home, cut, frame_in, number_in, plain, words_in, is_filed_at, frame_of, has_record, is_out, uid_in, IsTied, place_of, table_of, word_of, worded, IsKept, HasParts, CutsPages, IsTakenPast, IsTakenPastAt, KeepsRest, is_here, frame_left, CountsOthers, Paged, cut_at, cut_by, is_cleared, page_cleared, page_cut, paged, pages_cut, IsStore, Shows, Stored, answered, home_of, is_there, pages_in, segment_refuses, first_past, frame_entry, stays, with_effect, with_truncated, are_zeros, page_or_zero, IsFaithful, is_active, OwnsFor, OwnsFrom, Storage, active_place, map_list, none_some, active_at, is_kept, left_entry, shown, IsCommittedBut, here_again, uid_found, found_uid, page_is}
-use Rattle.std.proofs.lemmas.Bool.{or_right}
-use Rattle.laws.proofs.Numbers.{eqb_self}
-use Rattle.script.specs.declared.commands.Command.TheVariants as command
-use Rattle.book.specs.declared.entries.Entry.{Entry}
-use Rattle.book.specs.declared.entries.Entry.TheVariants as entry
-use Rattle.book.specs.declared.replies.Reply.TheVariants as reply
-use Rattle.custody_model.specs.Custody.{has}
+use Rattle.machine_tables.proofs.Prelude.{◌≡◌, ◌≢◌, ◌<◌, ◌≤◌, ◌+◌, ◌-◌, ◌/◌, ◌%◌, ℕ, suc, zero, Bool, true, false, not, cond, eqb, length, map, List, [], ◌∷◌, Option, Some, None, inl, inr, refl, sym, ap, subst, ◌∙◌, arith, Result, Ok, Err, range_with_len, cases_eq, cases_lt, eq-eqb, le-ltb, lt-ltb, ne_eqb, get_or_past, Plan, Reply, Node, node_in, walk_in, PathFault, path_answer, HasColumns, count_of, look, node_at, segment_at, takes_effect, after_truncate, truncate_reply, Store, Free, bound_page, frame_at, is_bound, Ptw, Here, Leaving, Null, Segment, ActiveSegs, IsActive, Home, frame_in, number_in, plain, is_filed_at, frame_of, has_record, is_out, uid_in, IsTied, place_of, table_of, word_of, worded, IsKept, HasParts, CutsPages, IsTakenPast, IsTakenPastAt, KeepsRest, is_here, frame_left, CountsOthers, Paged, cut_at, cut_by, is_cleared, page_cleared, page_cut, paged, pages_cut, IsStore, Shows, Stored, answered, home_of, is_there, pages_in, segment_refuses, first_past, frame_entry, stays, with_effect, with_truncated, IsFaithful, is_active, OwnsFor, OwnsFrom, Storage, active_place, map_list, none_some, active_at, is_kept, left_entry, shown, IsCommittedBut, here_again, uid_found, found_uid, page_is, Command as command, or_right, eqb_self, Entry_Entry as Entry, Custody_has as has}
 use Rattle.machine_tables.proofs.ColumnLaws.{columns_same, segments_same}
 use Rattle.machine_tables.proofs.CommitLaws.{segment_node, segment_uid}
 use Rattle.machine_tables.proofs.DeleteLaws.{IsNamed, page_drops}
@@ -93,9 +86,7 @@ module _ (x : Paged) (home : Home) (uid size words : ℕ) (named : IsNamed x hom
   -- the cut is at the first word of a page
   pub even_cut : at ≡ 0 → word_of now.ast uid number ≡ Null → again now uid number (word_of now.ast uid number)
       ≡ pages_cut x home uid (range_with_len (first_past words) (long - first_past words))
-  even_cut even gone =
-      let first : first_past words ≡ number = omega (arith, even) in
-      rw (gone, first, eq-eqb at 0 even) (all_past number)
+  even_cut even gone = grind (arith, eq-eqb, all_past)
 
   -- it is within a page
   pub odd_cut : at ≢ 0 → IsLeaving x uid number → again now uid number (word_of now.ast uid number)
@@ -183,8 +174,7 @@ module _ (st : Storage) (uid : ℕ) (kept : IsKept st.pages st.ast st.links)
 
       by : (q : ℕ) → pages_in st.accounts.nodes uid ≤ q → (w : Ptw) → word_of st.ast uid q ≡ w
           → word_of st.ast uid q ≡ Null
-      by q le Null e = e
-      by q le w e = absurd (not_stored q le (ap has_record e))
+      by q h1 w h2 = grind (arith, not_stored)
 
   module _ (p : ℕ) (away : is_here (word_of st.ast uid p) ≡ false) (inside : is_out (word_of st.ast uid p) ≡ false)
     where
@@ -192,11 +182,7 @@ module _ (st : Storage) (uid : ℕ) (kept : IsKept st.pages st.ast st.links)
       leaving_in = record { away = away; inside = inside; alone = λ f e. alone_in p f e }
 
       pub cuttable_in : IsCuttable st uid p (word_of st.ast uid p)
-      cuttable_in = record {
-        away = λ f e. cc;
-        inside = λ r e. cc;
-        bound = λ f e. leaving_bound st uid p f kept active e;
-      }
+      cuttable_in = grind (arith, away, leaving_bound, active)
 
 -- ---- the store
 
@@ -355,43 +341,16 @@ module _ {D : Type 0} (drive : D → List (List ℕ)) (t m u : Stored D) (n : No
   -- each is booked by whether its page stays
   each_kept : (frames : List ℕ) → OwnsFrom st n.uid page frames → (f : ℕ) → has frames f ≡ true
       → is_kept kept_frame f ≡ stays st words f
-  each_kept frames owns f there_is = whether ∙ sym (ap (λ (o : Option (ℕ × ℕ)). nat_lt (1024 * (page_or_zero o).1) words
-      && zeros) own.2)
-    where
-      own : (p : ℕ) × (page ≤ p) × (bound_page (frame_at st.pages.core f) ≡ Some (n.uid, p))
-          × (word_of st.ast n.uid p ≡ Leaving f)
-      own = owns.pages f there_is
-
-      zeros : Bool
-      zeros = not (are_zeros (words_in (cut st.pages f (words % 1024)) f))
-
-      whether : is_kept kept_frame f ≡ (nat_lt (1024 * own.0) words && zeros)
-      whether = elim (cases_eq own.0 page) [
-        | inl same ↦ elim (cases_eq offset 0) [
-          | inl even ↦ rw (even_gone even, le-ltb (1024 * own.0) words (omega (arith, same, even)))
-          | inr odd ↦ rw (
-            odd_kept f odd (ap (word_of st.ast n.uid) (sym same) ∙ own.3),
-            lt-ltb (1024 * own.0) words (omega (arith, same, odd)),
-          )
-        ]
-        | inr other ↦ (let le = own.1 in
-            rw (
-              past_gone f own.0 (omega (arith, le, other)) own.3,
-              le-ltb (1024 * own.0) words (omega (arith, le, other)),
-            ))
-      ]
+  each_kept frames owns f there_is = grind (arith, even_gone, le-ltb, odd_kept, lt-ltb, past_gone)
 
   pub truncated_left : (path : List (List ℕ)) (frames : List ℕ) → OwnsFrom st n.uid page frames
       → map (left_entry kept_frame) frames ≡ map (frame_entry st (command.Truncate path words)) frames
-  truncated_left path frames owns = map_same (left_entry kept_frame)
-      (frame_entry st (command.Truncate path words)) frames
-      (λ f is. ap (λ (b : Bool). cond b (entry.BackPage f) (entry.GonePage f)) (each_kept frames owns f is))
+  truncated_left path frames owns = grind (arith, map_same, each_kept)
 
 -- ---- the command
 
 pub not_leaving : (w : Ptw) → ((f : ℕ) → w ≢ Leaving f) → None ≡ frame_left w
-not_leaving (Leaving f) isnt = absurd (isnt f refl)
-not_leaving w isnt = refl
+not_leaving w h1 = grind arith
 
 found_node : (x : Result Node Reply) (uid : ℕ) → Some uid ≡ uid_found x → (n : Node) × (x ≡ Ok n) × (uid ≡ n.uid)
 found_node (Ok n) uid e = (n, refl, cc)
@@ -402,16 +361,7 @@ walked_found : (ns : List Node) (path : List (List ℕ)) (uid : ℕ) (n : Node)
     → Ok uid ≡ path_answer (walk_in ns path) → node_in ns uid ≡ Some n
     → uid_found (segment_at ns path) ≡ cond n.directory None (Some uid)
 unfolding node_at
-walked_found ns path uid n to found = ap (λ (x : Result Node Reply). uid_found (only_segment x))
-    (walks (walk_in ns path) to) ∙ by n.directory
-  where
-    walks : (w : Walk) → Ok uid ≡ path_answer w → walked ns w ≡ Ok n
-    walks (LeadsTo u) e = cc
-    walks _ e = cc
-
-    by : (b : Bool) → uid_found (cond b (Err reply.IsDir) (Ok n)) ≡ cond b None (Some uid)
-    by true = refl
-    by false = ap (λ (v : ℕ). Some v) (found_uid ns uid n found)
+walked_found ns path uid n to found = grind (arith, found_uid)
 
 pub is_segment : (ns : List Node) (path : List (List ℕ)) (uid : ℕ) (n : Node)
     → Ok uid ≡ path_answer (walk_in ns path) → node_in ns uid ≡ Some n → n.directory ≡ false
@@ -426,11 +376,7 @@ is_directory ns path uid n to found kind = sym (rw kind at (walked_found ns path
 pub is_nothing : (ns : List Node) (path : List (List ℕ)) (fault : PathFault)
     → Err fault ≡ path_answer (walk_in ns path) → None ≡ uid_found (segment_at ns path)
 unfolding node_at
-is_nothing ns path fault to = by (walk_in ns path) to
-  where
-    by : (w : Walk) → Err fault ≡ path_answer w → None ≡ uid_found (only_segment (walked ns w))
-    by (LeadsTo uid) e = cc
-    by _ e = refl
+is_nothing ns path fault to = grind arith
 
 module _ {D : Type 0} (drive : D → List (List ℕ)) (t m : Stored D) (path : List (List ℕ)) (words : ℕ) (r : Reply)
     (answer : (p : Plan) (s : Store) → Shows drive p s t → r ≡ truncate_reply s path)

@@ -1,8 +1,5 @@
 -- Where a pool is full something of it isn't of the chain that becomes active, and the chain goes up to the root.
-use Rattle.machine_tables.proofs.Prelude.{◌≡◌, ◌≢◌, ℕ, zero, suc, ◌+◌, ◌-◌, ◌<◌, ◌≤◌, Bool, true, false, not, cond, eqb, List, [], ◌∷◌, length, get_or, Option, Some, None, refl, sym, ap, subst, ◌∙◌, arith, inl, inr, ◌⊎◌, ◌++◌, reverse, IsSome, find, list_any, position_or_len, cases_lt, eqb_tells, reverse_onto, get_or_default, get_or-reverse, length-reverse, reverse-reverse, Who, ArePools, AccountMaps, Node, above, has_directory, node_in, pool_for, pool_of, HasChains, IsChain, IsNodeTree, has_chains, IsMember, found_front, found_member, past_front, IsUp, superior_in, superior_up, superior_found, chain_of, Entry, ActiveSegs, IsFull, IsTree, entry_at, uid_at, IsInPool, first_of, size_of, HasItsSuperiors, HasOneOffChain, off_chain, Plain, Links, IsStore, is_there, chain_first, chain_length, chain_next, found_there, directory_found, pool_of_node, first_inactive, is_active, some_within, AllFail, first_there, find_true, pool_one_off, none_some, active_at, found, first_pool}
-use Rattle.std.proofs.lemmas.Bool.{eqb-true, false_from_ne_true, not_from_false}
-use Rattle.machine_model.proofs.FindLaws.{first_idle}
-use Rattle.active_segs.specs.Active.{uid_in}
+use Rattle.machine_tables.proofs.Prelude.{◌≡◌, ◌≢◌, ℕ, zero, suc, ◌-◌, ◌<◌, ◌≤◌, Bool, true, false, not, cond, eqb, List, [], ◌∷◌, length, get_or, Option, Some, None, refl, sym, ap, subst, ◌∙◌, arith, inl, inr, ◌⊎◌, ◌++◌, reverse, IsSome, find, list_any, position_or_len, cases_lt, eqb_tells, reverse_onto, get_or_default, get_or-reverse, length-reverse, reverse-reverse, Who, ArePools, AccountMaps, Node, above, has_directory, node_in, pool_for, pool_of, HasChains, IsChain, IsNodeTree, has_chains, IsMember, found_front, found_member, past_front, IsUp, superior_in, superior_up, superior_found, chain_of, Entry, ActiveSegs, IsFull, IsTree, entry_at, uid_at, IsInPool, first_of, size_of, HasItsSuperiors, HasOneOffChain, off_chain, Plain, Links, IsStore, is_there, chain_first, chain_length, chain_next, found_there, directory_found, pool_of_node, first_inactive, is_active, some_within, AllFail, first_there, find_true, pool_one_off, active_at, found, first_pool, eqb-true, false_from_ne_true, not_from_false, first_idle, Active_uid_in as uid_in}
 use Rattle.machine_tables.proofs.PoolLaws.{others_some, pool_few}
 
 -- a number of a list has a place in it
@@ -82,11 +79,7 @@ module _ (now : Plain) (ast : ActiveSegs) (links : Links) (a : AccountMaps) (who
 
     -- the first pool has more places than the chain has links
     in_first : pool_of n ≡ 0 → HasOneOffChain ast (pool_of n) (chain_of a.nodes u)
-    in_first zeroth = pool_one_off ast (pool_of n) (chain_of a.nodes u) tree.once
-        (λ i lt. full (first_of ast.sizes (pool_of n) + i) (record { from = omega arith; to = omega arith }))
-        (let most = chain_length a.nodes t u in
-        let many : 12 ≤ size_of ast.sizes (pool_of n) = rw zeroth (first_pool ast.sizes pools) in
-        omega arith)
+    in_first zeroth = grind (arith, pool_one_off, chain_length, first_pool)
 
     -- of another pool the chain has its last link at the most, which isn't active
     in_other : pool_of n ≢ 0 → HasOneOffChain ast (pool_of n) (chain_of a.nodes u)
@@ -138,10 +131,7 @@ module _ (now : Plain) (ast : ActiveSegs) (links : Links) (a : AccountMaps) (who
   pub chain_one_off : IsTree ast.entries → ArePools ast.sizes → is_there a.nodes u ≡ true → (v : ℕ)
       → first_inactive ast (chain_of a.nodes u) ≡ Some v → IsFull ast (pool_of_node (node_in a.nodes v))
       → HasOneOffChain ast (pool_of_node (node_in a.nodes v)) (chain_of a.nodes u)
-  chain_one_off tree pools there v first full =
-      let node = found_there a.nodes v (first_there a.nodes t ast u v there first) in
-      rw node.1 (one_off tree pools v first node.0 node.1
-      (subst (λ (o : Option Node). IsFull ast (pool_of_node o)) node.1 full))
+  chain_one_off tree pools there v first full = grind (arith, found_there, first_there, one_off)
 
 -- ---- a chain by its end
 
@@ -158,11 +148,7 @@ module _ (ns : List Node) (t : IsNodeTree ns) (ast : ActiveSegs) (x v : ℕ)
   idle w = not (is_active ast w)
 
   none_front : (ys : List ℕ) (w : ℕ) → find idle (ys ++ w ∷ []) ≡ None → find idle ys ≡ None
-  none_front ys w h = by (find idle ys) refl
-    where
-      by : (r : Option ℕ) → find idle ys ≡ r → r ≡ None
-      by None e = refl
-      by (Some z) e = cc (found_front idle ys (w ∷ []) z e)
+  none_front ys w h = grind (arith, found_front)
 
   none_fails : (xs : List ℕ) → find idle (reverse xs) ≡ None → AllFail idle xs
   none_fails [] h = tt
@@ -172,8 +158,7 @@ module _ (ns : List Node) (t : IsNodeTree ns) (ast : ActiveSegs) (x v : ℕ)
       (one (idle w) (sym (past_front idle (reverse ws) (w ∷ []) front) ∙ at), none_fails ws front)
     where
       one : (b : Bool) → cond b (Some w) None ≡ None → b ≡ false
-      one true e = cc
-      one false e = refl
+      one b h1 = grind arith
 
   -- what is above the first of a chain that isn't active is active
   above_first : (xs : List ℕ) → IsChain (above ns) xs → find idle (reverse xs) ≡ Some v → AllFail idle (above ns v)

@@ -1,5 +1,5 @@
 -- A page that the shutdown takes: what is true of it then, and what stays.
-use Rattle.machine_tables.proofs.Prelude.{◌≡◌, ℕ, true, Option, Some, refl, sym, ap, subst, ◌∙◌, bound_page, is_bound, Here, Leaving, frame_in, word_of, worded, leaving_if, page_in, page_or_zero, with_leaving, Storage, word_within, IsLeaving, AreHere}
+use Rattle.machine_tables.proofs.Prelude.{◌≡◌, ℕ, true, Option, Some, refl, ap, ◌∙◌, bound_page, is_bound, Here, Leaving, frame_in, word_of, worded, page_in, page_or_zero, with_leaving, Storage, word_within, IsLeaving, AreHere}
 use Rattle.machine_tables.proofs.ChoiceLaws.{bound_is, chosen_here}
 use Rattle.machine_tables.proofs.TakeLaws.{word_put}
 

@@ -1,5 +1,5 @@
 -- The superiors of an active node are active, all of them.
-use Rattle.machine_tables.proofs.Prelude.{◌≡◌, ℕ, suc, zero, ◌+◌, ◌-◌, ◌<◌, Bool, true, false, not, cond, List, [], ◌∷◌, length, ◌++◌, get_or, reverse, Some, None, sym, ap, subst, ◌∙◌, arith, get_or-reverse, length-reverse, Who, AccountMaps, above, node_in, step_up, IsNodeTree, past_front, above_once, superior_in, superior_found, chain_of, ActiveSegs, IsTree, Plain, Links, place_of, IsStore, is_there, chain_next, found_there, first_inactive, is_active, superior_of_node, State, active_place, turned, active_at, MayLook}
+use Rattle.machine_tables.proofs.Prelude.{◌≡◌, ℕ, suc, zero, ◌+◌, ◌-◌, ◌<◌, true, false, not, List, [], ◌∷◌, length, ◌++◌, get_or, reverse, Some, None, sym, ap, subst, ◌∙◌, arith, get_or-reverse, length-reverse, Who, AccountMaps, above, node_in, step_up, IsNodeTree, past_front, above_once, superior_in, superior_found, chain_of, ActiveSegs, IsTree, Plain, Links, place_of, IsStore, is_there, chain_next, found_there, first_inactive, is_active, superior_of_node, State, active_place, turned, active_at, MayLook}
 use Rattle.machine_tables.proofs.FindLaws.{find_none}
 
 module _ (now : Plain) (ast : ActiveSegs) (links : Links) (a : AccountMaps) (whos : List Who)
@@ -38,8 +38,7 @@ module _ (now : Plain) (ast : ActiveSegs) (links : Links) (a : AccountMaps) (who
 -- of a node that is active no superior is inactive
 pub active_whole : (s : State) (u : ℕ) → MayLook s → is_active s.store.ast u ≡ true
     → first_inactive s.store.ast (chain_of s.store.accounts.nodes u) ≡ None
-active_whole s u h active = whole_chain s.store.pages s.store.ast s.store.links s.store.accounts s.store.whos
-    h.keeps.store.counted h.keeps.store.accounts.tree h.keeps.store.kept.tree u active
+active_whole s u h active = grind (arith, whole_chain)
 
 -- a node that isn't active is the first of its chain that isn't, where its superior is active
 pub next_first : (s : State) (u w : ℕ) → MayLook s → is_there s.store.accounts.nodes u ≡ true

@@ -11,6 +11,7 @@ use volumes::Drive;
 
 impl<D: Drive> Tables<D> {
     /// The node that a path leads to, and 0 where it leads to none.
+    #[tactic(auto, using(crate::proofs::AboutLaws::path_fails, crate::proofs::AboutLaws::path_leads))]
     fn uid_at(&self, path: &Path) -> u32
         ensures { result ≡ uid_at_path self.now.state.store path.now }
     {

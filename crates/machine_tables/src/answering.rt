@@ -107,6 +107,7 @@ fn run_after(run: Run, answered: Answered) -> Run
 }
 
 /// Puts so many processes after those that are ready, in order from the second of the script on.
+#[tactic(auto, using(crate::proofs::ReadyLaws::one_released))]
 fn release(ready: &mut Ready, count: u32)
     requires { length ready.old.waiting + count ≤ ready.old.room }
     ensures { ready.new ≡ record ready.old { waiting = ready.old.waiting ++ range 1 count } }

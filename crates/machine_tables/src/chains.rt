@@ -54,6 +54,7 @@ impl<D: Drive> Tables<D> {
     }
 
     /// Whether a node, which isn't active, lies in an active directory: then each other link of its chain is active.
+    #[tactic(auto, using(crate::proofs::WholeLaws::next_first))]
     fn is_next(&self, of: u32) -> bool
         requires looks { MayLook self.now.state }
         requires there { is_there self.now.state.store.accounts.nodes of ≡ true }
@@ -126,6 +127,7 @@ impl<D: Drive> Tables<D> {
     }
 
     /// The least free place of a pool. It reads a few words.
+    #[tactic(auto, using(crate::proofs::PoolLaws::free_told))]
     fn free_place(&self, pool: u32) -> Option<u32>
         requires { pool < 4 }
         ensures place { result ≡ free_place self.now.state.store.ast pool }
@@ -136,6 +138,7 @@ impl<D: Drive> Tables<D> {
 
     /// What is done for the first segment that isn't active of a node's chain: it becomes active in a free place of its
     /// pool, or the pool's victim is emptied first.
+    #[tactic(auto, using(crate::proofs::LookLaws::link_there))]
     fn activate_link(&self, of: u32, uid: u32) -> Action
         requires looks { MayLook self.now.state }
         requires there { is_there self.now.state.store.accounts.nodes of ≡ true }
@@ -154,6 +157,7 @@ impl<D: Drive> Tables<D> {
     }
 
     /// What is done for the chain of a node, where a segment of it isn't active. The chain has ten links at the most.
+    #[tactic(auto, using(crate::proofs::WholeLaws::active_whole, laws::proofs::Options::when_none, machine_model::proofs::ChainFacts::chain_active))]
     pub(crate) fn first_link(&self, of: u32) -> Option<Action>
         requires looks { MayLook self.now.state }
         requires there { is_there self.now.state.store.accounts.nodes of ≡ true }

@@ -55,6 +55,7 @@ const NOTHING: Claim = Claim {
 };
 
 /// Which descriptors a tree command must have cut.
+#[tactic(auto, using(crate::proofs::ClaimLaws::terminate_small))]
 fn cuts_of(command: &Command) -> Cuts
     ensures taken { (st : Storage) (k uid : ℕ) → cuts_in st k uid result ≡ descriptors_taken st k uid command.now }
     ensures segment { (x : Claim) → x.low ≡ first_taken command.now → x.cuts ≡ result
@@ -72,6 +73,7 @@ fn cuts_of(command: &Command) -> Cuts
 
 impl<D: Drive> Tables<D> {
     /// What the next command of a process must have out of use.
+    #[tactic(auto, using(flat_model::proofs::ScriptLaws::command_planned))]
     fn claim(&self, process: u32) -> Claim
         requires run { process < length self.now.state.runs }
         requires knows { process < length self.now.state.store.links.known }

@@ -12,6 +12,7 @@ use volumes::Drive;
 
 impl<D: Drive> Tables<D> {
     /// The command that a process comes to next.
+    #[tactic(auto, using(crate::proofs::CommandLaws::if_some_then, crate::proofs::CommandLaws::ranges_of))]
     pub(crate) fn next_command(&self, process: u32) -> Option<&Command>
         requires { process < length self.now.state.runs }
         ensures some { IfSome result (λ c. next_command self.now.state process ≡ Some c.now) }

@@ -49,6 +49,7 @@ impl<D: Drive> Tables<D> {
 
     /// What is done where no frame is free: the clock's choice goes; where a page is being read into every frame, the
     /// first of them is waited for.
+    #[tactic(auto, using(crate::proofs::FrameLaws::bound_goes, crate::proofs::FrameLaws::first_waits))]
     fn evict_or_wait(&self) -> Action
         requires frames { length self.now.state.store.pages.core.frames ≡ self.now.state.plan.frames }
         requires full { All (λ frame. is_free frame ≡ false) self.now.state.store.pages.core.frames }

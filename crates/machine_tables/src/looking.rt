@@ -147,6 +147,7 @@ impl<D: Drive> Tables<D> {
 impl<D: Drive> Tables<D> {
     /// What the owner does for a reference whose number leads nowhere: the chain of its segment becomes active, and
     /// then the number is connected.
+    #[tactic(auto, using(crate::proofs::ReachLaws::segment_there))]
     fn look_at_fault(&self, process: u32, reference: &Reference, uid: u32) -> Action
         requires looks { MayLook self.now.state }
         requires inside { outside_refusal self.now.state process reference.now ≡ None }
@@ -164,6 +165,7 @@ impl<D: Drive> Tables<D> {
     }
 
     /// What the owner does for a reference that nothing refuses before its page is looked at.
+    #[tactic(auto, using(crate::proofs::ReachLaws::connected_active, crate::proofs::ReachLaws::page_there, crate::proofs::ReachLaws::segment_is))]
     fn look_inside(&self, process: u32, reference: Reference) -> Action
         requires looks { MayLook self.now.state }
         requires known { process < length self.now.state.store.links.known }

@@ -13,6 +13,7 @@ use volumes::Drive;
 impl<D: Drive> Tables<D> {
     /// What the owner does that looks for what the next command of its process wants.
     #[inline(never)]
+    #[tactic(auto, using(crate::proofs::CommandLaws::number_small))]
     pub(crate) fn look_for_next(&self, process: u32) -> Action
         requires looks { MayLook self.now.state }
         requires run { process < length self.now.state.runs }

@@ -63,6 +63,7 @@ fn processor_at(processors: &[Processor], place: usize) -> &Processor
 }
 
 /// The least frame into which processors read such a page of a segment.
+#[tactic(auto, using(crate::proofs::ReadingLaws::least_first, crate::proofs::ReadingLaws::least_step))]
 fn least_read(processors: &[Processor], uid: u32, pages: Pages) -> Option<u32>
     ensures { result ≡ least_from uid (test_of pages) processors.now (length processors.now) }
 {
@@ -76,6 +77,7 @@ fn least_read(processors: &[Processor], uid: u32, pages: Pages) -> Option<u32>
 
 impl<D: Drive> Tables<D> {
     /// The least frame into which such a page of a segment is being read. It goes round the processors.
+    #[tactic(auto, using(crate::proofs::ReadingLaws::reading_is))]
     pub(crate) fn frame_reading(&self, uid: u32, pages: Pages) -> Option<u32>
         requires { AreRead self.now.state.store.pages.core self.now.state.processors }
         ensures { result ≡ frame_reading self.now.state.store.pages.core uid (test_of pages) }

@@ -54,6 +54,7 @@ impl<D: Drive> Tables<D> {
     }
 
     /// The place in which an active segment is.
+    #[tactic(auto, using(crate::proofs::LinkLaws::place_found))]
     pub(crate) fn place(&self, uid: u32) -> u32
         requires { IsActive self.now.state.store.ast.entries uid }
         ensures place { result ≡ place_of self.now.state.store.ast.entries uid }
@@ -110,6 +111,7 @@ impl<D: Drive> Tables<D> {
 
 impl<D: Drive> Tables<D> {
     /// The word of a page of an active segment; where the page is here, its frame is bound to it.
+    #[tactic(auto, using(crate::proofs::LinkLaws::bound_in))]
     pub(crate) fn word_of(&self, uid: u32, p: u32) -> Ptw
         requires active { IsActive self.now.state.store.ast.entries uid }
         requires page { p < length (table_of self.now.state.store.ast uid) }
@@ -209,6 +211,7 @@ impl<D: Drive> Tables<D> {
     }
 
     /// The oldest of the descriptors that lead to an active segment.
+    #[tactic(auto, using(crate::proofs::CutLaws::no_trailers, crate::proofs::CutLaws::oldest_is))]
     pub(crate) fn first_trailer(&self, uid: u32) -> Option<(u32, u32)>
         requires { IsActive self.now.state.store.ast.entries uid }
         ensures first { IfSome result (IsOldest self.now.state.store uid) }

@@ -76,6 +76,7 @@ impl<D: Drive> Tables<D> {
 
 impl<D: Drive> Tables<D> {
     /// Whether a page of a segment is here, of those from a number on.
+    #[tactic(auto, using(crate::proofs::AwayLaws::no_frames))]
     fn has_pages_from(&self, uid: u32, low: u32) -> bool
         ensures { result ≡ not (is_empty (frames_from self.now.state.store.ast uid low)) }
     {
@@ -101,6 +102,7 @@ impl<D: Drive> Tables<D> {
     }
 
     /// Whether a number of a process leads to a segment. It looks at its 256 numbers, up to the first that does.
+    #[tactic(auto, using(crate::proofs::AwayLaws::none_next))]
     fn has_connected(&self, process: u32) -> bool
         requires { process < length self.now.state.store.links.known }
         ensures { result ≡ not (is_bare [] (connected_of self.now.state.store.links process)) }
@@ -114,6 +116,7 @@ impl<D: Drive> Tables<D> {
     }
 
     /// Whether a descriptor leads to a segment that a tree command must have cut.
+    #[tactic(auto, using(crate::proofs::CommandLaws::number_ended))]
     fn has_taken_descriptors(&self, process: u32, uid: u32, command: &Command) -> bool
         requires known { process < length self.now.state.store.links.known }
         requires ranges { is_command (length self.now.state.plan.volumes) command.now ≡ true }
@@ -210,6 +213,7 @@ impl<D: Drive> Tables<D> {
     }
 
     /// What the owner does for a tree command that nothing refuses and that may want something brought, or out of use.
+    #[tactic(auto, using(crate::proofs::ChangeLooks::changes_else, crate::proofs::ChangeLooks::changes_truncate, crate::proofs::ChangeLooks::truncate_there))]
     fn look_to_clear(&self, process: u32, command: &Command) -> Action
         requires looks { MayLook self.now.state }
         requires known { process < length self.now.state.store.links.known }

@@ -1,8 +1,5 @@
-use Rattle.machine_tables.proofs.ReadyLaws.{one_released, room_left}
+use Rattle.machine_tables.proofs.ReadyLaws.{room_left}
 use Rattle.machine_tables.proofs.answering.release.Goals as goal
 
 pub enter-requires : goal.enter-requires
 enter-requires c = record { room = room_left _ _ _ _ c.loop-process.invariant c.loop-process-test.true c.requires }
-
-pub loop-process-preserved : goal.loop-process-preserved
-loop-process-preserved c = one_released _ _ _ _ c.loop-process.invariant c.enter.ensures.last

@@ -1,6 +1,5 @@
 use Rattle.machine_tables.proofs.Prelude.{◌≡◌, ◌∙◌, ℕ, List, Some, ap, arith, sym, get_or_past, ActiveSegs, IsTree, Ptw, Null, ptw_at, table_at, uid_at, word_of, leaves}
-use Rattle.machine_tables.proofs.LinkLaws.{place_found}
-use Rattle.machine_tables.proofs.TruncatedLaws.{not_leaving}
+use Rattle.machine_tables.proofs.Laws.{place_found, not_leaving}
 use Rattle.machine_tables.proofs.committing.leaves.Goals as goal
 
 -- the word of a page, by the place that was found

@@ -1,10 +1,6 @@
 use Rattle.machine_tables.proofs.Prelude.{rules}
-use Rattle.machine_tables.proofs.LookLaws.{link_superiors, link_there, link_victim}
+use Rattle.machine_tables.proofs.LookLaws.{link_superiors, link_victim}
 use Rattle.machine_tables.proofs.tables.Tables.activate_link.Goals as goal
-
-pub pool-pool-requires : goal.pool-pool-requires
-pool-pool-requires g c = link_there c.args.self.now.state c.args.of c.args.uid c.requires.looks c.requires.there
-    c.requires.first
 
 pub empty_victim-requires-clause-victim : goal.empty_victim-requires-clause-victim
 empty_victim-requires-clause-victim g c = record {

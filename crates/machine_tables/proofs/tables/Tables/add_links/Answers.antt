@@ -1,4 +1,4 @@
-use Rattle.machine_tables.proofs.Prelude.{◌≡◌, ◌<◌, ℕ, List, length, get_or, ap, subst, ◌∙◌, AccountMaps, chain_of, is_there, chain_there, Storage, Parts}
+use Rattle.machine_tables.proofs.Prelude.{◌≡◌, ◌<◌, ℕ, length, get_or, ap, ◌∙◌, chain_of, is_there, chain_there, Storage, Parts}
 use Rattle.machine_tables.proofs.tables.Tables.add_links.Goals as goal
 
 pub link-requires : goal.link-requires

@@ -1,6 +1,5 @@
-use Rattle.machine_tables.proofs.Prelude.{◌≡◌, ◌∙◌, Some, ap, refl, rules, subst, sym, command_at, frames_of_owner, next_command, run_at, IsReadyFor, Storage, effect_for, Parts, shown, IsApplicable}
-use Rattle.machine_tables.proofs.ApplyLaws.{applied_drives, applied_left, applied_reply, applied_shown, applied_store, applies, ready_of}
-use Rattle.machine_tables.proofs.PartLaws.{stored_is}
+use Rattle.machine_tables.proofs.Prelude.{◌≡◌, ◌∙◌, Some, ap, refl, rules, sym, command_at, frames_of_owner, next_command, run_at, effect_for, Parts, shown, IsApplicable}
+use Rattle.machine_tables.proofs.Laws.{applied_drives, applied_left, applied_reply, applied_shown, applied_store, applies, ready_of, stored_is}
 use Rattle.machine_tables.proofs.tables.Tables.apply.Goals as goal
 
 pub take_effect-requires-clause-ready : goal.take_effect-requires-clause-ready

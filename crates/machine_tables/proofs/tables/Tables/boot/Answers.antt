@@ -1,4 +1,4 @@
-use Rattle.machine_tables.proofs.Prelude.{List, ap, map, ◌∙◌, sum_by, first_state, first_store, Storage, first_words}
+use Rattle.machine_tables.proofs.Prelude.{◌∙◌}
 use Rattle.machine_tables.proofs.FirstLaws.{says_boot, store_first}
 use Rattle.machine_tables.proofs.tables.Tables.boot.Goals as goal
 

@@ -1,7 +1,5 @@
 use Rattle.machine_tables.proofs.Prelude.{◌∙◌, ap, length, flat_of, Parts}
-use Rattle.machine_tables.proofs.InsideLaws.{inside_faithful, inside_shows}
-use Rattle.machine_tables.proofs.RangeLaws.{drive_each, more_volumes}
-use Rattle.machine_tables.proofs.RefusalLaws.{command_is}
+use Rattle.machine_tables.proofs.Laws.{inside_faithful, inside_shows, drive_each, more_volumes, command_is}
 use Rattle.machine_tables.proofs.tables.Tables.command_refusal.Goals as goal
 
 pub test-requires-clause-ranges : goal.test-requires-clause-ranges

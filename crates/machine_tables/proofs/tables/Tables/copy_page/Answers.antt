@@ -1,4 +1,4 @@
-use Rattle.machine_tables.proofs.Prelude.{ap, subst, sym, IsFaithful, Parts}
+use Rattle.machine_tables.proofs.Prelude.{ap, Parts}
 use Rattle.machine_tables.proofs.tables.Tables.copy_page.Goals as goal
 
 pub returns-in-Ok-clause-shown : goal.returns-in-Ok-clause-shown

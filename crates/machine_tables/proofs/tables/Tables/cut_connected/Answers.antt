@@ -1,5 +1,4 @@
-use Rattle.machine_tables.proofs.ClaimLaws.{number_few, number_next, numbers_end}
-use Rattle.machine_tables.proofs.PartLaws.{going_next, rest_end}
+use Rattle.machine_tables.proofs.Laws.{number_few, number_next, numbers_end, going_next, rest_end}
 use Rattle.machine_tables.proofs.tables.Tables.cut_connected.Goals as goal
 
 pub cut_number-requires-clause-few : goal.cut_number-requires-clause-few

@@ -1,5 +1,4 @@
-use Rattle.machine_tables.proofs.ClaimLaws.{CutsAllOn}
-use Rattle.machine_tables.proofs.PartLaws.{Going}
+use Rattle.machine_tables.proofs.Laws.{CutsAllOn, Going}
 use Rattle.machine_tables.proofs.tables.Tables.cut_connected.Given as goal
 
 abbrev pub invariant-loop-number : goal.invariant-loop-number

@@ -1,5 +1,4 @@
-use Rattle.machine_tables.proofs.CutLaws.{cut_smaller, cuts_end, cuts_next, one_few}
-use Rattle.machine_tables.proofs.PartLaws.{going_next, rest_end, state_of}
+use Rattle.machine_tables.proofs.Laws.{cut_smaller, cuts_end, cuts_next, one_few, going_next, rest_end, state_of}
 use Rattle.machine_tables.proofs.tables.Tables.cut_trailers.Goals as goal
 
 pub cut_one-requires-clause-few : goal.cut_one-requires-clause-few

@@ -1,6 +1,5 @@
 use Rattle.machine_tables.proofs.Prelude.{length, trailers_in}
-use Rattle.machine_tables.proofs.CutLaws.{CutsOn}
-use Rattle.machine_tables.proofs.PartLaws.{Going}
+use Rattle.machine_tables.proofs.Laws.{CutsOn, Going}
 use Rattle.machine_tables.proofs.tables.Tables.cut_trailers.Given as goal
 
 abbrev pub invariant-loop-process : goal.invariant-loop-process

@@ -1,6 +1,5 @@
-use Rattle.machine_tables.proofs.Prelude.{◌≡◌, false, subst, ap, rules, IfOk, OnErr, words_in, are_zeros, left_of, Parts}
-use Rattle.machine_tables.proofs.LeftLaws.{left_is, left_stays}
-use Rattle.machine_tables.proofs.ShownLaws.{left_shown}
+use Rattle.machine_tables.proofs.Prelude.{◌≡◌, ap, rules, Parts}
+use Rattle.machine_tables.proofs.Laws.{left_is, left_stays, left_shown}
 use Rattle.machine_tables.proofs.tables.Tables.empty_frame.Goals as goal
 
 pub returns-clause-how : goal.returns-clause-how

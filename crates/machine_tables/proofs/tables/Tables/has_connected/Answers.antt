@@ -1,5 +1,5 @@
 use Rattle.machine_tables.proofs.Prelude.{arith, rules, sym, descriptor_of, is_connected}
-use Rattle.machine_tables.proofs.AwayLaws.{none_next, no_pairs, some_pair}
+use Rattle.machine_tables.proofs.AwayLaws.{no_pairs, some_pair}
 use Rattle.machine_tables.proofs.tables.Tables.has_connected.Goals as goal
 
 pub returns-then-is_connected : goal.returns-then-is_connected
@@ -8,11 +8,6 @@ returns-then-is_connected g c =
     sym (some_pair c.args.process
     (λ n. is_connected (descriptor_of c.args.self.now.state.store.links c.args.process n)) 0 256 c.loop-number.number
     (omega arith) (omega arith) (search rules))
-
-pub loop-number-preserved : goal.loop-number-preserved
-loop-number-preserved g c = none_next (λ n. is_connected
-    (descriptor_of c.args.self.now.state.store.links c.args.process n)) c.loop-number.number
-    c.loop-number.invariant (search rules)
 
 pub returns : goal.returns
 returns g c =

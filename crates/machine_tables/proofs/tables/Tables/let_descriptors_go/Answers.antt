@@ -1,7 +1,5 @@
 use Rattle.machine_tables.proofs.Prelude.{rules}
-use Rattle.machine_tables.proofs.BackLaws.{goes_next}
-use Rattle.machine_tables.proofs.JobLaws.{cut_smaller}
-use Rattle.machine_tables.proofs.PartLaws.{going}
+use Rattle.machine_tables.proofs.Laws.{goes_next, JobLaws_cut_smaller as cut_smaller, going}
 use Rattle.machine_tables.proofs.tables.Tables.let_descriptors_go.Goals as goal
 
 pub loop-cut-preserved : goal.loop-cut-preserved

@@ -1,6 +1,5 @@
 use Rattle.machine_tables.proofs.Prelude.{length, cut_of_owner}
-use Rattle.machine_tables.proofs.BackLaws.{GoesOn}
-use Rattle.machine_tables.proofs.PartLaws.{Going}
+use Rattle.machine_tables.proofs.Laws.{GoesOn, Going}
 use Rattle.machine_tables.proofs.tables.Tables.let_descriptors_go.Given as goal
 
 abbrev pub invariant-loop-cut : goal.invariant-loop-cut

@@ -1,7 +1,5 @@
 use Rattle.machine_tables.proofs.Prelude.{rules}
-use Rattle.machine_tables.proofs.JobLaws.{frame_smaller}
-use Rattle.machine_tables.proofs.LetLaws.{pages_next}
-use Rattle.machine_tables.proofs.PartLaws.{going}
+use Rattle.machine_tables.proofs.Laws.{frame_smaller, pages_next, going}
 use Rattle.machine_tables.proofs.tables.Tables.let_pages_go.Goals as goal
 
 pub loop-frame-preserved : goal.loop-frame-preserved

@@ -1,6 +1,5 @@
 use Rattle.machine_tables.proofs.Prelude.{length, frames_of_owner}
-use Rattle.machine_tables.proofs.LetLaws.{PagesOn}
-use Rattle.machine_tables.proofs.PartLaws.{Going}
+use Rattle.machine_tables.proofs.Laws.{PagesOn, Going}
 use Rattle.machine_tables.proofs.tables.Tables.let_pages_go.Given as goal
 
 abbrev pub invariant-loop-frame : goal.invariant-loop-frame

@@ -1,7 +1,5 @@
 use Rattle.machine_tables.proofs.Prelude.{◌≡◌, ℕ, Some, refl, ap, subst, sym, ◌∙◌, ◌/◌, ◌%◌, uid_of, kst_at, flat_of, State, Storage, with_created, with_store, Parts, shown, with_state}
-use Rattle.machine_tables.proofs.CreateLaws.{created_is, made_surely, stays}
-use Rattle.machine_tables.proofs.InsideLaws.{inside_shows}
-use Rattle.machine_tables.proofs.PartLaws.{stored_is}
+use Rattle.machine_tables.proofs.Laws.{created_is, made_surely, stays, inside_shows, stored_is}
 use Rattle.machine_tables.proofs.tables.Tables.make.Goals as goal
 
 pub create-made-requires-clause-room : goal.create-made-requires-clause-room

@@ -1,6 +1,5 @@
 use Rattle.machine_tables.proofs.Prelude.{◌∙◌, ap, flat_of, Parts}
-use Rattle.machine_tables.proofs.InsideLaws.{inside_shows}
-use Rattle.machine_tables.proofs.RefusalLaws.{moves_is}
+use Rattle.machine_tables.proofs.Laws.{inside_shows, moves_is}
 use Rattle.machine_tables.proofs.tables.Tables.move_to.Goals as goal
 
 pub returns : goal.returns

@@ -1,4 +1,4 @@
-use Rattle.machine_tables.proofs.Prelude.{◌∙◌, ap, sym, is_out}
+use Rattle.machine_tables.proofs.Prelude.{◌∙◌, sym}
 use Rattle.machine_tables.proofs.NextOut.{out_end, out_here, out_later}
 use Rattle.machine_tables.proofs.tables.Tables.next_out.Goals as goal
 

@@ -1,6 +1,5 @@
 use Rattle.machine_tables.proofs.Prelude.{◌∙◌, ap, flat_of, Parts}
-use Rattle.machine_tables.proofs.InsideLaws.{inside_shows}
-use Rattle.machine_tables.proofs.RefusalLaws.{outside_is}
+use Rattle.machine_tables.proofs.Laws.{inside_shows, outside_is}
 use Rattle.machine_tables.proofs.tables.Tables.outside_refusal.Goals as goal
 
 pub returns : goal.returns

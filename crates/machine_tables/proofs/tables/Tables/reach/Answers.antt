@@ -1,6 +1,5 @@
 use Rattle.machine_tables.proofs.Prelude.{rules}
-use Rattle.machine_tables.proofs.PageLaws.{reached}
-use Rattle.machine_tables.proofs.ShownLaws.{not_through, through_shown}
+use Rattle.machine_tables.proofs.Laws.{reached, not_through, through_shown}
 use Rattle.machine_tables.proofs.tables.Tables.reach.Goals as goal
 
 pub returns-in-Some-clause-effect : goal.returns-in-Some-clause-effect

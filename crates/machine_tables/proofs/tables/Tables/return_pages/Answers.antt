@@ -1,7 +1,5 @@
 use Rattle.machine_tables.proofs.Prelude.{rules}
-use Rattle.machine_tables.proofs.BackLaws.{backs_next}
-use Rattle.machine_tables.proofs.JobLaws.{frame_smaller}
-use Rattle.machine_tables.proofs.PartLaws.{going}
+use Rattle.machine_tables.proofs.Laws.{backs_next, frame_smaller, going}
 use Rattle.machine_tables.proofs.tables.Tables.return_pages.Goals as goal
 
 pub loop-frame-preserved : goal.loop-frame-preserved

@@ -1,6 +1,5 @@
 use Rattle.machine_tables.proofs.Prelude.{length, frames_of_owner}
-use Rattle.machine_tables.proofs.BackLaws.{BacksOn}
-use Rattle.machine_tables.proofs.PartLaws.{Going}
+use Rattle.machine_tables.proofs.Laws.{BacksOn, Going}
 use Rattle.machine_tables.proofs.tables.Tables.return_pages.Given as goal
 
 abbrev pub invariant-loop-frame : goal.invariant-loop-frame

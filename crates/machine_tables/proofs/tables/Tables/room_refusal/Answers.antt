@@ -1,6 +1,5 @@
 use Rattle.machine_tables.proofs.Prelude.{◌∙◌, ap, flat_of, Parts}
-use Rattle.machine_tables.proofs.InsideLaws.{inside_shows}
-use Rattle.machine_tables.proofs.RefusalLaws.{room_is}
+use Rattle.machine_tables.proofs.Laws.{inside_shows, room_is}
 use Rattle.machine_tables.proofs.tables.Tables.room_refusal.Goals as goal
 
 pub returns : goal.returns

@@ -1,7 +1,5 @@
 use Rattle.machine_tables.proofs.Prelude.{frames_taken, Committing}
-use Rattle.machine_tables.proofs.ClaimLaws.{claim_after, claim_is}
-use Rattle.machine_tables.proofs.PartLaws.{state_of}
-use Rattle.machine_tables.proofs.TookLaws.{entries_still}
+use Rattle.machine_tables.proofs.Laws.{claim_after, claim_is, state_of, entries_still}
 use Rattle.machine_tables.proofs.tables.Tables.take_claim.Goals as goal
 
 pub cut_claimed-requires : goal.cut_claimed-requires

@@ -1,6 +1,5 @@
-use Rattle.machine_tables.proofs.Prelude.{◌≡◌, refl, rules, subst, sym, page_taken, Parts, with_state, IsLeaving}
-use Rattle.machine_tables.proofs.ChoiceLaws.{chosen_here}
-use Rattle.machine_tables.proofs.VisitLaws.{taken_leaving}
+use Rattle.machine_tables.proofs.Prelude.{◌≡◌, refl, rules, page_taken, with_state}
+use Rattle.machine_tables.proofs.Laws.{chosen_here, taken_leaving}
 use Rattle.machine_tables.proofs.tables.Tables.take_out.Goals as goal
 
 pub send_off-requires-clause-here : goal.send_off-requires-clause-here

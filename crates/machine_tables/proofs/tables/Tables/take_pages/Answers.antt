@@ -1,6 +1,5 @@
 use Rattle.machine_tables.proofs.Prelude.{◌≡◌, ◌<◌, ◌≤◌, ℕ, arith}
-use Rattle.machine_tables.proofs.PartLaws.{rest_end, rest_next, state_of}
-use Rattle.machine_tables.proofs.TakeLaws.{here_few, takes_end, takes_next}
+use Rattle.machine_tables.proofs.Laws.{rest_end, rest_next, state_of, here_few, takes_end, takes_next}
 use Rattle.machine_tables.proofs.tables.Tables.take_pages.Goals as goal
 
 -- a page before the end of a table, or past it, by the length that was found at first

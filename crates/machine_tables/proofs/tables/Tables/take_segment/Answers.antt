@@ -1,6 +1,5 @@
 use Rattle.machine_tables.proofs.Prelude.{rules, Seg, Deactivating, frames_from}
-use Rattle.machine_tables.proofs.PartLaws.{state_of}
-use Rattle.machine_tables.proofs.TookLaws.{after_pages, took_is}
+use Rattle.machine_tables.proofs.Laws.{state_of, after_pages, took_is}
 use Rattle.machine_tables.proofs.tables.Tables.take_segment.Goals as goal
 
 pub cut_trailers-requires : goal.cut_trailers-requires
