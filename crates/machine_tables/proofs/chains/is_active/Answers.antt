@@ -1,4 +1,3 @@
-use Rattle.machine_tables.proofs.Prelude.{◌∙◌}
 use Rattle.machine_tables.proofs.ActiveLaws.{search_tells}
 use Rattle.machine_tables.proofs.chains.is_active.Goals as goal
 

@@ -1,4 +1,4 @@
-use Rattle.machine_tables.proofs.Prelude.{◌≡◌, ◌<◌, ℕ, List, None, map, true, refl, subst, is_command, Command, Reply, IsReady, Stored, dir_volume, new_length, seg_volume, frame_entry, OwnsFor, IsCommitted, left_entry, shown, IsCommittedBut, few_pages}
+use Rattle.machine_tables.proofs.Prelude.{◌≡◌, ℕ, List, None, map, true, refl, subst, is_command, Command, Reply, IsReady, Stored, dir_volume, new_length, seg_volume, frame_entry, OwnsFor, IsCommitted, left_entry, shown, IsCommittedBut, few_pages}
 use Rattle.machine_tables.proofs.commit.take_effect.Goals as goal
 
 -- the command that was matched is in its ranges

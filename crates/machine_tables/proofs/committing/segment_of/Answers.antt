@@ -1,4 +1,4 @@
-use Rattle.machine_tables.proofs.Prelude.{◌≡◌, ◌∙◌, rules, false, quota_in, as_term}
+use Rattle.machine_tables.proofs.Prelude.{◌≡◌, rules, false, quota_in, as_term}
 use Rattle.machine_tables.proofs.TruncatedLaws.{is_directory, is_nothing, is_segment}
 use Rattle.machine_tables.proofs.committing.segment_of.Goals as goal
 

@@ -1,4 +1,3 @@
-use Rattle.machine_tables.proofs.Prelude.{◌∙◌}
 use Rattle.machine_tables.proofs.TruncatedLaws.{still_active, truncate_committed, truncate_refused}
 use Rattle.machine_tables.proofs.committing.truncate.Goals as goal
 

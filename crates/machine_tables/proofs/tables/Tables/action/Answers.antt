@@ -1,4 +1,4 @@
-use Rattle.machine_tables.proofs.Prelude.{◌∙◌, rules}
+use Rattle.machine_tables.proofs.Prelude.{rules}
 use Rattle.machine_tables.proofs.RuleLaws.{over_rule, stopped_rule, work_rule}
 use Rattle.machine_tables.proofs.tables.Tables.action.Goals as goal
 

@@ -1,4 +1,3 @@
-use Rattle.machine_tables.proofs.Prelude.{◌∙◌}
 use Rattle.machine_tables.proofs.FirstLaws.{says_boot, store_first}
 use Rattle.machine_tables.proofs.tables.Tables.boot.Goals as goal
 

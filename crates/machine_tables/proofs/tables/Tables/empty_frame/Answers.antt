@@ -1,4 +1,4 @@
-use Rattle.machine_tables.proofs.Prelude.{◌≡◌, ap, rules, Parts}
+use Rattle.machine_tables.proofs.Prelude.{ap, rules, Parts}
 use Rattle.machine_tables.proofs.Laws.{left_is, left_stays, left_shown}
 use Rattle.machine_tables.proofs.tables.Tables.empty_frame.Goals as goal
 

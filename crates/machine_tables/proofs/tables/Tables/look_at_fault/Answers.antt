@@ -1,4 +1,4 @@
-use Rattle.machine_tables.proofs.Prelude.{◌≡◌, Connect}
+use Rattle.machine_tables.proofs.Prelude.{Connect}
 use Rattle.machine_tables.proofs.tables.Tables.look_at_fault.Goals as goal
 
 pub returns-in-Some : goal.returns-in-Some

@@ -1,4 +1,4 @@
-use Rattle.machine_tables.proofs.Prelude.{◌<◌, rules}
+use Rattle.machine_tables.proofs.Prelude.{rules}
 use Rattle.machine_tables.proofs.LinkLaws.{leads_within}
 use Rattle.machine_tables.proofs.tables.Tables.note_of.Goals as goal
 

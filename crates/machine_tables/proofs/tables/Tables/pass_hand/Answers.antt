@@ -1,4 +1,3 @@
-use Rattle.machine_tables.proofs.Prelude.{◌∙◌}
 use Rattle.machine_tables.proofs.JoinLaws.{must_pass, off_to_go, passed_is}
 use Rattle.machine_tables.proofs.tables.Tables.pass_hand.Goals as goal
 

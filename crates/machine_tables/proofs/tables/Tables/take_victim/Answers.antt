@@ -1,4 +1,4 @@
-use Rattle.machine_tables.proofs.Prelude.{◌≡◌, chain_of, wanted_pool}
+use Rattle.machine_tables.proofs.Prelude.{chain_of, wanted_pool}
 use Rattle.machine_tables.proofs.JoinLaws.{bare_after}
 use Rattle.machine_tables.proofs.tables.Tables.take_victim.Goals as goal
 
