@@ -30,3 +30,5 @@ module _ (st : Storage) (k : ℕ) where
       → ((path : List (List ℕ)) (pages : ℕ) → c ≢ command.Length path pages) → (u v : ℕ) → u ≡ v
       → look_to_take st k u c ≡ look_to_change st k v c
   changes_else c a b u v same = cc (by_itself u c a b)
+
+pub ruleset changes_told = (changes_else, changes_truncate, truncate_there)

@@ -46,3 +46,5 @@ module _ (s : State) (k : ℕ) (r : Reference) (keeps : Keeps s) (within : outsi
       let less = inside.within in
       let few = room.0 in
       omega (arith, long, less, few)
+
+pub ruleset reaches = (connected_active, page_there, segment_is)

@@ -66,3 +66,7 @@ pub took_is : {D : Type 0} (old mid new : Parts D) (c : ℕ) (a : Aim) (w : What
     → new ≡ with_state mid (cut_all mid.state c a w (trailers_in mid.state.store u))
     → new ≡ with_state old (took old.state c a w fs (trailers_in old.state.store u))
 took_is old mid new c a w fs u took cut = cc (trailers_still old.state c a w fs u)
+
+pub ruleset taken_here = (next_here, none_here, some_here)
+
+pub ruleset bare_taken = (bare_none, bare_pages, bare_trailers)

@@ -1,5 +1,5 @@
 -- The superiors of an active node are active, all of them.
-use Rattle.machine_tables.proofs.Prelude.{◌≡◌, ℕ, suc, zero, ◌+◌, ◌-◌, ◌<◌, true, false, not, List, [], ◌∷◌, length, ◌++◌, get_or, reverse, Some, None, sym, ap, subst, ◌∙◌, arith, get_or-reverse, length-reverse, Who, AccountMaps, above, node_in, step_up, IsNodeTree, past_front, above_once, superior_in, superior_found, chain_of, ActiveSegs, IsTree, Plain, Links, place_of, IsStore, is_there, chain_next, found_there, first_inactive, is_active, superior_of_node, State, active_place, turned, active_at, MayLook}
+use Rattle.machine_tables.proofs.Prelude.{chain_active, when_none, ◌≡◌, ℕ, suc, zero, ◌+◌, ◌-◌, ◌<◌, true, false, not, List, [], ◌∷◌, length, ◌++◌, get_or, reverse, Some, None, sym, ap, subst, ◌∙◌, arith, get_or-reverse, length-reverse, Who, AccountMaps, above, node_in, step_up, IsNodeTree, past_front, above_once, superior_in, superior_found, chain_of, ActiveSegs, IsTree, Plain, Links, place_of, IsStore, is_there, chain_next, found_there, first_inactive, is_active, superior_of_node, State, active_place, turned, active_at, MayLook}
 use Rattle.machine_tables.proofs.FindLaws.{find_none}
 
 module _ (now : Plain) (ast : ActiveSegs) (links : Links) (a : AccountMaps) (whos : List Who)
@@ -53,3 +53,5 @@ next_first s u w h there idle up active =
     let chain_is : chain_of ns u ≡ chain_of ns w ++ u ∷ [] = ap (λ (xs : List ℕ). reverse (u ∷ xs)) above_is
     ∙ turned u (w ∷ above ns w) in
     cc (past_front (λ x. not (is_active s.store.ast x)) (chain_of ns w) (u ∷ []) (active_whole s w h active))
+
+pub ruleset links_whole = (active_whole, when_none, chain_active)

@@ -157,7 +157,7 @@ impl<D: Drive> Tables<D> {
     }
 
     /// What is done for the chain of a node, where a segment of it isn't active. The chain has ten links at the most.
-    #[tactic(auto, using(crate::proofs::WholeLaws::active_whole, laws::proofs::Options::when_none, machine_model::proofs::ChainFacts::chain_active))]
+    #[tactic(auto, using(crate::proofs::WholeLaws::links_whole))]
     pub(crate) fn first_link(&self, of: u32) -> Option<Action>
         requires looks { MayLook self.now.state }
         requires there { is_there self.now.state.store.accounts.nodes of ≡ true }

@@ -49,7 +49,7 @@ fn is_here(word: Ptw) -> bool
 }
 
 /// Whether a page is here, of those of a page table from a number on.
-#[tactic(auto, using(crate::proofs::TookLaws::next_here, crate::proofs::TookLaws::none_here, crate::proofs::TookLaws::some_here))]
+#[tactic(auto, using(crate::proofs::TookLaws::taken_here))]
 fn has_here(table: &PageTable, low: u32) -> bool
     ensures { result ≡ not (is_empty (frames_in (drop low table.now))) }
 {
@@ -72,7 +72,7 @@ impl<D: Drive> Tables<D> {
     }
 
     /// Whether an active segment has no page here, and no descriptor leads to it.
-    #[tactic(auto, using(crate::proofs::TookLaws::bare_none, crate::proofs::TookLaws::bare_pages, crate::proofs::TookLaws::bare_trailers))]
+    #[tactic(auto, using(crate::proofs::TookLaws::bare_taken))]
     fn is_bare(&self, uid: u32) -> bool
         requires { IsActive self.now.state.store.ast.entries uid }
         ensures { result ≡ is_bare (frames_from self.now.state.store.ast uid 0)

@@ -165,7 +165,7 @@ impl<D: Drive> Tables<D> {
     }
 
     /// What the owner does for a reference that nothing refuses before its page is looked at.
-    #[tactic(auto, using(crate::proofs::ReachLaws::connected_active, crate::proofs::ReachLaws::page_there, crate::proofs::ReachLaws::segment_is))]
+    #[tactic(auto, using(crate::proofs::ReachLaws::reaches))]
     fn look_inside(&self, process: u32, reference: Reference) -> Action
         requires looks { MayLook self.now.state }
         requires known { process < length self.now.state.store.links.known }

@@ -213,7 +213,7 @@ impl<D: Drive> Tables<D> {
     }
 
     /// What the owner does for a tree command that nothing refuses and that may want something brought, or out of use.
-    #[tactic(auto, using(crate::proofs::ChangeLooks::changes_else, crate::proofs::ChangeLooks::changes_truncate, crate::proofs::ChangeLooks::truncate_there))]
+    #[tactic(auto, using(crate::proofs::ChangeLooks::changes_told))]
     fn look_to_clear(&self, process: u32, command: &Command) -> Action
         requires looks { MayLook self.now.state }
         requires known { process < length self.now.state.store.links.known }
