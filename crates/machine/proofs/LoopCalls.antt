@@ -165,7 +165,7 @@ pub awaited_planned : (s : State) (c d : ℕ) (answer : Turn) → KeepsAll s →
 awaited_planned s c d answer keeps waits = rw (← keeps.machine.keeps.sizes.processors) (by answer waits)
   where
     by : (x : Turn) → WaitsFor s c x d → d < length s.processors
-    by (turn.Waits (why.ForClear late)) h = rounds.late_there s c d h.1
+    by (turn.Waits (why.ForClear late)) h = rounds.late_there s h.1
     by (turn.Waits (why.ForTransfer frame)) h = rw (← (long_outline s)) h.1.within
     by _ h = absurd h
 
@@ -184,9 +184,9 @@ module _ (s t u : State) (c d : ℕ) (late : Turn) (on : t.stopped ≡ false) (t
       → JobFell (outline_of s) (outline_of u) c
   unfolding outline_of
   awaited_fell (turn.Waits (why.ForClear e)) h waits = subst (λ (o : Outline). JobFell o (outline_of u) c) h.0
-      (rounds.cleared_turn ready u c d (roomy_goes turned on) waits.1 turned.stepped)
+      (rounds.cleared_turn (roomy_goes turned on) waits.1 turned.stepped)
   awaited_fell (turn.Waits (why.ForTransfer frame)) h waits = subst (λ (o : Outline). JobFell o (outline_of u) c) h.0
-      (rounds.read_turn ready u c frame d (roomy_goes turned on) turned.now waits.0 waits.1 turned.stepped)
+      (rounds.read_turn (roomy_goes turned on) turned.now waits.0 waits.1 turned.stepped)
   awaited_fell _ h waits = absurd waits
 
 -- somebody reads into the frame that is waited for
@@ -217,14 +217,14 @@ reader_is s f d h = by (cpu_at s.processors d).transfer refl found.1
 
 -- who owns the supervisor while a job goes on is the processor whose job it is
 pub job_mine : (a b : State) (c d : ℕ) → Goes (outline_of a) (outline_of b) c → IsOwnedBy b d → d ≡ c
-job_mine a b c d goes owned = let mine = rounds.job_owner a b c goes owned.owner owned.mine in
+job_mine a b c d goes owned = let mine = rounds.job_owner a b goes owned.mine in
     cc (some_same owned.owner mine.owner (sym owned.mine ∙ mine.mine))
 
 -- a job goes on with a turn
 pub job_goes_on : (a b t : State) (c d : ℕ) → Goes (outline_of a) (outline_of b) c → IsOwnedBy b d
     → JobFell (outline_of b) (outline_of t) d → Goes (outline_of a) (outline_of t) c
 job_goes_on a b t c d goes owned fell = let same = job_mine a b c d goes owned in
-    rounds.job_next a b t c goes (rw (← same) owned) (rw (← same) fell)
+    rounds.job_next a t goes (rw (← same) owned) (rw (← same) fell)
 
 -- ---- a command
 
@@ -252,11 +252,11 @@ module _ {s t : State} {c : ℕ} {answer : Turn} (turned : HasTurned s t c answe
   pub turn_job : (u : State) (d : ℕ) → IsOwnedBy t d → JobDone (outline_of t) (outline_of u) d
       → CommandDone (outline_of s) (outline_of u) c
   unfolding outline_of
-  turn_job u d owned done = rounds.command_job s t u c took.1
+  turn_job u d owned done = rounds.command_job s t u took.1
       (subst (λ (e : ℕ). JobDone (outline_of t) (outline_of u) e) is done)
     where
       took : IsOwnedBy t c × HasTaken (outline_of given) (outline_of t) c
-      took = rounds.command_took given t c going turned.now there none running turned.stepped owned.owner owned.mine
+      took = rounds.command_took given t c going turned.now there none running turned.stepped owned.mine
 
       is : d ≡ c
       is = sym owned.cpu
@@ -271,26 +271,26 @@ IsOnWay old s c since = all_rank (outline_of s) + cond (is_at (runner_at (outlin
 
 pub way_begins : (s : State) (c since : ℕ) → KeepsAll s → is_some (cpu_at s.processors c).process ≡ true
     → since ≡ (processor_at s.processors c).count → IsOnWay s s c since
-way_begins s c since keeps running is = rounds.way_start s c since (rounds.at_seen s c since keeps
+way_begins s c since keeps running is = rounds.way_start s c since (rounds.at_seen c since keeps
     ∙ ((λ i. running i && eqb (processor_at s.processors c).count (is i)) ∙ eqb_self
     (processor_at s.processors c).count))
 
 pub way_goes : (old s t : State) (c since : ℕ) → KeepsAll s → is_still_at since (processor_at s.processors c) ≡ true
     → IsOnWay old s c since → CommandDone (outline_of s) (outline_of t) c → IsOnWay old t c since
 way_goes old s t c since keeps is way done = way_next (outline_of s) (outline_of t) c since
-    (all_rank (outline_of old)) (rounds.at_seen s c since keeps ∙ is) way done
+    (all_rank (outline_of old)) (rounds.at_seen c since keeps ∙ is) way done
 
 pub gauge_falls : (s t : State) (c since : ℕ) → KeepsAll s → is_still_at since (processor_at s.processors c) ≡ true
     → CommandDone (outline_of s) (outline_of t) c
     → command_gauge (outline_of t) c since < command_gauge (outline_of s) c since
 gauge_falls s t c since keeps is done =
-    way_falls (outline_of s) (outline_of t) c since (rounds.at_seen s c since keeps ∙ is) done
+    way_falls (outline_of s) (outline_of t) c since (rounds.at_seen c since keeps ∙ is) done
 
 pub way_ends : (old t : State) (c since : ℕ) → KeepsAll t → t.owner ≡ None → IsOnWay old t c since
     → is_still_at since (processor_at t.processors c) ≡ false → RoundDone (outline_of old) (outline_of t)
 unfolding outline_of
 way_ends old t c since keeps none way gone = round_done (outline_of old) (outline_of t) c since
-    (cc) way (rounds.at_seen t c since keeps ∙ gone)
+    (cc) way (rounds.at_seen c since keeps ∙ gone)
 
 -- ---- a round
 
@@ -303,6 +303,5 @@ first_runs s c h = (position_at has_process s.processors no_processor c h).1
 pub idle_done : (s t : State) (answer : Turn) (turned : HasTurned s t 0 answer) → s.stopped ≡ false → s.owner ≡ None
     → position has_process s.processors ≡ None → is_over s ≡ false → RoundDone (outline_of s) (outline_of t)
 unfolding outline_of
-idle_done s t answer turned on none idle more = rounds.idle_round (with_spare s turned.spare) t
-    (roomy_goes turned on) turned.now none
+idle_done s t answer turned on none idle more = rounds.idle_round (roomy_goes turned on) turned.now none
     (λ d. position_none has_process s.processors no_processor d idle refl) more turned.stepped
